@@ -1,0 +1,281 @@
+ghost use Rattle.std.specs.Prelude.{◌≡◌, ◌↔◌, ◌++◌, IsTrue, IfOk, IfErr, OnOk, MatchOption, List, ℕ, [], map};
+ghost use Rattle.std.specs.Iterator.{YieldsFirstBy, item_count};
+ghost use Rattle.dns_name.specs.Labels.{IsAtOrBelow, octets_of, spelled, IsName, IsOctets, labels_in, labels_of, parent_of};
+ghost use Rattle.dns_name.specs.Making.{Gives, name_after, lowered};
+ghost use Rattle.dns_name.specs.Octets.{Begins, Ends};
+ghost use Rattle.dns_name.specs.Order.{labels_cmp};
+
+use crate::builder::NameBuilder;
+use crate::fault::NameFault;
+use std::alloc::{AllocError, Global};
+use std::cmp::Ordering;
+use std::hash::{Hash, Hasher};
+use std::marker::Model;
+
+/// A domain name: its labels in lower case, the leftmost first. The root has none.
+#[derive(Debug, Drop)]
+pub struct Name {
+    octets: Vec<u8>,
+}
+
+impl Model for Name {
+    ghost use Rattle.std.specs.Prelude.{List, ℕ};
+    ghost use Rattle.dns_name.specs.Labels.{labels_of, IsOctets};
+
+    ghost Value = { List (List ℕ) };
+
+    ghost view = { λ n. labels_of n.octets.items };
+
+    ghost invariant = { λ n. IsOctets n.octets.items };
+}
+
+/// The labels of a name that are still to come.
+#[derive(Drop)]
+pub struct Labels<'a> {
+    octets: &'a [u8],
+}
+
+impl<'a> Model for Labels<'a> {
+    ghost use Rattle.std.specs.Prelude.{List, ℕ};
+    ghost use Rattle.dns_name.specs.Labels.{labels_of, IsOctets};
+
+    ghost Value = { List (List ℕ) };
+
+    ghost view = { λ n. labels_of n.octets.now };
+
+    ghost invariant = { λ n. IsOctets n.octets.now };
+}
+
+impl<'a> Iterator for Labels<'a> {
+    type Item = &'a [u8];
+
+    ghost next_gives = { YieldsFirstBy (λ label. label.now) (λ s. s) };
+
+    ghost remaining = { item_count (λ s. s) };
+
+    fn next(&mut self) -> Option<&'a [u8]> {
+        let (label, rest) = split_last_label(self.octets)?;
+        self.octets = rest;
+        Some(label)
+    }
+}
+
+impl Name {
+    /// The root.
+    pub fn root(alloc: Global) -> Name
+        ensures { result ≡ [] }
+    {
+        Name {
+            octets: Vec::new(alloc),
+        }
+    }
+
+    /// The name of these labels, in lower case.
+    pub fn from_labels(alloc: Global, labels: &[&[u8]]) -> Result<Name, NameFault>
+        ensures exact { Gives result (name_after [] (map (λ l. l.now) labels.now)) }
+        ensures value { IfOk result (λ n. n ≡ lowered (map (λ l. l.now) labels.now)) }
+        ensures only { IfErr result (λ e. IsName (lowered (map (λ l. l.now) labels.now)) → e ≡ NameFault.NoMemory) }
+    {
+        built(alloc, labels)
+    }
+
+    /// The name of the labels that these octets spell from the root.
+    pub(crate) fn from_octets(alloc: Global, octets: &[u8]) -> Result<Name, AllocError>
+        requires { IsOctets octets.now }
+        ensures { IfOk result (λ n. n ≡ labels_of octets.now) }
+    {
+        Ok(Name {
+            octets: Vec::from_slice(alloc, octets)?,
+        })
+    }
+
+    /// The name without its leftmost label; the root has none.
+    pub fn parent(&self, alloc: Global) -> Result<Option<Name>, AllocError>
+        ensures { IfOk result (λ p. p ≡ parent_of self.now) }
+    {
+        match split_last_label(&self.octets) {
+            None => Ok(None),
+            Some((_, rest)) => Ok(Some(Name::from_octets(alloc, rest)?)),
+        }
+    }
+
+    /// The labels, the leftmost first.
+    pub fn labels(&self) -> Labels<'_>
+        ensures { result ≡ self.now }
+    {
+        Labels {
+            octets: &self.octets,
+        }
+    }
+
+    /// The labels from the root, each behind its length: those of a name at or above this one are a prefix.
+    pub fn octets(&self) -> &[u8]
+        ensures value { result.now ≡ octets_of self.now }
+        ensures name { IsName self.now }
+    {
+        &self.octets
+    }
+
+    /// Writes the labels as they stand in a message, before the zero octet.
+    pub fn push_spelled(&self, out: &mut Vec<u8>) -> Result<(), AllocError>
+        ensures { OnOk result (out.new.items ≡ out.old.items ++ spelled self.now) }
+    {
+        push_labels(&self.octets, out)
+    }
+
+    /// Whether the labels of this name end with those of `zone`.
+    pub fn at_or_below(&self, zone: &Name) -> bool
+        ensures { IsTrue result ↔ IsAtOrBelow self.now zone.now }
+    {
+        self.octets.starts_with(&zone.octets)
+    }
+}
+
+#[tactic(auto, unfolding(crate::specs::Making::name_after))]
+fn built(alloc: Global, labels: &[&[u8]]) -> Result<Name, NameFault>
+    ensures { Gives result (name_after [] (map (λ l. l.now) labels.now)) }
+{
+    let mut builder = NameBuilder::new();
+    for label in labels {
+        builder.try_push(label)?;
+    }
+    Ok(builder.name(alloc)?)
+}
+
+/// The first label of a run of octets, and the octets after it.
+fn split_label(octets: &[u8]) -> Option<(&[u8], &[u8])>
+    requires { IsOctets octets.now }
+    ensures { MatchOption result (labels_in octets.now ≡ []) (λ r. Begins octets.now r.0.now r.1.now) }
+{
+    let (n, rest) = octets.split_first()?;
+    Some(rest.split_at(*n as usize))
+}
+
+/// The last label of a run of octets, and the octets before it.
+pub(crate) fn split_last_label(octets: &[u8]) -> Option<(&[u8], &[u8])>
+    requires { IsOctets octets.now }
+    ensures { MatchOption result (labels_of octets.now ≡ []) (λ r. Ends octets.now r.0.now r.1.now) }
+{
+    let mut at = 0;
+    let mut rest = octets;
+    while let Some((label, after)) = split_label(rest) {
+        if after.is_empty() {
+            return Some((label, &octets[..at]));
+        }
+        at += label.len() + 1;
+        rest = after;
+    }
+    None
+}
+
+fn push_labels(octets: &[u8], out: &mut Vec<u8>) -> Result<(), AllocError>
+    requires { IsOctets octets.now }
+    ensures { OnOk result (out.new.items ≡ out.old.items ++ spelled (labels_of octets.now)) }
+{
+    let mut rest = octets;
+    while let Some((label, front)) = split_last_label(rest) {
+        out.push(label.len() as u8)?;
+        out.extend_from_slice(label)?;
+        rest = front;
+    }
+    Ok(())
+}
+
+/// The octets of `z` are a prefix of those of `n` exactly where `n` is at or below `z`.
+pub fn prefix_law()
+    ensures { (n z : List (List ℕ)) → ((rest : List ℕ) × (octets_of n ≡ octets_of z ++ rest)) ↔ IsAtOrBelow n z }
+{}
+
+/// Compares the labels that two runs of octets spell.
+fn compared(a: &[u8], b: &[u8]) -> Ordering
+    requires a { IsOctets a.now }
+    requires b { IsOctets b.now }
+    ensures { result ≡ labels_cmp (labels_in a.now) (labels_in b.now) }
+{
+    let mut left = a;
+    let mut right = b;
+    while let Some((x, rest_left)) = split_label(left) {
+        let Some((y, rest_right)) = split_label(right) else {
+            return Ordering::Greater;
+        };
+        let order = x.cmp(&y);
+        if order != Ordering::Equal {
+            return order;
+        }
+        left = rest_left;
+        right = rest_right;
+    }
+    match split_label(right) {
+        None => Ordering::Equal,
+        Some(_) => Ordering::Less,
+    }
+}
+
+impl PartialEq for Name {
+    ghost use Rattle.dns_name.specs.Order.{name_eq, name_per};
+
+    ghost eq = { name_eq };
+
+    ghost laws = { name_per };
+
+    fn eq(&self, other: &Name) -> bool {
+        self.octets == other.octets
+    }
+}
+
+impl Eq for Name {
+    ghost use Rattle.dns_name.specs.Order.{name_equiv};
+
+    ghost laws = { name_equiv };
+}
+
+impl PartialOrd for Name {
+    ghost use Rattle.dns_name.specs.Order.{name_partial_cmp, name_partial_order};
+
+    ghost partial_cmp = { name_partial_cmp };
+
+    ghost laws = { name_partial_order };
+
+    fn partial_cmp(&self, other: &Name) -> Option<Ordering> {
+        Some(self.cmp(other))
+    }
+}
+
+impl Ord for Name {
+    ghost use Rattle.std.specs.Prelude.{refl};
+    ghost use Rattle.dns_name.specs.Order.{name_cmp, name_total, name_eq-is_eq};
+
+    ghost cmp = { name_cmp };
+
+    ghost total = { name_total };
+
+    ghost matches_partial_cmp = { λ _ _. refl };
+
+    ghost matches_eq = { name_eq-is_eq };
+
+    fn cmp(&self, other: &Name) -> Ordering {
+        compared(&self.octets, &other.octets)
+    }
+}
+
+impl Hash for Name {
+    ghost use Rattle.dns_name.specs.Order.{name_hash_input, name_hash_respects_eq};
+
+    ghost hash_input = { name_hash_input };
+
+    ghost respects_eq = { name_hash_respects_eq };
+
+    fn hash<H: Hasher>(&self, state: &mut H) {
+        state.write(&self.octets);
+    }
+}
+
+impl Clone for Name {
+    fn clone(&self) -> Result<Name, AllocError>
+        ensures { IfOk result (λ n. n ≡ self.now) }
+    {
+        Ok(Name {
+            octets: self.octets.clone()?,
+        })
+    }
+}
