@@ -1,0 +1,1 @@
+-- what the contracts cite

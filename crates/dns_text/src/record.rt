@@ -1,0 +1,58 @@
+//! Questions and records.
+
+use crate::items::{Items, Octets};
+use dns_name::Name;
+
+/// A name and a type (RFC 1035, section 4.1.2).
+#[derive(Debug, Drop, PartialEq)]
+pub struct Question {
+    pub owner: Name,
+    pub kind: u16,
+}
+
+/// What a record says (RFC 1035, section 3.3).
+#[derive(Debug, Drop, PartialEq)]
+pub enum Data {
+    /// An IPv4 address, its first octet first (RFC 1035, section 3.4.1).
+    A([u8; 4]),
+    /// An IPv6 address, its first octet first (RFC 3596, section 2.2).
+    Aaaa([u8; 16]),
+    /// The one name of NS, CNAME and PTR (RFC 1035, sections 3.3.1, 3.3.11 and 3.3.12).
+    One(Name),
+    /// A mail exchange; the least preference is tried first (RFC 1035, section 3.3.9).
+    Mx {
+        preference: u16,
+        exchange: Name,
+    },
+    /// The start of a zone of authority; times in seconds (RFC 1035, section 3.3.13).
+    Soa {
+        primary: Name,
+        mailbox: Name,
+        serial: u32,
+        refresh: u32,
+        retry: u32,
+        expire: u32,
+        minimum: u32,
+    },
+    /// One or more strings of at most 255 octets each (RFC 1035, section 3.3.14).
+    Txt(Items<Octets>),
+    /// The place of a service (RFC 2782).
+    Srv {
+        priority: u16,
+        weight: u16,
+        port: u16,
+        target: Name,
+    },
+    /// The octets of every other type (RFC 3597, section 5).
+    Opaque(Octets),
+}
+
+/// A record (RFC 1035, section 3.2).
+#[derive(Debug, Drop, PartialEq)]
+pub struct Record {
+    pub owner: Name,
+    pub kind: u16,
+    /// In seconds.
+    pub ttl: u32,
+    pub body: Data,
+}
