@@ -1,0 +1,88 @@
+//! The place of one question in the cache.
+
+ghost use Rattle.std.specs.Prelude.{◌≡◌, ◌↔◌, None, true};
+ghost use Rattle.ranked.specs.Cell.{turns_away, admitted, shown_at};
+ghost use Rattle.ranked.specs.Find.{kept_of};
+
+use crate::find::{Find, SharedFind};
+use crate::rank::Rank;
+
+/// What a cell keeps of an admission: its rank, its time to live and its moment, both in seconds, and the find or what stands for it.
+#[derive(Clone, Copy, Debug, PartialEq, Eq)]
+pub struct Kept<B> {
+    pub rank: Rank,
+    pub ttl: u32,
+    pub since: u64,
+    pub body: B,
+}
+
+/// What a cell shows at a moment, with the seconds left.
+#[derive(Clone, Copy, Debug, PartialEq, Eq, Drop)]
+pub struct Shown<B> {
+    pub rank: Rank,
+    pub left: u32,
+    pub body: B,
+}
+
+/// A find that is lent, with the seconds left.
+pub type Held<'a> = Shown<&'a SharedFind>;
+
+/// What became of an admission.
+#[derive(Clone, Copy, Debug, PartialEq, Eq)]
+pub enum Fate {
+    Taken,
+    Outranked,
+}
+
+/// The place of one question: at most one admission, by the slot at which the owner of the cell keeps the find, or by the find itself.
+#[derive(Clone, Copy, Debug, PartialEq, Eq)]
+pub struct Cell<B = usize> {
+    pub kept: Option<Kept<B>>,
+}
+
+impl<B: Copy> Cell<B> {
+    /// A cell that keeps nothing.
+    pub fn empty() -> Cell<B>
+        ensures { result.kept ≡ None }
+    {
+        Cell { kept: None }
+    }
+
+    /// Keeps an admission, unless what it keeps is alive then and of higher rank (RFC 2181, section 5.4.1). Equal rank is replaced.
+    pub fn admit(&mut self, find: &Find, body: B, moment: u64) -> Fate
+        ensures kept { self.new.kept ≡ admitted self.old.kept (kept_of find.now body moment) }
+        ensures outranked { (result ≡ Fate.Outranked) ↔ (turns_away self.old.kept (kept_of find.now body moment) ≡ true) }
+    {
+        if let Some(old) = self.kept {
+            if moment.saturating_sub(old.since) < u64::from(old.ttl)
+                && find.rank.level() < old.rank.level()
+            {
+                return Fate::Outranked;
+            }
+        }
+        self.kept = Some(Kept {
+            rank: find.rank,
+            ttl: find.ttl,
+            since: moment,
+            body,
+        });
+        Fate::Taken
+    }
+
+    /// What it shows at a moment, in seconds.
+    pub fn at(&self, moment: u64) -> Option<Shown<B>>
+        ensures { result ≡ shown_at self.now.kept moment }
+    {
+        let kept = self.kept?;
+        let age = moment.saturating_sub(kept.since);
+        if age < u64::from(kept.ttl) {
+            Some(Shown {
+                rank: kept.rank,
+                left: kept.ttl - age as u32,
+                body: kept.body,
+            })
+        } else {
+            None
+        }
+    }
+}

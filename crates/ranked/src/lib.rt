@@ -1,0 +1,10 @@
+//! What is believed: finds by trust, and the cells that keep them.
+#![tactic(auto)]
+
+mod cell;
+mod find;
+mod rank;
+
+pub use cell::{Cell, Fate, Held, Kept, Shown};
+pub use find::{Body, Find, Scope, SharedFind};
+pub use rank::Rank;
