@@ -1,0 +1,3 @@
+mod Replying
+mod Taken
+mod UndoLaw

@@ -1,0 +1,10 @@
+pub mod Event
+pub mod Marks
+pub mod History
+pub mod Cells
+pub mod Reply
+pub mod Answers
+pub mod Refusal
+pub mod Counts
+pub mod Plain
+pub mod PlainBook

@@ -1,0 +1,93 @@
+//! The promise that every book keeps, however it keeps it.
+
+ghost use Rattle.std.specs.Prelude.{◌≡◌, ◌≤◌, ℕ, List, count_by, IfOk, OnErr, IsErrOf};
+ghost use Rattle.undo_book.specs.declared.event.Event.{Event};
+ghost use Rattle.undo_book.specs.declared.event.Settings.{Settings};
+ghost use Rattle.undo_book.specs.Event.{is_admission};
+ghost use Rattle.undo_book.specs.History.{past_of};
+ghost use Rattle.undo_book.specs.Reply.{seen_of, look_seen};
+ghost use Rattle.undo_book.specs.Answers.{Answers, history_after};
+
+use crate::event::{Ask, Event, Look, Reply, Seen, Settings};
+use dns_text::Question;
+use std::alloc::{AllocError, AllocFailed};
+use thiserror::Error;
+
+/// Why an event is not taken. Then nothing has changed, the greatest moment included.
+#[derive(Clone, Copy, Debug, PartialEq, Eq, Error)]
+pub enum StepFault {
+    /// The moment is 2^40 or more.
+    #[error("the moment is too late")]
+    BadMoment,
+    /// 2^62 - 1 events were taken.
+    #[error("no more events are counted")]
+    CountEnded,
+    /// As many cells are stored as there may be. It comes to an admission alone.
+    #[error("{stored} cells are stored")]
+    Full { stored: usize },
+    /// Memory was refused.
+    #[error("out of memory")]
+    NoMemory,
+}
+
+impl From<AllocError> for StepFault {
+    ghost use Rattle.undo_book.specs.declared.book.StepFault.TheVariants.{NoMemory};
+
+    ghost from_gives = { λ _ e. e ≡ NoMemory };
+
+    fn from(_e: AllocError) -> StepFault {
+        StepFault::NoMemory
+    }
+}
+
+impl<T: Drop> From<AllocFailed<T>> for StepFault {
+    ghost use Rattle.undo_book.specs.declared.book.StepFault.TheVariants.{NoMemory};
+
+    ghost from_gives = { λ _ e. e ≡ NoMemory };
+
+    fn from(_e: AllocFailed<T>) -> StepFault {
+        StepFault::NoMemory
+    }
+}
+
+/// A book of what was found. What it answers is what a replay of its history from nothing gives, with the undone commands struck out.
+pub trait Book {
+    /// The book is what this history comes to.
+    ghost stands_for: { Self → List Event → Type 0 };
+
+    /// What the book was made with.
+    ghost settings: { Self → Settings };
+
+    /// How many cells are stored.
+    ghost stored: { Self → ℕ };
+
+    /// Takes an event.
+    fn step(&mut self, event: Event) -> Result<Reply, StepFault>
+        // The reply is that of the replay; a fault comes only for its reason.
+        ensures answers { (h : List Event) → stands_for self.old h → Answers (settings self.old) h event result }
+
+        // The book stands for the history with the event, and after a fault for the history as it was.
+        ensures stands { (h : List Event) → stands_for self.old h → stands_for self.new (history_after h event result) }
+
+        // It is full only where as many cells are stored as there may be.
+        ensures full { (n : ℕ) → IsErrOf result (StepFault.Full n) → stored self.old ≡ n }
+        ensures same_store { OnErr result (stored self.new ≡ stored self.old) }
+        ensures settings { settings self.new ≡ settings self.old };
+
+    /// What a look that gives this moment would be answered. It moves no clock, and no moment is too late for it.
+    fn seen(&self, ask: &Ask, moment: u64) -> Result<Seen, AllocError>
+        ensures { (h : List Event) → stands_for self.now h →
+            IfOk result (λ s. s ≡ seen_of (past_of (settings self.now).journal h) ask.now moment) };
+
+    /// What a look at a question would be answered, with no memory taken.
+    fn look(&self, question: &Question, moment: u64) -> Look<'_>
+        ensures { (h : List Event) → stands_for self.now h →
+            look_seen result ≡ seen_of (past_of (settings self.now).journal h) (Ask.Answer question.now) moment };
+
+    /// How many cells are stored.
+    fn stored(&self) -> usize
+        ensures { result ≡ stored self.now };
+
+    /// No more is stored than was admitted.
+    ghost stores_few: { (book : Self) (h : List Event) → stands_for book h → stored book ≤ count_by is_admission h };
+}

@@ -1,0 +1,178 @@
+//! What a book is given and asked, and what it replies.
+
+ghost use Rattle.std.specs.Prelude.{◌≡◌, IfOk};
+
+use dns_name::Name;
+use dns_text::Question;
+use ranked::{Held, SharedFind, Shown};
+use std::alloc::AllocError;
+
+/// What a book is asked.
+#[derive(Debug, Drop, PartialEq)]
+pub enum Ask {
+    /// What is known about a question.
+    Answer(Question),
+}
+
+/// What the operator gives, and can take back.
+#[derive(Debug, Drop, PartialEq)]
+pub enum Command {
+    /// Empties the cell of one question.
+    FlushType(Question),
+}
+
+impl Command {
+    ghost use Rattle.undo_book.specs.Event.{covers};
+
+    /// Whether it empties the cell of the question of this name and type.
+    pub fn covers(&self, owner: &Name, kind: u16) -> bool
+        ensures { result ≡ covers self.now (record { owner = owner.now; kind = kind }) }
+    {
+        match self {
+            Command::FlushType(target) => target.owner == *owner && target.kind == kind,
+        }
+    }
+}
+
+/// One event, with the moment that it gives, in seconds.
+#[derive(Debug, Drop, PartialEq)]
+pub enum Event {
+    /// Something was found.
+    Admit { moment: u64, find: SharedFind },
+    /// Something is asked.
+    Look { moment: u64, ask: Ask },
+    /// The operator gives a command.
+    Do { moment: u64, command: Command },
+    /// The newest command that can be undone is taken back.
+    Undo { moment: u64 },
+    /// The command that was undone last is put back at its place.
+    Redo { moment: u64 },
+}
+
+impl Event {
+    ghost use Rattle.undo_book.specs.Event.{moment_of, is_admission};
+
+    /// The moment that it gives.
+    pub fn moment(&self) -> u64
+        ensures { result ≡ moment_of self.now }
+    {
+        match self {
+            Event::Admit { moment, .. } => *moment,
+            Event::Look { moment, .. } => *moment,
+            Event::Do { moment, .. } => *moment,
+            Event::Undo { moment } => *moment,
+            Event::Redo { moment } => *moment,
+        }
+    }
+
+    /// Whether something was found.
+    pub fn is_admission(&self) -> bool
+        ensures { result ≡ is_admission self.now }
+    {
+        matches!(self, Event::Admit { .. })
+    }
+}
+
+/// What is seen, with the data lent.
+#[derive(Clone, Copy, Debug)]
+pub enum Look<'a> {
+    /// Nothing that may be answered.
+    Unknown,
+    /// A find that lives, with the seconds left.
+    Held(Held<'a>),
+}
+
+impl Look<'_> {
+    ghost use Rattle.undo_book.specs.Reply.{look_seen};
+
+    /// The same with a share of the data. It fails where a find has more owners than can be counted.
+    pub fn to_seen(&self) -> Result<Seen, AllocError>
+        ensures { IfOk result (λ seen. seen ≡ look_seen self.now) }
+    {
+        match self {
+            Look::Unknown => Ok(Seen::Unknown),
+            Look::Held(held) => Ok(Seen::Held(Shown {
+                rank: held.rank,
+                left: held.left,
+                body: held.body.share()?,
+            })),
+        }
+    }
+}
+
+/// What is seen, with a share of the data.
+#[derive(Debug, Drop, PartialEq)]
+pub enum Seen {
+    /// Nothing that may be answered.
+    Unknown,
+    /// A find that lives, with the seconds left.
+    Held(Shown<SharedFind>),
+}
+
+/// Why a command is refused.
+#[derive(Clone, Copy, Debug, PartialEq, Eq)]
+pub enum Reason {
+    /// The record's owner is strictly below the redirect zone that it lies in.
+    BelowRedirect,
+    /// A record would lie strictly below the name of a redirect zone.
+    DataBelow,
+    /// A CNAME would stand beside other types.
+    CnameClash,
+    /// A list would be longer than it may be.
+    TooMany,
+}
+
+/// What is replied to an event.
+#[derive(Debug, Drop, PartialEq)]
+pub enum Reply {
+    /// The find is held.
+    Taken,
+    /// What is held lives and is trusted more.
+    Outranked,
+    /// What the look sees.
+    Seen(Seen),
+    /// The command is accepted, and took this ticket.
+    Done { ticket: u64 },
+    /// The command is not accepted.
+    Refused(Reason),
+    /// The command of this ticket is taken back.
+    Undone { ticket: u64 },
+    /// The command of this ticket is put back.
+    Redone { ticket: u64 },
+    /// No command can be undone.
+    NothingToUndo,
+    /// No command can be redone.
+    NothingToRedo,
+}
+
+impl Reply {
+    ghost use Rattle.undo_book.specs.Reply.{ticket_in};
+
+    /// The ticket that a command took.
+    pub fn ticket(&self) -> Option<u64>
+        ensures { result ≡ ticket_in self.now }
+    {
+        match self {
+            Reply::Done { ticket } => Some(*ticket),
+            _ => None,
+        }
+    }
+}
+
+/// An event that was taken, with the moment at which it counts and the ticket that it took.
+#[derive(Debug, Drop)]
+pub struct Entry {
+    pub event: Event,
+    /// In seconds: the greatest moment that was given so far, by this event too.
+    pub moment: u64,
+    pub ticket: Option<u64>,
+}
+
+/// What a book is made with.
+#[derive(Clone, Copy, Debug, PartialEq, Eq)]
+pub struct Settings {
+    /// How many of the newest commands can be undone, from 1 to 256.
+    pub journal: usize,
+    /// How many cells there may be, from 1 to 1,000,000.
+    pub cells: usize,
+}
