@@ -5,7 +5,7 @@ ghost use Rattle.std.specs.Iterator.{YieldsFirstBy, item_count};
 ghost use Rattle.dns_name.specs.Labels.{IsAtOrBelow, octets_of, spelled, IsName, IsOctets, labels_in, labels_of, parent_of};
 ghost use Rattle.dns_name.specs.Making.{Gives, name_after, lowered};
 ghost use Rattle.dns_name.specs.Octets.{Begins, Ends};
-ghost use Rattle.dns_name.specs.Order.{labels_cmp};
+ghost use Rattle.dns_name.specs.Order.{labels_cmp, ZoneIsFirst, SubtreeIsContiguous};
 
 use crate::NoMemory;
 use crate::builder::NameBuilder;
@@ -218,6 +218,13 @@ fn compared(a: &[u8], b: &[u8]) -> Ordering
         Some(_) => Ordering::Less,
     }
 }
+
+/// In the order of names a subtree is one run, and its zone comes first: so the names at or below
+/// a zone are found by a walk from the zone on, up to the first that is not.
+pub fn subtree_law()
+    ensures zone_is_first { ZoneIsFirst }
+    ensures contiguous { SubtreeIsContiguous }
+{}
 
 impl PartialEq for Name {
     ghost use Rattle.dns_name.specs.Order.{name_eq, name_per};
