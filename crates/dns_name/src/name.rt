@@ -55,7 +55,7 @@ impl Name {
         ensures value { IfOk result (λ n. n ≡ lowered (map (λ l. l.now) labels.now)) }
         ensures only { IfErr result (λ e. IsName (lowered (map (λ l. l.now) labels.now)) → e ≡ NameFault.NoMemory) }
     {
-        built(alloc, labels)
+        build(alloc, labels)
     }
 
     /// The name of the labels that these octets spell from the root.
@@ -109,7 +109,7 @@ impl Name {
     pub fn at_or_below(&self, zone: &Name) -> bool
         ensures { IsTrue result ↔ IsAtOrBelow self.now zone.now }
     {
-        self.octets.starts_with(&zone.octets)
+        self.octets().starts_with(zone.octets())
     }
 }
 
@@ -145,7 +145,7 @@ impl<'a> Iterator for Labels<'a> {
 }
 
 #[tactic(auto, unfolding(crate::specs::Making::name_after))]
-fn built(alloc: Global, labels: &[&[u8]]) -> Result<Name, NameFault>
+fn build(alloc: Global, labels: &[&[u8]]) -> Result<Name, NameFault>
     ensures { Gives result (name_after [] (map (λ l. l.now) labels.now)) }
 {
     let mut builder = NameBuilder::new();
@@ -195,7 +195,7 @@ fn push_labels(octets: &[u8], out: &mut Vec<u8>) -> Result<(), NoMemory>
 }
 
 /// Compares the labels that two runs of octets spell.
-fn compared(a: &[u8], b: &[u8]) -> Ordering
+fn compare(a: &[u8], b: &[u8]) -> Ordering
     requires a { IsOctets a.now }
     requires b { IsOctets b.now }
     ensures { result ≡ labels_cmp (labels_in a.now) (labels_in b.now) }
@@ -269,7 +269,7 @@ impl Ord for Name {
     ghost matches_eq = { name_eq-is_eq };
 
     fn cmp(&self, other: &Name) -> Ordering {
-        compared(&self.octets, &other.octets)
+        compare(&self.octets, &other.octets)
     }
 }
 
