@@ -1,6 +1,7 @@
 //! What was found about a question.
 
-ghost use Rattle.std.specs.Prelude.{◌≡◌, ◌<◌, ◌≤◌, IfOk};
+ghost use Rattle.std.specs.Prelude.{◌≡◌, ◌≤◌, IfOk};
+ghost use Rattle.ranked.specs.declared.find.TheConstants.{LONGEST_TTL};
 
 use crate::rank::Rank;
 use dns_name::Name;
@@ -23,15 +24,20 @@ pub enum Body {
     Set(Items<Data>),
 }
 
+/// The longest time to live of a set, in seconds. RFC 2181, section 8, allows up to 2,147,483,647; this resolver keeps a day.
+pub const LONGEST_TTL: u32 = 86_400;
+
 /// What was learnt about one owner.
 #[derive(Debug, Drop, PartialEq)]
 pub struct Find {
     pub owner: Name,
     pub scope: Scope,
     pub rank: Rank,
-    /// In seconds, from 1 to 86,400.
+    /// In seconds, from 1 to `LONGEST_TTL`.
     pub ttl: u32,
     pub body: Body,
+    pub ghost lives: { 1 ≤ ttl },
+    pub ghost cut: { ttl ≤ LONGEST_TTL },
 }
 
 impl Find {

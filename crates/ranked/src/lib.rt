@@ -6,5 +6,5 @@ mod find;
 mod rank;
 
 pub use cell::{Cell, Fate, Held, Kept, Shown};
-pub use find::{Body, Find, Scope, SharedFind};
+pub use find::{Body, Find, LONGEST_TTL, Scope, SharedFind};
 pub use rank::Rank;
