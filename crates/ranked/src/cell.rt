@@ -4,8 +4,9 @@ ghost use Rattle.std.specs.Prelude.{◌≡◌, ◌↔◌, None, true};
 ghost use Rattle.ranked.specs.Cell.{turns_away, admitted, shown_at};
 ghost use Rattle.ranked.specs.Find.{kept_of};
 
-use crate::find::{Find, SharedFind};
+use crate::find::Find;
 use crate::rank::Rank;
+use crate::shared::SharedFind;
 
 /// What a cell keeps of an admission: its rank, its time to live and its moment, both in seconds, and the find or what stands for it.
 #[derive(Clone, Copy, Debug, PartialEq, Eq)]
