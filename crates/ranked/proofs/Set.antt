@@ -5,15 +5,8 @@ use Rattle.std.specs.Cmp.{IsPartialEquivalence}
 use Rattle.std.proofs.lemmas.Bool.{cases_Bool, or_parts, or_cases, or_left, or_right, true≢false}
 use Rattle.std.proofs.lemmas.List.{append-nil, drop_more, take_more, take_at, drop_at, take_all, drop_all, length-take}
 use Rattle.std.proofs.lemmas.List.Folds.{list_any-append}
+use Rattle.std.proofs.Math.Bool.{or_assoc, or-false}
 use Rattle.ranked.specs.Set.{is_among, with_datum, each_once, IsInOrder, none, kept, left}
-
-or_assoc : (a b c : Bool) → ((a || b) || c) ≡ (a || (b || c))
-or_assoc true b c = refl
-or_assoc false b c = refl
-
-or-false : (a : Bool) → (a || false) ≡ a
-or-false true = refl
-or-false false = refl
 
 all_push : {D : Type 0} (P : D → Type 0) (ds : List D) (x : D) → AllByRecursion P ds → P x → AllByRecursion P (ds ++ x ∷ [])
 all_push P [] x h p = (p, tt)

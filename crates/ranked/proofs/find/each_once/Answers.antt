@@ -1,4 +1,4 @@
-use Rattle.std.proofs.Common.{◌≡◌, ◌<◌, ◌≤◌, length, take, sym, ap, ◌∙◌, subst, arith}
+use Rattle.std.proofs.Common.{◌<◌, ◌≤◌, length, take, sym, ap, ◌∙◌, subst, arith}
 use Rattle.std.specs.List.{IsDistinct}
 use Rattle.ranked.specs.Set.{is_among, IsInOrder}
 use Rattle.ranked.proofs.Set.{each_once-distinct, each_once-same, each_once-order, left_out, taken, all_taken}
