@@ -83,6 +83,18 @@ module _ {D : Type 0} (eq : D → D → Bool) where
   pub each_once-order : (xs : List D) → IsInOrder (each_once eq xs) xs
   each_once-order xs = order_fold [] [] xs none
 
+  grows_with : (ds : List D) (x : D) → length ds ≤ length (with_datum eq ds x)
+  grows_with ds x =
+      elim (list_any (λ d. eq d x) ds) as (λ b. length ds ≤ length (cond b ds (ds ++ x ∷ []))) [ true ↦ omega arith | false ↦ omega (arith, length-append ds (x ∷ [])) ]
+
+  grows : (ds xs : List D) → length ds ≤ length (fold (with_datum eq) ds xs)
+  grows ds [] = omega arith
+  grows ds (x ∷ xs) = omega (arith, grows_with ds x, grows (with_datum eq ds x) xs)
+
+  pub each_once-some : (xs : List D) → 1 ≤ length xs → 1 ≤ length (each_once eq xs)
+  each_once-some [] h = absurd (omega arith)
+  each_once-some (x ∷ xs) h = grows (x ∷ []) xs
+
   -- ---- the loop: the data before i, each once, and those from i on
 
   next : (ds : List D) (i : ℕ) (x : D) → i < length ds → x ≡ get_or ds i x → fold (with_datum eq) (take i ds) (drop i ds) ≡ fold (with_datum eq) (with_datum eq (take i ds) x) (drop (i + 1) ds)

@@ -1,6 +1,6 @@
 //! The place of one question in the cache.
 
-ghost use Rattle.std.specs.Prelude.{◌≡◌, ◌↔◌, ◌+◌, ◌<◌, ◌≤◌, None, true};
+ghost use Rattle.std.specs.Prelude.{◌≡◌, ◌↔◌, ◌+◌, ◌<◌, ◌≤◌, None, true, IfSome};
 ghost use Rattle.ranked.specs.Cell.{is_alive, turns_away, admitted, shown_at};
 ghost use Rattle.ranked.specs.Find.{kept_of};
 
@@ -8,11 +8,13 @@ use crate::find::Find;
 use crate::rank::Rank;
 use crate::shared::SharedFind;
 
-/// What a cell keeps of an admission: its rank, its time to live and its moment, both in seconds, and the find or what stands for it.
+/// What a cell keeps of an admission. The body is the find or what stands for it, such as an index under which it lies.
 #[derive(Clone, Copy, Debug, PartialEq, Eq)]
 pub struct Kept<B> {
     pub rank: Rank,
+    /// In seconds.
     pub ttl: u32,
+    /// The moment at which it was admitted, in seconds.
     pub since: u64,
     pub body: B,
 }
@@ -27,10 +29,11 @@ impl<B> Kept<B> {
     }
 }
 
-/// What a cell shows at a moment, with the seconds left.
+/// What a cell shows at a moment.
 #[derive(Clone, Copy, Debug, PartialEq, Eq, Drop)]
 pub struct Shown<B> {
     pub rank: Rank,
+    /// The seconds that it still lives.
     pub left: u32,
     pub body: B,
 }
@@ -41,11 +44,13 @@ pub type Held<'a> = Shown<&'a SharedFind>;
 /// What became of an admission.
 #[derive(Clone, Copy, Debug, PartialEq, Eq)]
 pub enum Fate {
+    /// It is kept, in place of what was kept before.
     Taken,
+    /// What was kept is alive and of higher rank, and stays.
     Outranked,
 }
 
-/// The place of one question: at most one admission, by the slot at which the owner of the cell keeps the find, or by the find itself.
+/// The place of one question, which keeps at most one admission. By default the body is an index, under which the owner of the cell keeps the find.
 #[derive(Clone, Copy, Debug, PartialEq, Eq)]
 pub struct Cell<B = usize> {
     pub kept: Option<Kept<B>>,
@@ -80,7 +85,11 @@ impl<B: Copy> Cell<B> {
 
     /// What it shows at a moment, in seconds.
     pub fn at(&self, moment: u64) -> Option<Shown<B>>
-        ensures { result ≡ shown_at self.now.kept moment }
+        ensures value { result ≡ shown_at self.now.kept moment }
+
+        // What it shows has at least a second left, and its life ends with the last.
+        ensures lives { IfSome result (λ shown. 1 ≤ shown.left) }
+        ensures end { IfSome self.now.kept (λ kept. kept.since ≤ moment → IfSome result (λ shown. moment + shown.left ≡ kept.since + kept.ttl)) }
     {
         let kept = self.kept?;
         if !kept.is_alive(moment) {

@@ -1,7 +1,8 @@
 //! What was found about a question.
 
-ghost use Rattle.std.specs.Prelude.{◌≡◌, ◌≤◌, ◌↔◌, length, min, IsSome, IfSome};
+ghost use Rattle.std.specs.Prelude.{◌≡◌, ◌≤◌, ◌↔◌, length, min, IsSome, IfSome, IsTrue};
 ghost use Rattle.std.specs.List.{IsDistinct};
+ghost use Rattle.ranked.specs.Body.{data_of, has_data};
 ghost use Rattle.ranked.specs.Set.{each_once, is_among, IsInOrder};
 ghost use Rattle.ranked.specs.declared.find.TheConstants.{LONGEST_TTL};
 
@@ -37,10 +38,11 @@ pub struct Find {
     pub body: Body,
     pub ghost lives: { 1 ≤ ttl },
     pub ghost cut: { ttl ≤ LONGEST_TTL },
+    pub ghost found: { IsTrue (has_data body) },
 }
 
 impl Find {
-    ghost use Rattle.ranked.specs.Find.{touches, data_of};
+    ghost use Rattle.ranked.specs.Find.{touches};
 
     /// A set of one type. Data that equal earlier ones are left out, and a longer time to live is cut to `LONGEST_TTL`. None where the time to live is 0 or there are no data.
     pub fn new(owner: Name, kind: u16, rank: Rank, ttl: u32, given: Items<Data>) -> Option<Find>
@@ -82,6 +84,7 @@ impl Find {
 // Takes no memory, and looks at each pair at most once: a set is what one message holds.
 fn each_once<T: PartialEq + Drop>(mut items: Vec<T>) -> Vec<T>
     ensures value { result.items ≡ each_once T.eq items.items }
+    ensures some { 1 ≤ length items.items → 1 ≤ length result.items }
     ensures distinct { IsDistinct T.eq result.items }
     ensures same { (item : T) → is_among T.eq result.items item ≡ is_among T.eq items.items item }
     ensures order { IsInOrder result.items items.items }
