@@ -1,25 +1,39 @@
 //! The place of one question in the cache.
 
-ghost use Rattle.std.specs.Prelude.{◌≡◌, ◌↔◌, None, true};
-ghost use Rattle.ranked.specs.Cell.{turns_away, admitted, shown_at};
+ghost use Rattle.std.specs.Prelude.{◌≡◌, ◌↔◌, ◌+◌, ◌<◌, ◌≤◌, None, true, IfSome};
+ghost use Rattle.ranked.specs.Cell.{is_alive, turns_away, admitted, shown_at};
 ghost use Rattle.ranked.specs.Find.{kept_of};
 
-use crate::find::{Find, SharedFind};
+use crate::find::Find;
 use crate::rank::Rank;
+use crate::shared::SharedFind;
 
-/// What a cell keeps of an admission: its rank, its time to live and its moment, both in seconds, and the find or what stands for it.
+/// What a cell keeps of an admission. The body is the find or what stands for it, such as an index under which it lies.
 #[derive(Clone, Copy, Debug, PartialEq, Eq)]
 pub struct Kept<B> {
     pub rank: Rank,
+    /// In seconds.
     pub ttl: u32,
+    /// The moment at which it was admitted, in seconds.
     pub since: u64,
     pub body: B,
 }
 
-/// What a cell shows at a moment, with the seconds left.
+impl<B> Kept<B> {
+    /// Whether it is alive at a moment, in seconds. A moment before its own counts as its own.
+    pub fn is_alive(&self, moment: u64) -> bool
+        ensures age { result ≡ is_alive self.now moment }
+        ensures end { 1 ≤ self.now.ttl → ((result ≡ true) ↔ (moment < self.now.since + self.now.ttl)) }
+    {
+        moment.saturating_sub(self.since) < u64::from(self.ttl)
+    }
+}
+
+/// What a cell shows at a moment.
 #[derive(Clone, Copy, Debug, PartialEq, Eq, Drop)]
 pub struct Shown<B> {
     pub rank: Rank,
+    /// The seconds that it still lives.
     pub left: u32,
     pub body: B,
 }
@@ -30,11 +44,13 @@ pub type Held<'a> = Shown<&'a SharedFind>;
 /// What became of an admission.
 #[derive(Clone, Copy, Debug, PartialEq, Eq)]
 pub enum Fate {
+    /// It is kept, in place of what was kept before.
     Taken,
+    /// What was kept is alive and of higher rank, and stays.
     Outranked,
 }
 
-/// The place of one question: at most one admission, by the slot at which the owner of the cell keeps the find, or by the find itself.
+/// The place of one question, which keeps at most one admission. By default the body is an index, under which the owner of the cell keeps the find.
 #[derive(Clone, Copy, Debug, PartialEq, Eq)]
 pub struct Cell<B = usize> {
     pub kept: Option<Kept<B>>,
@@ -54,9 +70,7 @@ impl<B: Copy> Cell<B> {
         ensures outranked { (result ≡ Fate.Outranked) ↔ (turns_away self.old.kept (kept_of find.now body moment) ≡ true) }
     {
         if let Some(old) = self.kept {
-            if moment.saturating_sub(old.since) < u64::from(old.ttl)
-                && find.rank.level() < old.rank.level()
-            {
+            if old.is_alive(moment) && find.rank.level() < old.rank.level() {
                 return Fate::Outranked;
             }
         }
@@ -71,18 +85,20 @@ impl<B: Copy> Cell<B> {
 
     /// What it shows at a moment, in seconds.
     pub fn at(&self, moment: u64) -> Option<Shown<B>>
-        ensures { result ≡ shown_at self.now.kept moment }
+        ensures value { result ≡ shown_at self.now.kept moment }
+
+        // What it shows has at least a second left, and its life ends with the last.
+        ensures lives { IfSome result (λ shown. 1 ≤ shown.left) }
+        ensures end { IfSome self.now.kept (λ kept. kept.since ≤ moment → IfSome result (λ shown. moment + shown.left ≡ kept.since + kept.ttl)) }
     {
         let kept = self.kept?;
-        let age = moment.saturating_sub(kept.since);
-        if age < u64::from(kept.ttl) {
-            Some(Shown {
-                rank: kept.rank,
-                left: kept.ttl - age as u32,
-                body: kept.body,
-            })
-        } else {
-            None
+        if !kept.is_alive(moment) {
+            return None;
         }
+        Some(Shown {
+            rank: kept.rank,
+            left: kept.ttl - moment.saturating_sub(kept.since) as u32,
+            body: kept.body,
+        })
     }
 }
