@@ -1,11 +1,12 @@
 //! The place of one question in the cache.
 
-ghost use Rattle.std.specs.Prelude.{◌≡◌, ◌↔◌, None, true};
-ghost use Rattle.ranked.specs.Cell.{turns_away, admitted, shown_at};
+ghost use Rattle.std.specs.Prelude.{◌≡◌, ◌↔◌, ◌+◌, ◌<◌, ◌≤◌, None, true};
+ghost use Rattle.ranked.specs.Cell.{is_alive, turns_away, admitted, shown_at};
 ghost use Rattle.ranked.specs.Find.{kept_of};
 
-use crate::find::{Find, SharedFind};
+use crate::find::Find;
 use crate::rank::Rank;
+use crate::shared::SharedFind;
 
 /// What a cell keeps of an admission: its rank, its time to live and its moment, both in seconds, and the find or what stands for it.
 #[derive(Clone, Copy, Debug, PartialEq, Eq)]
@@ -14,6 +15,16 @@ pub struct Kept<B> {
     pub ttl: u32,
     pub since: u64,
     pub body: B,
+}
+
+impl<B> Kept<B> {
+    /// Whether it is alive at a moment, in seconds. A moment before its own counts as its own.
+    pub fn is_alive(&self, moment: u64) -> bool
+        ensures age { result ≡ is_alive self.now moment }
+        ensures end { 1 ≤ self.now.ttl → ((result ≡ true) ↔ (moment < self.now.since + self.now.ttl)) }
+    {
+        moment.saturating_sub(self.since) < u64::from(self.ttl)
+    }
 }
 
 /// What a cell shows at a moment, with the seconds left.
@@ -54,9 +65,7 @@ impl<B: Copy> Cell<B> {
         ensures outranked { (result ≡ Fate.Outranked) ↔ (turns_away self.old.kept (kept_of find.now body moment) ≡ true) }
     {
         if let Some(old) = self.kept {
-            if moment.saturating_sub(old.since) < u64::from(old.ttl)
-                && find.rank.level() < old.rank.level()
-            {
+            if old.is_alive(moment) && find.rank.level() < old.rank.level() {
                 return Fate::Outranked;
             }
         }
@@ -74,15 +83,13 @@ impl<B: Copy> Cell<B> {
         ensures { result ≡ shown_at self.now.kept moment }
     {
         let kept = self.kept?;
-        let age = moment.saturating_sub(kept.since);
-        if age < u64::from(kept.ttl) {
-            Some(Shown {
-                rank: kept.rank,
-                left: kept.ttl - age as u32,
-                body: kept.body,
-            })
-        } else {
-            None
+        if !kept.is_alive(moment) {
+            return None;
         }
+        Some(Shown {
+            rank: kept.rank,
+            left: kept.ttl - moment.saturating_sub(kept.since) as u32,
+            body: kept.body,
+        })
     }
 }

@@ -1,6 +1,6 @@
 //! How far data is trusted.
 
-ghost use Rattle.std.specs.Prelude.{◌≡◌};
+ghost use Rattle.std.specs.Prelude.{◌≡◌, ◌≤◌, ◌↔◌, IfSome, IsSome};
 
 /// How far data is trusted, by where in a message it stood (RFC 2181, section 5.4.1).
 #[derive(Clone, Copy, Debug, PartialEq, Eq)]
@@ -20,7 +20,9 @@ impl Rank {
 
     /// From 1, the least trusted, to 4.
     pub fn level(self) -> u8
-        ensures { result ≡ level_of self }
+        ensures value { result ≡ level_of self }
+        ensures range { (1 ≤ result) × (result ≤ 4) }
+        ensures again { rank_at result ≡ Some self }
     {
         match self {
             Rank::Additional => 1,
@@ -32,7 +34,9 @@ impl Rank {
 
     /// The rank of a level; none below 1 and above 4.
     pub fn from_level(level: u64) -> Option<Rank>
-        ensures { result ≡ rank_at level }
+        ensures value { result ≡ rank_at level }
+        ensures again { IfSome result (λ rank. level_of rank ≡ level) }
+        ensures range { IsSome result ↔ ((1 ≤ level) × (level ≤ 4)) }
     {
         match level {
             1 => Some(Rank::Additional),
