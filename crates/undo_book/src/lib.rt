@@ -14,3 +14,6 @@ pub use event::{Ask, Command, Entry, Event, Look, Reason, Reply, Seen, Settings}
 pub use laws::{refusal_changes_only_the_clock, undo_takes_back};
 pub use plain::{MakeFault, PlainBook};
 pub use runs::run;
+
+#[cfg(test)]
+mod tests;
