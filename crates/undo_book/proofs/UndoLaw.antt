@@ -1,6 +1,6 @@
 -- A command that is undone at once leaves standing what stood.
 use Rattle.std.proofs.Common.{◌≡◌, ℕ, ◌+◌, ◌-◌, ◌<◌, ◌≤◌, Bool, true, false, cond, Option, Some, None, List, [], ◌∷◌, ◌++◌, length, drop, refl, ◌∙◌, ap, arith, length-append}
-use Rattle.std.specs.Prelude.{fold, filter, not, ◌||◌, ◌==◌, slice_get}
+use Rattle.std.specs.Prelude.{fold, filter, max, not, ◌||◌, ◌==◌, slice_get}
 use Rattle.std.specs.List.{list_any}
 use Rattle.std.proofs.lemmas.List.{drop-append-le, append-nil}
 use Rattle.std.proofs.lemmas.List.Folds.{list_any-append}
@@ -14,6 +14,9 @@ use Rattle.undo_book.specs.declared.event.Entry.{Entry}
 use Rattle.undo_book.specs.declared.event.Reason.{Reason}
 use Rattle.undo_book.specs.Marks.{Marks, newest, last_of, strike, restore}
 use Rattle.undo_book.specs.History.{Past, past_of, nothing, followed_by, marks_after, ticket_for, ticket_unless, reason_of, standing_of, stands_by, unstruck}
+use Rattle.dns_text.specs.declared.record.Question.{Question}
+use Rattle.ranked.specs.Cell.{shown_at}
+use Rattle.undo_book.specs.Cells.{cell_by, cell_of, shows}
 use Rattle.undo_book.specs.Plain.{stands}
 
 -- a ticket that was given out
@@ -42,7 +45,7 @@ restore_tickets j None = refl
 restore_tickets j (Some t) = refl
 
 do_tickets : (bound : ℕ) (j : Marks) (m : ℕ) (c : Command) (o : Option Reason)
-    → (j.tickets ≤ (marks_after bound j (ticket_unless j o) (Do m c)).tickets) × UpTo (marks_after bound j (ticket_unless j o) (Do m c)).tickets (ticket_unless j o)
+    → (j.tickets ≤ (marks_after bound j (Do m c) (ticket_unless j o)).tickets) × UpTo (marks_after bound j (Do m c) (ticket_unless j o)).tickets (ticket_unless j o)
 do_tickets bound j m c None = (omega arith, omega arith)
 do_tickets bound j m c (Some r) = (omega arith, tt)
 
@@ -119,8 +122,21 @@ step_by_step bound past m n c some given accepted =
     in
     rw (accepted, last_newest bound j.done t some) (parts _ _ (ap not (struck_now j.struck t)) refl)
 
-pub undone_at_once : (bound : ℕ) (history : List Event) (m n : ℕ) (c : Command) → 1 ≤ bound → reason_of (past_of bound history) c ≡ None
+pub stands_as_before : (bound : ℕ) (history : List Event) (m n : ℕ) (c : Command) → 1 ≤ bound → reason_of (past_of bound history) c ≡ None
     → standing_of (past_of bound (history ++ Do m c ∷ Undo n ∷ [])) ≡ standing_of (past_of bound history)
-undone_at_once bound history m n c some accepted =
+stands_as_before bound history m n c some accepted =
     ap standing_of (fold-append (followed_by bound) nothing history (Do m c ∷ Undo n ∷ []))
     ∙ step_by_step bound (past_of bound history) m n c some (each_given bound nothing history tt) accepted
+
+-- the clock after both, to a look from both moments on
+later_look : (now m n t : ℕ) → m ≤ t → n ≤ t → max (max (max now m) n) t ≡ max now t
+later_look now m n t earlier before = omega (arith)
+
+pub shows_as_before : (bound : ℕ) (history : List Event) (m n : ℕ) (c : Command) → 1 ≤ bound → reason_of (past_of bound history) c ≡ None
+    → (question : Question) (t : ℕ) → m ≤ t → n ≤ t → shows (past_of bound (history ++ Do m c ∷ Undo n ∷ [])) question t ≡ shows (past_of bound history) question t
+shows_as_before bound history m n c some accepted question t earlier before =
+    let past = past_of bound history in
+    let both : past_of bound (history ++ Do m c ∷ Undo n ∷ []) ≡ followed_by bound (followed_by bound past (Do m c)) (Undo n) = fold-append (followed_by bound) nothing history (Do m c ∷ Undo n ∷ []) in
+    ap (λ (entries : List Entry). shown_at (cell_by question entries) (max (past_of bound (history ++ Do m c ∷ Undo n ∷ [])).now t)) (stands_as_before bound history m n c some accepted)
+    ∙ ap (λ (now : ℕ). shown_at (cell_of past question) (max now t)) (ap (λ (p : Past). p.now) both)
+    ∙ ap (λ (moment : ℕ). shown_at (cell_of past question) moment) (later_look past.now m n t earlier before)

@@ -9,6 +9,7 @@ ghost use Rattle.undo_book.specs.Reply.{seen_of, look_seen};
 ghost use Rattle.undo_book.specs.Answers.{Answers, history_after};
 
 use crate::event::{Ask, Event, Look, Reply, Seen, Settings};
+use dns_name::NoMemory;
 use dns_text::Question;
 use std::alloc::{AllocError, AllocFailed};
 use thiserror::Error;
@@ -75,7 +76,7 @@ pub trait Book {
         ensures settings { settings self.new ≡ settings self.old };
 
     /// What a look that gives this moment would be answered. It moves no clock, and no moment is too late for it.
-    fn seen(&self, ask: &Ask, moment: u64) -> Result<Seen, AllocError>
+    fn seen(&self, ask: &Ask, moment: u64) -> Result<Seen, NoMemory>
         ensures { (h : List Event) → stands_for self.now h →
             IfOk result (λ s. s ≡ seen_of (past_of (settings self.now).journal h) ask.now moment) };
 
@@ -87,6 +88,9 @@ pub trait Book {
     /// How many cells are stored.
     fn stored(&self) -> usize
         ensures { result ≡ stored self.now };
+
+    /// Some command can be undone.
+    ghost can_undo: { (book : Self) (h : List Event) → stands_for book h → 1 ≤ (settings book).journal };
 
     /// No more is stored than was admitted.
     ghost stores_few: { (book : Self) (h : List Event) → stands_for book h → stored book ≤ count_by is_admission h };

@@ -2,10 +2,9 @@
 
 ghost use Rattle.std.specs.Prelude.{◌≡◌, IfOk};
 
-use dns_name::Name;
+use dns_name::{Name, NoMemory};
 use dns_text::Question;
 use ranked::{Held, SharedFind, Shown};
-use std::alloc::AllocError;
 
 /// What a book is asked.
 #[derive(Debug, Drop, PartialEq)]
@@ -37,7 +36,7 @@ impl Command {
 /// One event, with the moment that it gives, in seconds.
 #[derive(Debug, Drop, PartialEq)]
 pub enum Event {
-    /// Something was found.
+    /// A find comes to the cache.
     Admit { moment: u64, find: SharedFind },
     /// Something is asked.
     Look { moment: u64, ask: Ask },
@@ -65,7 +64,7 @@ impl Event {
         }
     }
 
-    /// Whether something was found.
+    /// Whether it is an admission.
     pub fn is_admission(&self) -> bool
         ensures { result ≡ is_admission self.now }
     {
@@ -78,7 +77,7 @@ impl Event {
 pub enum Look<'a> {
     /// Nothing that may be answered.
     Unknown,
-    /// A find that lives, with the seconds left.
+    /// A find that is alive, with the seconds left.
     Held(Held<'a>),
 }
 
@@ -86,7 +85,7 @@ impl Look<'_> {
     ghost use Rattle.undo_book.specs.Reply.{look_seen};
 
     /// The same with a share of the data. It fails where a find has more owners than can be counted.
-    pub fn to_seen(&self) -> Result<Seen, AllocError>
+    pub fn to_seen(&self) -> Result<Seen, NoMemory>
         ensures { IfOk result (λ seen. seen ≡ look_seen self.now) }
     {
         match self {
@@ -105,7 +104,7 @@ impl Look<'_> {
 pub enum Seen {
     /// Nothing that may be answered.
     Unknown,
-    /// A find that lives, with the seconds left.
+    /// A find that is alive, with the seconds left.
     Held(Shown<SharedFind>),
 }
 
@@ -127,7 +126,7 @@ pub enum Reason {
 pub enum Reply {
     /// The find is held.
     Taken,
-    /// What is held lives and is trusted more.
+    /// The find is not held: what is held is alive and of higher rank.
     Outranked,
     /// What the look sees.
     Seen(Seen),
@@ -146,11 +145,11 @@ pub enum Reply {
 }
 
 impl Reply {
-    ghost use Rattle.undo_book.specs.Reply.{ticket_in};
+    ghost use Rattle.undo_book.specs.Reply.{ticket_taken};
 
-    /// The ticket that a command took.
-    pub fn ticket(&self) -> Option<u64>
-        ensures { result ≡ ticket_in self.now }
+    /// The ticket that a command took, where this is the reply to one.
+    pub fn ticket_taken(&self) -> Option<u64>
+        ensures { result ≡ ticket_taken self.now }
     {
         match self {
             Reply::Done { ticket } => Some(*ticket),

@@ -11,6 +11,9 @@ mod plain; // the book that keeps its history and replays it
 
 pub use book::{Book, StepFault};
 pub use event::{Ask, Command, Entry, Event, Look, Reason, Reply, Seen, Settings};
-pub use laws::{refusal_changes_only_the_clock, undo_takes_back};
+pub use laws::{clock_is_greatest, flush_forgets, refusal_changes_only_the_clock, undo_takes_back};
 pub use plain::{MakeFault, PlainBook};
 pub use runs::run;
+
+#[cfg(test)]
+mod tests;

@@ -1,19 +1,19 @@
 //! The book that keeps its history and replays it.
 
-ghost use Rattle.std.specs.Prelude.{◌≡◌, ◌≢◌, ◌↔◌, ℕ, ◌+◌, ◌<◌, ◌≤◌, ◌^◌, List, [], length, count_by, Option, option_map, is_some, IsTrue, IfOk, IfErr, OnOk, OnErr, IsOk, IsErrOf, vec_len, vec_capacity};
+ghost use Rattle.std.specs.Prelude.{◌≡◌, ◌↔◌, ℕ, ◌+◌, ◌<◌, ◌≤◌, ◌^◌, [], length, Option, option_map, is_some, IsTrue, IfOk, OnOk, OnErr, IsOk, IsErrOf, vec_len, vec_capacity};
 ghost use Rattle.undo_book.specs.Counts.{admissions_in};
-ghost use Rattle.undo_book.specs.Event.{moment_of, is_admission, AreSettings};
+ghost use Rattle.undo_book.specs.Event.{is_admission, AreSettings};
 ghost use Rattle.undo_book.specs.History.{marks_after};
-ghost use Rattle.undo_book.specs.Plain.{marks_in, HasRoom, find_now, shown_now};
+ghost use Rattle.undo_book.specs.Plain.{marks_in, HasRoomFor, find_now, shown_now};
 
 use crate::book::{Book, StepFault};
 use crate::event::{Ask, Command, Entry, Event, Look, Reason, Reply, Seen, Settings};
 use crate::journal::PlainJournal;
 use crate::replay::replayed;
-use dns_name::Name;
+use dns_name::{Name, NoMemory};
 use dns_text::Question;
-use ranked::{Cell, Fate, Find, Held, Scope, SharedFind};
-use std::alloc::{AllocError, Global};
+use ranked::{Cell, Fate, Held, Scope, SharedFind};
+use std::alloc::Global;
 use thiserror::Error;
 
 /// Moments are below this, in seconds.
@@ -33,7 +33,7 @@ pub enum MakeFault {
     NoMemory,
 }
 
-/// A book that keeps its whole history, and answers by a replay.
+/// A book that keeps its whole history, and answers by a replay. Every admission counts as a cell, an outranked one too.
 #[derive(Debug, Drop)]
 pub struct PlainBook {
     settings: Settings,
@@ -41,6 +41,7 @@ pub struct PlainBook {
     journal: PlainJournal,
     log: Vec<Entry>,
     admissions: usize,
+    ghost in_range: { AreSettings settings },
     ghost few_tickets: { journal.tickets ≤ length log.items },
     ghost counted: { admissions ≡ admissions_in log.items },
 }
@@ -48,7 +49,7 @@ pub struct PlainBook {
 impl PlainBook {
     ghost use Rattle.undo_book.specs.History.{reason_of, ticket_for, followed_by};
     ghost use Rattle.undo_book.specs.Cells.{cell_of, shows};
-    ghost use Rattle.undo_book.specs.Reply.{seen_by, seen_of, reply_of, fate_by, look_seen};
+    ghost use Rattle.undo_book.specs.Reply.{seen_by, seen_of, reply_of, reply_to_admission, look_seen};
     ghost use Rattle.undo_book.specs.Answers.{IsTimely, AnswersBy};
     ghost use Rattle.undo_book.specs.PlainBook.{past_in};
 
@@ -108,7 +109,7 @@ impl PlainBook {
     }
 
     /// What a look is answered.
-    fn answer(&self, ask: &Ask, moment: u64) -> Result<Seen, AllocError>
+    fn answer(&self, ask: &Ask, moment: u64) -> Result<Seen, NoMemory>
         ensures { IfOk result (λ s. s ≡ seen_of (past_in self.now) ask.now moment) }
     {
         match ask {
@@ -118,7 +119,7 @@ impl PlainBook {
 
     /// What becomes of an admission.
     fn fate(&self, find: &SharedFind, moment: u64) -> Reply
-        ensures { result ≡ fate_by (past_in self.now) find.now moment find.now.scope }
+        ensures { result ≡ reply_to_admission (past_in self.now) find.now moment find.now.scope }
     {
         let Scope::One(kind) = find.find().scope;
         let mut cell = self.cell(&find.find().owner, kind);
@@ -138,7 +139,7 @@ impl PlainBook {
     }
 
     /// What is replied to an event.
-    fn reply(&self, event: &Event) -> Result<Reply, AllocError>
+    fn reply(&self, event: &Event) -> Result<Reply, NoMemory>
         ensures { IfOk result (λ r. r ≡ reply_of (past_in self.now) event.now) }
     {
         match event {
@@ -183,10 +184,10 @@ impl PlainBook {
                 stored: self.admissions,
             });
         }
-        self.journal.reserve()?;
+        self.journal.make_room(&event)?;
         self.log.reserve(1)?;
         let reply = self.reply(&event)?;
-        let ticket = reply.ticket();
+        let ticket = reply.ticket_taken();
         self.add(event, ticket);
         Ok(reply)
     }
@@ -194,7 +195,7 @@ impl PlainBook {
     /// Adds an event to the history.
     fn add(&mut self, event: Event, ticket: Option<u64>)
         requires ticket { ticket ≡ ticket_for (past_in self.old) event }
-        requires room { HasRoom self.old.journal }
+        requires room { HasRoomFor event self.old.journal }
         requires log_room { vec_len self.old.log < vec_capacity self.old.log }
         requires few { length self.old.log.items < 2 ^ 62 }
         ensures past { past_in self.new ≡ followed_by self.old.settings.journal (past_in self.old) event }
@@ -219,18 +220,19 @@ impl PlainBook {
     }
 }
 
-/// The marks after an event, which may be an accepted command.
+/// Sets the marks after an event, which may be an accepted command.
 fn mark(journal: &mut PlainJournal, bound: usize, event: &Event, accepted: bool)
-    requires room { HasRoom journal.old }
+    requires room { HasRoomFor event.now journal.old }
     requires few { journal.old.tickets + 1 < 2 ^ 64 }
-    ensures marks { (ticket : Option ℕ) → accepted ≡ is_some ticket → marks_in journal.new ≡ marks_after bound (marks_in journal.old) ticket event.now }
+    ensures marks { (ticket : Option ℕ) → accepted ≡ is_some ticket → marks_in journal.new ≡ marks_after bound (marks_in journal.old) event.now ticket }
     ensures few { journal.new.tickets ≤ journal.old.tickets + 1 }
 {
-    if accepted {
-        journal.command(bound);
-        return;
-    }
     match event {
+        Event::Do { .. } => {
+            if accepted {
+                journal.command(bound);
+            }
+        }
         Event::Undo { .. } => journal.undo(),
         Event::Redo { .. } => journal.redo(),
         _ => {}
@@ -238,36 +240,37 @@ fn mark(journal: &mut PlainJournal, bound: usize, event: &Event, accepted: bool)
 }
 
 impl Book for PlainBook {
-    ghost use Rattle.std.specs.Prelude.{◌≡◌, ◌≤◌, ℕ, List, length, count_by, IsTrue, OnErr, IsErrOf};
+    ghost use Rattle.std.specs.Prelude.{◌≡◌, ◌↔◌, ℕ, List, length, count_by, IsTrue, OnErr, IsErrOf};
     ghost use Rattle.undo_book.specs.declared.event.Event.{Event};
     ghost use Rattle.undo_book.specs.Event.{is_admission};
     ghost use Rattle.undo_book.specs.Counts.{stores_admissions};
-    ghost use Rattle.undo_book.specs.History.{past_of};
     ghost use Rattle.undo_book.specs.Answers.{IsTimely, Answers, history_after};
-    ghost use Rattle.undo_book.specs.PlainBook.{past_in};
+    ghost use Rattle.undo_book.specs.PlainBook.{past_in, settings_in, stored_in, StandsFor};
 
-    ghost stands_for = { λ book history. past_in book ≡ past_of book.settings.journal history };
+    ghost stands_for = { StandsFor };
 
-    ghost settings = { λ book. book.settings };
+    ghost settings = { settings_in };
 
-    ghost stored = { λ book. book.admissions };
+    ghost stored = { stored_in };
 
-    ghost stores_few = { λ book history is. stores_admissions book.settings.journal (past_in book) history book.admissions book.counted is };
+    ghost can_undo = { λ book history is. book.in_range.some_commands };
+
+    ghost stores_few = { λ book history is. stores_admissions (settings_in book).journal (past_in book) history (stored_in book) book.counted is };
 
     fn step(&mut self, event: Event) -> Result<Reply, StepFault>
-        ensures answers { (h : List Event) → past_in self.old ≡ past_of self.old.settings.journal h → Answers self.old.settings h event result }
-        ensures stands { (h : List Event) → past_in self.old ≡ past_of self.old.settings.journal h → past_in self.new ≡ past_of self.new.settings.journal (history_after h event result) }
-        ensures full { (n : ℕ) → IsErrOf result (StepFault.Full n) → self.old.admissions ≡ n }
-        ensures same_store { OnErr result (self.new.admissions ≡ self.old.admissions) }
-        ensures settings { self.new.settings ≡ self.old.settings }
+        ensures answers { (h : List Event) → StandsFor self.old h → Answers (settings_in self.old) h event result }
+        ensures stands { (h : List Event) → StandsFor self.old h → StandsFor self.new (history_after h event result) }
+        ensures full { (n : ℕ) → IsErrOf result (StepFault.Full n) → stored_in self.old ≡ n }
+        ensures same_store { OnErr result (stored_in self.new ≡ stored_in self.old) }
+        ensures settings { settings_in self.new ≡ settings_in self.old }
         // Every admission is stored, so it is full exactly where as many were admitted as there may be cells.
-        ensures full_at_the_limit { (h : List Event) → past_in self.old ≡ past_of self.old.settings.journal h → IsTimely (length h) event → IsTrue (is_admission event)
-            → count_by is_admission h ≡ self.old.settings.cells → IsErrOf result (StepFault.Full self.old.settings.cells) }
+        ensures full_at_the_limit { (h : List Event) → StandsFor self.old h → IsTimely (length h) event → IsTrue (is_admission event)
+            → (IsErrOf result (StepFault.Full (settings_in self.old).cells) ↔ (count_by is_admission h ≡ (settings_in self.old).cells)) }
     {
         self.take_event(event)
     }
 
-    fn seen(&self, ask: &Ask, moment: u64) -> Result<Seen, AllocError> {
+    fn seen(&self, ask: &Ask, moment: u64) -> Result<Seen, NoMemory> {
         self.answer(ask, moment)
     }
 
@@ -275,7 +278,10 @@ impl Book for PlainBook {
         self.sight(question, moment)
     }
 
-    fn stored(&self) -> usize {
+    fn stored(&self) -> usize
+        ensures stored { result ≡ stored_in self.now }
+        ensures admitted { (h : List Event) → StandsFor self.now h → result ≡ count_by is_admission h }
+    {
         self.admissions
     }
 }

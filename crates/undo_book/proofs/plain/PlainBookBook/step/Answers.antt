@@ -14,9 +14,10 @@ returns-clause-answers c = λ h is.
     rw (← count, ← admitted, ← is) c.take_event.ensures.answers
 
 pub returns-clause-full_at_the_limit : goal.returns-clause-full_at_the_limit
-returns-clause-full_at_the_limit c = λ h is timely admission full.
+returns-clause-full_at_the_limit c = λ h is timely admission.
     let book = c.args.self.now in
     let bound = book.settings.journal in
     let count = length_of_log bound (past_in book) h is in
     let admitted = book.counted ∙ admissions_of_log bound (past_in book) h is in
-    c.take_event.ensures.full_at_the_limit (subst (λ (n : ℕ). IsTimely n c.args.event) (sym count) timely) admission (admitted ∙ full)
+    let limit = c.take_event.ensures.full_at_the_limit (subst (λ (n : ℕ). IsTimely n c.args.event) (sym count) timely) admission in
+    (λ full. sym admitted ∙ c.take_event.ensures.full _ full, λ full. limit (admitted ∙ full))
