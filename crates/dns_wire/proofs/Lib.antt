@@ -1,0 +1,10 @@
+pub mod Binds
+pub mod Following
+pub mod NameLaws
+pub mod QuestionLaws
+pub mod RdataLaws
+pub mod RecordLaws
+pub mod MessageLaws
+pub mod SectionLoops
+pub mod SectionLaws
+pub mod StringLaws

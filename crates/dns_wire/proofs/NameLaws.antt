@@ -1,0 +1,166 @@
+-- Reading a name gives the name that stands there, and the first fault where none does.
+use Rattle.std.proofs.Common.{◌≡◌, ℕ, zero, suc, ◌+◌, ◌-◌, ◌*◌, ◌<◌, ◌≤◌, List, ◌∷◌, length, take, drop, Option, Some, None, Result, Ok, Err, refl, inl, inr, eqb, ltb, arith, length-append}
+use Rattle.std.specs.Prelude.{slice_get, MatchResult, IfOk}
+use Rattle.std.proofs.lemmas.Option.{slice_get_within}
+use Rattle.std.proofs.lemmas.Bool.{cases_Bool}
+use Rattle.std.specs.Char.{to_ascii_lowercase}
+use Rattle.std.proofs.lemmas.Bool.{le-ltb, lt-ltb, ltb-true, ltb-false}
+use Rattle.std.proofs.lemmas.List.{length-map, length-take, length-drop}
+use Rattle.std.proofs.Math.Nat.{mul-le-mul_right}
+use Rattle.dns_name.specs.Labels.{Labels, spelled, with_length, IsName}
+use Rattle.dns_wire.specs.declared.name.Next.{Next}
+use Rattle.dns_wire.specs.declared.name.Next.TheVariants.{Finish, Label, Pointer, Reserved, Cut}
+use Rattle.dns_wire.specs.declared.fault.WireFault.{WireFault}
+use Rattle.dns_wire.specs.declared.fault.WireFault.TheVariants.{Short, BadName, BadPointer, BadData, Trailing, NoMemory}
+use Rattle.dns_wire.specs.Decoding.{UnlessMemory}
+use Rattle.dns_wire.specs.Name.{next_at, next_by, pointer_by, label_at, NameAt, finish, label, pointer, SpelledName, NameFails, UnspelledName, cut, reserved, long, cut_label, not_before, after_label, after_pointer, name_by, name_in, name_read, steps_left}
+use Rattle.dns_wire.specs.Reading.{◌>>=◌, Fails, Gives}
+use Rattle.dns_wire.proofs.Binds.{fails_told, fails_memory, then_match, match_weaker}
+
+-- a pointer to before the run leaves fewer steps
+fewer : (size run at to : ℕ) → to < run → run ≤ at → at ≤ size → to * (size + 1) + (size - to) < run * (size + 1) + (size - at)
+fewer size run at to before behind within = omega (arith, mul-le-mul_right (size + 1) before)
+
+length_label_at : (m : List ℕ) (at n : ℕ) → at + 1 + n ≤ length m → length (label_at m at n) ≡ n
+length_label_at m at n within = omega (arith, length-map (take n (drop (at + 1) m)) to_ascii_lowercase, length-take n (drop (at + 1) m), length-drop (at + 1) m)
+
+pub name_in-found : (more : ℕ) {m : List ℕ} {at run after : ℕ} {labels : Labels} (start used : ℕ) → NameAt m at run after labels → steps_left m at run < more → run ≤ at → at ≤ length m → used + length (spelled labels) < 255 → name_in more m start used at run ≡ Ok (labels, after)
+unfolding name_in
+name_in-found zero start used h enough behind within short = absurd (omega arith)
+name_in-found (suc more) start used (finish here is) enough behind within short = rw (here, is) refl
+name_in-found (suc more) {m} {at} {run} {after} start used (label {n = n} {labels = labels} here inside rest) enough behind within short =
+    let len = length_label_at m at n inside in
+    let total : used + (n + 1 + length (spelled labels)) < 255 = omega (arith, length-append (with_length (label_at m at n)) (spelled labels)) in
+    let go = name_in-found more start (used + n + 1) rest (omega arith) (omega arith) inside (omega arith) in
+    rw (here, le-ltb 253 (used + n) (omega arith), le-ltb (length m) (at + 1 + n) inside, go) refl
+name_in-found (suc more) {m} {at} {run} {after} start used (pointer {to = to} {labels = labels} here before is rest) enough behind within short =
+    let go = name_in-found more start used rest (omega (arith, fewer (length m) run at to before behind within)) (omega arith) (omega arith) short in
+    rw (here, lt-ltb to run before, go, is) refl
+
+pub name_in-fails : (more : ℕ) {m : List ℕ} {start used at run : ℕ} {fault : WireFault} → NameFails m start used at run fault → steps_left m at run < more → run ≤ at → at ≤ length m → name_in more m start used at run ≡ Err fault
+unfolding name_in
+name_in-fails zero h enough behind within = absurd (omega arith)
+name_in-fails (suc more) (cut here) enough behind within = rw here refl
+name_in-fails (suc more) (reserved here) enough behind within = rw here refl
+name_in-fails (suc more) {m} {start} {used} (long {n = n} here much) enough behind within = rw (here, lt-ltb 253 (used + n) (omega arith)) refl
+name_in-fails (suc more) {m} {start} {used} {at} (cut_label {n = n} here few beyond) enough behind within = rw (here, le-ltb 253 (used + n) (omega arith), lt-ltb (length m) (at + 1 + n) beyond) refl
+name_in-fails (suc more) {m} {start} {used} {at} {run} (not_before {to = to} here not) enough behind within = rw (here, le-ltb to run not) refl
+name_in-fails (suc more) {m} {start} {used} {at} {run} {fault} (after_label {n = n} here few inside rest) enough behind within =
+    let go = name_in-fails more rest (omega arith) (omega arith) inside in
+    rw (here, le-ltb 253 (used + n) (omega arith), le-ltb (length m) (at + 1 + n) inside, go) refl
+name_in-fails (suc more) {m} {start} {used} {at} {run} {fault} (after_pointer {to = to} here before rest) enough behind within =
+    let go = name_in-fails more rest (omega (arith, fewer (length m) run at to before behind within)) (omega arith) (omega arith) in
+    rw (here, lt-ltb to run before, go) refl
+
+-- ---- what was found is what reading gives
+
+some_low : (n to : ℕ) (o : Option ℕ) → pointer_by n o ≡ Pointer to → (low : ℕ) × (o ≡ Some low)
+some_low n to None h = absurd cc
+some_low n to (Some low) h = (low, refl)
+
+pointer_within : (m : List ℕ) (at n to : ℕ) → next_by m at (Some n) ≡ Pointer to → at + 1 < length m
+pointer_within m at n to h =
+    elim (cases_Bool (eqb n 0)) [
+      | inl zero' ↦ absurd (let f : Finish ≡ Pointer to = (rw zero' at h) in cc)
+      | inr some ↦ elim (cases_Bool (ltb n 64)) [
+        | inl small ↦ absurd (let f : Label n ≡ Pointer to = (rw (some, small) at h) in cc)
+        | inr large ↦ elim (cases_Bool (ltb n 192)) [
+          | inl middle ↦ absurd (let f : Reserved ≡ Pointer to = (rw (some, large, middle) at h) in cc)
+          | inr high ↦ let low = some_low n to (slice_get m (at + 1)) (rw (some, large, high) at h) in slice_get_within m (at + 1) low.0 low.1
+        ]
+      ]
+    ]
+
+next_within : (m : List ℕ) (at : ℕ) (o : Option ℕ) → slice_get m at ≡ o → (next_by m at o ≡ Finish → at < length m) × ((to : ℕ) → next_by m at o ≡ Pointer to → at + 1 < length m)
+next_within m at None e = ((λ h. absurd cc), λ to h. absurd cc)
+next_within m at (Some n) e = ((λ h. slice_get_within m at n e), λ to h. pointer_within m at n to h)
+
+after_within : {m : List ℕ} {at run after : ℕ} {labels : Labels} → NameAt m at run after labels → after ≤ length m
+after_within {m} {at} (finish here is) = omega (arith, (next_within m at (slice_get m at) refl).0 here)
+after_within (label here inside rest) = after_within rest
+after_within {m} {at} (pointer {to = to} here before is rest) = omega (arith, (next_within m at (slice_get m at) refl).1 to here)
+
+-- ---- reading gives what stands, and the first fault where nothing does
+
+pub record Stands (m : List ℕ) (used at run : ℕ) (x : Labels × ℕ) : Type 0 where
+  pub stands : NameAt m at run x.1 x.0
+  pub short : used + length (spelled x.0) < 255
+
+-- what is known of reading on in fewer steps
+abbrev pub Goes : List ℕ → ℕ → ℕ → (ℕ → ℕ → ℕ → Result (Labels × ℕ) WireFault) → Type 0
+Goes m start steps go = (u a r : ℕ) → u < 255 → r ≤ a → a ≤ length m → steps_left m a r < steps → MatchResult (go u a r) (λ x. Stands m u a r x) (λ e. NameFails m start u a r e)
+
+label_match : (m : List ℕ) (start used at run n : ℕ) (go : ℕ → ℕ → ℕ → Result (Labels × ℕ) WireFault) → run ≤ at → Goes m start (steps_left m at run) go → next_at m at ≡ Label n → MatchResult (name_by m start used at run go (Label n)) (λ x. Stands m used at run x) (λ e. NameFails m start used at run e)
+label_match m start used at run n go behind goes here =
+    elim (cases_Bool (ltb 253 (used + n))) [
+      | inl much ↦ rw much (long {used = used} here (omega (arith, ltb-true 253 (used + n) much)))
+      | inr few ↦
+          let room : used + n < 254 = omega (arith, ltb-false 253 (used + n) few) in
+          elim (cases_Bool (ltb (length m) (at + 1 + n))) [
+          | inl beyond ↦ rw (few, beyond) (cut_label {used = used} here room (ltb-true (length m) (at + 1 + n) beyond))
+          | inr fits ↦
+              let inside : at + 1 + n ≤ length m = omega (arith, ltb-false (length m) (at + 1 + n) fits) in
+              let rest = goes (used + n + 1) (at + 1 + n) run (omega arith) (omega arith) inside (omega arith) in
+              rw (few, fits) (then_match (go (used + n + 1) (at + 1 + n) run) (λ (x : Labels × ℕ). (label_at m at n ∷ x.0, x.1)) _ _ _ _ rest
+                (λ x h. record { stands = label here inside h.stands; short = omega (arith, h.short, length_label_at m at n inside, length-append (with_length (label_at m at n)) (spelled x.0)) })
+                (λ e h. after_label here room inside h))
+        ]
+    ]
+
+pointer_match : (m : List ℕ) (start used at run to : ℕ) (go : ℕ → ℕ → ℕ → Result (Labels × ℕ) WireFault) → used < 255 → run ≤ at → at ≤ length m → Goes m start (steps_left m at run) go → next_at m at ≡ Pointer to → MatchResult (name_by m start used at run go (Pointer to)) (λ x. Stands m used at run x) (λ e. NameFails m start used at run e)
+pointer_match m start used at run to go room behind within goes here =
+    elim (cases_Bool (ltb to run)) [
+      | inl is_before ↦
+          let before : to < run = ltb-true to run is_before in
+          let rest = goes used to to room (omega arith) (omega arith) (fewer (length m) run at to before behind within) in
+          rw is_before (then_match (go used to to) (λ (x : Labels × ℕ). (x.0, at + 2)) _ _ _ _ rest
+            (λ x h. record { stands = pointer here before refl h.stands; short = h.short })
+            (λ e h. after_pointer here before h))
+      | inr not ↦ rw not (not_before here (ltb-false to run not))
+    ]
+
+name_by-match : (m : List ℕ) (start used at run : ℕ) (go : ℕ → ℕ → ℕ → Result (Labels × ℕ) WireFault) → used < 255 → run ≤ at → at ≤ length m → Goes m start (steps_left m at run) go → (next : Next) → next_at m at ≡ next → MatchResult (name_by m start used at run go next) (λ x. Stands m used at run x) (λ e. NameFails m start used at run e)
+name_by-match m start used at run go room behind within goes Finish here = record { stands = finish here refl; short = omega arith }
+name_by-match m start used at run go room behind within goes (Label n) here = label_match m start used at run n go behind goes here
+name_by-match m start used at run go room behind within goes (Pointer to) here = pointer_match m start used at run to go room behind within goes here
+name_by-match m start used at run go room behind within goes Reserved here = reserved here
+name_by-match m start used at run go room behind within goes Cut here = cut here
+
+name_in-match : (more : ℕ) (m : List ℕ) (start used at run : ℕ) → used < 255 → run ≤ at → at ≤ length m → steps_left m at run < more → MatchResult (name_in more m start used at run) (λ x. Stands m used at run x) (λ e. NameFails m start used at run e)
+unfolding name_in
+name_in-match zero m start used at run room behind within enough = absurd (omega arith)
+name_in-match (suc more) m start used at run room behind within enough =
+    name_by-match m start used at run (λ u a r. name_in more m start u a r) room behind within (λ u a r room' behind' within' less. name_in-match more m start u a r room' behind' within' (omega arith)) (next_at m at) refl
+
+pub name_read-match : (m : List ℕ) (at : ℕ) → at ≤ length m → MatchResult (name_read m at) (λ x. SpelledName m at x.1 x.0) (λ e. UnspelledName m at e)
+unfolding name_read
+name_read-match m at within =
+    match_weaker (name_in (suc (steps_left m at at)) m at 0 at at) _ _ _ _ (name_in-match (suc (steps_left m at at)) m at 0 at at (omega arith) (omega arith) within (omega arith))
+      (λ x h. record { stands = h.stands; short = omega (arith, h.short) })
+      (λ e h. h)
+
+-- what stands is read
+pub name_read-spelled : (m : List ℕ) (at after : ℕ) (labels : Labels) → at ≤ length m → SpelledName m at after labels → name_read m at ≡ Ok (labels, after)
+unfolding name_read
+name_read-spelled m at after labels within h = name_in-found (suc (steps_left m at at)) at 0 h.stands (omega arith) (omega arith) within (omega (arith, h.short))
+
+-- the first fault is told
+pub name_read-unspelled : (m : List ℕ) (at : ℕ) (fault : WireFault) → at ≤ length m → UnspelledName m at fault → name_read m at ≡ Err fault
+unfolding name_read
+name_read-unspelled m at fault within h = name_in-fails (suc (steps_left m at at)) h (omega arith) (omega arith) within
+
+pub spelled_within : {m : List ℕ} {at after : ℕ} {labels : Labels} → SpelledName m at after labels → after ≤ length m
+spelled_within h = after_within h.stands
+
+-- ---- what the loop finds is what reading gives
+
+pub found_within : (m : List ℕ) (at : ℕ) (r : Result (Labels × ℕ) WireFault) → MatchResult r (λ x. NameAt m at at x.1 x.0) (λ e. UnlessMemory e (UnspelledName m at e)) → IfOk r (λ x. x.1 ≤ length m)
+found_within m at (Ok x) h = after_within h
+found_within m at (Err e) h = tt
+
+pub found_exact : (m : List ℕ) (at : ℕ) → at ≤ length m → (r : Result (Labels × ℕ) WireFault) → MatchResult r (λ x. NameAt m at at x.1 x.0) (λ e. UnlessMemory e (UnspelledName m at e)) → IfOk r (λ x. IsName x.0) → Gives r (name_read m at)
+found_exact m at within (Ok x) h name = name_read-spelled m at x.1 x.0 within (record { stands = h; short = name.short })
+found_exact m at within (Err e) h name = elim h [
+  | inl memory ↦ fails_memory e _ memory
+  | inr fails ↦ fails_told e _ (name_read-unspelled m at e within fails)
+]

@@ -1,0 +1,20 @@
+use Rattle.std.proofs.Common.{sym, ◌∙◌}
+use Rattle.std.proofs.lemmas.Result.{err_from_is_err_and}
+use Rattle.dns_wire.specs.Question.{question_read}
+use Rattle.dns_wire.proofs.SectionLoops.{section_more, section_fails, section_done}
+use Rattle.dns_wire.proofs.question.questions_at.Goals as goal
+
+pub returns-in_err-question-clause-exact : goal.returns-in_err-question-clause-exact
+returns-in_err-question-clause-exact c =
+    let p = err_from_is_err_and c.from_residual.result c.from_residual.ensures.1 in
+    rw (p.1, p.2) (section_fails (λ i. question_read c.args.message.now i) c.loop.questions.items c.args.count c.loop.counter c.loop.at _ _ c.loop-test.true c.in_err-question.ensures.exact c.loop.invariant.told)
+
+pub loop-preserved : goal.loop-preserved
+loop-preserved c =
+    record {
+      told = rw c.in_ok-push.ensures.items (section_more (λ i. question_read c.args.message.now i) c.loop.questions.items c.args.count c.loop.counter c.loop.at (c.in_ok-question.question, c.in_ok-question.after) c.loop-test.true c.in_ok-question.ensures.exact ∙ c.loop.invariant.told);
+      within = c.in_ok-question.ensures.within;
+    }
+
+pub returns-clause-exact : goal.returns-clause-exact
+returns-clause-exact c = rw c.new.ensures (sym c.loop.invariant.told ∙ section_done (λ i. question_read c.args.message.now i) c.loop.questions.items c.args.count c.loop.counter c.loop.at c.loop-test.false)

@@ -1,0 +1,17 @@
+use Rattle.dns_wire.proofs.MessageLaws.{answer_spelled, answer_fault, answer_read, answer_unspelled, answer_trailing}
+use Rattle.dns_wire.proofs.read.decode.Goals as goal
+
+pub returns-clause-spelled : goal.returns-clause-spelled
+returns-clause-spelled c = answer_spelled c.args.octets.now _ c.message_of.ensures
+
+pub returns-clause-fault : goal.returns-clause-fault
+returns-clause-fault c = answer_fault c.args.octets.now _ c.message_of.ensures
+
+pub returns-clause-read : goal.returns-clause-read
+returns-clause-read c = λ v h. answer_read c.args.octets.now _ c.message_of.ensures v h
+
+pub returns-clause-unspelled : goal.returns-clause-unspelled
+returns-clause-unspelled c = answer_unspelled c.args.octets.now _ c.message_of.ensures
+
+pub returns-clause-trailing : goal.returns-clause-trailing
+returns-clause-trailing c = λ h. answer_trailing c.args.octets.now _ c.message_of.ensures h

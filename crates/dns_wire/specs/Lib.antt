@@ -1,0 +1,10 @@
+pub mod Reading
+pub mod Number
+pub mod Header
+pub mod Name
+pub mod Question
+pub mod Rdata
+pub mod Record
+pub mod Section
+pub mod Message
+pub mod Decoding

@@ -1,0 +1,84 @@
+-- Names in a message (RFC 1035, sections 3.1 and 4.1.4).
+use Rattle.std.specs.Prelude.{◌≡◌, ℕ, zero, suc, ◌+◌, ◌-◌, ◌*◌, ◌<◌, ◌≤◌, List, [], ◌∷◌, length, take, drop, map, Option, Some, None, Result, Ok, Err, slice_get, nat_lt, ◌==◌, if◌then◌else◌}
+use Rattle.std.specs.Char.{to_ascii_lowercase}
+use Rattle.dns_name.specs.Labels.{Labels, spelled}
+use Rattle.dns_wire.specs.declared.name.Next.{Next}
+use Rattle.dns_wire.specs.declared.name.Next.TheVariants.{Finish, Label, Pointer, Reserved, Cut}
+use Rattle.dns_wire.specs.declared.fault.WireFault.{WireFault}
+use Rattle.dns_wire.specs.declared.fault.WireFault.TheVariants.{Short, BadName, BadPointer}
+use Rattle.dns_wire.specs.Reading.{◌>>=◌}
+
+-- ---- what stands at a place
+
+-- The top bits 11 begin a pointer: the offset is in the 14 bits below them.
+abbrev pub pointer_by : ℕ → Option ℕ → Next
+pointer_by n None = Cut
+pointer_by n (Some low) = Pointer ((n - 192) * 256 + low)
+
+abbrev pub next_by : List ℕ → ℕ → Option ℕ → Next
+next_by m at None = Cut
+next_by m at (Some n) = if n == 0 then Finish else if nat_lt n 64 then Label n else if nat_lt n 192 then Reserved else pointer_by n (slice_get m (at + 1))
+
+abbrev pub next_at : List ℕ → ℕ → Next
+next_at m at = next_by m at (slice_get m at)
+
+-- n octets after the one at a place, in lower case
+abbrev pub label_at : List ℕ → ℕ → ℕ → List ℕ
+label_at m at n = map to_ascii_lowercase (take n (drop (at + 1) m))
+
+-- ---- which name stands at a place
+
+-- At a place, in a run of labels that began at `run`, these labels stand, and `after` is the place after them:
+-- a zero octet and no label; a label, and what stands after it in the same run; or a pointer to a place before
+-- the run, and what stands there.
+pub data NameAt (m : List ℕ) : ℕ → ℕ → ℕ → Labels → Type 0 where
+  finish : {at run after : ℕ} → next_at m at ≡ Finish → after ≡ at + 1 → NameAt m at run after []
+  label : {at run after n : ℕ} {labels : Labels} → next_at m at ≡ Label n → at + 1 + n ≤ length m → NameAt m (at + 1 + n) run after labels → NameAt m at run after (label_at m at n ∷ labels)
+  pointer : {at run after to end : ℕ} {labels : Labels} → next_at m at ≡ Pointer to → to < run → after ≡ at + 2 → NameAt m to to end labels → NameAt m at run after labels
+
+-- At a place stands a name of at most 255 octets, its zero octet counted, and `after` is the place after it.
+pub record SpelledName (m : List ℕ) (at after : ℕ) (labels : Labels) : Type 0 where
+  pub stands : NameAt m at at after labels
+  pub short : length (spelled labels) < 255
+
+-- ---- which fault keeps a name from standing at a place
+
+-- A name that began at `start` and has taken `used` octets can't go on at a place, in a run that began at `run`,
+-- by this fault, the first that is met.
+pub data NameFails (m : List ℕ) (start : ℕ) : ℕ → ℕ → ℕ → WireFault → Type 0 where
+  cut : {used at run : ℕ} → next_at m at ≡ Cut → NameFails m start used at run Short
+  reserved : {used at run : ℕ} → next_at m at ≡ Reserved → NameFails m start used at run (BadName start)
+  long : {used at run n : ℕ} → next_at m at ≡ Label n → 254 ≤ used + n → NameFails m start used at run (BadName start)
+  cut_label : {used at run n : ℕ} → next_at m at ≡ Label n → used + n < 254 → length m < at + 1 + n → NameFails m start used at run Short
+  not_before : {used at run to : ℕ} → next_at m at ≡ Pointer to → run ≤ to → NameFails m start used at run (BadPointer at)
+  after_label : {used at run n : ℕ} {fault : WireFault} → next_at m at ≡ Label n → used + n < 254 → at + 1 + n ≤ length m → NameFails m start (used + n + 1) (at + 1 + n) run fault → NameFails m start used at run fault
+  after_pointer : {used at run to : ℕ} {fault : WireFault} → next_at m at ≡ Pointer to → to < run → NameFails m start used to to fault → NameFails m start used at run fault
+
+-- The octets from a place on spell no name, by this fault.
+abbrev pub UnspelledName : List ℕ → ℕ → WireFault → Type 0
+UnspelledName m at fault = NameFails m at 0 at at fault
+
+-- ---- reading
+
+-- By what stands at a place: the labels from there and the place after the name, where `go` reads on with this many octets used, at this place, in this run.
+abbrev pub name_by : List ℕ → ℕ → ℕ → ℕ → ℕ → (ℕ → ℕ → ℕ → Result (Labels × ℕ) WireFault) → Next → Result (Labels × ℕ) WireFault
+name_by m start used at run go Finish = Ok ([], at + 1)
+name_by m start used at run go (Label n) =
+    if nat_lt 253 (used + n) then Err (BadName start) else if nat_lt (length m) (at + 1 + n) then Err Short else
+    (go (used + n + 1) (at + 1 + n) run >>= λ x. Ok (label_at m at n ∷ x.0, x.1))
+name_by m start used at run go (Pointer to) = if nat_lt to run then (go used to to >>= λ x. Ok (x.0, at + 2)) else Err (BadPointer at)
+name_by m start used at run go Reserved = Err (BadName start)
+name_by m start used at run go Cut = Err Short
+
+-- in as many steps as are more than enough
+unfoldable pub name_in : ℕ → List ℕ → ℕ → ℕ → ℕ → ℕ → Result (Labels × ℕ) WireFault
+name_in zero m start used at run = Err Short
+name_in (suc more) m start used at run = name_by m start used at run (λ u a r. name_in more m start u a r) (next_at m at)
+
+-- how far a place is from where no name can go on
+abbrev pub steps_left : List ℕ → ℕ → ℕ → ℕ
+steps_left m at run = run * (length m + 1) + (length m - at)
+
+-- the name at a place, and the place after it
+unfoldable pub name_read : List ℕ → ℕ → Result (Labels × ℕ) WireFault
+name_read m at = name_in (suc (steps_left m at at)) m at 0 at at

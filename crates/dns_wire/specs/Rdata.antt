@@ -1,0 +1,146 @@
+-- RDATA by class and type (RFC 1035, sections 3.3 and 3.4; RFC 3596, section 2.2; RFC 2782). Here `m` is the front of
+-- a message that ends with the RDATA, and `at` is where the RDATA begins: names may point back from it, not out of it.
+use Rattle.std.specs.Prelude.{◌≡◌, ℕ, zero, suc, ◌+◌, ◌<◌, ◌≤◌, ◌||◌, List, [], ◌∷◌, ◌++◌, length, take, drop, Option, Some, None, Result, Ok, Err, nat_lt, ◌==◌, if◌then◌else◌}
+use Rattle.std.specs.List.{flat_map}
+use Rattle.dns_name.specs.Labels.{Labels, with_length}
+use Rattle.dns_text.specs.declared.record.Data.{Data}
+use Rattle.dns_text.specs.declared.record.Data.TheVariants.{A, Aaaa, One, Mx, Soa, Txt, Srv, Opaque}
+use Rattle.dns_wire.specs.declared.rdata.Form.{Form}
+use Rattle.dns_wire.specs.declared.rdata.Form.TheVariants.{Ipv4, Ipv6, OneName, Exchange, Authority, Strings, Service, Unknown}
+use Rattle.dns_wire.specs.declared.fault.WireFault.{WireFault}
+use Rattle.dns_wire.specs.declared.fault.WireFault.TheVariants.{Short, BadName, BadPointer, BadData, Trailing, NoMemory}
+use Rattle.dns_wire.specs.Name.{SpelledName, UnspelledName, name_read}
+use Rattle.dns_wire.specs.Number.{u16_at, u32_at}
+use Rattle.dns_wire.specs.Reading.{◌>>=◌}
+
+-- ---- forms
+
+-- the form of a type in class IN
+abbrev pub form_of : ℕ → Form
+form_of kind =
+    if kind == 1 then Ipv4 else
+    if kind == 2 || kind == 5 || kind == 12 then OneName else
+    if kind == 6 then Authority else
+    if kind == 15 then Exchange else
+    if kind == 16 then Strings else
+    if kind == 28 then Ipv6 else
+    if kind == 33 then Service else Unknown
+
+-- Another class than IN has no forms of its own.
+abbrev pub form_in : ℕ → ℕ → Form
+form_in class kind = if class == 1 then form_of kind else Unknown
+
+-- ---- which data stands
+
+-- The RDATA, all of it, is this data in this form.
+pub data DataAt (m : List ℕ) (at : ℕ) : Form → Data → Type 0 where
+  ipv4 : {octets : List ℕ} → drop at m ≡ octets → length octets ≡ 4 → DataAt m at Ipv4 (A octets)
+  ipv6 : {octets : List ℕ} → drop at m ≡ octets → length octets ≡ 16 → DataAt m at Ipv6 (Aaaa octets)
+  one_name : {name : Labels} → SpelledName m at (length m) name → DataAt m at OneName (One name)
+  mail : {preference : ℕ} {name : Labels} → at + 2 ≤ length m → preference ≡ u16_at m at → SpelledName m (at + 2) (length m) name → DataAt m at Exchange (Mx preference name)
+  start : {second numbers serial refresh retry expire minimum : ℕ} {primary mailbox : Labels} → SpelledName m at second primary → SpelledName m second numbers mailbox → numbers + 20 ≡ length m → serial ≡ u32_at m numbers → refresh ≡ u32_at m (numbers + 4) → retry ≡ u32_at m (numbers + 8) → expire ≡ u32_at m (numbers + 12) → minimum ≡ u32_at m (numbers + 16) → DataAt m at Authority (Soa primary mailbox serial refresh retry expire minimum)
+  one_or_more : {string : List ℕ} {strings : List (List ℕ)} → drop at m ≡ flat_map with_length (string ∷ strings) → DataAt m at Strings (Txt (string ∷ strings))
+  service : {priority weight port : ℕ} {target : Labels} → at + 6 ≤ length m → priority ≡ u16_at m at → weight ≡ u16_at m (at + 2) → port ≡ u16_at m (at + 4) → SpelledName m (at + 6) (length m) target → DataAt m at Service (Srv priority weight port target)
+  unknown : {octets : List ℕ} → drop at m ≡ octets → DataAt m at Unknown (Opaque octets)
+
+-- ---- which fault keeps data from standing
+
+-- Where a name has to stand, as far as all before it stands.
+pub data NamePlace (m : List ℕ) (at : ℕ) : Form → ℕ → Type 0 where
+  only : {place : ℕ} → place ≡ at → NamePlace m at OneName place
+  host : {place : ℕ} → place ≡ at + 2 → place ≤ length m → NamePlace m at Exchange place
+  first_name : {place : ℕ} → place ≡ at → NamePlace m at Authority place
+  second_name : {place : ℕ} {primary : Labels} → SpelledName m at place primary → NamePlace m at Authority place
+  target : {place : ℕ} → place ≡ at + 6 → place ≤ length m → NamePlace m at Service place
+
+-- A name in the RDATA is none by a fault of its own, which it doesn't owe to the RDATA's end.
+pub record BadNameIn (m : List ℕ) (at : ℕ) (form : Form) (fault : WireFault) : Type 0 where
+  pub place : ℕ
+  pub stands : NamePlace m at form place
+  pub unspelled : UnspelledName m place fault
+  pub own : ¬ (fault ≡ Short)
+
+-- No data in this form stands, by this fault, the first that is met: that of a name, or else that the RDATA hasn't the form.
+pub data DataFails (m : List ℕ) (at : ℕ) (form : Form) : WireFault → Type 0 where
+  bad_name : {fault : WireFault} → BadNameIn m at form fault → DataFails m at form fault
+  formless : ((fault : WireFault) → ¬ (BadNameIn m at form fault)) → ((body : Data) → ¬ (DataAt m at form body)) → DataFails m at form (BadData at)
+
+-- ---- reading
+
+-- The end of RDATA is no end of the message.
+abbrev pub data_fault : ℕ → WireFault → WireFault
+data_fault at Short = BadData at
+data_fault at (BadName place) = BadName place
+data_fault at (BadPointer place) = BadPointer place
+data_fault at (BadData place) = BadData place
+data_fault at Trailing = Trailing
+data_fault at NoMemory = NoMemory
+
+abbrev pub in_data : {A : Type 0} → ℕ → Result A WireFault → Result A WireFault
+in_data at (Ok x) = Ok x
+in_data at (Err fault) = Err (data_fault at fault)
+
+-- a name at a place of the RDATA
+unfoldable pub data_name_read : List ℕ → ℕ → ℕ → Result (Labels × ℕ) WireFault
+data_name_read m at place = in_data at (name_read m place)
+
+-- data with which the RDATA ends, if it does
+abbrev pub ending : List ℕ → ℕ → ℕ → Data → Result Data WireFault
+ending m at after body = if after == length m then Ok body else Err (BadData at)
+
+abbrev pub one_read : List ℕ → ℕ → Result Data WireFault
+one_read m at = data_name_read m at at >>= λ name. ending m at name.1 (One name.0)
+
+abbrev pub mx_read : List ℕ → ℕ → Result Data WireFault
+mx_read m at =
+    if nat_lt (length m) (at + 2) then Err (BadData at) else
+    (data_name_read m at (at + 2) >>= λ name. ending m at name.1 (Mx (u16_at m at) name.0))
+
+abbrev pub soa_read : List ℕ → ℕ → Result Data WireFault
+soa_read m at =
+    data_name_read m at at >>= λ primary. data_name_read m at primary.1 >>= λ mailbox. let numbers = mailbox.1 in
+    ending m at (numbers + 20) (Soa primary.0 mailbox.0 (u32_at m numbers) (u32_at m (numbers + 4)) (u32_at m (numbers + 8)) (u32_at m (numbers + 12)) (u32_at m (numbers + 16)))
+
+-- the string behind the length at the front, and what follows it
+abbrev pub first_string : List ℕ → Option (List ℕ × List ℕ)
+first_string [] = None
+first_string (n ∷ octets) = if nat_lt (length octets) n then None else Some (take n octets, drop n octets)
+
+-- the strings that octets are, behind those before, in as many steps as are more than enough
+abbrev pub strings_by : List (List ℕ) → (List (List ℕ) → List ℕ → Option (List (List ℕ))) → Option (List ℕ × List ℕ) → Option (List (List ℕ))
+strings_by before go None = None
+strings_by before go (Some (string, rest)) = go (before ++ string ∷ []) rest
+
+unfoldable pub strings_after : ℕ → List (List ℕ) → List ℕ → Option (List (List ℕ))
+strings_after zero before octets = None
+strings_after (suc steps) before [] = Some before
+strings_after (suc steps) before (n ∷ octets) = strings_by before (λ b o. strings_after steps b o) (first_string (n ∷ octets))
+
+abbrev pub txt_by : ℕ → Option (List (List ℕ)) → Result Data WireFault
+txt_by at None = Err (BadData at)
+txt_by at (Some []) = Err (BadData at)
+txt_by at (Some (string ∷ strings)) = Ok (Txt (string ∷ strings))
+
+abbrev pub txt_read : List ℕ → ℕ → Result Data WireFault
+txt_read m at = txt_by at (strings_after (suc (length (drop at m))) [] (drop at m))
+
+abbrev pub srv_read : List ℕ → ℕ → Result Data WireFault
+srv_read m at =
+    if nat_lt (length m) (at + 6) then Err (BadData at) else
+    (data_name_read m at (at + 6) >>= λ name. ending m at name.1 (Srv (u16_at m at) (u16_at m (at + 2)) (u16_at m (at + 4)) name.0))
+
+abbrev pub ipv4_read : List ℕ → ℕ → Result Data WireFault
+ipv4_read m at = if length (drop at m) == 4 then Ok (A (drop at m)) else Err (BadData at)
+
+abbrev pub ipv6_read : List ℕ → ℕ → Result Data WireFault
+ipv6_read m at = if length (drop at m) == 16 then Ok (Aaaa (drop at m)) else Err (BadData at)
+
+unfoldable pub data_read : List ℕ → ℕ → Form → Result Data WireFault
+data_read m at Ipv4 = ipv4_read m at
+data_read m at Ipv6 = ipv6_read m at
+data_read m at OneName = one_read m at
+data_read m at Exchange = mx_read m at
+data_read m at Authority = soa_read m at
+data_read m at Strings = txt_read m at
+data_read m at Service = srv_read m at
+data_read m at Unknown = Ok (Opaque (drop at m))

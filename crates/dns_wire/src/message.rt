@@ -1,0 +1,42 @@
+//! What a message says.
+
+use dns_text::{Items, Question, Record};
+
+/// The header of a message without its counts (RFC 1035, section 4.1.1).
+#[derive(Clone, Copy, Debug, PartialEq, Eq)]
+pub struct Head {
+    pub id: u16,
+    /// Whether it is a response.
+    pub qr: bool,
+    /// 4 bits.
+    pub opcode: u8,
+    /// Whether the answer is authoritative.
+    pub aa: bool,
+    /// Whether the message was truncated.
+    pub tc: bool,
+    /// Whether recursion is desired.
+    pub rd: bool,
+    /// Whether recursion is available.
+    pub ra: bool,
+    /// 3 bits, which no rule reads.
+    pub z: u8,
+    /// 4 bits.
+    pub rcode: u8,
+}
+
+/// A question or a record with its class (RFC 1035, section 3.2.4).
+#[derive(Debug, Drop, PartialEq)]
+pub struct Classed<T> {
+    pub item: T,
+    pub class: u16,
+}
+
+/// A message (RFC 1035, section 4.1). A record of another class than IN has opaque data.
+#[derive(Debug, Drop, PartialEq)]
+pub struct Message {
+    pub head: Head,
+    pub questions: Items<Classed<Question>>,
+    pub answer: Items<Classed<Record>>,
+    pub authority: Items<Classed<Record>>,
+    pub additional: Items<Classed<Record>>,
+}

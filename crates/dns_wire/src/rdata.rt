@@ -1,0 +1,242 @@
+//! RDATA in the form of its type. Each function here reads the front of a message that ends with the RDATA.
+
+ghost use Rattle.std.specs.Prelude.{◌≡◌, ◌<◌, ◌≤◌, ◌+◌, length, drop, IfOk, IfSome, option_map};
+ghost use Rattle.dns_wire.specs.Rdata.{form_of, form_in, first_string, data_name_read, ipv4_read, ipv6_read, one_read, mx_read, soa_read, txt_read, srv_read, data_read};
+ghost use Rattle.dns_wire.specs.Reading.{Gives};
+
+use crate::fault::WireFault;
+use crate::name::name_at;
+use crate::number::{u16_at, u32_at};
+use dns_name::Name;
+use dns_text::{Data, Items, Octets};
+use std::alloc::Global;
+
+/// The forms that data can have.
+#[derive(Clone, Copy)]
+pub enum Form {
+    /// Four octets.
+    Ipv4,
+    /// Sixteen octets.
+    Ipv6,
+    /// A name.
+    OneName,
+    /// 16 bits and a name.
+    Exchange,
+    /// Two names and five numbers of 32 bits.
+    Authority,
+    /// One or more strings, each behind its length.
+    Strings,
+    /// Three numbers of 16 bits and a name.
+    Service,
+    /// Any octets.
+    Unknown,
+}
+
+fn form_of(kind: u16) -> Form
+    ensures { result ≡ form_of kind }
+{
+    match kind {
+        1 => Form::Ipv4,
+        2 | 5 | 12 => Form::OneName,
+        6 => Form::Authority,
+        15 => Form::Exchange,
+        16 => Form::Strings,
+        28 => Form::Ipv6,
+        33 => Form::Service,
+        _ => Form::Unknown,
+    }
+}
+
+/// The form of a type in a class.
+pub(crate) fn form_in(class: u16, kind: u16) -> Form
+    ensures { result ≡ form_in class kind }
+{
+    if class == 1 {
+        form_of(kind)
+    } else {
+        Form::Unknown
+    }
+}
+
+/// A name that has to end with the RDATA at the latest.
+#[tactic(auto, unfolding(crate::specs::Rdata::data_name_read))]
+fn name_in(
+    alloc: Global,
+    front: &[u8],
+    at: usize,
+    place: usize,
+) -> Result<(Name, usize), WireFault>
+    requires { place ≤ length front.now }
+    ensures exact { Gives result (data_name_read front.now at place) }
+    ensures within { IfOk result (λ r. r.1 ≤ length front.now) }
+{
+    match name_at(alloc, front, place) {
+        Ok(found) => Ok(found),
+        Err(WireFault::Short) => Err(WireFault::BadData { at }),
+        Err(fault) => Err(fault),
+    }
+}
+
+fn ipv4_at(front: &[u8], at: usize) -> Result<Data, WireFault>
+    requires { at ≤ length front.now }
+    ensures { Gives result (ipv4_read front.now at) }
+{
+    let (_, octets) = front.split_at(at);
+    match octets {
+        [a, b, c, d] => Ok(Data::A([*a, *b, *c, *d])),
+        _ => Err(WireFault::BadData { at }),
+    }
+}
+
+// A function of its own, so that no goal spells the zeros out.
+fn blank() -> [u8; 16]
+    ensures { length result ≡ 16 }
+{
+    [0; 16]
+}
+
+fn ipv6_at(front: &[u8], at: usize) -> Result<Data, WireFault>
+    requires { at ≤ length front.now }
+    ensures { Gives result (ipv6_read front.now at) }
+{
+    let (_, octets) = front.split_at(at);
+    if octets.len() != 16 {
+        return Err(WireFault::BadData { at });
+    }
+    let mut address = blank();
+    address.copy_from_slice(octets);
+    Ok(Data::Aaaa(address))
+}
+
+fn one_at(alloc: Global, front: &[u8], at: usize) -> Result<Data, WireFault>
+    requires { at ≤ length front.now }
+    ensures { Gives result (one_read front.now at) }
+{
+    let (name, after) = name_in(alloc, front, at, at)?;
+    if after != front.len() {
+        return Err(WireFault::BadData { at });
+    }
+    Ok(Data::One(name))
+}
+
+fn mx_at(alloc: Global, front: &[u8], at: usize) -> Result<Data, WireFault>
+    requires { at ≤ length front.now }
+    ensures { Gives result (mx_read front.now at) }
+{
+    if front.len() < at + 2 {
+        return Err(WireFault::BadData { at });
+    }
+    let preference = u16_at(front, at);
+    let (exchange, after) = name_in(alloc, front, at, at + 2)?;
+    if after != front.len() {
+        return Err(WireFault::BadData { at });
+    }
+    Ok(Data::Mx {
+        preference,
+        exchange,
+    })
+}
+
+fn soa_at(alloc: Global, front: &[u8], at: usize) -> Result<Data, WireFault>
+    requires { at ≤ length front.now }
+    ensures { Gives result (soa_read front.now at) }
+{
+    let (primary, second) = name_in(alloc, front, at, at)?;
+    let (mailbox, numbers) = name_in(alloc, front, at, second)?;
+    if numbers + 20 != front.len() {
+        return Err(WireFault::BadData { at });
+    }
+    Ok(Data::Soa {
+        primary,
+        mailbox,
+        serial: u32_at(front, numbers),
+        refresh: u32_at(front, numbers + 4),
+        retry: u32_at(front, numbers + 8),
+        expire: u32_at(front, numbers + 12),
+        minimum: u32_at(front, numbers + 16),
+    })
+}
+
+fn srv_at(alloc: Global, front: &[u8], at: usize) -> Result<Data, WireFault>
+    requires { at ≤ length front.now }
+    ensures { Gives result (srv_read front.now at) }
+{
+    if front.len() < at + 6 {
+        return Err(WireFault::BadData { at });
+    }
+    let priority = u16_at(front, at);
+    let weight = u16_at(front, at + 2);
+    let port = u16_at(front, at + 4);
+    let (target, after) = name_in(alloc, front, at, at + 6)?;
+    if after != front.len() {
+        return Err(WireFault::BadData { at });
+    }
+    Ok(Data::Srv {
+        priority,
+        weight,
+        port,
+        target,
+    })
+}
+
+/// The octets from a place on.
+fn octets_from(alloc: Global, front: &[u8], at: usize) -> Result<Octets, std::alloc::AllocError>
+    requires { at ≤ length front.now }
+    ensures { IfOk result (λ octets. octets ≡ drop at front.now) }
+{
+    let (_, octets) = front.split_at(at);
+    let octets = Vec::from_slice(alloc, octets)?;
+    Ok(Octets::new(octets))
+}
+
+/// The string behind the length at the front, and what follows it.
+fn split_string(octets: &[u8]) -> Option<(&[u8], &[u8])>
+    ensures value { option_map (λ r. (r.0.now, r.1.now)) result ≡ first_string octets.now }
+    ensures less { IfSome result (λ r. length r.1.now < length octets.now) }
+{
+    let (n, rest) = octets.split_first()?;
+    let n = *n as usize;
+    if rest.len() < n {
+        return None;
+    }
+    Some(rest.split_at(n))
+}
+
+/// One or more strings, each behind its length.
+fn txt_at(alloc: Global, front: &[u8], at: usize) -> Result<Data, WireFault>
+    requires { at ≤ length front.now }
+    ensures { Gives result (txt_read front.now at) }
+{
+    let (_, mut rest) = front.split_at(at);
+    let mut strings = Vec::new(alloc);
+    while !rest.is_empty() {
+        let Some((string, behind)) = split_string(rest) else {
+            return Err(WireFault::BadData { at });
+        };
+        let string = Vec::from_slice(alloc, string)?;
+        strings.push(Octets::new(string))?;
+        rest = behind;
+    }
+    if strings.is_empty() {
+        return Err(WireFault::BadData { at });
+    }
+    Ok(Data::Txt(Items::new(strings)))
+}
+
+/// The data of a form that begins at a place and ends with the front.
+#[tactic(auto, unfolding(crate::specs::Rdata::data_read))]
+pub(crate) fn data_at(alloc: Global, front: &[u8], at: usize, form: Form) -> Result<Data, WireFault>
+    requires { at ≤ length front.now }
+    ensures { Gives result (data_read front.now at form) }
+{
+    match form {
+        Form::Ipv4 => ipv4_at(front, at),
+        Form::Ipv6 => ipv6_at(front, at),
+        Form::OneName => one_at(alloc, front, at),
+        Form::Exchange => mx_at(alloc, front, at),
+        Form::Authority => soa_at(alloc, front, at),
+        Form::Strings => txt_at(alloc, front, at),
+        Form::Service => srv_at(alloc, front, at),
+        Form::Unknown => Ok(Data::Opaque(octets_from(alloc, front, at)?)),
+    }
+}

@@ -1,0 +1,76 @@
+//! Records.
+
+ghost use Rattle.std.specs.Prelude.{◌≡◌, ◌≤◌, length, IfOk};
+ghost use Rattle.dns_wire.specs.Message.{records_read};
+ghost use Rattle.dns_wire.specs.Reading.{Gives};
+ghost use Rattle.dns_wire.specs.Record.{record_read, ttl_of};
+
+use crate::fault::WireFault;
+use crate::message::Classed;
+use crate::name::name_at;
+use crate::number::{u16_at, u32_at};
+use crate::rdata::{data_at, form_in};
+use dns_text::{Items, Record};
+use std::alloc::Global;
+
+/// A time to live, of which one with its top bit set is none.
+fn ttl_of(ttl: u32) -> u32
+    ensures { result ≡ ttl_of ttl }
+{
+    if ttl < 0x8000_0000 { ttl } else { 0 }
+}
+
+/// A record with its class, and the place after it.
+#[tactic(auto, unfolding(crate::specs::Record::record_read))]
+fn record_at(
+    alloc: Global,
+    message: &[u8],
+    at: usize,
+) -> Result<(Classed<Record>, usize), WireFault>
+    requires { at ≤ length message.now }
+    ensures exact { Gives result (record_read message.now at) }
+    ensures within { IfOk result (λ r. r.1 ≤ length message.now) }
+{
+    let (owner, at) = name_at(alloc, message, at)?;
+    let begin = at + 10;
+    if message.len() < begin {
+        return Err(WireFault::Short);
+    }
+    let kind = u16_at(message, at);
+    let class = u16_at(message, at + 2);
+    let ttl = ttl_of(u32_at(message, at + 4));
+    let end = begin + u16_at(message, at + 8) as usize;
+    if message.len() < end {
+        return Err(WireFault::Short);
+    }
+    let (front, _) = message.split_at(end);
+    let body = data_at(alloc, front, begin, form_in(class, kind))?;
+    let item = Record {
+        owner,
+        kind,
+        ttl,
+        body,
+    };
+    Ok((Classed { item, class }, end))
+}
+
+/// So many records, and the place after them.
+pub(crate) fn records_at(
+    alloc: Global,
+    message: &[u8],
+    count: u16,
+    at: usize,
+) -> Result<(Items<Classed<Record>>, usize), WireFault>
+    requires { at ≤ length message.now }
+    ensures exact { Gives result (records_read message.now count at) }
+    ensures within { IfOk result (λ r. r.1 ≤ length message.now) }
+{
+    let mut records = Vec::new(alloc);
+    let mut at = at;
+    for _ in 0..count {
+        let (record, after) = record_at(alloc, message, at)?;
+        records.push(record)?;
+        at = after;
+    }
+    Ok((Items::new(records), at))
+}
