@@ -3,7 +3,8 @@
 ghost use Rattle.std.specs.Prelude.{◌≡◌, IfOk};
 
 use crate::find::Find;
-use std::alloc::{AllocError, Global};
+use dns_name::NoMemory;
+use std::alloc::Global;
 use std::marker::Model;
 use std::sync::Arc;
 
@@ -31,7 +32,7 @@ impl From<Arc<Find>> for SharedFind {
 
 impl SharedFind {
     /// Shares a find.
-    pub fn new(alloc: Global, find: Find) -> Result<SharedFind, AllocError>
+    pub fn new(alloc: Global, find: Find) -> Result<SharedFind, NoMemory>
         ensures { IfOk result (λ s. s ≡ find) }
     {
         Ok(SharedFind {
@@ -40,7 +41,7 @@ impl SharedFind {
     }
 
     /// Another owner of the same find. It takes no memory; there can be too many owners to count.
-    pub fn share(&self) -> Result<SharedFind, AllocError>
+    pub fn share(&self) -> Result<SharedFind, NoMemory>
         ensures { IfOk result (λ s. s ≡ self.now) }
     {
         Ok(SharedFind {
