@@ -1,22 +1,21 @@
 -- Names as text: only what stands for a name is read as it.
-use Rattle.std.proofs.Common.{◌≡◌, ◌≢◌, ◌⊎◌, ℕ, zero, suc, ◌+◌, ◌-◌, ◌/◌, ◌%◌, ◌<◌, ◌≤◌, Bool, true, false, cond, eqb, List, [], ◌∷◌, ◌++◌, length, map, take, drop, get_or, Option, Some, None, Result, Ok, Err, refl, sym, ap, subst, ◌∙◌, append_assoc, arith, length-append, inl, inr}
-use Rattle.std.proofs.Math.Seq.{drop-nil}
-use Rattle.std.proofs.lemmas.Bool.{eqb-true, ltb-true, ne_eqb, le-ltb, lt-ltb, cases_Bool, agree_below, agree_below_at, and_parts, not-true, false_from_ne_true}
-use Rattle.std.proofs.lemmas.List.{append-nil, drop_at, length-map, take-append-drop}
+use Rattle.std.proofs.Common.{◌≡◌, ◌≢◌, ◌⊎◌, ℕ, zero, suc, ◌+◌, ◌-◌, ◌<◌, List, [], ◌∷◌, ◌++◌, length, map, take, drop, get_or, Option, Some, None, Result, Ok, Err, refl, sym, ap, subst, ◌∙◌, append_assoc, arith, length-append, inl, inr}
+use Rattle.std.proofs.lemmas.Bool.{eqb-true, ltb-true, cases_Bool}
+use Rattle.std.proofs.lemmas.List.{append-nil, length-map, take-append-drop}
 use Rattle.std.proofs.lemmas.Bool.Decides.{nat_tests}
 use Rattle.std.proofs.lemmas.Slice.Eq.{bytes_eq-Decides}
-use Rattle.std.specs.Prelude.{◌&&◌, not, ◌==◌, nat_lt, IfOk, IfErr}
+use Rattle.std.specs.Prelude.{◌==◌, nat_lt, IfOk, IfErr}
 use Rattle.std.specs.Str.{bytes_eq}
-use Rattle.std.specs.Char.{to_ascii_lowercase, is_ascii_digit, is_ascii_graphic, IsAsciiDigit, IsAsciiGraphic}
-use Rattle.std.specs.List.{AllByRecursion, flat_map, concat, join_with_byte}
+use Rattle.std.specs.Char.{to_ascii_lowercase, is_ascii_digit, is_ascii_graphic, IsAsciiDigit}
+use Rattle.std.specs.List.{concat, join_with_byte}
 use Rattle.dns_name.specs.declared.text.Atom.{Atom}
 use Rattle.dns_name.specs.declared.text.Atom.TheVariants.{Dot, Octet}
 use Rattle.dns_name.specs.declared.fault.NameFault.{NameFault}
 use Rattle.dns_name.specs.declared.fault.NameFault.TheVariants.{BadEscape, NoMemory}
-use Rattle.dns_name.specs.Labels.{Labels, IsLabel, IsLowerOctet, IsName, IsOctets, labels_of, spelled, with_length}
+use Rattle.dns_name.specs.Labels.{Labels, IsName, spelled}
 use Rattle.dns_name.specs.Making.{Gives}
-use Rattle.dns_name.specs.Octets.{spelled-append, length-spelled_push, opened, no_labels, pushed, lower_label}
-use Rattle.dns_name.specs.Text.{decimal, IsOctetText, itself, quoted, numbered, EachPair, IsLabelText, IsNameText, ReadsWhatStands, decimal_at, escape_at, atom_at, stepped, ended, HasRoom, ◌>>=◌, or_fault, read, name_in, is_special, escaped, label_text, text_of}
+use Rattle.dns_name.specs.Octets.{no_labels, pushed, lower_label}
+use Rattle.dns_name.specs.Text.{decimal, IsOctetText, itself, quoted, numbered, EachPair, IsLabelText, IsNameText, ReadsWhatStands, decimal_at, escape_at, atom_at, stepped, ended, HasRoom, ◌>>=◌, or_fault, read, name_in}
 use Rattle.dns_name.proofs.MakingLaws.{memory_alone}
 use Rattle.dns_name.proofs.TextLaws.{graphic_from, digit_from, digit_apart, IsLastDot, what_stands_is_read}
 
