@@ -1,5 +1,5 @@
 -- A subtree in the order of names.
-use Rattle.std.proofs.Common.{◌≡◌, ℕ, true, List, [], ◌∷◌, ◌++◌, reverse, refl, sym, ap, subst, ◌∙◌}
+use Rattle.std.proofs.Common.{◌≡◌, [], ◌∷◌, ◌++◌, reverse, refl, sym, ap, subst, ◌∙◌}
 use Rattle.std.specs.Prelude.{IsTrue}
 use Rattle.std.specs.Cmp.Lexicographic.{slice_cmp}
 use Rattle.std.specs.Ordering.{nat_cmp, is_le, ordering_then, ordering_reverse}
@@ -9,7 +9,7 @@ use Rattle.std.proofs.lemmas.Cmp.{nat_list_cmp_total, tied_itself}
 use Rattle.std.proofs.lemmas.Map.Lookups.{exact_bytes}
 use Rattle.std.proofs.lemmas.List.{reverse-append, reverse-reverse}
 use Rattle.dns_name.specs.Labels.{Labels, IsAtOrBelow}
-use Rattle.dns_name.specs.Order.{labels_cmp, name_cmp, IsNotAfter, ZoneIsFirst, SubtreeIsContiguous}
+use Rattle.dns_name.specs.Order.{labels_cmp, ZoneIsFirst, SubtreeIsContiguous}
 
 -- the labels of z from the root are the first of those of n
 from_root : (n z : Labels) (below : IsAtOrBelow n z) → reverse n ≡ reverse z ++ reverse below.0

@@ -1,32 +1,31 @@
 -- Names as text: only what stands for a name is read as it.
-use Rattle.std.proofs.Common.{◌≡◌, ◌≢◌, ◌⊎◌, ℕ, zero, suc, ◌+◌, ◌-◌, ◌/◌, ◌%◌, ◌<◌, ◌≤◌, Bool, true, false, cond, eqb, List, [], ◌∷◌, ◌++◌, length, map, take, drop, get_or, Option, Some, None, Result, Ok, Err, refl, sym, ap, subst, ◌∙◌, append_assoc, arith, length-append, inl, inr}
-use Rattle.std.proofs.Math.Seq.{drop-nil}
-use Rattle.std.proofs.lemmas.Bool.{eqb-true, ltb-true, ne_eqb, le-ltb, lt-ltb, cases_Bool, agree_below, agree_below_at, and_parts, not-true, false_from_ne_true}
-use Rattle.std.proofs.lemmas.List.{append-nil, drop_at, length-map, take-append-drop}
+use Rattle.std.proofs.Common.{◌≡◌, ◌≢◌, ◌⊎◌, ℕ, zero, suc, ◌+◌, ◌-◌, ◌<◌, List, [], ◌∷◌, ◌++◌, length, map, take, drop, get_or, Option, Some, None, Result, Ok, Err, refl, sym, ap, subst, ◌∙◌, append_assoc, arith, length-append, inl, inr}
+use Rattle.std.proofs.lemmas.Bool.{eqb-true, ltb-true, cases_Bool}
+use Rattle.std.proofs.lemmas.List.{append-nil, length-map, take-append-drop}
 use Rattle.std.proofs.lemmas.Bool.Decides.{nat_tests}
 use Rattle.std.proofs.lemmas.Slice.Eq.{bytes_eq-Decides}
-use Rattle.std.specs.Prelude.{◌&&◌, not, ◌==◌, nat_lt, IfOk, IfErr}
+use Rattle.std.specs.Prelude.{◌==◌, nat_lt, IfOk, IfErr}
 use Rattle.std.specs.Str.{bytes_eq}
-use Rattle.std.specs.Char.{to_ascii_lowercase, is_ascii_digit, is_ascii_graphic, IsAsciiDigit, IsAsciiGraphic}
-use Rattle.std.specs.List.{AllByRecursion, flat_map, concat, join_with_byte}
+use Rattle.std.specs.Char.{to_ascii_lowercase, is_ascii_digit, is_ascii_graphic, IsAsciiDigit}
+use Rattle.std.specs.List.{concat, join_with_byte}
 use Rattle.dns_name.specs.declared.text.Atom.{Atom}
 use Rattle.dns_name.specs.declared.text.Atom.TheVariants.{Dot, Octet}
 use Rattle.dns_name.specs.declared.fault.NameFault.{NameFault}
 use Rattle.dns_name.specs.declared.fault.NameFault.TheVariants.{BadEscape, NoMemory}
-use Rattle.dns_name.specs.Labels.{Labels, IsLabel, IsLowerOctet, IsName, IsOctets, labels_of, spelled, with_length}
+use Rattle.dns_name.specs.Labels.{Labels, IsName, spelled}
 use Rattle.dns_name.specs.Making.{Gives}
-use Rattle.dns_name.specs.Octets.{spelled-append, length-spelled_push, opened, no_labels, pushed, lower_label}
-use Rattle.dns_name.specs.Text.{decimal, IsOctetText, itself, quoted, numbered, EachPair, IsLabelText, IsNameText, ReadsWhatStands, decimal_at, escape_at, atom_at, stepped, ended, HasRoom, ◌>>=◌, or_fault, read, name_in, is_special, escaped, label_text, text_of}
+use Rattle.dns_name.specs.Octets.{no_labels, pushed, lower_label}
+use Rattle.dns_name.specs.Text.{decimal, IsOctetText, itself, quoted, numbered, EachPair, IsLabelText, IsNameText, ReadsWhatStands, decimal_at, escape_at, atom_at, stepped, ended, HasRoom, ◌>>=◌, or_fault, read, name_in}
 use Rattle.dns_name.proofs.MakingLaws.{memory_alone}
 use Rattle.dns_name.proofs.TextLaws.{graphic_from, digit_from, digit_apart, IsLastDot, what_stands_is_read}
 
 -- what an atom is written as
-abbrev IsAtomText : List ℕ → Atom → Type 0
+abbrev pub IsAtomText : List ℕ → Atom → Type 0
 IsAtomText text Dot = text ≡ 46 ∷ []
 IsAtomText text (Octet b) = IsOctetText text b
 
 -- what is found at the front of a text is written there
-abbrev IsFound : List ℕ → Option (Atom × ℕ) → Type 0
+abbrev pub IsFound : List ℕ → Option (Atom × ℕ) → Type 0
 IsFound text None = Unit {0}
 IsFound text (Some found) = IsAtomText (take found.1 text) found.0 × (0 < found.1)
 
@@ -56,7 +55,7 @@ found_escape (x ∷ text) =
       ]
     ]
 
-found_atom : (text : List ℕ) → IsFound text (atom_at text)
+pub found_atom : (text : List ℕ) → IsFound text (atom_at text)
 found_atom [] = tt
 found_atom (c ∷ text) =
     elim (cases_Bool (c == 46)) [
@@ -71,11 +70,11 @@ found_atom (c ∷ text) =
     ]
 
 -- what a step that did not fail did
-abbrev IsNext : Labels → List ℕ → Atom → Labels × List ℕ → Type 0
+abbrev pub IsNext : Labels → List ℕ → Atom → Labels × List ℕ → Type 0
 IsNext before part Dot next = (0 < length part) × (next ≡ (before ++ map to_ascii_lowercase part ∷ [], []))
 IsNext before part (Octet b) next = (length part ≢ 63) × (length (spelled before) + length part < 253) × (next ≡ (before, part ++ b ∷ []))
 
-stepped_ok : (before : Labels) (part : List ℕ) (atom : Atom) (next : Labels × List ℕ) → stepped before part atom ≡ Ok next → IsNext before part atom next
+pub stepped_ok : (before : Labels) (part : List ℕ) (atom : Atom) (next : Labels × List ℕ) → stepped before part atom ≡ Ok next → IsNext before part atom next
 stepped_ok before part Dot next e =
     elim (cases_Bool (length part == 0)) [
       | inl none ↦ absurd (let bad = rw none at e in cc)
@@ -91,11 +90,11 @@ stepped_ok before part (Octet b) next e =
     ]
 
 -- what has been read: the labels before, and the octets of the label that is being read
-record Progress (before : Labels) (part : List ℕ) : Type 0 where
-  name : IsName before
-  octets : (i : ℕ) → get_or part i 0 < 256
-  few : length part < 64
-  room : HasRoom before part
+pub record Progress (before : Labels) (part : List ℕ) : Type 0 where
+  pub name : IsName before
+  pub octets : (i : ℕ) → get_or part i 0 < 256
+  pub few : length part < 64
+  pub room : HasRoom before part
 
 one_more_octet : (part : List ℕ) (b : ℕ) → ((i : ℕ) → get_or part i 0 < 256) → b < 256 → (i : ℕ) → get_or (part ++ b ∷ []) i 0 < 256
 one_more_octet [] b each small zero = small
@@ -112,7 +111,7 @@ one_more_label : (before : Labels) (part : List ℕ) → Progress before part �
 one_more_label before part p some =
     (pushed _ before (map to_ascii_lowercase part) (record { octets_are = refl; name = p.name }) (lower_label part p.octets some p.few) (omega (arith, p.room some, length-map part to_ascii_lowercase))).name
 
-next_progress : (before : Labels) (part text : List ℕ) (atom : Atom) (next : Labels × List ℕ) → IsAtomText text atom → IsNext before part atom next → Progress before part → Progress next.0 next.1
+pub next_progress : (before : Labels) (part text : List ℕ) (atom : Atom) (next : Labels × List ℕ) → IsAtomText text atom → IsNext before part atom next → Progress before part → Progress next.0 next.1
 next_progress before part text Dot next stands done p =
     rw done.1 (record { name = one_more_label before part p done.0; octets = λ i. omega arith; few = omega arith; room = λ some. absurd (omega arith) })
 next_progress before part text (Octet b) next stands done p =
@@ -254,7 +253,7 @@ or_fault_ok : {A : Type 0} (fault : NameFault) (o : Option A) (x : A) → or_fau
 or_fault_ok fault None x e = absurd cc
 or_fault_ok fault (Some z) x e = let same : z ≡ x = cc in ap Some same
 
-skip_first : (c k : ℕ) (text : List ℕ) → 0 < k → drop (k - 1) text ≡ drop k (c ∷ text)
+pub skip_first : (c k : ℕ) (text : List ℕ) → 0 < k → drop (k - 1) text ≡ drop k (c ∷ text)
 skip_first c zero text some = absurd (omega arith)
 skip_first c (suc k) text some = let one : suc k - 1 ≡ k = omega arith in rw one refl
 
@@ -272,7 +271,7 @@ read_as before part zero (c ∷ text) labels p e =
     let here = read_as_atom before part (take one.0.1 (c ∷ text)) (drop one.0.1 (c ∷ text)) one.0.0 two.0 labels found.0 done (rw (← skip_first c one.0.1 text found.1) more) in
     subst (λ (x : List ℕ). IsReadAs before part x labels) (take-append-drop one.0.1 (c ∷ text)) here
 
-nothing_read : Progress [] []
+pub nothing_read : Progress [] []
 nothing_read = record { name = no_labels.name; octets = λ i. omega arith; few = omega arith; room = λ some. absurd (omega arith) }
 
 read_nothing : (labels : Labels) → read [] [] 0 [] ≡ Ok labels → ⊥

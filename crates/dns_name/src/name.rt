@@ -4,12 +4,14 @@ ghost use Rattle.std.specs.Prelude.{◌≡◌, ◌↔◌, ◌++◌, IsTrue, IfOk
 ghost use Rattle.std.specs.Iterator.{YieldsFirstBy, item_count};
 ghost use Rattle.dns_name.specs.Labels.{IsAtOrBelow, octets_of, spelled, IsName, IsOctets, labels_in, labels_of, parent_of};
 ghost use Rattle.dns_name.specs.Making.{Gives, name_after, lowered};
-ghost use Rattle.dns_name.specs.Octets.{Begins, Ends};
+ghost use Rattle.dns_name.specs.Building.{IsComing, starts_from};
+ghost use Rattle.dns_name.specs.Octets.{Begins, Ends, IsOver};
 ghost use Rattle.dns_name.specs.Order.{labels_cmp, ZoneIsFirst, SubtreeIsContiguous};
 
 use crate::NoMemory;
 use crate::builder::NameBuilder;
 use crate::fault::NameFault;
+use arrayvec::ArrayVec;
 use std::alloc::Global;
 use std::cmp::Ordering;
 use std::hash::{Hash, Hasher};
@@ -72,9 +74,10 @@ impl Name {
     pub fn parent(&self, alloc: Global) -> Result<Option<Name>, NoMemory>
         ensures { IfOk result (λ p. p ≡ parent_of self.now) }
     {
-        match split_last_label(&self.octets) {
+        let mut labels = self.labels();
+        match labels.next() {
             None => Ok(None),
-            Some((_, rest)) => Ok(Some(Name::from_octets(alloc, rest)?)),
+            Some(_) => Ok(Some(Name::from_octets(alloc, labels.octets)?)),
         }
     }
 
@@ -85,6 +88,7 @@ impl Name {
     {
         Labels {
             octets: &self.octets,
+            starts: label_starts(&self.octets),
         }
     }
 
@@ -102,7 +106,11 @@ impl Name {
     pub fn push_spelled(&self, out: &mut Vec<u8>) -> Result<(), NoMemory>
         ensures { OnOk result (out.new.items ≡ out.old.items ++ spelled self.now) }
     {
-        push_labels(&self.octets, out)
+        for label in self.labels() {
+            out.push(label.len() as u8)?;
+            out.extend_from_slice(label)?;
+        }
+        Ok(())
     }
 
     /// Whether the labels of this name end with those of `zone`. It takes no memory.
@@ -117,17 +125,20 @@ impl Name {
 #[derive(Drop)]
 pub struct Labels<'a> {
     octets: &'a [u8],
+    // Where each label begins, the one next to the root first. A label takes two octets or more.
+    starts: ArrayVec<u8, 127>,
 }
 
 impl<'a> Model for Labels<'a> {
     ghost use Rattle.std.specs.Prelude.{List, ℕ};
-    ghost use Rattle.dns_name.specs.Labels.{labels_of, IsOctets};
+    ghost use Rattle.dns_name.specs.Labels.{labels_of};
+    ghost use Rattle.dns_name.specs.Building.{IsComing};
 
     ghost Value = { List (List ℕ) };
 
     ghost view = { λ n. labels_of n.octets.now };
 
-    ghost invariant = { λ n. IsOctets n.octets.now };
+    ghost invariant = { λ n. IsComing n.octets.now n.starts.items };
 }
 
 impl<'a> Iterator for Labels<'a> {
@@ -138,8 +149,8 @@ impl<'a> Iterator for Labels<'a> {
     ghost remaining = { item_count (λ s. s) };
 
     fn next(&mut self) -> Option<&'a [u8]> {
-        let (label, rest) = split_last_label(self.octets)?;
-        self.octets = rest;
+        let (label, front) = pop_label(self.octets, &mut self.starts)?;
+        self.octets = front;
         Some(label)
     }
 }
@@ -164,34 +175,30 @@ fn split_label(octets: &[u8]) -> Option<(&[u8], &[u8])>
     Some(rest.split_at(*n as usize))
 }
 
-/// The last label of a run of octets, and the octets before it.
-pub(crate) fn split_last_label(octets: &[u8]) -> Option<(&[u8], &[u8])>
+/// Where each label of a run of octets begins.
+fn label_starts(octets: &[u8]) -> ArrayVec<u8, 127>
     requires { IsOctets octets.now }
-    ensures { MatchOption result (labels_of octets.now ≡ []) (λ r. Ends octets.now r.0.now r.1.now) }
+    ensures { result.items ≡ starts_from 0 (labels_in octets.now) }
 {
+    let mut starts = ArrayVec::new();
     let mut at = 0;
     let mut rest = octets;
     while let Some((label, after)) = split_label(rest) {
-        if after.is_empty() {
-            return Some((label, &octets[..at]));
-        }
+        starts.push(at as u8);
         at += label.len() + 1;
         rest = after;
     }
-    None
+    starts
 }
 
-fn push_labels(octets: &[u8], out: &mut Vec<u8>) -> Result<(), NoMemory>
-    requires { IsOctets octets.now }
-    ensures { OnOk result (out.new.items ≡ out.old.items ++ spelled (labels_of octets.now)) }
+/// The last label of a run of octets, whose start it takes away, and the octets before it.
+fn pop_label<'a>(octets: &'a [u8], starts: &mut ArrayVec<u8, 127>) -> Option<(&'a [u8], &'a [u8])>
+    requires { IsComing octets.now starts.old.items }
+    ensures { MatchOption result (IsOver octets.now starts.new.items) (λ r. Ends octets.now r.0.now r.1.now starts.new.items) }
 {
-    let mut rest = octets;
-    while let Some((label, front)) = split_last_label(rest) {
-        out.push(label.len() as u8)?;
-        out.extend_from_slice(label)?;
-        rest = front;
-    }
-    Ok(())
+    let start = usize::from(starts.pop()?);
+    let (front, last) = octets.split_at(start);
+    Some((&last[1..], front))
 }
 
 /// Compares the labels that two runs of octets spell.
