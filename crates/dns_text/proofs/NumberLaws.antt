@@ -1,13 +1,16 @@
 -- Numbers as digits, one digit after another.
-use Rattle.std.proofs.Common.{◌≡◌, ℕ, ◌+◌, ◌-◌, ◌*◌, ◌<◌, ◌≤◌, Bool, true, false, List, [], ◌∷◌, Option, Some, None, refl, sym, ap, ◌∙◌, arith, length, inl, inr, nat_lt}
+use Rattle.std.proofs.Common.{◌≡◌, ℕ, ◌+◌, ◌-◌, ◌*◌, ◌<◌, ◌≤◌, Bool, true, false, List, [], ◌∷◌, Option, Some, None, refl, sym, ap, ◌∙◌, arith, length, inl, inr, nat_lt, get_or, ◌^◌, zero, suc}
 use borrow.Author.Tests.{ltb-true, ltb-false}
-use Rattle.std.proofs.lemmas.Bool.{lt-ltb, le-ltb, cases_Bool}
+use Rattle.std.proofs.lemmas.Bool.{lt-ltb, le-ltb, cases_Bool, ne_eqb}
 use Rattle.std.proofs.lemmas.Bool.Decides.{nat_tests}
 use Rattle.std.specs.Prelude.{if◌then◌else◌}
 use Rattle.std.specs.Char.{is_ascii_digit, digit_value}
 use Rattle.std.specs.Str.{all_ascii_digits}
-use Rattle.std.specs.Str.Parse.{digits_value_after}
-use Rattle.dns_text.specs.Number.{no_more_than, number_in, digits_in}
+use Rattle.std.specs.Str.Parse.{digits_value, digits_value_after}
+use Rattle.std.proofs.lemmas.Str.Parse.{IsNumeralModel, numerals_by_value, tells_all_ascii_digits}
+use Rattle.std.proofs.lemmas.Fmt.{digits_decimal, digits_value-decimal, decimal_nonempty, decimal_digit, first_decimal}
+use Rattle.std.specs.Prelude.{decimal}
+use Rattle.dns_text.specs.Number.{no_more_than, is_digits, number_in, short_number_in, digits_in}
 
 -- the number that digits stand for behind those of n
 pub number_after : ℕ → ℕ → List ℕ → Option ℕ
@@ -64,3 +67,36 @@ pub number_in_none : (most : ℕ) (word : List ℕ) → length word ≡ 0 → nu
 unfolding number_in
 number_in_none most [] h = refl
 number_in_none most (c ∷ word) h = absurd (omega arith)
+
+-- ---- what is written is read back
+
+own : IsNumeralModel (λ ds. all_ascii_digits ds ≡ true) (digits_value 10)
+own = numerals_by_value (λ ds. all_ascii_digits ds ≡ true) tells_all_ascii_digits
+
+pub digits-decimal : (n : ℕ) → n < 2 ^ 64 → all_ascii_digits (decimal n) ≡ true
+digits-decimal n h = digits_decimal own n h
+
+some_digits : (word : List ℕ) → 0 < length word → all_ascii_digits word ≡ true → is_digits word ≡ true
+some_digits [] h e = absurd (omega arith)
+some_digits (c ∷ word) h e = e
+
+pub is_digits-decimal : (n : ℕ) → n < 2 ^ 64 → is_digits (decimal n) ≡ true
+is_digits-decimal n h = some_digits (decimal n) (decimal_nonempty n h) (digits-decimal n h)
+
+pub number_in-decimal : (most n : ℕ) → n ≤ most → n < 2 ^ 64 → number_in most (decimal n) ≡ Some n
+unfolding number_in
+number_in-decimal most n few h =
+    let value : digits_value 10 (decimal n) ≡ n = digits_value-decimal own n h in
+    rw (is_digits-decimal n h) (rw value (rw (le-ltb most n few) refl))
+
+short_word : (most : ℕ) (word : List ℕ) → (get_or word 0 0 ≡ 48 → length word ≡ 1) → short_number_in most word ≡ number_in most word
+short_word most [] h = refl
+short_word most (c ∷ []) h = refl
+short_word most (c ∷ d ∷ word) h = rw (ne_eqb c 48 (λ e. let one = h e in omega arith)) refl
+
+no_leading_zero : (n : ℕ) → n < 2 ^ 64 → get_or (decimal n) 0 0 ≡ 48 → length (decimal n) ≡ 1
+no_leading_zero zero h e = ap length (decimal_digit 0 (omega arith))
+no_leading_zero (suc n) h e = absurd (omega (arith, first_decimal (suc n) (omega arith) h))
+
+pub short_number_in-decimal : (most n : ℕ) → n ≤ most → n < 2 ^ 64 → short_number_in most (decimal n) ≡ Some n
+short_number_in-decimal most n few h = short_word most (decimal n) (no_leading_zero n h) ∙ number_in-decimal most n few h

@@ -1,8 +1,11 @@
 //! The data of records as text, each type in its form.
 
-ghost use Rattle.std.specs.Prelude.{◌≡◌, ◌++◌, ℕ, length, option_map, IfOk, OnOk, Some};
+ghost use Rattle.std.specs.Prelude.{◌≡◌, ◌<◌, ◌++◌, slice_index, ℕ, length, option_map, IfOk, OnOk, Some};
+ghost use Rattle.dns_name.specs.Labels.{IsName};
+ghost use Rattle.dns_name.specs.Text.{text_of};
 ghost use Rattle.dns_text.specs.Fault.{Gives, or_fault};
 ghost use Rattle.dns_text.specs.declared.fault.TextFault.TheVariants.{BadData};
+ghost use Rattle.dns_text.specs.Kind.{form_of};
 ghost use Rattle.dns_text.specs.Data.{named, cut_at_dot, octet_in, quad_in, dotted, quad_text, data_in, data_text, HasForm};
 
 use crate::fault::TextFault;
@@ -34,6 +37,16 @@ pub(crate) fn read_name(alloc: Global, word: &[u8]) -> Result<Option<Name>, NoMe
         Err(NameFault::NoMemory) => Err(AllocError),
         Err(_) => Ok(None),
     }
+}
+
+/// Writes a name.
+pub(crate) fn push_name(name: &Name, out: &mut Vec<u8>) -> Result<(), NoMemory>
+    ensures text { OnOk result (out.new.items ≡ out.old.items ++ text_of name.now) }
+    ensures name { IsName name.now }
+{
+    // What a name is, its labels say.
+    let _labels = name.labels();
+    name.push_text(out)
 }
 
 fn octet(word: &[u8]) -> Option<u8>
@@ -81,7 +94,8 @@ fn push_dotted(n: u8, out: &mut Vec<u8>) -> Result<(), NoMemory>
 
 /// Writes an IPv4 address.
 fn push_quad(octets: &[u8; 4], out: &mut Vec<u8>) -> Result<(), NoMemory>
-    ensures { OnOk result (out.new.items ≡ out.old.items ++ quad_text octets.now) }
+    ensures text { OnOk result (out.new.items ≡ out.old.items ++ quad_text octets.now) }
+    ensures octets { (i : ℕ) → slice_index octets.now i < 256 }
 {
     let [a, b, c, d] = *octets;
     push_dotted(a, out)?;
@@ -93,7 +107,8 @@ fn push_quad(octets: &[u8; 4], out: &mut Vec<u8>) -> Result<(), NoMemory>
 /// Writes data behind what `out` holds. Where memory runs out, a part of the text may stand there.
 #[tactic(auto, unfolding(crate::specs::Data::data_text))]
 pub fn push_data(body: &Data, out: &mut Vec<u8>) -> Result<(), NoMemory>
-    ensures { OnOk result (out.new.items ≡ out.old.items ++ data_text body.now) }
+    ensures text { OnOk result (out.new.items ≡ out.old.items ++ data_text body.now) }
+    ensures again { (kind : ℕ) → form_of kind ≡ Form.A → HasForm kind body.now → data_in kind (data_text body.now) ≡ Some body.now }
 {
     match body {
         Data::A(octets) => push_quad(octets, out),

@@ -193,6 +193,7 @@ pub fn push_type(kind: u16, out: &mut Vec<u8>) -> Result<(), AllocError>
 /// The name of a type, or its number as in `TYPE65280`.
 pub fn write_type(alloc: Global, kind: u16) -> Result<Vec<u8>, AllocError>
     ensures text { IfOk result (λ v. v.items ≡ type_text kind) }
+    ensures again { IfOk result (λ v. is_excluded kind ≡ false → type_in v.items ≡ Some kind) }
 {
     let mut out = Vec::new(alloc);
     push_type(kind, &mut out)?;

@@ -19,3 +19,6 @@ pub use record::{Data, Question, Record, equality_law};
 pub use record_text::{push_record, read_record, write_record};
 pub use std::alloc::AllocError as NoMemory;
 pub use word::next_word;
+
+#[cfg(test)]
+mod tests;

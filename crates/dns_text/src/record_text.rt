@@ -3,9 +3,9 @@
 ghost use Rattle.std.specs.Prelude.{◌≡◌, ◌++◌, ◌<◌, ◌≤◌, ◌^◌, option_map, IfOk, OnOk, Ok, false};
 ghost use Rattle.dns_text.specs.Fault.{Gives, result_map};
 ghost use Rattle.dns_text.specs.Data.{HasForm};
-ghost use Rattle.dns_text.specs.Record.{is_class, ttl_at, after_class, with_ttl, ttl_and_class, record_in, record_text};
+ghost use Rattle.dns_text.specs.Record.{is_class, ttl_at, after_class, with_ttl, ttl_and_class, record_in, record_text, IsTextual};
 
-use crate::data::{push_data, read_data, read_name};
+use crate::data::{push_data, push_name, read_data, read_name};
 use crate::fault::TextFault;
 use crate::kind::{push_type, read_type};
 use crate::number::{is_digits, push_number, read_number};
@@ -84,9 +84,10 @@ pub fn read_record(alloc: Global, text: &[u8]) -> Result<Record, TextFault>
 
 /// Writes a record behind what `out` holds, as `NAME TTL TYPE DATA`. Where memory runs out, a part of the text may stand there.
 pub fn push_record(r: &Record, out: &mut Vec<u8>) -> Result<(), NoMemory>
-    ensures { OnOk result (out.new.items ≡ out.old.items ++ record_text r.now) }
+    ensures text { OnOk result (out.new.items ≡ out.old.items ++ record_text r.now) }
+    ensures again { OnOk result (IsTextual r.now → record_in (record_text r.now) ≡ Ok r.now) }
 {
-    r.owner.push_text(out)?;
+    push_name(&r.owner, out)?;
     out.push(b' ')?;
     push_number(u64::from(r.ttl), out)?;
     out.push(b' ')?;
@@ -98,6 +99,7 @@ pub fn push_record(r: &Record, out: &mut Vec<u8>) -> Result<(), NoMemory>
 /// The text of a record, as `push_record` writes it.
 pub fn write_record(alloc: Global, r: &Record) -> Result<Vec<u8>, NoMemory>
     ensures text { IfOk result (λ v. v.items ≡ record_text r.now) }
+    ensures again { IfOk result (λ v. IsTextual r.now → record_in v.items ≡ Ok r.now) }
 {
     let mut out = Vec::new(alloc);
     push_record(r, &mut out)?;
