@@ -1,6 +1,6 @@
 -- The fault that is told of a text is the first from the left.
-use Rattle.std.proofs.Common.{◌≡◌, ◌≢◌, ◌⊎◌, ℕ, zero, suc, ◌+◌, ◌-◌, ◌<◌, true, false, List, [], ◌∷◌, ◌++◌, length, map, take, drop, Option, Some, None, Result, Ok, Err, refl, sym, ap, subst, ◌∙◌, append_assoc, arith, length-append, inl, inr}
-use Rattle.std.proofs.lemmas.Bool.{eqb-true, cases_Bool}
+use Rattle.std.proofs.Common.{◌≡◌, ◌≢◌, ◌⊎◌, ℕ, zero, suc, ◌+◌, ◌-◌, ◌<◌, true, false, List, [], ◌∷◌, ◌++◌, length, map, take, drop, Option, Some, None, Result, Ok, Err, refl, sym, ap, subst, ◌∙◌, append_assoc, arith, length-append, eq-eqb, inl, inr}
+use Rattle.std.proofs.lemmas.Bool.{eqb-true, ne_eqb, lt-ltb, cases_Bool, false_from_ne_true}
 use Rattle.std.proofs.lemmas.Bool.Decides.{nat_tests}
 use Rattle.std.proofs.lemmas.List.{append-nil, take-append-drop, nil_from_length}
 use Rattle.std.proofs.lemmas.List.Folds.{concat-append}
@@ -8,16 +8,17 @@ use Rattle.std.proofs.lemmas.List.Concat.{flat_map-append}
 use Rattle.std.proofs.lemmas.Slice.Eq.{bytes_eq-Decides}
 use Rattle.std.specs.Prelude.{◌==◌, nat_lt, IfErr}
 use Rattle.std.specs.Char.{to_ascii_lowercase}
-use Rattle.std.specs.List.{concat, flat_map}
+use Rattle.std.specs.List.{AllByRecursion, concat, flat_map}
 use Rattle.std.specs.Str.{bytes_eq}
 use Rattle.dns_name.specs.declared.text.Atom.{Atom}
 use Rattle.dns_name.specs.declared.text.Atom.TheVariants.{Dot, Octet}
 use Rattle.dns_name.specs.declared.fault.NameFault.{NameFault}
 use Rattle.dns_name.specs.declared.fault.NameFault.TheVariants.{EmptyLabel, LongLabel, LongName, BadEscape, NoMemory}
-use Rattle.dns_name.specs.Labels.{Labels, IsName, spelled}
+use Rattle.dns_name.specs.Labels.{Labels, IsLabel, spelled, with_length}
+use Rattle.dns_name.specs.Octets.{spelled-append}
 use Rattle.dns_name.specs.Making.{Gives, Fails}
-use Rattle.dns_name.specs.Text.{IsOctetText, EachPair, IsLabelText, IsFront, BeginsWithOctet, BeginsWithDot, IsFaultAt, IsFirstFault, atom_at, stepped, ended, ◌>>=◌, or_fault, read, name_in}
-use Rattle.dns_name.proofs.TextLaws.{atom_of_piece}
+use Rattle.dns_name.specs.Text.{IsOctetText, EachPair, IsLabelText, IsFront, BeginsWithOctet, BeginsWithDot, IsFaultAt, IsFirstFault, TellsTheFirstFault, HasRoom, atom_at, stepped, ended, ◌>>=◌, or_fault, read, name_in}
+use Rattle.dns_name.proofs.TextLaws.{atom_of_piece, length_piece, read_pieces, read_label_dot, read_fault, read_bad, read_end}
 use Rattle.dns_name.proofs.ReadLaws.{IsAtomText, IsFound, found_atom, IsNext, stepped_ok, Progress, next_progress, nothing_read, skip_first}
 
 pairs-append : {X Y : Type 0} (R : X → Y → Type 0) (xs : List X) (ys : List Y) (us : List X) (vs : List Y) → EachPair R xs ys → EachPair R us vs → EachPair R (xs ++ us) (ys ++ vs)
@@ -180,6 +181,80 @@ first_fault text fault e =
             bad = s.bad;
           }
     ]
+
+-- ---- where a fault is the first, it is told
+
+read_dotted : (before : Labels) (texts : List (List ℕ)) (labels : Labels) (rest : List ℕ) → EachPair IsLabelText texts labels → AllByRecursion IsLabel labels → length (spelled (before ++ labels)) < 255 → read before [] 0 (flat_map (λ t. t ++ 46 ∷ []) texts ++ rest) ≡ read (before ++ labels) [] 0 rest
+read_dotted before [] [] rest each labels short = ap (λ (x : Labels). read x [] 0 rest) (sym (append-nil before))
+read_dotted before [] (label ∷ more) rest each labels short = absurd each
+read_dotted before (text ∷ texts) [] rest each labels short = absurd each
+read_dotted before (text ∷ texts) (label ∷ more) rest each labels short =
+    let dotted : List ℕ = flat_map (λ t. t ++ 46 ∷ []) texts in
+    let whole : (before ++ label ∷ []) ++ more ≡ before ++ label ∷ more = append_assoc before (label ∷ []) more in
+    let total = ap length (spelled-append before (label ∷ more)) in
+    ap (read before [] 0) (append_assoc (text ++ 46 ∷ []) dotted rest ∙ append_assoc text (46 ∷ []) (dotted ++ rest))
+    ∙ read_label_dot before text label (dotted ++ rest) each.0 labels.0 (omega (arith, short, total, length-append (spelled before) (spelled (label ∷ more)), length-append (with_length label) (spelled more)))
+    ∙ read_dotted (before ++ label ∷ []) texts more rest each.1 labels.1 (omega (arith, short, ap (λ (x : Labels). length (spelled x)) whole))
+    ∙ ap (λ (x : Labels). read x [] 0 rest) whole
+
+read_part : (before : Labels) (pieces : List (List ℕ)) (part rest : List ℕ) → EachPair IsOctetText pieces part → length part < 64 → HasRoom before part → read before [] 0 (concat pieces ++ rest) ≡ read before part 0 rest
+read_part before [] [] rest each few room = refl
+read_part before [] (b ∷ part) rest each few room = absurd each
+read_part before (piece ∷ pieces) [] rest each few room = absurd each
+read_part before (piece ∷ pieces) (b ∷ part) rest each few room = read_pieces before [] (piece ∷ pieces) (b ∷ part) rest each (omega arith) (omega (arith, room (omega arith)))
+
+read_front : (front rest : List ℕ) (before : Labels) (part : List ℕ) → IsFront front before part → read [] [] 0 (front ++ rest) ≡ read before part 0 rest
+read_front front rest before part f =
+    let dotted : List ℕ = flat_map (λ t. t ++ 46 ∷ []) f.texts in
+    ap (λ (x : List ℕ). read [] [] 0 (x ++ rest)) f.joined
+    ∙ ap (read [] [] 0) (append_assoc dotted (concat f.pieces) rest)
+    ∙ read_dotted [] f.texts before (concat f.pieces ++ rest) f.labels f.name.each f.name.short
+    ∙ read_part before f.pieces part rest f.octets f.few f.room
+
+stepped_long : (before : Labels) (part : List ℕ) (b : ℕ) → length part ≡ 63 → stepped before part (Octet b) ≡ Err LongLabel
+stepped_long before part b full = rw (eq-eqb (length part) 63 full) refl
+
+stepped_past : (before : Labels) (part : List ℕ) (b : ℕ) → length part < 63 → 252 < length (spelled before) + length part → stepped before part (Octet b) ≡ Err LongName
+stepped_past before part b few past = rw (ne_eqb (length part) 63 (λ e. omega arith), lt-ltb 252 (length (spelled before) + length part) past) refl
+
+octet_fault : (before : Labels) (part rest : List ℕ) (fault : NameFault) (o : BeginsWithOctet rest) → stepped before part (Octet o.octet) ≡ Err fault → read before part 0 rest ≡ Err fault
+octet_fault before part rest fault o e =
+    read_fault before part rest (Octet o.octet) (length o.piece) fault
+    (omega (arith, ap length o.parts, length-append o.piece o.rest, length_piece o.piece o.octet o.written))
+    (ap atom_at o.parts ∙ atom_of_piece o.piece o.octet o.rest o.written)
+    e
+
+no_atom : (rest : List ℕ) (found : Option (Atom × ℕ)) → atom_at rest ≡ found → IsFound rest found → ¬ BeginsWithDot rest → ¬ BeginsWithOctet rest → found ≡ None
+no_atom rest None e h dot octet = refl
+no_atom rest (Some found) e h dot octet = absurd (begins rest found.0 found.1 h.0 dot octet)
+  where
+    begins : (rest : List ℕ) (atom : Atom) (k : ℕ) → IsAtomText (take k rest) atom → ¬ BeginsWithDot rest → ¬ BeginsWithOctet rest → ⊥
+    begins rest Dot k stands dot octet = dot (drop k rest, sym (take-append-drop k rest) ∙ ap (λ (x : List ℕ). x ++ drop k rest) stands)
+    begins rest (Octet b) k stands dot octet = octet (record { piece = take k rest; rest = drop k rest; octet = b; parts = sym (take-append-drop k rest); written = stands })
+
+some_text : (rest : List ℕ) → rest ≢ [] → 0 < length rest
+some_text [] some = absurd (some refl)
+some_text (c ∷ rest) some = omega arith
+
+fault_told : (before : Labels) (part rest : List ℕ) (fault : NameFault) → IsFaultAt before part rest fault → read before part 0 rest ≡ Err fault
+fault_told before part rest NoMemory h = absurd h
+fault_told before part rest BadEscape h = read_bad before part rest (some_text rest h.0) (no_atom rest (atom_at rest) refl (found_atom rest) h.1 h.2)
+fault_told before part rest LongLabel h = octet_fault before part rest LongLabel h.1 (stepped_long before part h.1.octet h.0)
+fault_told before part rest LongName h = octet_fault before part rest LongName h.2 (stepped_past before part h.2.octet h.0 (omega (arith, h.1)))
+fault_told before part rest EmptyLabel h =
+    elim h.1 [
+      | inl dot ↦ rw (h.0, dot.1) (read_fault before [] (46 ∷ dot.0) Dot 1 EmptyLabel (omega arith) refl refl)
+      | inr over ↦ rw (h.0, over.0, over.1) (read_end [] [] [] refl)
+    ]
+
+pub told_where_first : (text : List ℕ) (fault : NameFault) → IsFirstFault text fault → name_in text ≡ Err fault
+unfolding name_in
+told_where_first text fault h =
+    let other : bytes_eq text (46 ∷ []) ≡ false = false_from_ne_true _ (λ same. h.not_root ((bytes_eq-Decides text (46 ∷ [])).0 same)) in
+    rw other (ap (read [] [] 0) h.parts ∙ read_front h.front h.rest h.before h.part h.good ∙ fault_told h.before h.part h.rest fault h.bad)
+
+pub tells_the_first_fault : TellsTheFirstFault
+tells_the_first_fault text fault = (first_fault text fault, told_where_first text fault)
 
 told_first : (text : List ℕ) (fault : NameFault) → Fails fault (name_in text) → (fault ≢ NoMemory) → IsFirstFault text fault
 told_first text NoMemory h other = absurd (other refl)
