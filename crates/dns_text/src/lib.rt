@@ -3,6 +3,7 @@
 
 mod data;
 mod fault;
+mod ipv4;
 mod items;
 mod kind;
 mod number;

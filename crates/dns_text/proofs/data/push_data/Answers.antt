@@ -1,10 +1,10 @@
 use Rattle.std.proofs.Common.{◌≡◌, Option, Some, sym, subst}
 use Rattle.dns_text.specs.declared.record.Data.{Data}
 use Rattle.dns_text.specs.Data.{data_in, data_text, HasForm}
-use Rattle.dns_text.proofs.DataLaws.{quad_again}
+use Rattle.dns_text.proofs.DataLaws.{a_again}
 use Rattle.dns_text.proofs.data.push_data.Goals as goal
 
 pub returns-in-A-clause-again : goal.returns-in-A-clause-again
 returns-in-A-clause-again c = λ kind address.
     let P : Data → Type 0 = λ body. HasForm kind body → data_in kind (data_text body) ≡ Some body in
-    subst P (sym c.in-A.is) (quad_again kind c.in-A.octets c.push_quad.ensures.octets)
+    subst P (sym c.in-A.is) (a_again kind c.in-A.octets c.push_ipv4.ensures.octets)
