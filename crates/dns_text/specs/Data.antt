@@ -9,6 +9,7 @@ use Rattle.dns_text.specs.declared.record.Data.TheVariants.{A, Aaaa, One, Mx, So
 use Rattle.dns_text.specs.declared.kind.Form.{Form}
 use Rattle.dns_text.specs.declared.kind.Form.TheVariants.{A as FormA, Aaaa as FormAaaa, Name as FormName, Mx as FormMx, Soa as FormSoa, Txt as FormTxt, Srv as FormSrv, Opaque as FormOpaque}
 use Rattle.dns_text.specs.Ipv4.{ipv4_in, ipv4_text}
+use Rattle.dns_text.specs.Ipv6.{ipv6_in, ipv6_text}
 use Rattle.dns_text.specs.Kind.{form_of}
 use Rattle.dns_text.specs.Word.{only_word}
 use Rattle.dns_text.specs.Steps.{◌>>=◌}
@@ -24,6 +25,7 @@ named word = name_or_none (name_in word)
 -- the data of a form that a text stands for
 unfoldable pub data_as : Form → List ℕ → Option Data
 data_as FormA text = only_word text >>= λ word. option_map A (ipv4_in word)
+data_as FormAaaa text = only_word text >>= λ word. option_map Aaaa (ipv6_in word)
 data_as _ text = None
 
 -- the data of a type
@@ -32,6 +34,7 @@ data_in kind text = data_as (form_of kind) text
 
 unfoldable pub data_text : Data → List ℕ
 data_text (A octets) = ipv4_text octets
+data_text (Aaaa octets) = ipv6_text octets
 data_text _ = []
 
 -- the form of data
@@ -56,3 +59,9 @@ IsSized _ = Unit {0}
 pub record HasForm (kind : ℕ) (body : Data) : Type 0 where
   pub form : form_of kind ≡ form_in body
   pub sized : IsSized body
+
+-- the forms that have a text
+abbrev pub IsWritten : Form → Type 0
+IsWritten FormA = Unit {0}
+IsWritten FormAaaa = Unit {0}
+IsWritten _ = ⊥

@@ -4,6 +4,7 @@ pub mod Number
 pub mod Word
 pub mod Kind
 pub mod Ipv4
+pub mod Ipv6
 pub mod Data
 pub mod Equal
 pub mod Record

@@ -6,10 +6,11 @@ ghost use Rattle.dns_name.specs.Text.{text_of};
 ghost use Rattle.dns_text.specs.Fault.{Gives, or_fault};
 ghost use Rattle.dns_text.specs.declared.fault.TextFault.TheVariants.{BadData};
 ghost use Rattle.dns_text.specs.Kind.{form_of};
-ghost use Rattle.dns_text.specs.Data.{named, data_in, data_text, HasForm};
+ghost use Rattle.dns_text.specs.Data.{named, data_in, data_text, HasForm, IsWritten};
 
 use crate::fault::TextFault;
 use crate::ipv4::{push_ipv4, read_ipv4};
+use crate::ipv6::{push_ipv6, read_ipv6};
 use crate::kind::{Form, form_of};
 use crate::record::Data;
 use crate::word::only_word;
@@ -49,6 +50,10 @@ pub fn read_data(alloc: Global, kind: u16, text: &[u8]) -> Result<Data, TextFaul
             let word = only_word(text).ok_or(TextFault::BadData)?;
             Ok(Data::A(read_ipv4(word).ok_or(TextFault::BadData)?))
         }
+        Form::Aaaa => {
+            let word = only_word(text).ok_or(TextFault::BadData)?;
+            Ok(Data::Aaaa(read_ipv6(word).ok_or(TextFault::BadData)?))
+        }
         _ => Err(TextFault::BadData),
     }
 }
@@ -57,10 +62,11 @@ pub fn read_data(alloc: Global, kind: u16, text: &[u8]) -> Result<Data, TextFaul
 #[tactic(auto, unfolding(crate::specs::Data::data_text))]
 pub fn push_data(body: &Data, out: &mut Vec<u8>) -> Result<(), NoMemory>
     ensures text { OnOk result (out.new.items ≡ out.old.items ++ data_text body.now) }
-    ensures again { (kind : ℕ) → form_of kind ≡ Form.A → HasForm kind body.now → data_in kind (data_text body.now) ≡ Some body.now }
+    ensures again { (kind : ℕ) → IsWritten (form_of kind) → HasForm kind body.now → data_in kind (data_text body.now) ≡ Some body.now }
 {
     match body {
         Data::A(octets) => push_ipv4(octets, out),
+        Data::Aaaa(octets) => push_ipv6(octets, out),
         _ => Ok(()),
     }
 }
