@@ -3,7 +3,8 @@ use Rattle.std.proofs.Common.{◌≡◌, ℕ, ◌<◌, Bool, true, false, List, 
 use Rattle.std.specs.Prelude.{◌&&◌, not, ◌==◌, if◌then◌else◌}
 use Rattle.std.specs.Char.{is_ascii_digit}
 use Rattle.std.specs.Str.{all_ascii_digits}
-use Rattle.std.proofs.lemmas.Bool.{cases_Bool, agree_below, agree_below_at, and_parts, false≢true}
+use Rattle.std.proofs.lemmas.Bool.{cases_Bool, agree_below, agree_below_at, and_parts, not-true}
+use Rattle.std.specs.List.{list_all}
 use Rattle.std.proofs.lemmas.Bool.Decides.{nat_tests}
 use Rattle.std.proofs.lemmas.List.{append-nil}
 use Rattle.dns_text.specs.declared.word.Within.{Within}
@@ -97,3 +98,21 @@ digits_scanned (c ∷ word) e = let parts = and_parts _ _ e in rw (digit_plain c
 
 pub joined_scanned : (a b : List ℕ) → scanned Plain a ≡ Some Plain → scanned Plain b ≡ Some Plain → scanned Plain (a ++ b) ≡ Some Plain
 joined_scanned a b h k = scanned-append a Plain b Plain h ∙ k
+
+-- an octet that is neither a blank nor a quote nor a backslash
+abbrev pub is_plain : ℕ → Bool
+is_plain c = not (c == 92) && (not (c == 34) && not (is_blank c))
+
+plain_octet : (c : ℕ) → is_plain c ≡ true → after_octet Plain c ≡ Some Plain
+plain_octet c e =
+    let parts = and_parts _ _ e in
+    let more = and_parts _ _ parts.1 in
+    let slash : (c == 92) ≡ false = not-true _ parts.0 in
+    let quote : (c == 34) ≡ false = not-true _ more.0 in
+    let blank : is_blank c ≡ false = not-true _ more.1 in
+    rw slash (rw quote (rw blank refl))
+
+pub plain_scanned : (word : List ℕ) → list_all is_plain word ≡ true → scanned Plain word ≡ Some Plain
+unfolding scanned
+plain_scanned [] e = refl
+plain_scanned (c ∷ word) e = let parts = and_parts _ _ e in rw (plain_octet c parts.0) (plain_scanned word parts.1)

@@ -8,7 +8,8 @@ use Rattle.dns_text.specs.declared.record.Data.{Data}
 use Rattle.dns_text.specs.declared.record.Data.TheVariants.{A, Aaaa, One, Mx, Soa, Txt, Srv, Opaque}
 use Rattle.dns_text.specs.declared.kind.Form.{Form}
 use Rattle.dns_text.specs.declared.kind.Form.TheVariants.{A as FormA, Aaaa as FormAaaa, Name as FormName, Mx as FormMx, Soa as FormSoa, Txt as FormTxt, Srv as FormSrv, Opaque as FormOpaque}
-use Rattle.dns_text.specs.Number.{short_number_in}
+use Rattle.dns_text.specs.Ipv4.{ipv4_in, ipv4_text}
+use Rattle.dns_text.specs.Ipv6.{ipv6_in, ipv6_text}
 use Rattle.dns_text.specs.Kind.{form_of}
 use Rattle.dns_text.specs.Word.{only_word}
 use Rattle.dns_text.specs.Steps.{◌>>=◌}
@@ -21,36 +22,10 @@ name_or_none (Err fault) = None
 abbrev pub named : List ℕ → Option Labels
 named word = name_or_none (name_in word)
 
--- what stands before the first dot, and after it
-abbrev pub cut_at_dot : List ℕ → Option (List ℕ × List ℕ)
-cut_at_dot [] = None
-cut_at_dot (c ∷ text) = if c == 46 then Some ([], text) else option_map (λ r. (c ∷ r.0, r.1)) (cut_at_dot text)
-
-abbrev pub octet_in : List ℕ → Option ℕ
-octet_in word = short_number_in 255 word
-
--- four numbers joined by dots
-unfoldable pub quad_in : List ℕ → Option (List ℕ)
-quad_in text = do
-  a ← cut_at_dot text
-  b ← cut_at_dot a.1
-  c ← cut_at_dot b.1
-  first ← octet_in a.0
-  second ← octet_in b.0
-  third ← octet_in c.0
-  fourth ← octet_in c.1
-  Some (first ∷ second ∷ third ∷ fourth ∷ [])
-
--- a number and the dot after it
-abbrev pub dotted : ℕ → List ℕ
-dotted n = decimal n ++ 46 ∷ []
-
-abbrev pub quad_text : List ℕ → List ℕ
-quad_text octets = dotted (slice_index octets 0) ++ dotted (slice_index octets 1) ++ dotted (slice_index octets 2) ++ decimal (slice_index octets 3)
-
 -- the data of a form that a text stands for
 unfoldable pub data_as : Form → List ℕ → Option Data
-data_as FormA text = only_word text >>= λ word. option_map A (quad_in word)
+data_as FormA text = only_word text >>= λ word. option_map A (ipv4_in word)
+data_as FormAaaa text = only_word text >>= λ word. option_map Aaaa (ipv6_in word)
 data_as _ text = None
 
 -- the data of a type
@@ -58,7 +33,8 @@ abbrev pub data_in : ℕ → List ℕ → Option Data
 data_in kind text = data_as (form_of kind) text
 
 unfoldable pub data_text : Data → List ℕ
-data_text (A octets) = quad_text octets
+data_text (A octets) = ipv4_text octets
+data_text (Aaaa octets) = ipv6_text octets
 data_text _ = []
 
 -- the form of data
@@ -83,3 +59,9 @@ IsSized _ = Unit {0}
 pub record HasForm (kind : ℕ) (body : Data) : Type 0 where
   pub form : form_of kind ≡ form_in body
   pub sized : IsSized body
+
+-- the forms that have a text
+abbrev pub IsWritten : Form → Type 0
+IsWritten FormA = Unit {0}
+IsWritten FormAaaa = Unit {0}
+IsWritten _ = ⊥

@@ -3,6 +3,8 @@ pub mod Fault
 pub mod Number
 pub mod Word
 pub mod Kind
+pub mod Ipv4
+pub mod Ipv6
 pub mod Data
 pub mod Equal
 pub mod Record

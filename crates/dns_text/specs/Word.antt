@@ -1,5 +1,5 @@
 -- Words of a line: they stand between spaces and tabs, and inside double quotes a blank belongs to the word.
-use Rattle.std.specs.Prelude.{ℕ, Bool, ◌||◌, List, [], ◌∷◌, Option, Some, None, ◌==◌, if◌then◌else◌}
+use Rattle.std.specs.Prelude.{ℕ, Bool, ◌||◌, List, [], ◌∷◌, Option, Some, None, ◌==◌, if◌then◌else◌, option_map}
 use Rattle.dns_text.specs.declared.word.Within.{Within}
 use Rattle.dns_text.specs.declared.word.Within.TheVariants.{Plain, Quotes, Escape, QuotedEscape}
 use Rattle.dns_text.specs.Steps.{◌>>=◌}
@@ -47,3 +47,8 @@ unless_more word (Some more) = None
 -- the word of a text that has one alone
 abbrev pub only_word : List ℕ → Option (List ℕ)
 only_word text = next_word text >>= λ first. unless_more first.0 (next_word first.1)
+
+-- what stands before the first of these octets, and after it
+abbrev pub cut_at : ℕ → List ℕ → Option (List ℕ × List ℕ)
+cut_at octet [] = None
+cut_at octet (c ∷ text) = if c == octet then Some ([], text) else option_map (with_first c) (cut_at octet text)

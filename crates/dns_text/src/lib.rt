@@ -3,6 +3,8 @@
 
 mod data;
 mod fault;
+mod ipv4;
+mod ipv6;
 mod items;
 mod kind;
 mod number;

@@ -1,7 +1,7 @@
 //! Words of a line.
 
 ghost use Rattle.std.specs.Prelude.{◌≡◌, ◌<◌, length, option_map, IfSome};
-ghost use Rattle.dns_text.specs.Word.{after_octet, cut_word, skip_blanks, next_word, only_word};
+ghost use Rattle.dns_text.specs.Word.{after_octet, cut_word, skip_blanks, next_word, only_word, cut_at};
 
 /// Where a word stands after some of its octets.
 #[derive(Clone, Copy)]
@@ -84,4 +84,17 @@ pub(crate) fn only_word(text: &[u8]) -> Option<&[u8]>
         None => Some(word),
         Some(_) => None,
     }
+}
+
+/// What stands before the first of these octets, and after it.
+pub(crate) fn cut_at(octet: u8, text: &[u8]) -> Option<(&[u8], &[u8])>
+    ensures value { option_map (λ r. (r.0.now, r.1.now)) result ≡ cut_at octet text.now }
+    ensures less { IfSome result (λ r. length r.1.now < length text.now) }
+{
+    for (i, b) in text.iter().enumerate() {
+        if *b == octet {
+            return Some((&text[..i], &text[i + 1..]));
+        }
+    }
+    None
 }

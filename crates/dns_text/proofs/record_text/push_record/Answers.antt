@@ -11,4 +11,4 @@ pub returns-clause-again : goal.returns-clause-again
 returns-clause-again c =
     let r = c.args.r.now in
     let small : r.kind < 65536 = omega arith in
-    on_ok c.push_data.result _ (λ fit. record_again r c.push_name.ensures.name small fit (c.push_data.ensures.again r.kind fit.address fit.form))
+    on_ok c.push_data.result _ (λ fit. record_again r c.push_name.ensures.name small fit (c.push_data.ensures.again r.kind fit.written fit.form))

@@ -1,0 +1,76 @@
+-- IPv6 addresses as text: groups of hexadecimal digits with colons between them.
+use Rattle.std.specs.Prelude.{ℕ, ◌+◌, ◌-◌, ◌*◌, ◌/◌, ◌%◌, Bool, ◌&&◌, List, [], ◌∷◌, ◌++◌, length, replicate, Option, Some, None, nat_lt, ◌==◌, if◌then◌else◌, option_map}
+use Rattle.std.specs.List.{slice_split}
+use Rattle.std.specs.Char.{digit_value}
+use Rattle.std.specs.Net.Text.{groups_text}
+use Rattle.std.specs.Net.Addr.{segments_of}
+use Rattle.dns_text.specs.Word.{with_first}
+use Rattle.dns_text.specs.Steps.{◌>>=◌}
+
+abbrev pub hex_in : ℕ → Option ℕ
+hex_in c = if nat_lt (digit_value c) 16 then Some (digit_value c) else None
+
+abbrev pub four_in : ℕ → ℕ → ℕ → ℕ → Option ℕ
+four_in a b c d = do
+  first ← hex_in a
+  second ← hex_in b
+  third ← hex_in c
+  fourth ← hex_in d
+  Some (((first * 16 + second) * 16 + third) * 16 + fourth)
+
+-- one to four hexadecimal digits
+unfoldable pub group_in : List ℕ → Option ℕ
+group_in [] = None
+group_in (d ∷ []) = four_in 48 48 48 d
+group_in (c ∷ d ∷ []) = four_in 48 48 c d
+group_in (b ∷ c ∷ d ∷ []) = four_in 48 b c d
+group_in (a ∷ b ∷ c ∷ d ∷ []) = four_in a b c d
+group_in (a ∷ b ∷ c ∷ d ∷ e ∷ word) = None
+
+-- a group behind octets, of which an address has no more than sixteen
+abbrev pub with_group : List ℕ → ℕ → Option (List ℕ)
+with_group octets group = if nat_lt 14 (length octets) then None else Some (octets ++ (group / 256) ∷ (group % 256) ∷ [])
+
+-- the octets of groups, behind those before
+unfoldable pub octets_after : List ℕ → List (List ℕ) → Option (List ℕ)
+octets_after before [] = Some before
+octets_after before (word ∷ words) = do
+  group ← group_in word
+  more ← with_group before group
+  octets_after more words
+
+abbrev pub is_colon : ℕ → Bool
+is_colon c = c == 58
+
+-- the octets of groups with colons between them, or of none
+unfoldable pub groups_in : List ℕ → Option (List ℕ)
+groups_in [] = Some []
+groups_in (c ∷ text) = octets_after [] (slice_split is_colon (c ∷ text))
+
+-- what stands before the first `::`, and after it
+abbrev pub cut_at_gap : List ℕ → Option (List ℕ × List ℕ)
+cut_at_gap [] = None
+cut_at_gap (a ∷ []) = None
+cut_at_gap (a ∷ b ∷ text) = if a == 58 && b == 58 then Some ([], text) else option_map (with_first a) (cut_at_gap (b ∷ text))
+
+-- `::` stands for one group of zero or more
+abbrev pub elided : List ℕ → List ℕ → Option (List ℕ)
+elided head tail = if nat_lt 14 (length head + length tail) then None else Some (head ++ replicate (16 - (length head + length tail)) 0 ++ tail)
+
+abbrev pub whole : List ℕ → Option (List ℕ)
+whole octets = if length octets == 16 then Some octets else None
+
+abbrev pub around_gap : List ℕ → Option (List ℕ × List ℕ) → Option (List ℕ)
+around_gap text None = groups_in text >>= whole
+around_gap text (Some parts) = do
+  head ← groups_in parts.0
+  tail ← groups_in parts.1
+  elided head tail
+
+-- eight groups, or fewer around `::`
+unfoldable pub ipv6_in : List ℕ → Option (List ℕ)
+ipv6_in text = around_gap text (cut_at_gap text)
+
+-- eight groups
+abbrev pub ipv6_text : List ℕ → List ℕ
+ipv6_text octets = groups_text (segments_of octets)
