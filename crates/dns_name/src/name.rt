@@ -1,20 +1,28 @@
+//! A name, its labels and its order.
+
 ghost use Rattle.std.specs.Prelude.{◌≡◌, ◌↔◌, ◌++◌, IsTrue, IfOk, IfErr, OnOk, MatchOption, List, ℕ, [], map};
 ghost use Rattle.std.specs.Iterator.{YieldsFirstBy, item_count};
 ghost use Rattle.dns_name.specs.Labels.{IsAtOrBelow, octets_of, spelled, IsName, IsOctets, labels_in, labels_of, parent_of};
 ghost use Rattle.dns_name.specs.Making.{Gives, name_after, lowered};
 ghost use Rattle.dns_name.specs.Octets.{Begins, Ends};
-ghost use Rattle.dns_name.specs.Order.{labels_cmp};
+ghost use Rattle.dns_name.specs.Order.{labels_cmp, ZoneIsFirst, SubtreeIsContiguous};
 
+use crate::NoMemory;
 use crate::builder::NameBuilder;
 use crate::fault::NameFault;
-use std::alloc::{AllocError, Global};
+use std::alloc::Global;
 use std::cmp::Ordering;
 use std::hash::{Hash, Hasher};
 use std::marker::Model;
 
-/// A domain name: its labels in lower case, the leftmost first. The root has none.
+/// A domain name (RFC 1034 section 3.1): its labels in lower case, the leftmost first. The root has
+/// none. Each has 1 to 63 octets, and the name at most 255 in a message.
+///
+/// Two names are equal where their labels are. They are ordered by labels from the root, each label
+/// compared as octets, so a zone comes right before the names below it.
 #[derive(Debug, Drop)]
 pub struct Name {
+    // The labels from the root, each behind its length: those of a zone are a prefix.
     octets: Vec<u8>,
 }
 
@@ -29,7 +37,83 @@ impl Model for Name {
     ghost invariant = { λ n. IsOctets n.octets.items };
 }
 
-/// The labels of a name that are still to come.
+impl Name {
+    /// The root. It takes no memory.
+    pub fn root(alloc: Global) -> Name
+        ensures { result ≡ [] }
+    {
+        Name {
+            octets: Vec::new(alloc),
+        }
+    }
+
+    /// The name of these labels, the leftmost first; capitals become small letters.
+    ///
+    /// Each label is judged as a whole, from the left: `EmptyLabel`, `LongLabel`, then `LongName`.
+    pub fn from_labels(alloc: Global, labels: &[&[u8]]) -> Result<Name, NameFault>
+        ensures exact { Gives result (name_after [] (map (λ l. l.now) labels.now)) }
+        ensures value { IfOk result (λ n. n ≡ lowered (map (λ l. l.now) labels.now)) }
+        ensures only { IfErr result (λ e. IsName (lowered (map (λ l. l.now) labels.now)) → e ≡ NameFault.NoMemory) }
+    {
+        built(alloc, labels)
+    }
+
+    /// The name of the labels that these octets spell from the root.
+    pub(crate) fn from_octets(alloc: Global, octets: &[u8]) -> Result<Name, NoMemory>
+        requires { IsOctets octets.now }
+        ensures { IfOk result (λ n. n ≡ labels_of octets.now) }
+    {
+        Ok(Name {
+            octets: Vec::from_slice(alloc, octets)?,
+        })
+    }
+
+    /// The name without its leftmost label; the root has none.
+    pub fn parent(&self, alloc: Global) -> Result<Option<Name>, NoMemory>
+        ensures { IfOk result (λ p. p ≡ parent_of self.now) }
+    {
+        match split_last_label(&self.octets) {
+            None => Ok(None),
+            Some((_, rest)) => Ok(Some(Name::from_octets(alloc, rest)?)),
+        }
+    }
+
+    /// The labels, the leftmost first, in lower case. It takes no memory.
+    pub fn labels(&self) -> Labels<'_>
+        ensures value { result ≡ self.now }
+        ensures name { IsName self.now }
+    {
+        Labels {
+            octets: &self.octets,
+        }
+    }
+
+    /// The labels from the root, each behind its length.
+    pub(crate) fn octets(&self) -> &[u8]
+        ensures value { result.now ≡ octets_of self.now }
+        ensures name { IsName self.now }
+    {
+        &self.octets
+    }
+
+    /// Writes the labels behind what `out` holds, as they stand in a message, each behind its length,
+    /// without the zero octet that ends a name (RFC 1035 section 3.1). Where memory runs out, some
+    /// of them may stand there.
+    pub fn push_spelled(&self, out: &mut Vec<u8>) -> Result<(), NoMemory>
+        ensures { OnOk result (out.new.items ≡ out.old.items ++ spelled self.now) }
+    {
+        push_labels(&self.octets, out)
+    }
+
+    /// Whether the labels of this name end with those of `zone`. It takes no memory.
+    pub fn at_or_below(&self, zone: &Name) -> bool
+        ensures { IsTrue result ↔ IsAtOrBelow self.now zone.now }
+    {
+        self.octets.starts_with(&zone.octets)
+    }
+}
+
+/// The labels of a name that are still to come, the leftmost first.
 #[derive(Drop)]
 pub struct Labels<'a> {
     octets: &'a [u8],
@@ -57,77 +141,6 @@ impl<'a> Iterator for Labels<'a> {
         let (label, rest) = split_last_label(self.octets)?;
         self.octets = rest;
         Some(label)
-    }
-}
-
-impl Name {
-    /// The root.
-    pub fn root(alloc: Global) -> Name
-        ensures { result ≡ [] }
-    {
-        Name {
-            octets: Vec::new(alloc),
-        }
-    }
-
-    /// The name of these labels, in lower case.
-    pub fn from_labels(alloc: Global, labels: &[&[u8]]) -> Result<Name, NameFault>
-        ensures exact { Gives result (name_after [] (map (λ l. l.now) labels.now)) }
-        ensures value { IfOk result (λ n. n ≡ lowered (map (λ l. l.now) labels.now)) }
-        ensures only { IfErr result (λ e. IsName (lowered (map (λ l. l.now) labels.now)) → e ≡ NameFault.NoMemory) }
-    {
-        built(alloc, labels)
-    }
-
-    /// The name of the labels that these octets spell from the root.
-    pub(crate) fn from_octets(alloc: Global, octets: &[u8]) -> Result<Name, AllocError>
-        requires { IsOctets octets.now }
-        ensures { IfOk result (λ n. n ≡ labels_of octets.now) }
-    {
-        Ok(Name {
-            octets: Vec::from_slice(alloc, octets)?,
-        })
-    }
-
-    /// The name without its leftmost label; the root has none.
-    pub fn parent(&self, alloc: Global) -> Result<Option<Name>, AllocError>
-        ensures { IfOk result (λ p. p ≡ parent_of self.now) }
-    {
-        match split_last_label(&self.octets) {
-            None => Ok(None),
-            Some((_, rest)) => Ok(Some(Name::from_octets(alloc, rest)?)),
-        }
-    }
-
-    /// The labels, the leftmost first.
-    pub fn labels(&self) -> Labels<'_>
-        ensures { result ≡ self.now }
-    {
-        Labels {
-            octets: &self.octets,
-        }
-    }
-
-    /// The labels from the root, each behind its length: those of a name at or above this one are a prefix.
-    pub fn octets(&self) -> &[u8]
-        ensures value { result.now ≡ octets_of self.now }
-        ensures name { IsName self.now }
-    {
-        &self.octets
-    }
-
-    /// Writes the labels as they stand in a message, before the zero octet.
-    pub fn push_spelled(&self, out: &mut Vec<u8>) -> Result<(), AllocError>
-        ensures { OnOk result (out.new.items ≡ out.old.items ++ spelled self.now) }
-    {
-        push_labels(&self.octets, out)
-    }
-
-    /// Whether the labels of this name end with those of `zone`.
-    pub fn at_or_below(&self, zone: &Name) -> bool
-        ensures { IsTrue result ↔ IsAtOrBelow self.now zone.now }
-    {
-        self.octets.starts_with(&zone.octets)
     }
 }
 
@@ -168,7 +181,7 @@ pub(crate) fn split_last_label(octets: &[u8]) -> Option<(&[u8], &[u8])>
     None
 }
 
-fn push_labels(octets: &[u8], out: &mut Vec<u8>) -> Result<(), AllocError>
+fn push_labels(octets: &[u8], out: &mut Vec<u8>) -> Result<(), NoMemory>
     requires { IsOctets octets.now }
     ensures { OnOk result (out.new.items ≡ out.old.items ++ spelled (labels_of octets.now)) }
 {
@@ -180,11 +193,6 @@ fn push_labels(octets: &[u8], out: &mut Vec<u8>) -> Result<(), AllocError>
     }
     Ok(())
 }
-
-/// The octets of `z` are a prefix of those of `n` exactly where `n` is at or below `z`.
-pub fn prefix_law()
-    ensures { (n z : List (List ℕ)) → ((rest : List ℕ) × (octets_of n ≡ octets_of z ++ rest)) ↔ IsAtOrBelow n z }
-{}
 
 /// Compares the labels that two runs of octets spell.
 fn compared(a: &[u8], b: &[u8]) -> Ordering
@@ -210,6 +218,13 @@ fn compared(a: &[u8], b: &[u8]) -> Ordering
         Some(_) => Ordering::Less,
     }
 }
+
+/// In the order of names a subtree is one run, and its zone comes first: so the names at or below
+/// a zone are found by a walk from the zone on, up to the first that is not.
+pub fn subtree_law()
+    ensures zone_is_first { ZoneIsFirst }
+    ensures contiguous { SubtreeIsContiguous }
+{}
 
 impl PartialEq for Name {
     ghost use Rattle.dns_name.specs.Order.{name_eq, name_per};
@@ -271,7 +286,7 @@ impl Hash for Name {
 }
 
 impl Clone for Name {
-    fn clone(&self) -> Result<Name, AllocError>
+    fn clone(&self) -> Result<Name, NoMemory>
         ensures { IfOk result (λ n. n ≡ self.now) }
     {
         Ok(Name {

@@ -1,8 +1,18 @@
 //! Questions and records of the domain name system, as values and as text.
 #![tactic(auto)]
 
+mod data;
+mod fault;
 mod items;
+mod kind;
+mod number;
 mod record;
+mod word;
 
+pub use data::read_data;
+pub use fault::TextFault;
 pub use items::{Items, Octets};
-pub use record::{Data, Question, Record};
+pub use kind::{Form, form_of, push_type, read_type, write_type};
+pub use number::read_number;
+pub use record::{Data, Question, Record, equality_law};
+pub use word::next_word;

@@ -1,5 +1,9 @@
 //! Questions and records.
 
+ghost use Rattle.std.specs.Prelude.{◌≡◌, true};
+ghost use Rattle.dns_text.specs.declared.record.Data.{Data};
+ghost use Rattle.dns_text.specs.declared.record.Question.{Question};
+
 use crate::items::{Items, Octets};
 use dns_name::Name;
 
@@ -56,3 +60,9 @@ pub struct Record {
     pub ttl: u32,
     pub body: Data,
 }
+
+/// What `==` calls equal is one value.
+pub fn equality_law()
+    ensures data_exact { (a b : Data) → ⟦<Data as PartialEq>⟧.eq a b ≡ true → a ≡ b }
+    ensures questions_exact { (a b : Question) → ⟦<Question as PartialEq>⟧.eq a b ≡ true → a ≡ b }
+{}

@@ -1,0 +1,8 @@
+use Rattle.dns_text.specs.Equal.{data_eq_exact, question_eq_exact}
+use Rattle.dns_text.proofs.record.equality_law.Goals as goal
+
+pub returns-clause-data_exact : goal.returns-clause-data_exact
+returns-clause-data_exact c = data_eq_exact
+
+pub returns-clause-questions_exact : goal.returns-clause-questions_exact
+returns-clause-questions_exact c = question_eq_exact

@@ -1,0 +1,65 @@
+-- The types of records: their numbers, their names and the forms of their data.
+use Rattle.std.specs.Prelude.{ℕ, Bool, ◌||◌, ◌&&◌, List, [], ◌∷◌, ◌++◌, Option, Some, None, ◌==◌, nat_lt, if◌then◌else◌, codes, decimal}
+use Rattle.std.specs.Str.{str_eq_ignore_ascii_case}
+use Rattle.dns_text.specs.declared.kind.Form.{Form}
+use Rattle.dns_text.specs.declared.kind.Form.TheVariants.{A, Aaaa, Name, Mx, Soa, Txt, Srv, Opaque}
+use Rattle.dns_text.specs.Number.{short_number_in}
+use Rattle.dns_text.specs.Steps.{◌>>=◌}
+
+-- number, name and form
+abbrev pub Entry : Type 0
+Entry = ℕ × List ℕ × Form
+
+-- the types that have a name
+abbrev pub types : List Entry
+types =
+    (1, codes "A", A) ∷ (2, codes "NS", Name) ∷ (5, codes "CNAME", Name) ∷ (6, codes "SOA", Soa) ∷ (12, codes "PTR", Name) ∷ (15, codes "MX", Mx)
+    ∷ (16, codes "TXT", Txt) ∷ (28, codes "AAAA", Aaaa) ∷ (33, codes "SRV", Srv) ∷ (35, codes "NAPTR", Opaque) ∷ (39, codes "DNAME", Opaque) ∷ []
+
+unfoldable pub by_number : ℕ → List Entry → Option Entry
+by_number kind [] = None
+by_number kind (t ∷ table) = if t.0 == kind then Some t else by_number kind table
+
+-- without regard to case
+unfoldable pub by_name : List ℕ → List Entry → Option Entry
+by_name word [] = None
+by_name word (t ∷ table) = if str_eq_ignore_ascii_case t.1 word then Some t else by_name word table
+
+abbrev pub form_or_opaque : Option Entry → Form
+form_or_opaque None = Opaque
+form_or_opaque (Some t) = t.2
+
+-- the form of a type's data
+abbrev pub form_of : ℕ → Form
+form_of kind = form_or_opaque (by_number kind types)
+
+-- the number n of `TYPEn`
+abbrev pub numbered : List ℕ → Option ℕ
+numbered [] = None
+numbered (t ∷ []) = None
+numbered (t ∷ y ∷ []) = None
+numbered (t ∷ y ∷ p ∷ []) = None
+numbered (t ∷ y ∷ p ∷ e ∷ digits) = if str_eq_ignore_ascii_case (codes "TYPE") (t ∷ y ∷ p ∷ e ∷ []) then short_number_in 65535 digits else None
+
+-- types that no record has: obsolete ones of mail, those of questions alone, and OPT
+abbrev pub is_excluded : ℕ → Bool
+is_excluded n = n == 3 || n == 4 || n == 7 || n == 8 || n == 9 || n == 14 || n == 41 || (nat_lt 250 n && nat_lt n 256)
+
+abbrev pub number_or : Option ℕ → Option Entry → Option ℕ
+number_or other None = other
+number_or other (Some t) = Some t.0
+
+abbrev pub unless_excluded : ℕ → Option ℕ
+unless_excluded kind = if is_excluded kind then None else Some kind
+
+-- the type that a word names
+unfoldable pub type_in : List ℕ → Option ℕ
+type_in word = number_or (numbered word) (by_name word types) >>= unless_excluded
+
+abbrev pub name_or_number : ℕ → Option Entry → List ℕ
+name_or_number kind None = codes "TYPE" ++ decimal kind
+name_or_number kind (Some t) = t.1
+
+-- a type by its name, or by its number where it has none
+abbrev pub type_text : ℕ → List ℕ
+type_text kind = name_or_number kind (by_number kind types)

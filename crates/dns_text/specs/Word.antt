@@ -1,0 +1,49 @@
+-- Words of a line: they stand between spaces and tabs, and inside double quotes a blank belongs to the word.
+use Rattle.std.specs.Prelude.{ℕ, Bool, ◌||◌, List, [], ◌∷◌, Option, Some, None, ◌==◌, if◌then◌else◌}
+use Rattle.dns_text.specs.declared.word.Within.{Within}
+use Rattle.dns_text.specs.declared.word.Within.TheVariants.{Plain, Quotes, Escape, QuotedEscape}
+use Rattle.dns_text.specs.Steps.{◌>>=◌}
+
+-- a space or a tab
+abbrev pub is_blank : ℕ → Bool
+is_blank c = c == 32 || c == 9
+
+-- Where a word stands after one more octet; none where the octet ends it. A backslash keeps a quote from opening or closing, and no more.
+abbrev pub after_octet : Within → ℕ → Option Within
+after_octet QuotedEscape c = Some Quotes
+after_octet Escape c = if is_blank c then None else Some Plain
+after_octet Plain c = if c == 92 then Some Escape else if c == 34 then Some Quotes else if is_blank c then None else Some Plain
+after_octet Quotes c = if c == 92 then Some QuotedEscape else if c == 34 then Some Plain else Some Quotes
+
+abbrev pub with_first : ℕ → List ℕ × List ℕ → List ℕ × List ℕ
+with_first c r = (c ∷ r.0, r.1)
+
+-- either the end of a word, or the octet and what goes on
+abbrev pub goes_on : ℕ → List ℕ → (Within → List ℕ × List ℕ) → Option Within → List ℕ × List ℕ
+goes_on c text go None = ([], c ∷ text)
+goes_on c text go (Some within) = with_first c (go within)
+
+-- the rest of a word at the front of a text, and the text from the blank after it on
+unfoldable pub cut_word : Within → List ℕ → List ℕ × List ℕ
+cut_word within [] = ([], [])
+cut_word within (c ∷ text) = goes_on c text (λ w. cut_word w text) (after_octet within c)
+
+abbrev pub skip_blanks : List ℕ → List ℕ
+skip_blanks [] = []
+skip_blanks (c ∷ text) = if is_blank c then skip_blanks text else c ∷ text
+
+abbrev pub word_at : List ℕ → Option (List ℕ × List ℕ)
+word_at [] = None
+word_at (c ∷ text) = Some (cut_word Plain (c ∷ text))
+
+-- the first word of a text, and the text after it
+abbrev pub next_word : List ℕ → Option (List ℕ × List ℕ)
+next_word text = word_at (skip_blanks text)
+
+abbrev pub unless_more : List ℕ → Option (List ℕ × List ℕ) → Option (List ℕ)
+unless_more word None = Some word
+unless_more word (Some more) = None
+
+-- the word of a text that has one alone
+abbrev pub only_word : List ℕ → Option (List ℕ)
+only_word text = next_word text >>= λ first. unless_more first.0 (next_word first.1)

@@ -1,0 +1,200 @@
+//! The types of records: number, name and form of data.
+
+ghost use Rattle.std.specs.Prelude.{map, ◌≡◌, ◌++◌, ◌<◌, option_map, IfOk, IfSome, OnOk, Some, false};
+ghost use Rattle.std.specs.Str.{str_eq_ignore_ascii_case};
+ghost use Rattle.dns_text.specs.Kind.{types, by_number, by_name, numbered, is_excluded, form_of, type_in, type_text};
+ghost use Rattle.dns_text.specs.Fault.{or_fault};
+ghost use Rattle.dns_text.specs.declared.fault.TextFault.TheVariants.{BadType};
+
+use crate::fault::TextFault;
+use crate::number::{push_number, read_short_number};
+use std::alloc::{AllocError, Global};
+
+/// How the data of a type is laid out.
+#[derive(Clone, Copy, Debug, PartialEq, Eq)]
+pub enum Form {
+    A,
+    Aaaa,
+    Name,
+    Mx,
+    Soa,
+    Txt,
+    Srv,
+    Opaque,
+}
+
+/// A type that has a name.
+struct Entry {
+    number: u16,
+    name: &'static [u8],
+    form: Form,
+}
+
+static TYPES: [Entry; 11] = [
+    Entry {
+        number: 1,
+        name: b"A",
+        form: Form::A,
+    },
+    Entry {
+        number: 2,
+        name: b"NS",
+        form: Form::Name,
+    },
+    Entry {
+        number: 5,
+        name: b"CNAME",
+        form: Form::Name,
+    },
+    Entry {
+        number: 6,
+        name: b"SOA",
+        form: Form::Soa,
+    },
+    Entry {
+        number: 12,
+        name: b"PTR",
+        form: Form::Name,
+    },
+    Entry {
+        number: 15,
+        name: b"MX",
+        form: Form::Mx,
+    },
+    Entry {
+        number: 16,
+        name: b"TXT",
+        form: Form::Txt,
+    },
+    Entry {
+        number: 28,
+        name: b"AAAA",
+        form: Form::Aaaa,
+    },
+    Entry {
+        number: 33,
+        name: b"SRV",
+        form: Form::Srv,
+    },
+    Entry {
+        number: 35,
+        name: b"NAPTR",
+        form: Form::Opaque,
+    },
+    Entry {
+        number: 39,
+        name: b"DNAME",
+        form: Form::Opaque,
+    },
+];
+
+// A function of its own, so that no goal spells the table out.
+fn table() -> &'static [Entry]
+    ensures { map (λ t. (t.number, t.name.now, t.form)) result.now ≡ types }
+{
+    &TYPES
+}
+
+impl Entry {
+    fn is_named(&self, word: &[u8]) -> bool
+        ensures { result ≡ str_eq_ignore_ascii_case self.now.name.now word.now }
+    {
+        self.name.eq_ignore_ascii_case(word)
+    }
+}
+
+/// The entry of a type.
+#[tactic(auto, unfolding(crate::specs::Kind::by_number))]
+fn by_number(kind: u16) -> Option<&'static Entry>
+    ensures { option_map (λ t. (t.now.number, t.now.name.now, t.now.form)) result ≡ by_number kind types }
+{
+    for t in table() {
+        if t.number == kind {
+            return Some(t);
+        }
+    }
+    None
+}
+
+#[tactic(auto, unfolding(crate::specs::Kind::by_name))]
+/// The entry of a name, without regard to case.
+fn by_name(word: &[u8]) -> Option<&'static Entry>
+    ensures { option_map (λ t. (t.now.number, t.now.name.now, t.now.form)) result ≡ by_name word.now types }
+{
+    for t in table() {
+        if t.is_named(word) {
+            return Some(t);
+        }
+    }
+    None
+}
+
+/// The form of a type's data; opaque where the type has none of its own.
+pub fn form_of(kind: u16) -> Form
+    ensures { result ≡ form_of kind }
+{
+    match by_number(kind) {
+        Some(t) => t.form,
+        None => Form::Opaque,
+    }
+}
+
+/// The number of a type that is given as `TYPEn` (RFC 3597, section 5).
+fn numbered(word: &[u8]) -> Option<u16>
+    ensures { result ≡ numbered word.now }
+{
+    match word {
+        [t, y, p, e, digits @ ..] => {
+            if !b"TYPE".eq_ignore_ascii_case(&[*t, *y, *p, *e]) {
+                return None;
+            }
+            let n = read_short_number(digits, 65535)?;
+            Some(n as u16)
+        }
+        _ => None,
+    }
+}
+
+/// Whether no record has this type: obsolete types of mail, those of questions alone, and OPT.
+fn is_excluded(kind: u16) -> bool
+    ensures { result ≡ is_excluded kind }
+{
+    matches!(kind, 3 | 4 | 7 | 8 | 9 | 14 | 41 | 251..=255)
+}
+
+#[tactic(auto, unfolding(crate::specs::Kind::type_in))]
+/// The type of a name or of a number as in `TYPE65280`, without regard to case. The only fault is `BadType`.
+pub fn read_type(word: &[u8]) -> Result<u16, TextFault>
+    ensures { result ≡ or_fault BadType (type_in word.now) }
+{
+    let kind = match by_name(word) {
+        Some(t) => t.number,
+        None => numbered(word).ok_or(TextFault::BadType)?,
+    };
+    if is_excluded(kind) {
+        return Err(TextFault::BadType);
+    }
+    Ok(kind)
+}
+
+/// Appends the name of a type, or its number as in `TYPE65280`.
+pub fn push_type(kind: u16, out: &mut Vec<u8>) -> Result<(), AllocError>
+    ensures { OnOk result (out.new.items ≡ out.old.items ++ type_text kind) }
+{
+    match by_number(kind) {
+        Some(t) => out.extend_from_slice(t.name),
+        None => {
+            out.extend_from_slice(b"TYPE")?;
+            push_number(u64::from(kind), out)
+        }
+    }
+}
+
+/// The name of a type, or its number as in `TYPE65280`.
+pub fn write_type(alloc: Global, kind: u16) -> Result<Vec<u8>, AllocError>
+    ensures text { IfOk result (λ v. v.items ≡ type_text kind) }
+{
+    let mut out = Vec::new(alloc);
+    push_type(kind, &mut out)?;
+    Ok(out)
+}

@@ -1,0 +1,87 @@
+//! Words of a line.
+
+ghost use Rattle.std.specs.Prelude.{◌≡◌, ◌<◌, length, option_map, IfSome};
+ghost use Rattle.dns_text.specs.Word.{after_octet, cut_word, skip_blanks, next_word, only_word};
+
+/// Where a word stands after some of its octets.
+#[derive(Clone, Copy)]
+pub enum Within {
+    Plain,
+    Quotes,
+    /// Behind a backslash, outside quotes.
+    Escape,
+    /// Behind a backslash, inside quotes.
+    QuotedEscape,
+}
+
+/// Where a word stands after one more octet; none where the octet is a blank that ends it.
+fn after_octet(within: Within, b: u8) -> Option<Within>
+    ensures { result ≡ after_octet within b }
+{
+    match within {
+        Within::QuotedEscape => Some(Within::Quotes),
+        Within::Escape => match b {
+            b' ' | b'\t' => None,
+            _ => Some(Within::Plain),
+        },
+        Within::Plain => match b {
+            b'\\' => Some(Within::Escape),
+            b'"' => Some(Within::Quotes),
+            b' ' | b'\t' => None,
+            _ => Some(Within::Plain),
+        },
+        Within::Quotes => match b {
+            b'\\' => Some(Within::QuotedEscape),
+            b'"' => Some(Within::Plain),
+            _ => Some(Within::Quotes),
+        },
+    }
+}
+
+/// The word at the front of a text, and the text from the blank after it on.
+#[tactic(auto, unfolding(crate::specs::Word::cut_word))]
+fn cut_word(text: &[u8]) -> (&[u8], &[u8])
+    ensures { (result.0.now, result.1.now) ≡ cut_word Within.Plain text.now }
+{
+    let mut within = Within::Plain;
+    for (i, b) in text.iter().enumerate() {
+        let Some(next) = after_octet(within, *b) else {
+            return (&text[..i], &text[i..]);
+        };
+        within = next;
+    }
+    (text, &[])
+}
+
+/// The text from the first octet that is no blank.
+fn skip_blanks(text: &[u8]) -> &[u8]
+    ensures { result.now ≡ skip_blanks text.now }
+{
+    let mut rest = text;
+    while let [b' ' | b'\t', more @ ..] = rest {
+        rest = more;
+    }
+    rest
+}
+
+/// The first word of a text as it stands there, with its quotes, and the text after it.
+pub fn next_word(text: &[u8]) -> Option<(&[u8], &[u8])>
+    ensures { option_map (λ r. (r.0.now, r.1.now)) result ≡ next_word text.now }
+{
+    let rest = skip_blanks(text);
+    if rest.is_empty() {
+        return None;
+    }
+    Some(cut_word(rest))
+}
+
+/// The one word of a text.
+pub(crate) fn only_word(text: &[u8]) -> Option<&[u8]>
+    ensures { option_map (λ r. r.now) result ≡ only_word text.now }
+{
+    let (word, rest) = next_word(text)?;
+    match next_word(rest) {
+        None => Some(word),
+        Some(_) => None,
+    }
+}
