@@ -1,6 +1,9 @@
 -- The data of records as text.
-use Rattle.std.specs.Prelude.{◌≡◌, ℕ, ◌<◌, List, [], ◌∷◌, ◌++◌, length, Option, Some, None, ◌==◌, if◌then◌else◌, option_map, decimal}
+use Rattle.std.specs.Prelude.{◌≡◌, ℕ, ◌<◌, List, [], ◌∷◌, ◌++◌, length, Option, Some, None, ◌==◌, if◌then◌else◌, option_map, slice_index, decimal, Result, Ok, Err}
 use Rattle.std.specs.List.{AllByRecursion}
+use Rattle.dns_name.specs.declared.fault.NameFault.{NameFault}
+use Rattle.dns_name.specs.Labels.{Labels}
+use Rattle.dns_name.specs.Text.{name_in}
 use Rattle.dns_text.specs.declared.record.Data.{Data}
 use Rattle.dns_text.specs.declared.record.Data.TheVariants.{A, Aaaa, One, Mx, Soa, Txt, Srv, Opaque}
 use Rattle.dns_text.specs.declared.kind.Form.{Form}
@@ -9,6 +12,14 @@ use Rattle.dns_text.specs.Number.{short_number_in}
 use Rattle.dns_text.specs.Kind.{form_of}
 use Rattle.dns_text.specs.Word.{only_word}
 use Rattle.dns_text.specs.Steps.{◌>>=◌}
+
+abbrev pub name_or_none : Result Labels NameFault → Option Labels
+name_or_none (Ok name) = Some name
+name_or_none (Err fault) = None
+
+-- the name that a word stands for
+abbrev pub named : List ℕ → Option Labels
+named word = name_or_none (name_in word)
 
 -- what stands before the first dot, and after it
 abbrev pub cut_at_dot : List ℕ → Option (List ℕ × List ℕ)
@@ -30,10 +41,12 @@ quad_in text = do
   fourth ← octet_in c.1
   Some (first ∷ second ∷ third ∷ fourth ∷ [])
 
-abbrev pub joined_by_dots : List ℕ → List ℕ
-joined_by_dots [] = []
-joined_by_dots (n ∷ []) = decimal n
-joined_by_dots (n ∷ m ∷ numbers) = decimal n ++ 46 ∷ joined_by_dots (m ∷ numbers)
+-- a number and the dot after it
+abbrev pub dotted : ℕ → List ℕ
+dotted n = decimal n ++ 46 ∷ []
+
+abbrev pub quad_text : List ℕ → List ℕ
+quad_text octets = dotted (slice_index octets 0) ++ dotted (slice_index octets 1) ++ dotted (slice_index octets 2) ++ decimal (slice_index octets 3)
 
 -- the data of a form that a text stands for
 unfoldable pub data_as : Form → List ℕ → Option Data
@@ -45,7 +58,7 @@ abbrev pub data_in : ℕ → List ℕ → Option Data
 data_in kind text = data_as (form_of kind) text
 
 unfoldable pub data_text : Data → List ℕ
-data_text (A octets) = joined_by_dots octets
+data_text (A octets) = quad_text octets
 data_text _ = []
 
 -- the form of data

@@ -23,3 +23,8 @@ Fails BadData said = said ≡ Err BadData
 abbrev pub Gives : {A : Type 0} → Result A TextFault → Result A TextFault → Type 0
 Gives (Ok value) said = said ≡ Ok value
 Gives (Err fault) said = Fails fault said
+
+-- a function on the value
+abbrev pub result_map : {A B : Type 0} → (A → B) → Result A TextFault → Result B TextFault
+result_map f (Ok x) = Ok (f x)
+result_map f (Err fault) = Err fault

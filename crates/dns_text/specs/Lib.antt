@@ -5,3 +5,4 @@ pub mod Word
 pub mod Kind
 pub mod Data
 pub mod Equal
+pub mod Record

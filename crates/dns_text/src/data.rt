@@ -3,13 +3,14 @@
 ghost use Rattle.std.specs.Prelude.{◌≡◌, ◌++◌, ℕ, length, option_map, IfOk, OnOk, Some};
 ghost use Rattle.dns_text.specs.Fault.{Gives, or_fault};
 ghost use Rattle.dns_text.specs.declared.fault.TextFault.TheVariants.{BadData};
-ghost use Rattle.dns_text.specs.Data.{cut_at_dot, octet_in, quad_in, data_in, data_text, HasForm};
+ghost use Rattle.dns_text.specs.Data.{named, cut_at_dot, octet_in, quad_in, dotted, quad_text, data_in, data_text, HasForm};
 
 use crate::fault::TextFault;
 use crate::kind::{Form, form_of};
 use crate::number::{push_number, read_short_number};
 use crate::record::Data;
 use crate::word::only_word;
+use dns_name::{Name, NameFault, NoMemory};
 use std::alloc::{AllocError, Global};
 
 /// What stands before the first dot, and after it.
@@ -22,6 +23,17 @@ fn cut_at_dot(text: &[u8]) -> Option<(&[u8], &[u8])>
         }
     }
     None
+}
+
+/// The name that a word stands for.
+pub(crate) fn read_name(alloc: Global, word: &[u8]) -> Result<Option<Name>, NoMemory>
+    ensures { IfOk result (λ name. name ≡ named word.now) }
+{
+    match Name::from_text(alloc, word) {
+        Ok(name) => Ok(Some(name)),
+        Err(NameFault::NoMemory) => Err(AllocError),
+        Err(_) => Ok(None),
+    }
 }
 
 fn octet(word: &[u8]) -> Option<u8>
@@ -55,5 +67,36 @@ pub fn read_data(alloc: Global, kind: u16, text: &[u8]) -> Result<Data, TextFaul
             Ok(Data::A(quad(word).ok_or(TextFault::BadData)?))
         }
         _ => Err(TextFault::BadData),
+    }
+}
+
+/// Writes a number and the dot after it.
+fn push_dotted(n: u8, out: &mut Vec<u8>) -> Result<(), NoMemory>
+    ensures { OnOk result (out.new.items ≡ out.old.items ++ dotted n) }
+{
+    push_number(u64::from(n), out)?;
+    out.push(b'.')?;
+    Ok(())
+}
+
+/// Writes an IPv4 address.
+fn push_quad(octets: &[u8; 4], out: &mut Vec<u8>) -> Result<(), NoMemory>
+    ensures { OnOk result (out.new.items ≡ out.old.items ++ quad_text octets.now) }
+{
+    let [a, b, c, d] = *octets;
+    push_dotted(a, out)?;
+    push_dotted(b, out)?;
+    push_dotted(c, out)?;
+    push_number(u64::from(d), out)
+}
+
+/// Writes data behind what `out` holds. Where memory runs out, a part of the text may stand there.
+#[tactic(auto, unfolding(crate::specs::Data::data_text))]
+pub fn push_data(body: &Data, out: &mut Vec<u8>) -> Result<(), NoMemory>
+    ensures { OnOk result (out.new.items ≡ out.old.items ++ data_text body.now) }
+{
+    match body {
+        Data::A(octets) => push_quad(octets, out),
+        _ => Ok(()),
     }
 }

@@ -7,12 +7,15 @@ mod items;
 mod kind;
 mod number;
 mod record;
+mod record_text;
 mod word;
 
-pub use data::read_data;
+pub use data::{push_data, read_data};
 pub use fault::TextFault;
 pub use items::{Items, Octets};
 pub use kind::{Form, form_of, push_type, read_type, write_type};
 pub use number::read_number;
 pub use record::{Data, Question, Record, equality_law};
+pub use record_text::{push_record, read_record, write_record};
+pub use std::alloc::AllocError as NoMemory;
 pub use word::next_word;

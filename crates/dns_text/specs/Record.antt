@@ -1,0 +1,57 @@
+-- Records as text: NAME [TTL] [IN] TYPE DATA.
+use Rattle.std.specs.Prelude.{ℕ, Bool, false, ◌||◌, ◌&&◌, List, [], ◌∷◌, ◌++◌, Option, Some, None, Result, Ok, Err, ◌==◌, if◌then◌else◌, unwrap_or, decimal}
+use Rattle.dns_name.specs.Text.{text_of}
+use Rattle.dns_text.specs.declared.fault.TextFault.{TextFault}
+use Rattle.dns_text.specs.declared.fault.TextFault.TheVariants.{BadName, BadTtl, BadType, BadData}
+use Rattle.dns_text.specs.declared.record.Record.{Record}
+use Rattle.dns_text.specs.Fault.{◌>>=◌, or_fault}
+use Rattle.dns_text.specs.Number.{is_digits, number_in}
+use Rattle.dns_text.specs.Word.{next_word}
+use Rattle.dns_text.specs.Kind.{type_in, type_text}
+use Rattle.dns_text.specs.Data.{named, data_in, data_text}
+
+abbrev pub ttl_of : List ℕ → Option (List ℕ × List ℕ) → Result (Option ℕ × List ℕ) TextFault
+ttl_of text None = Ok (None, text)
+ttl_of text (Some first) = if is_digits first.0 then (or_fault BadTtl (number_in 2147483647 first.0) >>= λ n. Ok (Some n, first.1)) else Ok (None, text)
+
+-- the time to live that stands first in a text, where its first word is of digits, and the text after it
+abbrev pub ttl_at : List ℕ → Result (Option ℕ × List ℕ) TextFault
+ttl_at text = ttl_of text (next_word text)
+
+abbrev pub is_class : List ℕ → Bool
+is_class [] = false
+is_class (a ∷ []) = false
+is_class (a ∷ b ∷ []) = (a == 73 || a == 105) && (b == 78 || b == 110)
+is_class (a ∷ b ∷ c ∷ word) = false
+
+abbrev pub class_of : List ℕ → Option (List ℕ × List ℕ) → List ℕ
+class_of text None = text
+class_of text (Some first) = if is_class first.0 then first.1 else text
+
+-- the text behind the class IN, where that stands first
+abbrev pub after_class : List ℕ → List ℕ
+after_class text = class_of text (next_word text)
+
+-- a time to live that stood before the class, or may stand behind it, or is an hour
+abbrev pub with_ttl : Option ℕ → List ℕ → Result (ℕ × List ℕ) TextFault
+with_ttl (Some ttl) text = Ok (ttl, text)
+with_ttl None text = ttl_at text >>= λ behind. Ok (unwrap_or behind.0 3600, behind.1)
+
+-- [TTL] [IN] in either order: the time to live, and the text after both
+unfoldable pub ttl_and_class : List ℕ → Result (ℕ × List ℕ) TextFault
+ttl_and_class text = ttl_at text >>= λ before. with_ttl before.0 (after_class before.1)
+
+-- the record of a text, or its first fault from the left
+unfoldable pub record_in : List ℕ → Result Record TextFault
+record_in text = do
+  first ← or_fault BadName (next_word text)
+  owner ← or_fault BadName (named first.0)
+  ttl ← ttl_and_class first.1
+  word ← or_fault BadType (next_word ttl.1)
+  kind ← or_fault BadType (type_in word.0)
+  body ← or_fault BadData (data_in kind word.1)
+  Ok (record { owner = owner; kind = kind; ttl = ttl.0; body = body })
+
+-- NAME TTL TYPE DATA
+abbrev pub record_text : Record → List ℕ
+record_text r = text_of r.owner ++ 32 ∷ decimal r.ttl ++ 32 ∷ type_text r.kind ++ 32 ∷ data_text r.body

@@ -1,0 +1,105 @@
+//! Records as text.
+
+ghost use Rattle.std.specs.Prelude.{◌≡◌, ◌++◌, ◌<◌, ◌≤◌, ◌^◌, option_map, IfOk, OnOk, Ok, false};
+ghost use Rattle.dns_text.specs.Fault.{Gives, result_map};
+ghost use Rattle.dns_text.specs.Data.{HasForm};
+ghost use Rattle.dns_text.specs.Record.{is_class, ttl_at, after_class, with_ttl, ttl_and_class, record_in, record_text};
+
+use crate::data::{push_data, read_data, read_name};
+use crate::fault::TextFault;
+use crate::kind::{push_type, read_type};
+use crate::number::{is_digits, push_number, read_number};
+use crate::record::Record;
+use crate::word::next_word;
+use dns_name::NoMemory;
+use std::alloc::Global;
+
+/// The greatest time to live (RFC 2181, section 8).
+const MOST_TTL: u64 = 2147483647;
+
+/// The time to live of a record without one.
+const DEFAULT_TTL: u32 = 3600;
+
+/// The time to live that stands first in a text, where its first word is of digits, and the text after it.
+fn read_ttl(text: &[u8]) -> Result<(Option<u32>, &[u8]), TextFault>
+    ensures { result_map (λ r. (r.0, r.1.now)) result ≡ ttl_at text.now }
+{
+    match next_word(text) {
+        None => Ok((None, text)),
+        Some((word, rest)) => {
+            if !is_digits(word) {
+                return Ok((None, text));
+            }
+            let ttl = read_number(word, MOST_TTL).ok_or(TextFault::BadTtl)?;
+            Ok((Some(ttl as u32), rest))
+        }
+    }
+}
+
+/// The text behind the class, where that stands first.
+fn skip_class(text: &[u8]) -> &[u8]
+    ensures { result.now ≡ after_class text.now }
+{
+    match next_word(text) {
+        Some(([b'I' | b'i', b'N' | b'n'], rest)) => rest,
+        _ => text,
+    }
+}
+
+#[tactic(auto, unfolding(crate::specs::Record::ttl_and_class))]
+/// The time to live of a record, and the text from its type on: both it and the class may be left out, and stand in either order.
+fn read_ttl_and_class(text: &[u8]) -> Result<(u32, &[u8]), TextFault>
+    ensures { result_map (λ r. (r.0, r.1.now)) result ≡ ttl_and_class text.now }
+{
+    let (before, rest) = read_ttl(text)?;
+    let rest = skip_class(rest);
+    match before {
+        Some(ttl) => Ok((ttl, rest)),
+        None => {
+            let (behind, rest) = read_ttl(rest)?;
+            Ok((behind.unwrap_or(DEFAULT_TTL), rest))
+        }
+    }
+}
+
+/// The record of a line `NAME [TTL] [IN] TYPE DATA` (RFC 1035, section 5.1). A part that is missing is that part's fault.
+#[tactic(auto, unfolding(crate::specs::Record::record_in))]
+pub fn read_record(alloc: Global, text: &[u8]) -> Result<Record, TextFault>
+    ensures value { Gives result (record_in text.now) }
+    ensures form { IfOk result (λ r. HasForm r.kind r.body) }
+{
+    let (word, rest) = next_word(text).ok_or(TextFault::BadName)?;
+    let owner = read_name(alloc, word)?.ok_or(TextFault::BadName)?;
+    let (ttl, rest) = read_ttl_and_class(rest)?;
+    let (word, rest) = next_word(rest).ok_or(TextFault::BadType)?;
+    let kind = read_type(word)?;
+    let body = read_data(alloc, kind, rest)?;
+    Ok(Record {
+        owner,
+        kind,
+        ttl,
+        body,
+    })
+}
+
+/// Writes a record behind what `out` holds, as `NAME TTL TYPE DATA`. Where memory runs out, a part of the text may stand there.
+pub fn push_record(r: &Record, out: &mut Vec<u8>) -> Result<(), NoMemory>
+    ensures { OnOk result (out.new.items ≡ out.old.items ++ record_text r.now) }
+{
+    r.owner.push_text(out)?;
+    out.push(b' ')?;
+    push_number(u64::from(r.ttl), out)?;
+    out.push(b' ')?;
+    push_type(r.kind, out)?;
+    out.push(b' ')?;
+    push_data(&r.body, out)
+}
+
+/// The text of a record, as `push_record` writes it.
+pub fn write_record(alloc: Global, r: &Record) -> Result<Vec<u8>, NoMemory>
+    ensures text { IfOk result (λ v. v.items ≡ record_text r.now) }
+{
+    let mut out = Vec::new(alloc);
+    push_record(r, &mut out)?;
+    Ok(out)
+}
