@@ -1,0 +1,7 @@
+mod Bars
+mod Ends
+mod Held
+mod Known
+mod Sets
+mod Streams
+mod Transcripts

@@ -1,0 +1,118 @@
+//! The arguments of the program.
+
+ghost use Rattle.std.specs.Prelude.{IfOk, IfErr, IfSome};
+ghost use Rattle.undo_book.specs.Event.{AreSettings};
+ghost use Rattle.resolver_cli.specs.Args.{IsInRange, HasStatus};
+
+use crate::text::Text;
+use clap::{Arg, ArgAction, ArgMatches, Command, Error, value_parser};
+use std::alloc::{AllocError, Global};
+use undo_book::Settings;
+
+/// What the program is to do.
+#[derive(Debug, Drop)]
+pub enum Mode {
+    /// It obeys the lines of standard input.
+    Script(Settings),
+}
+
+/// Why the program does not begin.
+#[derive(Debug, Drop, thiserror::Error)]
+#[error("the program ends with status {status}")]
+pub struct CliFault {
+    /// The program's exit status.
+    pub status: u8,
+    /// What standard error gets.
+    pub text: Text,
+}
+
+impl CliFault {
+    /// Memory is refused at the start.
+    pub fn no_memory() -> CliFault
+        ensures { HasStatus result }
+    {
+        CliFault {
+            status: 1,
+            text: Text::Fixed(b"resolver: no memory\n"),
+        }
+    }
+
+    /// The arguments are no text, or a number is out of its range.
+    pub fn bad_arguments() -> CliFault
+        ensures { HasStatus result }
+    {
+        CliFault {
+            status: 2,
+            text: Text::Fixed(b"resolver: bad arguments\n"),
+        }
+    }
+}
+
+/// What `clap` says of the arguments, a call for help included.
+fn usage(alloc: Global, error: Error) -> CliFault
+    ensures { HasStatus result }
+{
+    match error.to_string(alloc) {
+        Ok(text) => CliFault {
+            status: 2,
+            text: Text::Made(text.into_bytes()),
+        },
+        Err(_) => CliFault::no_memory(),
+    }
+}
+
+/// An option with a number.
+fn number<'a>(alloc: Global, name: &'a str, default: &'a str) -> Arg<'a> {
+    Arg::new(alloc, name)
+        .long(name)
+        .action(ArgAction::Set)
+        .default_value(default)
+}
+
+fn script_command<'a>(alloc: Global) -> Result<Command<'a>, AllocError> {
+    let journal = number(alloc, "journal", "64").value_parser(value_parser!(u16).range(1..=256));
+    let cells = number(alloc, "cells", "100000").value_parser(value_parser!(u32).range(
+        1..=1_000_000,
+    ));
+    Command::new(alloc, "script").arg(journal)?.arg(cells)
+}
+
+fn command<'a>(alloc: Global) -> Result<Command<'a>, AllocError> {
+    Command::new(alloc, "resolver")
+        .subcommand_required(true)
+        .subcommand(script_command(alloc)?)
+}
+
+/// The settings that were given, each number in its range.
+fn settings_in(found: &ArgMatches<'_>) -> Option<Settings>
+    ensures { IfSome result (λ settings. AreSettings settings) }
+{
+    let journal = found.get_one::<u16>("journal")? as usize;
+    let cells = found.get_one::<u32>("cells")? as usize;
+    // `clap` tests the ranges and tells which number is wrong; it states them of a top command alone.
+    if journal < 1 || journal > 256 || cells < 1 || cells > 1_000_000 {
+        return None;
+    }
+    Some(Settings { journal, cells })
+}
+
+fn mode_in(found: &ArgMatches<'_>) -> Option<Mode>
+    ensures { IfSome result (λ mode. IsInRange mode) }
+{
+    let (_, inner) = found.subcommand()?;
+    Some(Mode::Script(settings_in(inner)?))
+}
+
+/// Reads the arguments, of which the first is the program's own name.
+pub fn read_args(alloc: Global, words: &[&str]) -> Result<Mode, CliFault>
+    ensures mode { IfOk result (λ mode. IsInRange mode) }
+    ensures fault { IfErr result (λ fault. HasStatus fault) }
+{
+    let Ok(command) = command(alloc) else {
+        return Err(CliFault::no_memory());
+    };
+    match command.try_get_matches_from(words) {
+        Ok(found) => mode_in(&found).ok_or(CliFault::bad_arguments()),
+        Err(error) => Err(usage(alloc, error)),
+    }
+}

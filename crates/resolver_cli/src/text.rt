@@ -1,0 +1,159 @@
+//! What is told.
+
+ghost use Rattle.std.specs.Prelude.{◌≡◌, ◌⊎◌, ◌++◌, ◌∷◌, [], IfOk, OnOk, codes, decimal, flat_map};
+ghost use Rattle.dns_name.specs.Text.{text_of};
+ghost use Rattle.dns_text.specs.Data.{data_text};
+ghost use Rattle.resolver_cli.specs.Text.{ended, set_text, body_text, scope_text, found_text, reply_text, reason_text, fault_text, line_fault_text, octets_in};
+ghost use Rattle.resolver_cli.specs.Transcript.{Tells};
+
+use crate::line::LineFault;
+use dns_text::{Data, NoMemory, push_data, push_type};
+use ranked::{Body, Find, Scope, SharedFind, Shown};
+use std::alloc::Global;
+use undo_book::{Reason, Reply, Seen, StepFault};
+
+/// What a line is told, with its end.
+#[derive(Debug, Drop)]
+pub enum Text {
+    /// It takes no memory.
+    Fixed(&'static [u8]),
+    Made(Vec<u8>),
+}
+
+impl Text {
+    pub fn as_slice(&self) -> &[u8]
+        ensures { result.now ≡ octets_in self.now }
+    {
+        match self {
+            Text::Fixed(octets) => octets,
+            Text::Made(octets) => octets.as_slice(),
+        }
+    }
+}
+
+/// Writes the data after the first of a set.
+fn push_others(others: &[Data], out: &mut Vec<u8>) -> Result<(), NoMemory>
+    ensures { OnOk result (out.new.items ≡ out.old.items ++ flat_map (λ datum. codes " | " ++ data_text datum) others.now) }
+{
+    for datum in others {
+        out.extend_from_slice(b" | ")?;
+        push_data(datum, out)?;
+    }
+    Ok(())
+}
+
+/// Writes data joined by bars.
+fn push_set(items: &[Data], out: &mut Vec<u8>) -> Result<(), NoMemory>
+    ensures { OnOk result (out.new.items ≡ out.old.items ++ set_text items.now) }
+{
+    match items {
+        [] => Ok(()),
+        [first, others @ ..] => {
+            push_data(first, out)?;
+            push_others(others, out)
+        }
+    }
+}
+
+/// Writes ` OWNER TYPE DATA`.
+fn push_find(find: &Find, out: &mut Vec<u8>) -> Result<(), NoMemory>
+    ensures { OnOk result (out.new.items ≡ out.old.items ++ 32 ∷ text_of find.now.owner ++ 32 ∷ scope_text find.now.scope ++ 32 ∷ body_text find.now.body) }
+{
+    let Scope::One(kind) = find.scope;
+    let Body::Set(items) = &find.body;
+    out.push(b' ')?;
+    find.owner.push_text(out)?;
+    out.push(b' ')?;
+    push_type(kind, out)?;
+    out.push(b' ')?;
+    push_set(items.as_slice(), out)
+}
+
+/// The line of a set that is held.
+#[tactic(auto, unfolding(crate::specs::Text::found_text))]
+fn found_line(alloc: Global, shown: &Shown<SharedFind>) -> Result<Vec<u8>, NoMemory>
+    ensures { IfOk result (λ text. text.items ≡ ended (codes "found " ++ found_text shown.now)) }
+{
+    let rank = shown.rank.level();
+    let left = shown.left;
+    let mut out = format!(in alloc; "found {rank} {left}")?.into_bytes();
+    push_find(shown.body.find(), &mut out)?;
+    out.push(b'\n')?;
+    Ok(out)
+}
+
+/// A line of a word and a number.
+fn number_line(alloc: Global, word: &str, number: u64) -> Result<Text, NoMemory>
+    ensures { IfOk result (λ text. octets_in text ≡ ended (word.now ++ 32 ∷ decimal number)) }
+{
+    Ok(Text::Made(format!(in alloc; "{word} {number}\n")?.into_bytes()))
+}
+
+fn reason_line(reason: Reason) -> Text
+    ensures { octets_in result ≡ ended (reason_text reason) }
+{
+    match reason {
+        Reason::BelowRedirect => Text::Fixed(b"error below_redirect\n"),
+        Reason::DataBelow => Text::Fixed(b"error data_below\n"),
+        Reason::CnameClash => Text::Fixed(b"error cname_clash\n"),
+        Reason::TooMany => Text::Fixed(b"error too_many\n"),
+    }
+}
+
+/// The line of a reply, with its end. Only one with a number or a find takes memory.
+pub fn reply_text(alloc: Global, reply: &Reply) -> Result<Text, NoMemory>
+    ensures { IfOk result (λ text. octets_in text ≡ reply_text reply.now) }
+{
+    match reply {
+        Reply::Taken => Ok(Text::Fixed(b"taken\n")),
+        Reply::Outranked => Ok(Text::Fixed(b"outranked\n")),
+        Reply::Seen(Seen::Unknown) => Ok(Text::Fixed(b"unknown\n")),
+        Reply::Seen(Seen::Held(shown)) => Ok(Text::Made(found_line(alloc, shown)?)),
+        Reply::Done { ticket } => number_line(alloc, "ok", *ticket),
+        Reply::Refused(reason) => Ok(reason_line(*reason)),
+        Reply::Undone { ticket } => number_line(alloc, "undone", *ticket),
+        Reply::Redone { ticket } => number_line(alloc, "redone", *ticket),
+        Reply::NothingToUndo => Ok(Text::Fixed(b"error nothing_to_undo\n")),
+        Reply::NothingToRedo => Ok(Text::Fixed(b"error nothing_to_redo\n")),
+    }
+}
+
+fn full_text(alloc: Global, stored: usize) -> Result<Text, NoMemory>
+    ensures { IfOk result (λ text. octets_in text ≡ fault_text (StepFault.Full stored)) }
+{
+    number_line(alloc, "fault full", stored as u64)
+}
+
+/// The line of what a step answers. Where a reply finds no memory it is lost.
+pub fn answer_text(alloc: Global, answer: &Result<Reply, StepFault>) -> Text
+    ensures { Tells answer.now (octets_in result) }
+{
+    match answer {
+        Ok(reply) => match reply_text(alloc, reply) {
+            Ok(text) => text,
+            Err(_) => Text::Fixed(b"fault reply_lost\n"),
+        },
+        Err(StepFault::BadMoment) => Text::Fixed(b"fault bad_moment\n"),
+        Err(StepFault::CountEnded) => Text::Fixed(b"fault count_ended\n"),
+        Err(StepFault::Full { stored }) => match full_text(alloc, *stored) {
+            Ok(text) => text,
+            Err(_) => Text::Fixed(b"fault no_memory\n"),
+        },
+        Err(StepFault::NoMemory) => Text::Fixed(b"fault no_memory\n"),
+    }
+}
+
+/// The line of what says nothing.
+pub fn line_fault_text(fault: LineFault) -> Text
+    ensures { octets_in result ≡ line_fault_text fault }
+{
+    match fault {
+        LineFault::Unknown => Text::Fixed(b"error unknown\n"),
+        LineFault::Missing => Text::Fixed(b"error missing\n"),
+        LineFault::BadName => Text::Fixed(b"error bad_name\n"),
+        LineFault::BadType => Text::Fixed(b"error bad_type\n"),
+        LineFault::BadData => Text::Fixed(b"error bad_data\n"),
+        LineFault::TooLong => Text::Fixed(b"error too_long\n"),
+        LineFault::NoMemory => Text::Fixed(b"error no_memory\n"),
+    }
+}
