@@ -219,8 +219,8 @@ fails_by m at form within (Err e) is (inr bad) = bad_name bad
 fails_by m at form within (Err e) is (inl badly) =
     let read : data_read m at form ≡ Err (BadData at) = is ∙ ap (λ x. Err x) badly in
     rw badly (formless
-      (λ fault bad. no_name_says bad.unspelled at (let e = sym (bad_name_told within bad) ∙ read in cc))
-      (λ body stands. let e = sym (data_read-stands within stands) ∙ read in cc))
+    (λ fault bad. no_name_says bad.unspelled at (let e = sym (bad_name_told within bad) ∙ read in cc))
+    (λ body stands. let e = sym (data_read-stands within stands) ∙ read in cc))
 
 pub data_read-match : (m : List ℕ) (at : ℕ) (form : Form) → at ≤ length m → MatchResult (data_read m at form) (λ body. DataAt m at form body) (λ e. DataFails m at form e)
 data_read-match m at form within = fails_by m at form within (data_read m at form) refl (data_read-reads m at form within)

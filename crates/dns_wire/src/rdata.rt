@@ -60,12 +60,7 @@ pub(crate) fn form_in(class: u16, kind: u16) -> Form
 
 /// A name that has to end with the RDATA at the latest.
 #[tactic(auto, unfolding(crate::specs::Rdata::data_name_read))]
-fn name_in(
-    alloc: Global,
-    front: &[u8],
-    at: usize,
-    place: usize,
-) -> Result<(Name, usize), WireFault>
+fn name_in(alloc: Global, front: &[u8], at: usize, place: usize) -> Result<(Name, usize), WireFault>
     requires { place ≤ length front.now }
     ensures exact { Gives result (data_name_read front.now at place) }
     ensures within { IfOk result (λ r. r.1 ≤ length front.now) }

@@ -74,5 +74,4 @@ pub fn one_meaning()
     ensures message { SpelledOnce }
     ensures fault { FailsOnce }
     ensures either { SpelledOrFails }
-{
-}
+{}
