@@ -48,11 +48,7 @@ fn question(rt: HostRuntime) -> Result<(), Fail> {
 }
 
 #[test]
-fn ends(rt: HostRuntime) -> Result<(), Fail> {
-    assert_eq!(rt;
-        fault_of(rt.alloc(), &QUERY[..11], b""),
-        Some(WireFault::Short)
-    );
+fn ends(rt: HostRuntime) {
     assert_eq!(rt;
         fault_of(rt.alloc(), QUERY, b"\0"),
         Some(WireFault::Trailing)
@@ -63,14 +59,6 @@ fn ends(rt: HostRuntime) -> Result<(), Fail> {
             Some(WireFault::Short)
         );
     }
-    for end in 0..RESPONSE.len() {
-        assert_eq!(rt;
-            fault_of(rt.alloc(), &RESPONSE[..end], b""),
-            Some(WireFault::Short),
-            "at {end}"
-        );
-    }
-    Ok(())
 }
 
 #[test]
