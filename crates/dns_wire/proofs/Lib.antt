@@ -5,6 +5,7 @@ pub mod QuestionLaws
 pub mod RdataLaws
 pub mod RecordLaws
 pub mod MessageLaws
+pub mod Ranges
 pub mod SectionLoops
 pub mod SectionLaws
 pub mod StringLaws

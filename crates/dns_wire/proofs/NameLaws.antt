@@ -97,14 +97,14 @@ label_match m start used at run n go behind goes here =
       | inr few ↦
           let room : used + n < 254 = omega (arith, ltb-false 253 (used + n) few) in
           elim (cases_Bool (ltb (length m) (at + 1 + n))) [
-          | inl beyond ↦ rw (few, beyond) (cut_label {used = used} here room (ltb-true (length m) (at + 1 + n) beyond))
-          | inr fits ↦
-              let inside : at + 1 + n ≤ length m = omega (arith, ltb-false (length m) (at + 1 + n) fits) in
-              let rest = goes (used + n + 1) (at + 1 + n) run (omega arith) (omega arith) inside (omega arith) in
-              rw (few, fits) (then_match (go (used + n + 1) (at + 1 + n) run) (λ (x : Labels × ℕ). (label_at m at n ∷ x.0, x.1)) _ _ _ _ rest
+            | inl beyond ↦ rw (few, beyond) (cut_label {used = used} here room (ltb-true (length m) (at + 1 + n) beyond))
+            | inr fits ↦
+                let inside : at + 1 + n ≤ length m = omega (arith, ltb-false (length m) (at + 1 + n) fits) in
+                let rest = goes (used + n + 1) (at + 1 + n) run (omega arith) (omega arith) inside (omega arith) in
+                rw (few, fits) (then_match (go (used + n + 1) (at + 1 + n) run) (λ (x : Labels × ℕ). (label_at m at n ∷ x.0, x.1)) _ _ _ _ rest
                 (λ x h. record { stands = label here inside h.stands; short = omega (arith, h.short, length_label_at m at n inside, length-append (with_length (label_at m at n)) (spelled x.0)) })
                 (λ e h. after_label here room inside h))
-        ]
+          ]
     ]
 
 pointer_match : (m : List ℕ) (start used at run to : ℕ) (go : ℕ → ℕ → ℕ → Result (Labels × ℕ) WireFault) → used < 255 → run ≤ at → at ≤ length m → Goes m start (steps_left m at run) go → next_at m at ≡ Pointer to → MatchResult (name_by m start used at run go (Pointer to)) (λ x. Stands m used at run x) (λ e. NameFails m start used at run e)
@@ -114,8 +114,8 @@ pointer_match m start used at run to go room behind within goes here =
           let before : to < run = ltb-true to run is_before in
           let rest = goes used to to room (omega arith) (omega arith) (fewer (length m) run at to before behind within) in
           rw is_before (then_match (go used to to) (λ (x : Labels × ℕ). (x.0, at + 2)) _ _ _ _ rest
-            (λ x h. record { stands = pointer here before refl h.stands; short = h.short })
-            (λ e h. after_pointer here before h))
+          (λ x h. record { stands = pointer here before refl h.stands; short = h.short })
+          (λ e h. after_pointer here before h))
       | inr not ↦ rw not (not_before here (ltb-false to run not))
     ]
 
@@ -136,8 +136,8 @@ pub name_read-match : (m : List ℕ) (at : ℕ) → at ≤ length m → MatchRes
 unfolding name_read
 name_read-match m at within =
     match_weaker (name_in (suc (steps_left m at at)) m at 0 at at) _ _ _ _ (name_in-match (suc (steps_left m at at)) m at 0 at at (omega arith) (omega arith) within (omega arith))
-      (λ x h. record { stands = h.stands; short = omega (arith, h.short) })
-      (λ e h. h)
+    (λ x h. record { stands = h.stands; short = omega (arith, h.short) })
+    (λ e h. h)
 
 -- what stands is read
 pub name_read-spelled : (m : List ℕ) (at after : ℕ) (labels : Labels) → at ≤ length m → SpelledName m at after labels → name_read m at ≡ Ok (labels, after)

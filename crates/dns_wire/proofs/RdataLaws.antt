@@ -8,7 +8,7 @@ use Rattle.dns_name.specs.Labels.{Labels, with_length}
 use Rattle.dns_text.specs.declared.record.Data.{Data}
 use Rattle.dns_text.specs.declared.record.Data.TheVariants.{A, Aaaa, One, Mx, Soa, Txt, Srv, Opaque}
 use Rattle.dns_wire.specs.declared.rdata.Form.{Form}
-use Rattle.dns_wire.specs.declared.rdata.Form.TheVariants.{Ipv4, Ipv6, OneName, Exchange, Authority, Strings, Service, Unknown}
+use Rattle.dns_wire.specs.declared.rdata.Form.TheVariants.{A as FormA, Aaaa as FormAaaa, Name as FormName, Mx as FormMx, Soa as FormSoa, Txt as FormTxt, Srv as FormSrv, Opaque as FormOpaque}
 use Rattle.dns_wire.specs.declared.fault.WireFault.{WireFault}
 use Rattle.dns_wire.specs.declared.fault.WireFault.TheVariants.{Short, BadName, BadPointer, BadData, Trailing, NoMemory}
 use Rattle.dns_wire.specs.Name.{SpelledName, NameFails, cut, reserved, long, cut_label, not_before, after_label, after_pointer, UnspelledName, name_read}
@@ -123,25 +123,25 @@ reads_last : (m : List ℕ) (at : ℕ) (form : Form) (place : ℕ) (body : Label
 reads_last m at form place body stands (Err e) h = h
 reads_last m at form place body stands (Ok x) h = reads_end m at form x.1 (body x.0) (λ e. stands x (last m place x h e))
 
-reads_one : (m : List ℕ) (at : ℕ) → at ≤ length m → Reads m at OneName (one_read m at)
-reads_one m at within = reads_last m at OneName at (λ name. One name) (λ x h. one_name h) (data_name_read m at at) (reads_name m at OneName at within (only refl))
+reads_one : (m : List ℕ) (at : ℕ) → at ≤ length m → Reads m at FormName (one_read m at)
+reads_one m at within = reads_last m at FormName at (λ name. One name) (λ x h. one_name h) (data_name_read m at at) (reads_name m at FormName at within (only refl))
 
-reads_mx : (m : List ℕ) (at : ℕ) → Reads m at Exchange (mx_read m at)
+reads_mx : (m : List ℕ) (at : ℕ) → Reads m at FormMx (mx_read m at)
 reads_mx m at =
     elim (cases_Bool (ltb (length m) (at + 2))) [
       | inl few ↦ rw few (inl refl)
       | inr enough ↦
           let room : at + 2 ≤ length m = ltb-false (length m) (at + 2) enough in
-          rw enough (reads_last m at Exchange (at + 2) (λ name. Mx (u16_at m at) name) (λ x h. mail room refl h) (data_name_read m at (at + 2)) (reads_name m at Exchange (at + 2) room (host refl room)))
+          rw enough (reads_last m at FormMx (at + 2) (λ name. Mx (u16_at m at) name) (λ x h. mail room refl h) (data_name_read m at (at + 2)) (reads_name m at FormMx (at + 2) room (host refl room)))
     ]
 
-reads_srv : (m : List ℕ) (at : ℕ) → Reads m at Service (srv_read m at)
+reads_srv : (m : List ℕ) (at : ℕ) → Reads m at FormSrv (srv_read m at)
 reads_srv m at =
     elim (cases_Bool (ltb (length m) (at + 6))) [
       | inl few ↦ rw few (inl refl)
       | inr enough ↦
           let room : at + 6 ≤ length m = ltb-false (length m) (at + 6) enough in
-          rw enough (reads_last m at Service (at + 6) (λ name. Srv (u16_at m at) (u16_at m (at + 2)) (u16_at m (at + 4)) name) (λ x h. service room refl refl refl h) (data_name_read m at (at + 6)) (reads_name m at Service (at + 6) room (target refl room)))
+          rw enough (reads_last m at FormSrv (at + 6) (λ name. Srv (u16_at m at) (u16_at m (at + 2)) (u16_at m (at + 4)) name) (λ x h. service room refl refl refl h) (data_name_read m at (at + 6)) (reads_name m at FormSrv (at + 6) room (target refl room)))
     ]
 
 -- the start of authority behind its first name, and behind both
@@ -149,30 +149,30 @@ abbrev soa_numbers : List ℕ → ℕ → Labels → Labels × ℕ → Result Da
 soa_numbers m at primary mailbox =
     ending m at (mailbox.1 + 20) (Soa primary mailbox.0 (u32_at m mailbox.1) (u32_at m (mailbox.1 + 4)) (u32_at m (mailbox.1 + 8)) (u32_at m (mailbox.1 + 12)) (u32_at m (mailbox.1 + 16)))
 
-reads_numbers : (m : List ℕ) (at : ℕ) (primary : Labels × ℕ) → SpelledName m at primary.1 primary.0 → (r : Result (Labels × ℕ) WireFault) → ReadsName m at Authority primary.1 r → Reads m at Authority (r >>= soa_numbers m at primary.0)
+reads_numbers : (m : List ℕ) (at : ℕ) (primary : Labels × ℕ) → SpelledName m at primary.1 primary.0 → (r : Result (Labels × ℕ) WireFault) → ReadsName m at FormSoa primary.1 r → Reads m at FormSoa (r >>= soa_numbers m at primary.0)
 reads_numbers m at primary first (Err e) h = h
-reads_numbers m at primary first (Ok x) h = reads_end m at Authority (x.1 + 20) _ (λ e. start first h e refl refl refl refl refl)
+reads_numbers m at primary first (Ok x) h = reads_end m at FormSoa (x.1 + 20) _ (λ e. start first h e refl refl refl refl refl)
 
-reads_second : (m : List ℕ) (at : ℕ) (r : Result (Labels × ℕ) WireFault) → ReadsName m at Authority at r → Reads m at Authority (r >>= λ primary. data_name_read m at primary.1 >>= soa_numbers m at primary.0)
+reads_second : (m : List ℕ) (at : ℕ) (r : Result (Labels × ℕ) WireFault) → ReadsName m at FormSoa at r → Reads m at FormSoa (r >>= λ primary. data_name_read m at primary.1 >>= soa_numbers m at primary.0)
 reads_second m at (Err e) h = h
-reads_second m at (Ok x) h = reads_numbers m at x h (data_name_read m at x.1) (reads_name m at Authority x.1 (spelled_within h) (second_name h))
+reads_second m at (Ok x) h = reads_numbers m at x h (data_name_read m at x.1) (reads_name m at FormSoa x.1 (spelled_within h) (second_name h))
 
-reads_soa : (m : List ℕ) (at : ℕ) → at ≤ length m → Reads m at Authority (soa_read m at)
-reads_soa m at within = reads_second m at (data_name_read m at at) (reads_name m at Authority at within (first_name refl))
+reads_soa : (m : List ℕ) (at : ℕ) → at ≤ length m → Reads m at FormSoa (soa_read m at)
+reads_soa m at within = reads_second m at (data_name_read m at at) (reads_name m at FormSoa at within (first_name refl))
 
-reads_strings : (m : List ℕ) (at : ℕ) (found : Option (List (List ℕ))) → strings_after (suc (length (drop at m))) [] (drop at m) ≡ found → Reads m at Strings (txt_by at found)
+reads_strings : (m : List ℕ) (at : ℕ) (found : Option (List (List ℕ))) → strings_after (suc (length (drop at m))) [] (drop at m) ≡ found → Reads m at FormTxt (txt_by at found)
 reads_strings m at None h = inl refl
 reads_strings m at (Some []) h = inl refl
 reads_strings m at (Some (string ∷ strings)) h = one_or_more (strings_found (string ∷ strings) (drop at m) h)
 
-reads_ipv4 : (m : List ℕ) (at : ℕ) → Reads m at Ipv4 (ipv4_read m at)
+reads_ipv4 : (m : List ℕ) (at : ℕ) → Reads m at FormA (ipv4_read m at)
 reads_ipv4 m at =
     elim (cases_Bool (eqb (length (drop at m)) 4)) [
       | inl is ↦ rw is (ipv4 refl (eqb-true (length (drop at m)) 4 is))
       | inr not ↦ rw not (inl refl)
     ]
 
-reads_ipv6 : (m : List ℕ) (at : ℕ) → Reads m at Ipv6 (ipv6_read m at)
+reads_ipv6 : (m : List ℕ) (at : ℕ) → Reads m at FormAaaa (ipv6_read m at)
 reads_ipv6 m at =
     elim (cases_Bool (eqb (length (drop at m)) 16)) [
       | inl is ↦ rw is (ipv6 refl (eqb-true (length (drop at m)) 16 is))
@@ -181,14 +181,14 @@ reads_ipv6 m at =
 
 data_read-reads : (m : List ℕ) (at : ℕ) (form : Form) → at ≤ length m → Reads m at form (data_read m at form)
 unfolding data_read
-data_read-reads m at Ipv4 within = reads_ipv4 m at
-data_read-reads m at Ipv6 within = reads_ipv6 m at
-data_read-reads m at OneName within = reads_one m at within
-data_read-reads m at Exchange within = reads_mx m at
-data_read-reads m at Authority within = reads_soa m at within
-data_read-reads m at Strings within = reads_strings m at (strings_after (suc (length (drop at m))) [] (drop at m)) refl
-data_read-reads m at Service within = reads_srv m at
-data_read-reads m at Unknown within = unknown refl
+data_read-reads m at FormA within = reads_ipv4 m at
+data_read-reads m at FormAaaa within = reads_ipv6 m at
+data_read-reads m at FormName within = reads_one m at within
+data_read-reads m at FormMx within = reads_mx m at
+data_read-reads m at FormSoa within = reads_soa m at within
+data_read-reads m at FormTxt within = reads_strings m at (strings_after (suc (length (drop at m))) [] (drop at m)) refl
+data_read-reads m at FormSrv within = reads_srv m at
+data_read-reads m at FormOpaque within = unknown refl
 
 -- ---- the first fault is told, and only that
 
@@ -219,8 +219,8 @@ fails_by m at form within (Err e) is (inr bad) = bad_name bad
 fails_by m at form within (Err e) is (inl badly) =
     let read : data_read m at form ≡ Err (BadData at) = is ∙ ap (λ x. Err x) badly in
     rw badly (formless
-      (λ fault bad. no_name_says bad.unspelled at (let e = sym (bad_name_told within bad) ∙ read in cc))
-      (λ body stands. let e = sym (data_read-stands within stands) ∙ read in cc))
+    (λ fault bad. no_name_says bad.unspelled at (let e = sym (bad_name_told within bad) ∙ read in cc))
+    (λ body stands. let e = sym (data_read-stands within stands) ∙ read in cc))
 
 pub data_read-match : (m : List ℕ) (at : ℕ) (form : Form) → at ≤ length m → MatchResult (data_read m at form) (λ body. DataAt m at form body) (λ e. DataFails m at form e)
 data_read-match m at form within = fails_by m at form within (data_read m at form) refl (data_read-reads m at form within)

@@ -7,4 +7,5 @@ pub mod Rdata
 pub mod Record
 pub mod Section
 pub mod Message
+pub mod WellFormed
 pub mod Decoding

@@ -6,7 +6,7 @@ use Rattle.dns_name.specs.Labels.{Labels, with_length}
 use Rattle.dns_text.specs.declared.record.Data.{Data}
 use Rattle.dns_text.specs.declared.record.Data.TheVariants.{A, Aaaa, One, Mx, Soa, Txt, Srv, Opaque}
 use Rattle.dns_wire.specs.declared.rdata.Form.{Form}
-use Rattle.dns_wire.specs.declared.rdata.Form.TheVariants.{Ipv4, Ipv6, OneName, Exchange, Authority, Strings, Service, Unknown}
+use Rattle.dns_wire.specs.declared.rdata.Form.TheVariants.{A as FormA, Aaaa as FormAaaa, Name as FormName, Mx as FormMx, Soa as FormSoa, Txt as FormTxt, Srv as FormSrv, Opaque as FormOpaque}
 use Rattle.dns_wire.specs.declared.fault.WireFault.{WireFault}
 use Rattle.dns_wire.specs.declared.fault.WireFault.TheVariants.{Short, BadName, BadPointer, BadData, Trailing, NoMemory}
 use Rattle.dns_wire.specs.Name.{SpelledName, UnspelledName, name_read}
@@ -18,40 +18,40 @@ use Rattle.dns_wire.specs.Reading.{◌>>=◌}
 -- the form of a type in class IN
 abbrev pub form_of : ℕ → Form
 form_of kind =
-    if kind == 1 then Ipv4 else
-    if kind == 2 || kind == 5 || kind == 12 then OneName else
-    if kind == 6 then Authority else
-    if kind == 15 then Exchange else
-    if kind == 16 then Strings else
-    if kind == 28 then Ipv6 else
-    if kind == 33 then Service else Unknown
+    if kind == 1 then FormA else
+    if kind == 2 || kind == 5 || kind == 12 then FormName else
+    if kind == 6 then FormSoa else
+    if kind == 15 then FormMx else
+    if kind == 16 then FormTxt else
+    if kind == 28 then FormAaaa else
+    if kind == 33 then FormSrv else FormOpaque
 
 -- Another class than IN has no forms of its own.
 abbrev pub form_in : ℕ → ℕ → Form
-form_in class kind = if class == 1 then form_of kind else Unknown
+form_in class kind = if class == 1 then form_of kind else FormOpaque
 
 -- ---- which data stands
 
 -- The RDATA, all of it, is this data in this form.
 pub data DataAt (m : List ℕ) (at : ℕ) : Form → Data → Type 0 where
-  ipv4 : {octets : List ℕ} → drop at m ≡ octets → length octets ≡ 4 → DataAt m at Ipv4 (A octets)
-  ipv6 : {octets : List ℕ} → drop at m ≡ octets → length octets ≡ 16 → DataAt m at Ipv6 (Aaaa octets)
-  one_name : {name : Labels} → SpelledName m at (length m) name → DataAt m at OneName (One name)
-  mail : {preference : ℕ} {name : Labels} → at + 2 ≤ length m → preference ≡ u16_at m at → SpelledName m (at + 2) (length m) name → DataAt m at Exchange (Mx preference name)
-  start : {second numbers serial refresh retry expire minimum : ℕ} {primary mailbox : Labels} → SpelledName m at second primary → SpelledName m second numbers mailbox → numbers + 20 ≡ length m → serial ≡ u32_at m numbers → refresh ≡ u32_at m (numbers + 4) → retry ≡ u32_at m (numbers + 8) → expire ≡ u32_at m (numbers + 12) → minimum ≡ u32_at m (numbers + 16) → DataAt m at Authority (Soa primary mailbox serial refresh retry expire minimum)
-  one_or_more : {string : List ℕ} {strings : List (List ℕ)} → drop at m ≡ flat_map with_length (string ∷ strings) → DataAt m at Strings (Txt (string ∷ strings))
-  service : {priority weight port : ℕ} {target : Labels} → at + 6 ≤ length m → priority ≡ u16_at m at → weight ≡ u16_at m (at + 2) → port ≡ u16_at m (at + 4) → SpelledName m (at + 6) (length m) target → DataAt m at Service (Srv priority weight port target)
-  unknown : {octets : List ℕ} → drop at m ≡ octets → DataAt m at Unknown (Opaque octets)
+  ipv4 : {octets : List ℕ} → drop at m ≡ octets → length octets ≡ 4 → DataAt m at FormA (A octets)
+  ipv6 : {octets : List ℕ} → drop at m ≡ octets → length octets ≡ 16 → DataAt m at FormAaaa (Aaaa octets)
+  one_name : {name : Labels} → SpelledName m at (length m) name → DataAt m at FormName (One name)
+  mail : {preference : ℕ} {name : Labels} → at + 2 ≤ length m → preference ≡ u16_at m at → SpelledName m (at + 2) (length m) name → DataAt m at FormMx (Mx preference name)
+  start : {second numbers serial refresh retry expire minimum : ℕ} {primary mailbox : Labels} → SpelledName m at second primary → SpelledName m second numbers mailbox → numbers + 20 ≡ length m → serial ≡ u32_at m numbers → refresh ≡ u32_at m (numbers + 4) → retry ≡ u32_at m (numbers + 8) → expire ≡ u32_at m (numbers + 12) → minimum ≡ u32_at m (numbers + 16) → DataAt m at FormSoa (Soa primary mailbox serial refresh retry expire minimum)
+  one_or_more : {string : List ℕ} {strings : List (List ℕ)} → drop at m ≡ flat_map with_length (string ∷ strings) → DataAt m at FormTxt (Txt (string ∷ strings))
+  service : {priority weight port : ℕ} {target : Labels} → at + 6 ≤ length m → priority ≡ u16_at m at → weight ≡ u16_at m (at + 2) → port ≡ u16_at m (at + 4) → SpelledName m (at + 6) (length m) target → DataAt m at FormSrv (Srv priority weight port target)
+  unknown : {octets : List ℕ} → drop at m ≡ octets → DataAt m at FormOpaque (Opaque octets)
 
 -- ---- which fault keeps data from standing
 
 -- Where a name has to stand, as far as all before it stands.
 pub data NamePlace (m : List ℕ) (at : ℕ) : Form → ℕ → Type 0 where
-  only : {place : ℕ} → place ≡ at → NamePlace m at OneName place
-  host : {place : ℕ} → place ≡ at + 2 → place ≤ length m → NamePlace m at Exchange place
-  first_name : {place : ℕ} → place ≡ at → NamePlace m at Authority place
-  second_name : {place : ℕ} {primary : Labels} → SpelledName m at place primary → NamePlace m at Authority place
-  target : {place : ℕ} → place ≡ at + 6 → place ≤ length m → NamePlace m at Service place
+  only : {place : ℕ} → place ≡ at → NamePlace m at FormName place
+  host : {place : ℕ} → place ≡ at + 2 → place ≤ length m → NamePlace m at FormMx place
+  first_name : {place : ℕ} → place ≡ at → NamePlace m at FormSoa place
+  second_name : {place : ℕ} {primary : Labels} → SpelledName m at place primary → NamePlace m at FormSoa place
+  target : {place : ℕ} → place ≡ at + 6 → place ≤ length m → NamePlace m at FormSrv place
 
 -- A name in the RDATA is none by a fault of its own, which it doesn't owe to the RDATA's end.
 pub record BadNameIn (m : List ℕ) (at : ℕ) (form : Form) (fault : WireFault) : Type 0 where
@@ -136,11 +136,11 @@ abbrev pub ipv6_read : List ℕ → ℕ → Result Data WireFault
 ipv6_read m at = if length (drop at m) == 16 then Ok (Aaaa (drop at m)) else Err (BadData at)
 
 unfoldable pub data_read : List ℕ → ℕ → Form → Result Data WireFault
-data_read m at Ipv4 = ipv4_read m at
-data_read m at Ipv6 = ipv6_read m at
-data_read m at OneName = one_read m at
-data_read m at Exchange = mx_read m at
-data_read m at Authority = soa_read m at
-data_read m at Strings = txt_read m at
-data_read m at Service = srv_read m at
-data_read m at Unknown = Ok (Opaque (drop at m))
+data_read m at FormA = ipv4_read m at
+data_read m at FormAaaa = ipv6_read m at
+data_read m at FormName = one_read m at
+data_read m at FormMx = mx_read m at
+data_read m at FormSoa = soa_read m at
+data_read m at FormTxt = txt_read m at
+data_read m at FormSrv = srv_read m at
+data_read m at FormOpaque = Ok (Opaque (drop at m))

@@ -2,15 +2,18 @@
 #![tactic(auto)]
 
 mod fault;
-mod message;
-mod number;
 mod header;
+mod message;
 mod name;
+mod number;
 mod question;
 mod rdata;
-mod record;
 mod read;
+mod record;
 
-pub use read::{decode, one_meaning};
 pub use fault::WireFault;
 pub use message::{Classed, Head, Message};
+pub use read::{decode, one_meaning};
+
+#[cfg(test)]
+mod tests;

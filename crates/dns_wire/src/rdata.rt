@@ -15,35 +15,35 @@ use std::alloc::Global;
 #[derive(Clone, Copy)]
 pub enum Form {
     /// Four octets.
-    Ipv4,
+    A,
     /// Sixteen octets.
-    Ipv6,
+    Aaaa,
     /// A name.
-    OneName,
+    Name,
     /// 16 bits and a name.
-    Exchange,
+    Mx,
     /// Two names and five numbers of 32 bits.
-    Authority,
+    Soa,
     /// One or more strings, each behind its length.
-    Strings,
+    Txt,
     /// Three numbers of 16 bits and a name.
-    Service,
+    Srv,
     /// Any octets.
-    Unknown,
+    Opaque,
 }
 
 fn form_of(kind: u16) -> Form
     ensures { result ≡ form_of kind }
 {
     match kind {
-        1 => Form::Ipv4,
-        2 | 5 | 12 => Form::OneName,
-        6 => Form::Authority,
-        15 => Form::Exchange,
-        16 => Form::Strings,
-        28 => Form::Ipv6,
-        33 => Form::Service,
-        _ => Form::Unknown,
+        1 => Form::A,
+        2 | 5 | 12 => Form::Name,
+        6 => Form::Soa,
+        15 => Form::Mx,
+        16 => Form::Txt,
+        28 => Form::Aaaa,
+        33 => Form::Srv,
+        _ => Form::Opaque,
     }
 }
 
@@ -54,18 +54,13 @@ pub(crate) fn form_in(class: u16, kind: u16) -> Form
     if class == 1 {
         form_of(kind)
     } else {
-        Form::Unknown
+        Form::Opaque
     }
 }
 
 /// A name that has to end with the RDATA at the latest.
 #[tactic(auto, unfolding(crate::specs::Rdata::data_name_read))]
-fn name_in(
-    alloc: Global,
-    front: &[u8],
-    at: usize,
-    place: usize,
-) -> Result<(Name, usize), WireFault>
+fn name_in(alloc: Global, front: &[u8], at: usize, place: usize) -> Result<(Name, usize), WireFault>
     requires { place ≤ length front.now }
     ensures exact { Gives result (data_name_read front.now at place) }
     ensures within { IfOk result (λ r. r.1 ≤ length front.now) }
@@ -230,13 +225,13 @@ pub(crate) fn data_at(alloc: Global, front: &[u8], at: usize, form: Form) -> Res
     ensures { Gives result (data_read front.now at form) }
 {
     match form {
-        Form::Ipv4 => ipv4_at(front, at),
-        Form::Ipv6 => ipv6_at(front, at),
-        Form::OneName => one_at(alloc, front, at),
-        Form::Exchange => mx_at(alloc, front, at),
-        Form::Authority => soa_at(alloc, front, at),
-        Form::Strings => txt_at(alloc, front, at),
-        Form::Service => srv_at(alloc, front, at),
-        Form::Unknown => Ok(Data::Opaque(octets_from(alloc, front, at)?)),
+        Form::A => ipv4_at(front, at),
+        Form::Aaaa => ipv6_at(front, at),
+        Form::Name => one_at(alloc, front, at),
+        Form::Mx => mx_at(alloc, front, at),
+        Form::Soa => soa_at(alloc, front, at),
+        Form::Txt => txt_at(alloc, front, at),
+        Form::Srv => srv_at(alloc, front, at),
+        Form::Opaque => Ok(Data::Opaque(octets_from(alloc, front, at)?)),
     }
 }

@@ -4,6 +4,7 @@ ghost use Rattle.std.specs.Prelude.{◌≡◌, ◌≤◌, length, IfOk, IfErr};
 ghost use Rattle.dns_wire.specs.Decoding.{IsUnspelled, HasTrailing, UnlessMemory, SpelledOnce, FailsOnce, SpelledOrFails};
 ghost use Rattle.dns_wire.specs.Message.{SpelledMessage, MessageFails, sections_read, message_read};
 ghost use Rattle.dns_wire.specs.Reading.{Gives};
+ghost use Rattle.dns_wire.specs.WellFormed.{IsWellFormed};
 
 use crate::fault::WireFault;
 use crate::header::head_in;
@@ -59,6 +60,7 @@ fn message_of(alloc: Global, octets: &[u8]) -> Result<Message, WireFault>
 /// form of its type.
 pub fn decode(alloc: Global, octets: &[u8]) -> Result<Message, WireFault>
     ensures spelled { IfOk result (SpelledMessage octets.now) }
+    ensures well_formed { IfOk result IsWellFormed }
     ensures fault { IfErr result (λ fault. UnlessMemory fault (MessageFails octets.now fault)) }
 
     // Only memory keeps what the octets spell from being read, and what they don't from being refused.
@@ -74,5 +76,4 @@ pub fn one_meaning()
     ensures message { SpelledOnce }
     ensures fault { FailsOnce }
     ensures either { SpelledOrFails }
-{
-}
+{}

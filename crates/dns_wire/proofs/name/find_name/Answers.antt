@@ -32,11 +32,11 @@ loop-labels-preserved-in-Label c =
     }
 
 pub returns-then-to-run-clause-stands : goal.returns-then-to-run-clause-stands
-returns-then-to-run-clause-stands c = inr (c.loop-labels.invariant.reads.fault _ (not_before (sym c.in-Pointer.ensures) c.if-to-run.true))
+returns-then-to-run-clause-stands c = inr (c.loop-labels.invariant.reads.fault _ (not_before (sym c.in-Pointer.ensures) (omega arith)))
 
 pub loop-labels-preserved : goal.loop-labels-preserved
 loop-labels-preserved c = record {
-  reads = rw c.unwrap_or-in-Pointer.ensures (reads_pointer c.loop-labels.invariant.reads c.in-Pointer.to (sym c.in-Pointer.ensures) c.if-to-run.false);
+  reads = rw c.unwrap_or-in-Pointer.ensures (reads_pointer c.loop-labels.invariant.reads c.in-Pointer.to (sym c.in-Pointer.ensures) (omega arith));
   within = omega arith;
   behind = omega arith;
 }

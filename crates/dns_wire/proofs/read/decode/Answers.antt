@@ -1,3 +1,5 @@
+use Rattle.std.proofs.Common.{arith}
+use Rattle.dns_wire.proofs.Ranges.{octets_all, answer_well_formed}
 use Rattle.dns_wire.proofs.MessageLaws.{answer_spelled, answer_fault, answer_read, answer_unspelled, answer_trailing}
 use Rattle.dns_wire.proofs.read.decode.Goals as goal
 
@@ -15,3 +17,8 @@ returns-clause-unspelled c = answer_unspelled c.args.octets.now _ c.message_of.e
 
 pub returns-clause-trailing : goal.returns-clause-trailing
 returns-clause-trailing c = λ h. answer_trailing c.args.octets.now _ c.message_of.ensures h
+
+pub returns-clause-well_formed : goal.returns-clause-well_formed
+returns-clause-well_formed c =
+    let m = c.args.octets.now in
+    answer_well_formed m _ (octets_all m (λ i. omega (arith, c.type_inv.octets i))) (answer_spelled m _ c.message_of.ensures)

@@ -1,0 +1,173 @@
+-- What octets spell is well formed.
+use Rattle.std.proofs.Common.{◌≡◌, ℕ, zero, suc, ◌+◌, ◌*◌, ◌/◌, ◌%◌, ◌^◌, ◌<◌, ◌≤◌, List, [], ◌∷◌, ◌++◌, length, take, drop, get_or, Option, Some, None, refl, sym, ap, subst, inl, inr, eqb, ltb, arith, length-drop}
+use Rattle.std.specs.Prelude.{slice_get, Result, Ok, Err, IfOk}
+use Rattle.std.specs.List.{AllByRecursion, flat_map}
+use Rattle.std.proofs.lemmas.Bool.{cases_Bool, eqb-false, ltb-true, ltb-false}
+use Rattle.std.proofs.lemmas.List.{length-take}
+use Rattle.dns_name.specs.Labels.{Labels, IsLabel, IsName, with_length}
+use Rattle.dns_name.specs.Octets.{lower_label}
+use Rattle.dns_text.specs.declared.record.Data.{Data}
+use Rattle.dns_text.specs.declared.record.Data.TheVariants.{A, Aaaa, One, Mx, Soa, Txt, Srv, Opaque}
+use Rattle.dns_text.specs.declared.record.Question.{Question}
+use Rattle.dns_text.specs.declared.record.Record.{Record}
+use Rattle.dns_wire.specs.declared.rdata.Form.{Form}
+use Rattle.dns_wire.specs.declared.fault.WireFault.{WireFault}
+use Rattle.dns_wire.specs.declared.message.Classed.{Classed}
+use Rattle.dns_wire.specs.declared.message.Message.{Message}
+use Rattle.dns_wire.specs.declared.name.Next.TheVariants.{Finish, Label, Pointer, Reserved, Cut}
+use Rattle.dns_wire.specs.Header.{head_in, question_count, answer_count, authority_count, additional_count}
+use Rattle.dns_wire.specs.Message.{QuestionsAt, RecordsAt, MessageAt, SpelledMessage}
+use Rattle.dns_wire.specs.Name.{next_at, next_by, pointer_by, NameAt, finish, label, pointer, SpelledName}
+use Rattle.dns_wire.specs.Number.{u16_at, u32_at}
+use Rattle.dns_wire.specs.Question.{QuestionAt}
+use Rattle.dns_wire.specs.Rdata.{DataAt, ipv4, ipv6, one_name, mail, start, one_or_more, service, unknown}
+use Rattle.dns_wire.specs.Record.{ttl_of, RecordAt}
+use Rattle.dns_wire.specs.Section.{SectionAt, no_items, one_more}
+use Rattle.dns_wire.specs.WellFormed.{IsHead, IsQuestion, AreOctets, IsString, form_of_data, IsData, IsRecord, IsWellFormed}
+
+-- ---- parts of octets
+
+octets_drop : (n : ℕ) (xs : List ℕ) → AreOctets xs → AreOctets (drop n xs)
+octets_drop zero xs h = h
+octets_drop (suc n) [] h = tt
+octets_drop (suc n) (x ∷ xs) h = octets_drop n xs h.1
+
+octets_take : (n : ℕ) (xs : List ℕ) → AreOctets xs → AreOctets (take n xs)
+octets_take zero xs h = tt
+octets_take (suc n) [] h = tt
+octets_take (suc n) (x ∷ xs) h = (h.0, octets_take n xs h.1)
+
+octet_of : (xs : List ℕ) → AreOctets xs → (i : ℕ) → get_or xs i 0 < 256
+octet_of [] h i = omega arith
+octet_of (x ∷ xs) h zero = h.0
+octet_of (x ∷ xs) h (suc i) = octet_of xs h.1 i
+
+pub octets_all : (xs : List ℕ) → ((i : ℕ) → get_or xs i 0 < 256) → AreOctets xs
+octets_all [] h = tt
+octets_all (x ∷ xs) h = (h 0, octets_all xs (λ i. h (suc i)))
+
+octets_split : (a b : List ℕ) → AreOctets (a ++ b) → AreOctets a × AreOctets b
+octets_split [] b h = (tt, h)
+octets_split (x ∷ a) b h = let rest = octets_split a b h.1 in ((h.0, rest.0), rest.1)
+
+strings_range : (strings : List (List ℕ)) → AreOctets (flat_map with_length strings) → AllByRecursion IsString strings
+strings_range [] h = tt
+strings_range (string ∷ strings) h =
+    let parts = octets_split (with_length string) (flat_map with_length strings) h in
+    (record { short = parts.0.0; octets = parts.0.1 }, strings_range strings parts.1)
+
+-- ---- numbers
+
+u16_range : (m : List ℕ) (at : ℕ) → AreOctets m → u16_at m at < 2 ^ 16
+unfolding u16_at
+u16_range m at h =
+    let fits = octet_of (take 2 (drop at m)) (octets_take 2 (drop at m) (octets_drop at m h)) in
+    omega (arith, fits 0, fits 1)
+
+u32_range : (m : List ℕ) (at : ℕ) → AreOctets m → u32_at m at < 2 ^ 32
+unfolding u32_at
+u32_range m at h =
+    let fits = octet_of (take 4 (drop at m)) (octets_take 4 (drop at m) (octets_drop at m h)) in
+    omega (arith, fits 0, fits 1, fits 2, fits 3)
+
+ttl_range : (n : ℕ) → ttl_of n < 2 ^ 31
+ttl_range n = elim (cases_Bool (ltb n 2147483648)) [
+  | inl small ↦ rw small (let s : n < 2147483648 = ltb-true n 2147483648 small in omega arith)
+  | inr large ↦ rw large (omega arith)
+]
+
+-- ---- names
+
+label_length : (m : List ℕ) (at n : ℕ) (o : Option ℕ) → next_by m at o ≡ Label n → (0 < n) × (n < 64)
+label_length m at n None h = absurd cc
+label_length m at n (Some k) h =
+    elim (cases_Bool (eqb k 0)) [
+      | inl none ↦ absurd (let f : Finish ≡ Label n = (rw none at h) in cc)
+      | inr some ↦ elim (cases_Bool (ltb k 64)) [
+        | inl small ↦
+            let f : Label k ≡ Label n = rw (some, small) at h in
+            let e : k ≡ n = cc in
+            let positive = eqb-false k 0 some in
+            (omega arith, omega (arith, ltb-true k 64 small))
+        | inr large ↦ elim (cases_Bool (ltb k 192)) [
+          | inl middle ↦ absurd (let f : Reserved ≡ Label n = (rw (some, large, middle) at h) in cc)
+          | inr high ↦ no_label k n (slice_get m (at + 1)) (rw (some, large, high) at h)
+        ]
+      ]
+    ]
+  where
+    no_label : (k n : ℕ) (o : Option ℕ) → pointer_by k o ≡ Label n → (0 < n) × (n < 64)
+    no_label k n None h = absurd cc
+    no_label k n (Some low) h = absurd cc
+
+labels_range : {m : List ℕ} {at run after : ℕ} {labels : Labels} → AreOctets m → NameAt m at run after labels → AllByRecursion IsLabel labels
+labels_range octets (finish here is) = tt
+labels_range {m} octets (label {at = at} {n = n} here inside rest) =
+    let size = label_length m at n (slice_get m at) here in
+    let text = take n (drop (at + 1) m) in
+    let long : length text ≡ n = omega (arith, length-take n (drop (at + 1) m), length-drop (at + 1) m) in
+    (lower_label text (octet_of text (octets_take n (drop (at + 1) m) (octets_drop (at + 1) m octets))) (omega (arith, long, size.0)) (omega (arith, long, size.1)), labels_range octets rest)
+labels_range octets (pointer here before is rest) = labels_range octets rest
+
+name_range : {m : List ℕ} {at after : ℕ} {labels : Labels} → AreOctets m → SpelledName m at after labels → IsName labels
+name_range octets h = record { each = labels_range octets h.stands; short = h.short }
+
+-- ---- questions and records
+
+question_range : {m : List ℕ} {at after : ℕ} {q : Classed Question} → AreOctets m → QuestionAt m at q after → IsQuestion q
+question_range {m} octets h = record {
+  owner = name_range octets h.owner;
+  kind = rw h.kind (u16_range m h.fixed octets);
+  class = rw h.class (u16_range m (h.fixed + 2) octets);
+}
+
+data_range : {m : List ℕ} {at : ℕ} {form : Form} {body : Data} → AreOctets m → DataAt m at form body → (form ≡ form_of_data body) × IsData body
+data_range {m} {at} octets (ipv4 is four) = (refl, (four, rw (← is) (octets_drop at m octets)))
+data_range {m} {at} octets (ipv6 is sixteen) = (refl, (sixteen, rw (← is) (octets_drop at m octets)))
+data_range octets (one_name h) = (refl, name_range octets h)
+data_range {m} {at} octets (mail room preference h) = (refl, (rw preference (u16_range m at octets), name_range octets h))
+data_range {m} octets (start {numbers = n} h k end serial refresh retry expire minimum) =
+    (refl, (name_range octets h, name_range octets k, rw serial (u32_range m n octets), rw refresh (u32_range m (n + 4) octets), rw retry (u32_range m (n + 8) octets), rw expire (u32_range m (n + 12) octets), rw minimum (u32_range m (n + 16) octets)))
+data_range {m} {at} octets (one_or_more {string = string} {strings = strings} is) =
+    (refl, (omega arith, strings_range (string ∷ strings) (rw is at (octets_drop at m octets))))
+data_range {m} {at} octets (service room priority weight port h) =
+    (refl, (rw priority (u16_range m at octets), rw weight (u16_range m (at + 2) octets), rw port (u16_range m (at + 4) octets), name_range octets h))
+data_range {m} {at} octets (unknown is) = (refl, rw (← is) (octets_drop at m octets))
+
+record_range : {m : List ℕ} {at after : ℕ} {r : Classed Record} → AreOctets m → RecordAt m at r after → IsRecord r
+record_range {m} {after = after} octets h =
+    let body = data_range (octets_take after m octets) h.body in
+    record {
+      owner = name_range octets h.owner;
+      kind = rw h.kind (u16_range m h.fixed octets);
+      class = rw h.class (u16_range m (h.fixed + 2) octets);
+      ttl = rw h.ttl (ttl_range (u32_at m (h.fixed + 4)));
+      form = body.0;
+      data_fits = body.1;
+    }
+
+questions_range : {m : List ℕ} {count at after : ℕ} {items : List (Classed Question)} → AreOctets m → QuestionsAt m count at items after → AllByRecursion IsQuestion items
+questions_range octets (no_items is) = tt
+questions_range octets (one_more one rest) = (question_range octets one, questions_range octets rest)
+
+records_range : {m : List ℕ} {count at after : ℕ} {items : List (Classed Record)} → AreOctets m → RecordsAt m count at items after → AllByRecursion IsRecord items
+records_range octets (no_items is) = tt
+records_range octets (one_more one rest) = (record_range octets one, records_range octets rest)
+
+-- ---- messages
+
+head_range : (m : List ℕ) → AreOctets m → IsHead (head_in m)
+head_range m octets = record { id = u16_range m 0 octets; opcode = omega arith; z = omega arith; rcode = omega arith }
+
+pub message_range : {m : List ℕ} {v : Message} {after : ℕ} → AreOctets m → MessageAt m v after → IsWellFormed v
+message_range {m} octets h = record {
+  head = rw h.head (head_range m octets);
+  questions = questions_range octets h.questions;
+  answer = records_range octets h.answer;
+  authority = records_range octets h.authority;
+  additional = records_range octets h.additional;
+}
+
+pub answer_well_formed : (m : List ℕ) (r : Result Message WireFault) → AreOctets m → IfOk r (λ v. SpelledMessage m v) → IfOk r (λ v. IsWellFormed v)
+answer_well_formed m (Ok v) octets h = message_range octets h
+answer_well_formed m (Err fault) octets h = tt

@@ -1,0 +1,274 @@
+use super::*;
+use dns_text::Data;
+use std::alloc::Global;
+use std::test::*;
+
+/// A query for `A.tEst.`, type A.
+const QUERY: &[u8; 24] = b"\x12\x34\x01\0\0\x01\0\0\0\0\0\0\x01A\x04tEst\0\0\x01\0\x01";
+
+/// A header that counts one question.
+const ASK: &[u8; 12] = b"\x12\x34\x01\0\0\x01\0\0\0\0\0\0";
+
+/// A header that counts one record, in the answer section.
+const ANSWER: &[u8; 12] = b"\x12\x34\x80\0\0\0\0\x01\0\0\0\0";
+
+/// A response for `a.test.`, whose records have each form. The names in their data point to 12 (`a.test.`) and 14
+/// (`test.`).
+const RESPONSE: &[u8; 206] = b"\x12\x34\x85\x80\0\x01\0\x04\0\x02\0\x03\
+\x01a\x04test\0\0\xff\0\x01\
+\xc0\x0c\0\x01\0\x01\0\0\0\x3c\0\x04\xc0\0\x02\x01\
+\xc0\x0c\0\x1c\0\x01\x80\0\0\0\0\x10\x20\x01\x0d\xb8\0\0\0\0\0\0\0\0\0\0\0\x01\
+\xc0\x0c\0\x0f\0\x01\0\0\0\x3c\0\x04\0\x0a\xc0\x0c\
+\xc0\x0c\0\x10\0\x01\0\0\0\x3c\0\x07\x02ab\0\x02cd\
+\xc0\x0e\0\x02\0\x01\0\0\0\x3c\0\x04\x01N\xc0\x0e\
+\xc0\x0e\0\x06\0\x01\0\0\0\x3c\0\x1a\xc0\x0e\x01m\xc0\x0e\0\0\0\x01\0\0\0\x02\0\0\0\x03\0\0\0\x04\0\0\0\x05\
+\xc0\x0c\0\x21\0\x01\0\0\0\x3c\0\x08\0\x01\0\x02\0\x35\xc0\x0c\
+\xc0\x0c\0\x01\0\x03\0\0\0\x3c\0\x05\xc0\xff\x40\x41\x80\
+\xc0\x0c\0\x23\0\x01\x7f\xff\xff\xff\0\0";
+
+/// What a header and the octets after it are refused with.
+fn fault_of(alloc: Global, header: &[u8], rest: &[u8]) -> Option<WireFault> {
+    let mut octets = Vec::new(alloc);
+    octets.extend_from_slice(header).ok()?;
+    octets.extend_from_slice(rest).ok()?;
+    decode(alloc, &octets).err()
+}
+
+#[test]
+fn question(rt: HostRuntime) -> Result<(), Fail> {
+    let message = decode(rt.alloc(), QUERY)?;
+    assert_eq!(rt; message.head.id, 0x1234);
+    assert!(rt; message.head.rd && !message.head.qr);
+    assert_eq!(rt; message.questions.as_slice().len(), 1);
+    for question in message.questions.as_slice() {
+        assert_eq!(rt; question.item.owner.octets(), b"\x04test\x01a".as_slice());
+        assert_eq!(rt; (question.item.kind, question.class), (1, 1));
+    }
+    Ok(())
+}
+
+#[test]
+fn ends(rt: HostRuntime) {
+    assert_eq!(rt;
+        fault_of(rt.alloc(), QUERY, b"\0"),
+        Some(WireFault::Trailing)
+    );
+    for end in 0..QUERY.len() {
+        assert_eq!(rt;
+            fault_of(rt.alloc(), &QUERY[..end], b""),
+            Some(WireFault::Short)
+        );
+    }
+}
+
+#[test]
+fn names(rt: HostRuntime) {
+    let rows = [
+        (b"\x40".as_slice(), WireFault::BadName { at: 12 }),
+        (b"\x80".as_slice(), WireFault::BadName { at: 12 }),
+        (b"\xc0\x0c".as_slice(), WireFault::BadPointer { at: 12 }),
+        (
+            b"\x01a\xc0\x0c".as_slice(),
+            WireFault::BadPointer { at: 14 },
+        ),
+        (b"\xc0\x10".as_slice(), WireFault::BadPointer { at: 12 }),
+        (b"\x01a\xc0".as_slice(), WireFault::Short),
+    ];
+    for (rest, fault) in rows {
+        assert_eq!(rt; fault_of(rt.alloc(), ASK, rest), Some(fault));
+    }
+}
+
+#[test]
+fn long_names(rt: HostRuntime) -> Result<(), Fail> {
+    let mut octets = Vec::new(rt.alloc());
+    octets.extend_from_slice(ASK)?;
+    for _ in 0..3 {
+        octets.extend_from_slice(&[63; 64])?;
+    }
+    octets.extend_from_slice(&[61; 62])?;
+    octets.extend_from_slice(b"\0\0\x01\0\x01")?;
+    assert!(rt; decode(rt.alloc(), &octets).is_ok());
+    octets.truncate(12 + 192);
+    octets.push(62)?;
+    assert_eq!(rt;
+        decode(rt.alloc(), &octets).err(),
+        Some(WireFault::BadName { at: 12 })
+    );
+    Ok(())
+}
+
+#[test]
+fn bad_data(rt: HostRuntime) {
+    let rows = [
+        (
+            b"\0\0\x01\0\x01\0\0\0\x01\0\x05abcde".as_slice(),
+            WireFault::BadData { at: 23 },
+        ),
+        (
+            b"\0\0\x02\0\x01\0\0\0\x01\0\x01\x05".as_slice(),
+            WireFault::BadData { at: 23 },
+        ),
+        (
+            b"\0\0\x02\0\x01\0\0\0\x01\0\x02\0\0".as_slice(),
+            WireFault::BadData { at: 23 },
+        ),
+        (
+            b"\0\0\x0f\0\x01\0\0\0\x01\0\x01\0".as_slice(),
+            WireFault::BadData { at: 23 },
+        ),
+        (
+            b"\0\0\x10\0\x01\0\0\0\x01\0\0".as_slice(),
+            WireFault::BadData { at: 23 },
+        ),
+        (
+            b"\0\0\x10\0\x01\0\0\0\x01\0\x02\x02a".as_slice(),
+            WireFault::BadData { at: 23 },
+        ),
+        (
+            b"\0\0\x0f\0\x01\0\0\0\x01\0\x04\0\0\xc0\x19".as_slice(),
+            WireFault::BadPointer { at: 25 },
+        ),
+        (
+            b"\0\0\x02\0\x01\0\0\0\x01\0\x02\x01".as_slice(),
+            WireFault::Short,
+        ),
+    ];
+    for (rest, fault) in rows {
+        assert_eq!(rt; fault_of(rt.alloc(), ANSWER, rest), Some(fault));
+    }
+}
+
+#[test]
+fn addresses(rt: HostRuntime) -> Result<(), Fail> {
+    let message = decode(rt.alloc(), RESPONSE)?;
+    let records = message.answer.as_slice();
+    assert_eq!(rt; records.len(), 4);
+    assert!(rt; records[0].item.body == Data::A([192, 0, 2, 1]));
+    let address = [0x20, 1, 0x0d, 0xb8, 0, 0, 0, 0, 0, 0, 0, 0, 0, 0, 0, 1];
+    assert!(rt; records[1].item.body == Data::Aaaa(address));
+    assert_eq!(rt; (records[0].item.ttl, records[1].item.ttl), (60, 0));
+    Ok(())
+}
+
+/// The labels from the root of the names in data, each after its length.
+fn names_in(body: &Data) -> (&[u8], &[u8]) {
+    match body {
+        Data::One(name) => (name.octets(), b"".as_slice()),
+        Data::Mx { exchange, .. } => (exchange.octets(), b"".as_slice()),
+        Data::Soa {
+            primary,
+            mailbox,
+            ..
+        } => (primary.octets(), mailbox.octets()),
+        Data::Srv { target, .. } => (target.octets(), b"".as_slice()),
+        _ => (b"".as_slice(), b"".as_slice()),
+    }
+}
+
+#[test]
+fn names_in_data(rt: HostRuntime) -> Result<(), Fail> {
+    let message = decode(rt.alloc(), RESPONSE)?;
+    let host = b"\x04test\x01a".as_slice();
+    let zone = b"\x04test".as_slice();
+    let records = message.answer.as_slice();
+    assert_eq!(rt; records.len(), 4);
+    assert_eq!(rt; names_in(&records[2].item.body).0, host);
+    let records = message.authority.as_slice();
+    assert_eq!(rt; records.len(), 2);
+    assert_eq!(rt; records[0].item.owner.octets(), zone);
+    assert_eq!(rt;
+        names_in(&records[0].item.body).0,
+        b"\x04test\x01n".as_slice()
+    );
+    assert_eq!(rt; names_in(&records[1].item.body).0, zone);
+    assert_eq!(rt;
+        names_in(&records[1].item.body).1,
+        b"\x04test\x01m".as_slice()
+    );
+    let records = message.additional.as_slice();
+    assert_eq!(rt; records.len(), 3);
+    assert_eq!(rt; names_in(&records[0].item.body).0, host);
+    Ok(())
+}
+
+/// The numbers in data.
+fn numbers_in(body: &Data) -> [u32; 5] {
+    match body {
+        Data::Mx { preference, .. } => [u32::from(*preference), 0, 0, 0, 0],
+        Data::Soa {
+            serial,
+            refresh,
+            retry,
+            expire,
+            minimum,
+            ..
+        } => [*serial, *refresh, *retry, *expire, *minimum],
+        Data::Srv {
+            priority,
+            weight,
+            port,
+            ..
+        } => [
+            u32::from(*priority),
+            u32::from(*weight),
+            u32::from(*port),
+            0,
+            0,
+        ],
+        _ => [0; 5],
+    }
+}
+
+#[test]
+fn numbers_in_data(rt: HostRuntime) -> Result<(), Fail> {
+    let message = decode(rt.alloc(), RESPONSE)?;
+    let records = message.answer.as_slice();
+    assert_eq!(rt; records.len(), 4);
+    assert_eq!(rt; numbers_in(&records[2].item.body), [10, 0, 0, 0, 0]);
+    let records = message.authority.as_slice();
+    assert_eq!(rt; records.len(), 2);
+    assert_eq!(rt; numbers_in(&records[1].item.body), [1, 2, 3, 4, 5]);
+    let records = message.additional.as_slice();
+    assert_eq!(rt; records.len(), 3);
+    assert_eq!(rt; numbers_in(&records[0].item.body), [1, 2, 53, 0, 0]);
+    Ok(())
+}
+
+/// How many octets the strings in data have, or the octets that are no form, each part's.
+fn lengths_in(alloc: Global, body: &Data) -> Result<Vec<usize>, Fail> {
+    let mut lengths = Vec::new(alloc);
+    match body {
+        Data::Txt(strings) => {
+            for string in strings.as_slice() {
+                lengths.push(string.as_slice().len())?;
+            }
+        }
+        Data::Opaque(octets) => lengths.push(octets.as_slice().len())?,
+        _ => {}
+    }
+    Ok(lengths)
+}
+
+#[test]
+fn octets_in_data(rt: HostRuntime) -> Result<(), Fail> {
+    let message = decode(rt.alloc(), RESPONSE)?;
+    let records = message.answer.as_slice();
+    assert_eq!(rt; records.len(), 4);
+    assert_eq!(rt;
+        lengths_in(rt.alloc(), &records[3].item.body)?.as_slice(),
+        [2, 0, 2].as_slice()
+    );
+    let records = message.additional.as_slice();
+    assert_eq!(rt; records.len(), 3);
+    assert_eq!(rt; (records[1].item.kind, records[1].class), (1, 3));
+    assert_eq!(rt;
+        lengths_in(rt.alloc(), &records[1].item.body)?.as_slice(),
+        [5].as_slice()
+    );
+    assert_eq!(rt;
+        lengths_in(rt.alloc(), &records[2].item.body)?.as_slice(),
+        [0].as_slice()
+    );
+    Ok(())
+}
