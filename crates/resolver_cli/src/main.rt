@@ -81,3 +81,6 @@ fn main(rt: HostRuntime) -> ExitCode {
         Err(fault) => exit_with(&rt, fault.status, fault.text.as_slice()),
     }
 }
+
+#[cfg(test)]
+mod tests;
