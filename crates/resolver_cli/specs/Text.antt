@@ -1,5 +1,5 @@
 -- The texts of replies and faults, each with its line's end.
-use Rattle.std.specs.Prelude.{ℕ, List, [], ◌∷◌, ◌++◌, codes, decimal, flat_map}
+use Rattle.std.specs.Prelude.{ℕ, Bool, true, false, List, [], ◌∷◌, ◌++◌, codes, decimal, flat_map}
 use Rattle.dns_name.specs.Text.{text_of}
 use Rattle.dns_text.specs.declared.record.Data.{Data}
 use Rattle.dns_text.specs.Data.{data_text}
@@ -22,7 +22,7 @@ use Rattle.undo_book.specs.declared.book.StepFault.TheVariants.{BadMoment, Count
 use Rattle.resolver_cli.specs.declared.line.LineFault.{LineFault}
 use Rattle.resolver_cli.specs.declared.line.LineFault.TheVariants.{Unknown, Missing, BadName, BadType, BadData, TooLong, NoMemory}
 use Rattle.resolver_cli.specs.declared.text.Text.{Text}
-use Rattle.resolver_cli.specs.declared.text.Text.TheVariants.{Fixed, Made}
+use Rattle.resolver_cli.specs.declared.text.Text.TheVariants.{Fixed, Short, Made}
 
 abbrev pub ended : List ℕ → List ℕ
 ended text = text ++ 10 ∷ []
@@ -53,6 +53,11 @@ reason_text DataBelow = codes "error data_below"
 reason_text CnameClash = codes "error cname_clash"
 reason_text TooMany = codes "error too_many"
 
+-- the one reply whose text is of no bounded length
+abbrev pub is_found : Reply → Bool
+is_found (Seen (Held shown)) = true
+is_found _ = false
+
 abbrev pub reply_text : Reply → List ℕ
 reply_text Taken = ended (codes "taken")
 reply_text Outranked = ended (codes "outranked")
@@ -82,4 +87,5 @@ line_fault_text NoMemory = ended (codes "error no_memory")
 -- the octets of a text
 abbrev pub octets_in : Text → List ℕ
 octets_in (Fixed octets) = octets.now
+octets_in (Short octets) = octets.items
 octets_in (Made octets) = octets.items

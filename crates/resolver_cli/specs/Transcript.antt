@@ -14,7 +14,6 @@ use Rattle.undo_book.specs.declared.event.Ask.TheVariants.{Answer}
 use Rattle.undo_book.specs.declared.event.Command.TheVariants.{FlushType as FlushTypeCommand}
 use Rattle.undo_book.specs.declared.event.Reply.{Reply}
 use Rattle.undo_book.specs.declared.book.StepFault.{StepFault}
-use Rattle.undo_book.specs.declared.book.StepFault.TheVariants.{BadMoment, CountEnded, Full, NoMemory as StepNoMemory}
 use Rattle.undo_book.specs.Answers.{Answers, history_after}
 use Rattle.resolver_cli.specs.declared.line.Admission.{Admission}
 use Rattle.resolver_cli.specs.declared.line.Line.{Line}
@@ -23,17 +22,16 @@ use Rattle.resolver_cli.specs.declared.line.LineFault.{LineFault}
 use Rattle.resolver_cli.specs.declared.line.LineFault.TheVariants.{NoMemory}
 use Rattle.resolver_cli.specs.Fault.{Gives}
 use Rattle.resolver_cli.specs.Line.{says, takes_memory}
-use Rattle.resolver_cli.specs.Text.{ended, reply_text, fault_text, line_fault_text}
+use Rattle.resolver_cli.specs.Text.{ended, is_found, reply_text, fault_text, line_fault_text}
 
 -- where a script stands: the events that were taken, and the moment of the next
 pub record Place : Type 0 where
   pub history : List Event
   pub moment : ℕ
 
--- A text that finds no memory is lost, and the event stands. A fault leaves no event, so where its number finds no memory, memory is what is told.
+-- The text of a find may find no memory. It is lost then, and the event stands.
 abbrev pub Tells : Result Reply StepFault → List ℕ → Type 0
-Tells (Ok told) text = (text ≡ reply_text told) ⊎ (text ≡ ended (codes "fault reply_lost"))
-Tells (Err (Full n)) text = (text ≡ fault_text (Full n)) ⊎ (text ≡ fault_text StepNoMemory)
+Tells (Ok told) text = (text ≡ reply_text told) ⊎ (IsTrue (is_found told) × (text ≡ ended (codes "fault reply_lost")))
 Tells (Err fault) text = text ≡ fault_text fault
 
 -- An event is asked at a place, this text is told, and the script goes on at another.

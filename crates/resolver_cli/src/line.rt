@@ -35,9 +35,13 @@ pub enum Line {
     Silent,
     /// The moment of the lines after it, in seconds.
     At { moment: u64 },
+    /// Something was found.
     Admit { admission: Admission },
+    /// What is known about a question.
     Look { question: Question },
+    /// The cell of a question is emptied.
     FlushType { question: Question },
+    /// The newest command is taken back.
     Undo,
 }
 

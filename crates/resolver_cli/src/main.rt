@@ -20,9 +20,9 @@ use script::{ScriptFault, run_script};
 use sink::CountedWriter;
 use source::CountedReader;
 use std::alloc::{AllocError, Global};
-use std::env;
-use std::io::Write;
+use std::io::{ErrorKind, Write};
 use std::process::ExitCode;
+use std::{env, io};
 use undo_book::{PlainBook, Settings};
 
 fn lent(alloc: Global, words: &[String]) -> Result<Vec<&str>, AllocError> {
@@ -42,17 +42,22 @@ fn mode_of(alloc: Global, words: &[String]) -> Result<Mode, CliFault>
     }
 }
 
+fn words_of(rt: &HostRuntime) -> io::Result<Vec<String>> {
+    Ok(env::args(rt)?.collect(rt.alloc())?)
+}
+
 fn arguments(rt: &HostRuntime) -> Result<Mode, CliFault>
     ensures { IfOk result (λ mode. IsInRange mode) }
 {
-    let Ok(words) = env::args(rt) else {
-        return Err(CliFault::bad_arguments());
-    };
-    let words: Vec<String> = match words.collect(rt.alloc()) {
-        Ok(words) => words,
-        Err(_) => return Err(CliFault::no_memory()),
-    };
-    mode_of(rt.alloc(), words.as_slice())
+    match words_of(rt) {
+        Ok(words) => mode_of(rt.alloc(), words.as_slice()),
+        Err(error) => {
+            if error.kind() == ErrorKind::OutOfMemory {
+                return Err(CliFault::no_memory());
+            }
+            Err(CliFault::bad_arguments())
+        }
+    }
 }
 
 /// Obeys standard input.
@@ -81,3 +86,6 @@ fn main(rt: HostRuntime) -> ExitCode {
         Err(fault) => exit_with(&rt, fault.status, fault.text.as_slice()),
     }
 }
+
+#[cfg(test)]
+mod tests;

@@ -1,13 +1,15 @@
 //! What is told.
 
-ghost use Rattle.std.specs.Prelude.{◌≡◌, ◌⊎◌, ◌++◌, ◌∷◌, [], IfOk, OnOk, codes, decimal, flat_map};
+ghost use Rattle.std.specs.Prelude.{◌≡◌, ◌≤◌, ◌++◌, ◌∷◌, [], length, IsTrue, IfOk, OnOk, OnErr, codes, decimal, flat_map};
 ghost use Rattle.dns_name.specs.Text.{text_of};
 ghost use Rattle.dns_text.specs.Data.{data_text};
-ghost use Rattle.resolver_cli.specs.Text.{ended, set_text, body_text, scope_text, found_text, reply_text, reason_text, fault_text, line_fault_text, octets_in};
+ghost use Rattle.resolver_cli.specs.Text.{ended, set_text, body_text, scope_text, found_text, is_found, reply_text, reason_text, fault_text, line_fault_text, octets_in};
 ghost use Rattle.resolver_cli.specs.Transcript.{Tells};
 
 use crate::line::LineFault;
+use arrayvec::ArrayVec;
 use dns_text::{Data, NoMemory, push_data, push_type};
+use itoa::Buffer;
 use ranked::{Body, Find, Scope, SharedFind, Shown};
 use std::alloc::Global;
 use undo_book::{Reason, Reply, Seen, StepFault};
@@ -15,8 +17,9 @@ use undo_book::{Reason, Reply, Seen, StepFault};
 /// What a line is told, with its end.
 #[derive(Debug, Drop)]
 pub enum Text {
-    /// It takes no memory.
     Fixed(&'static [u8]),
+    /// A line with one number, which takes no memory.
+    Short(ArrayVec<u8, 64>),
     Made(Vec<u8>),
 }
 
@@ -26,6 +29,7 @@ impl Text {
     {
         match self {
             Text::Fixed(octets) => octets,
+            Text::Short(octets) => octets.as_slice(),
             Text::Made(octets) => octets.as_slice(),
         }
     }
@@ -82,11 +86,19 @@ fn found_line(alloc: Global, shown: &Shown<SharedFind>) -> Result<Vec<u8>, NoMem
     Ok(out)
 }
 
-/// A line of a word and a number.
-fn number_line(alloc: Global, word: &str, number: u64) -> Result<Text, NoMemory>
-    ensures { IfOk result (λ text. octets_in text ≡ ended (word.now ++ 32 ∷ decimal number)) }
+/// A line of words and a number. It takes no memory.
+fn number_line(words: &[u8], number: u64) -> Text
+    requires { length words.now ≤ 16 }
+    ensures { octets_in result ≡ ended (words.now ++ 32 ∷ decimal number) }
 {
-    Ok(Text::Made(format!(in alloc; "{word} {number}\n")?.into_bytes()))
+    let mut digits = Buffer::new();
+    let mut line = ArrayVec::new();
+    line.try_extend_from_slice(words).unwrap();
+    line.push(b' ');
+    line.try_extend_from_slice(digits.format(number).as_bytes())
+        .unwrap();
+    line.push(b'\n');
+    Text::Short(line)
 }
 
 fn reason_line(reason: Reason) -> Text
@@ -100,31 +112,38 @@ fn reason_line(reason: Reason) -> Text
     }
 }
 
-/// The line of a reply, with its end. Only one with a number or a find takes memory.
+/// The line of a reply, with its end. Only that of a find takes memory.
 pub fn reply_text(alloc: Global, reply: &Reply) -> Result<Text, NoMemory>
-    ensures { IfOk result (λ text. octets_in text ≡ reply_text reply.now) }
+    ensures text { IfOk result (λ text. octets_in text ≡ reply_text reply.now) }
+    ensures memory { OnErr result (IsTrue (is_found reply.now)) }
 {
     match reply {
         Reply::Taken => Ok(Text::Fixed(b"taken\n")),
         Reply::Outranked => Ok(Text::Fixed(b"outranked\n")),
         Reply::Seen(Seen::Unknown) => Ok(Text::Fixed(b"unknown\n")),
         Reply::Seen(Seen::Held(shown)) => Ok(Text::Made(found_line(alloc, shown)?)),
-        Reply::Done { ticket } => number_line(alloc, "ok", *ticket),
+        Reply::Done { ticket } => Ok(number_line(b"ok", *ticket)),
         Reply::Refused(reason) => Ok(reason_line(*reason)),
-        Reply::Undone { ticket } => number_line(alloc, "undone", *ticket),
-        Reply::Redone { ticket } => number_line(alloc, "redone", *ticket),
+        Reply::Undone { ticket } => Ok(number_line(b"undone", *ticket)),
+        Reply::Redone { ticket } => Ok(number_line(b"redone", *ticket)),
         Reply::NothingToUndo => Ok(Text::Fixed(b"error nothing_to_undo\n")),
         Reply::NothingToRedo => Ok(Text::Fixed(b"error nothing_to_redo\n")),
     }
 }
 
-fn full_text(alloc: Global, stored: usize) -> Result<Text, NoMemory>
-    ensures { IfOk result (λ text. octets_in text ≡ fault_text (StepFault.Full stored)) }
+/// The line of a fault of a step.
+fn fault_text(fault: StepFault) -> Text
+    ensures { octets_in result ≡ fault_text fault }
 {
-    number_line(alloc, "fault full", stored as u64)
+    match fault {
+        StepFault::BadMoment => Text::Fixed(b"fault bad_moment\n"),
+        StepFault::CountEnded => Text::Fixed(b"fault count_ended\n"),
+        StepFault::Full { stored } => number_line(b"fault full", stored as u64),
+        StepFault::NoMemory => Text::Fixed(b"fault no_memory\n"),
+    }
 }
 
-/// The line of what a step answers. Where a reply finds no memory it is lost.
+/// The line of what a step answers. A find that finds no memory for its text is lost.
 pub fn answer_text(alloc: Global, answer: &Result<Reply, StepFault>) -> Text
     ensures { Tells answer.now (octets_in result) }
 {
@@ -133,13 +152,7 @@ pub fn answer_text(alloc: Global, answer: &Result<Reply, StepFault>) -> Text
             Ok(text) => text,
             Err(_) => Text::Fixed(b"fault reply_lost\n"),
         },
-        Err(StepFault::BadMoment) => Text::Fixed(b"fault bad_moment\n"),
-        Err(StepFault::CountEnded) => Text::Fixed(b"fault count_ended\n"),
-        Err(StepFault::Full { stored }) => match full_text(alloc, *stored) {
-            Ok(text) => text,
-            Err(_) => Text::Fixed(b"fault no_memory\n"),
-        },
-        Err(StepFault::NoMemory) => Text::Fixed(b"fault no_memory\n"),
+        Err(fault) => fault_text(*fault),
     }
 }
 
