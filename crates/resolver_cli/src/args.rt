@@ -5,6 +5,7 @@ ghost use Rattle.undo_book.specs.Event.{AreSettings};
 ghost use Rattle.resolver_cli.specs.Args.{IsInRange, HasStatus};
 
 use crate::text::Text;
+use clap::error::ErrorKind;
 use clap::{Arg, ArgAction, ArgMatches, Command, Error, value_parser};
 use std::alloc::{AllocError, Global};
 use undo_book::Settings;
@@ -48,10 +49,13 @@ impl CliFault {
     }
 }
 
-/// What `clap` says of the arguments, a call for help included.
+/// What `clap` says of the arguments, a call for help included, unless memory was refused while it read them.
 fn usage(alloc: Global, error: Error) -> CliFault
     ensures { HasStatus result }
 {
+    if matches!(error.kind(), ErrorKind::OutOfMemory) {
+        return CliFault::no_memory();
+    }
     match error.to_string(alloc) {
         Ok(text) => CliFault {
             status: 2,
