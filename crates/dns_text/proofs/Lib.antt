@@ -4,5 +4,6 @@ pub mod WordLaws
 pub mod NameLaws
 pub mod Ipv4Laws
 pub mod Ipv6Laws
+pub mod FieldLaws
 pub mod DataLaws
 pub mod RecordLaws

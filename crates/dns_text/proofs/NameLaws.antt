@@ -7,7 +7,7 @@ use Rattle.dns_name.specs.Text.{escaped, label_text, text_of}
 use Rattle.dns_name.proofs.TextLaws.{name_in-text_of}
 use Rattle.dns_text.specs.declared.word.Within.{Within}
 use Rattle.dns_text.specs.declared.word.Within.TheVariants.{Plain, Quotes, Escape, QuotedEscape}
-use Rattle.dns_text.specs.Data.{name_or_none, named}
+use Rattle.dns_text.specs.Field.{name_or_none, named}
 use Rattle.dns_text.proofs.WordLaws.{scanned, IsWord, joined_scanned}
 
 is_plain : Option Within → Bool

@@ -7,10 +7,12 @@ use Rattle.dns_name.specs.Text.{text_of}
 use Rattle.dns_text.specs.declared.record.Record.{Record}
 use Rattle.dns_text.specs.Word.{next_word}
 use Rattle.dns_text.specs.Kind.{type_in, type_text}
-use Rattle.dns_text.specs.Data.{data_in, data_text, named}
+use Rattle.dns_text.specs.Data.{data_in, data_text}
+use Rattle.dns_text.specs.Field.{named}
 use Rattle.dns_text.specs.Record.{is_class, class_of, after_class, ttl_at, with_ttl, ttl_and_class, record_in, record_text, IsTextual}
 use Rattle.dns_text.proofs.NumberLaws.{digits-decimal, is_digits-decimal, number_in-decimal}
 use Rattle.dns_text.proofs.WordLaws.{IsWord, digits_scanned, next_word-front}
+use Rattle.dns_text.proofs.FieldLaws.{number_is_word}
 use Rattle.dns_text.proofs.NameLaws.{named-text_of, name_is_word}
 use Rattle.dns_text.proofs.KindLaws.{type_is_word, type_in-type_text, type_is_no_class}
 use Rattle.dns_text.proofs.DataLaws.{data_in-blank}
@@ -18,9 +20,6 @@ use Rattle.dns_text.proofs.DataLaws.{data_in-blank}
 -- a blank before words
 next_word-blank : (text : List ℕ) → next_word (32 ∷ text) ≡ next_word text
 next_word-blank text = refl
-
-number_is_word : (n : ℕ) → n < 2 ^ 64 → IsWord (decimal n)
-number_is_word n h = record { some = decimal_nonempty n h; closed = digits_scanned (decimal n) (digits-decimal n h) }
 
 -- the words of a record
 record_words : (r : Record) → record_text r ≡ text_of r.owner ++ 32 ∷ (decimal r.ttl ++ 32 ∷ (type_text r.kind ++ 32 ∷ data_text r.body))

@@ -1,31 +1,72 @@
 -- The data of records as text.
 use Rattle.std.specs.Prelude.{◌≡◌, ℕ, ◌<◌, List, [], ◌∷◌, ◌++◌, length, Option, Some, None, ◌==◌, if◌then◌else◌, option_map, slice_index, decimal, Result, Ok, Err}
 use Rattle.std.specs.List.{AllByRecursion}
-use Rattle.dns_name.specs.declared.fault.NameFault.{NameFault}
 use Rattle.dns_name.specs.Labels.{Labels}
-use Rattle.dns_name.specs.Text.{name_in}
+use Rattle.dns_name.specs.Text.{text_of}
 use Rattle.dns_text.specs.declared.record.Data.{Data}
 use Rattle.dns_text.specs.declared.record.Data.TheVariants.{A, Aaaa, One, Mx, Soa, Txt, Srv, Opaque}
 use Rattle.dns_text.specs.declared.kind.Form.{Form}
 use Rattle.dns_text.specs.declared.kind.Form.TheVariants.{A as FormA, Aaaa as FormAaaa, Name as FormName, Mx as FormMx, Soa as FormSoa, Txt as FormTxt, Srv as FormSrv, Opaque as FormOpaque}
+use Rattle.dns_text.specs.Field.{name_at, last_name, number_at, last_number}
 use Rattle.dns_text.specs.Ipv4.{ipv4_in, ipv4_text}
 use Rattle.dns_text.specs.Ipv6.{ipv6_in, ipv6_text}
 use Rattle.dns_text.specs.Kind.{form_of}
 use Rattle.dns_text.specs.Word.{only_word}
 use Rattle.dns_text.specs.Steps.{◌>>=◌}
 
-abbrev pub name_or_none : Result Labels NameFault → Option Labels
-name_or_none (Ok name) = Some name
-name_or_none (Err fault) = None
+-- preference and exchange
+unfoldable pub mx_in : List ℕ → Option Data
+mx_in text = do
+  preference ← number_at 65535 text
+  exchange ← last_name preference.1
+  Some (Mx preference.0 exchange)
 
--- the name that a word stands for
-abbrev pub named : List ℕ → Option Labels
-named word = name_or_none (name_in word)
+-- two names and five numbers of 32 bits
+unfoldable pub soa_in : List ℕ → Option Data
+soa_in text = do
+  primary ← name_at text
+  mailbox ← name_at primary.1
+  serial ← number_at 4294967295 mailbox.1
+  refresh ← number_at 4294967295 serial.1
+  retry ← number_at 4294967295 refresh.1
+  expire ← number_at 4294967295 retry.1
+  minimum ← last_number 4294967295 expire.1
+  Some (Soa primary.0 mailbox.0 serial.0 refresh.0 retry.0 expire.0 minimum)
+
+-- three numbers of 16 bits and a name
+unfoldable pub srv_in : List ℕ → Option Data
+srv_in text = do
+  priority ← number_at 65535 text
+  weight ← number_at 65535 priority.1
+  port ← number_at 65535 weight.1
+  target ← last_name port.1
+  Some (Srv priority.0 weight.0 port.0 target)
+
+-- a number behind a blank
+abbrev pub blank_number : ℕ → List ℕ
+blank_number n = 32 ∷ decimal n
+
+-- serial, refresh, retry, expire and minimum, each behind a blank
+abbrev pub soa_numbers_text : ℕ → ℕ → ℕ → ℕ → ℕ → List ℕ
+soa_numbers_text serial refresh retry expire minimum = blank_number serial ++ blank_number refresh ++ blank_number retry ++ blank_number expire ++ blank_number minimum
+
+abbrev pub mx_text : ℕ → Labels → List ℕ
+mx_text preference exchange = decimal preference ++ 32 ∷ text_of exchange
+
+abbrev pub srv_text : ℕ → ℕ → ℕ → Labels → List ℕ
+srv_text priority weight port target = decimal priority ++ blank_number weight ++ blank_number port ++ 32 ∷ text_of target
+
+abbrev pub names_text : Labels → Labels → List ℕ
+names_text primary mailbox = text_of primary ++ 32 ∷ text_of mailbox
 
 -- the data of a form that a text stands for
 unfoldable pub data_as : Form → List ℕ → Option Data
 data_as FormA text = only_word text >>= λ word. option_map A (ipv4_in word)
 data_as FormAaaa text = only_word text >>= λ word. option_map Aaaa (ipv6_in word)
+data_as FormName text = option_map One (last_name text)
+data_as FormMx text = mx_in text
+data_as FormSoa text = soa_in text
+data_as FormSrv text = srv_in text
 data_as _ text = None
 
 -- the data of a type
@@ -35,6 +76,10 @@ data_in kind text = data_as (form_of kind) text
 unfoldable pub data_text : Data → List ℕ
 data_text (A octets) = ipv4_text octets
 data_text (Aaaa octets) = ipv6_text octets
+data_text (One name) = text_of name
+data_text (Mx preference exchange) = mx_text preference exchange
+data_text (Soa primary mailbox serial refresh retry expire minimum) = names_text primary mailbox ++ soa_numbers_text serial refresh retry expire minimum
+data_text (Srv priority weight port target) = srv_text priority weight port target
 data_text _ = []
 
 -- the form of data
@@ -55,13 +100,21 @@ IsSized (Aaaa octets) = length octets ≡ 16
 IsSized (Txt strings) = (0 < length strings) × AllByRecursion (λ octets. length octets < 256) strings
 IsSized _ = Unit {0}
 
--- Data has the form of its type.
-pub record HasForm (kind : ℕ) (body : Data) : Type 0 where
-  pub form : form_of kind ≡ form_in body
+-- Data has this form.
+pub record IsOfForm (form : Form) (body : Data) : Type 0 where
+  pub same : form ≡ form_in body
   pub sized : IsSized body
+
+-- Data has the form of its type.
+abbrev pub HasForm : ℕ → Data → Type 0
+HasForm kind body = IsOfForm (form_of kind) body
 
 -- the forms that have a text
 abbrev pub IsWritten : Form → Type 0
 IsWritten FormA = Unit {0}
 IsWritten FormAaaa = Unit {0}
+IsWritten FormName = Unit {0}
+IsWritten FormMx = Unit {0}
+IsWritten FormSoa = Unit {0}
+IsWritten FormSrv = Unit {0}
 IsWritten _ = ⊥

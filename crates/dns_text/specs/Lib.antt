@@ -3,6 +3,7 @@ pub mod Fault
 pub mod Number
 pub mod Word
 pub mod Kind
+pub mod Field
 pub mod Ipv4
 pub mod Ipv6
 pub mod Data

@@ -8,7 +8,8 @@ use Rattle.dns_text.specs.Fault.{◌>>=◌, or_fault}
 use Rattle.dns_text.specs.Number.{is_digits, number_in}
 use Rattle.dns_text.specs.Word.{next_word}
 use Rattle.dns_text.specs.Kind.{type_in, type_text, is_excluded, form_of}
-use Rattle.dns_text.specs.Data.{named, data_in, data_text, HasForm, IsWritten}
+use Rattle.dns_text.specs.Field.{named}
+use Rattle.dns_text.specs.Data.{data_in, data_text, HasForm, IsWritten}
 
 abbrev pub ttl_of : List ℕ → Option (List ℕ × List ℕ) → Result (Option ℕ × List ℕ) TextFault
 ttl_of text None = Ok (None, text)

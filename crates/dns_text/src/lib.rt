@@ -3,6 +3,7 @@
 
 mod data;
 mod fault;
+mod field;
 mod ipv4;
 mod ipv6;
 mod items;

@@ -5,8 +5,9 @@ ghost use Rattle.dns_text.specs.Fault.{Gives, result_map};
 ghost use Rattle.dns_text.specs.Data.{HasForm};
 ghost use Rattle.dns_text.specs.Record.{is_class, ttl_at, after_class, with_ttl, ttl_and_class, record_in, record_text, IsTextual};
 
-use crate::data::{push_data, push_name, read_data, read_name};
+use crate::data::{push_data, read_data};
 use crate::fault::TextFault;
+use crate::field::{push_name, read_name};
 use crate::kind::{push_type, read_type};
 use crate::number::{is_digits, push_number, read_number};
 use crate::record::Record;
