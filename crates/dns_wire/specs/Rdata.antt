@@ -1,6 +1,6 @@
 -- RDATA by class and type (RFC 1035, sections 3.3 and 3.4; RFC 3596, section 2.2; RFC 2782). Here `m` is the front of
 -- a message that ends with the RDATA, and `at` is where the RDATA begins: names may point back from it, not out of it.
-use Rattle.std.specs.Prelude.{◌≡◌, ℕ, zero, suc, ◌+◌, ◌<◌, ◌≤◌, ◌||◌, List, [], ◌∷◌, ◌++◌, length, take, drop, Option, Some, None, Result, Ok, Err, nat_lt, ◌==◌, if◌then◌else◌}
+use Rattle.std.specs.Prelude.{◌≡◌, ℕ, zero, suc, ◌+◌, ◌≤◌, ◌||◌, List, [], ◌∷◌, ◌++◌, length, take, drop, Option, Some, None, Result, Ok, Err, nat_lt, ◌==◌, if◌then◌else◌}
 use Rattle.std.specs.List.{flat_map}
 use Rattle.dns_name.specs.Labels.{Labels, with_length}
 use Rattle.dns_text.specs.declared.record.Data.{Data}
