@@ -1,5 +1,5 @@
 -- Reading a message gives the one that the octets spell, and the first fault where they spell none.
-use Rattle.std.proofs.Common.{◌≡◌, ℕ, ◌+◌, ◌<◌, ◌≤◌, ◌⊎◌, List, length, Result, Ok, Err, refl, sym, ap, ◌∙◌, subst, inl, inr, ltb, eqb, eq-eqb, arith}
+use Rattle.std.proofs.Common.{◌≡◌, ℕ, ◌≤◌, ◌⊎◌, List, length, Result, Ok, Err, refl, sym, ◌∙◌, subst, inl, inr, ltb, eqb, eq-eqb, arith}
 use Rattle.std.specs.Prelude.{MatchResult, IfOk, IfErr}
 use Rattle.std.proofs.lemmas.Bool.{cases_Bool, le-ltb, lt-ltb, ltb-true, ltb-false, eqb-true, eqb-false, ne_eqb}
 use Rattle.dns_text.specs.declared.record.Question.{Question}
@@ -165,9 +165,15 @@ told {m} (BadData at) e = inr (fault_found m (BadData at) e)
 told {m} Trailing e = inr (fault_found m Trailing e)
 told NoMemory e = inl refl
 
--- never both
-pub spelled_or_fails : (m : List ℕ) (v : Message) (fault : WireFault) → SpelledMessage m v → ¬ (MessageFails m fault)
-spelled_or_fails m v fault h f = let e = sym (message_read-spelled h) ∙ message_read-fails f in cc
+pub spelled_or_fails : (m : List ℕ) → ((v : Message) × SpelledMessage m v) ⊎ ((fault : WireFault) × MessageFails m fault)
+spelled_or_fails m = either (message_read m) (message_read-match m)
+  where
+    either : (r : Result Message WireFault) → MatchResult r (λ v. SpelledMessage m v) (λ e. MessageFails m e) → ((v : Message) × SpelledMessage m v) ⊎ ((fault : WireFault) × MessageFails m fault)
+    either (Ok v) h = inl (v, h)
+    either (Err fault) h = inr (fault, h)
+
+pub never_both : (m : List ℕ) (fault : WireFault) → MessageFails m fault → IsUnspelled m
+never_both m fault f = λ v h. (let e = sym (message_read-spelled h) ∙ message_read-fails f in cc)
 
 pub spelled_once : (m : List ℕ) (v w : Message) → SpelledMessage m v → SpelledMessage m w → v ≡ w
 spelled_once m v w h k = let e = sym (message_read-spelled h) ∙ message_read-spelled k in cc
@@ -187,7 +193,7 @@ pub answer_unspelled : (m : List ℕ) (r : Result Message WireFault) → Gives r
 answer_unspelled m (Ok v) e = tt
 answer_unspelled m (Err fault) e = elim (told fault e) [
   | inl memory ↦ inl memory
-  | inr f ↦ inr (λ v h. spelled_or_fails m v fault h f)
+  | inr f ↦ inr (never_both m fault f)
 ]
 
 pub answer_read : (m : List ℕ) (r : Result Message WireFault) → Gives r (message_read m) → (v : Message) → SpelledMessage m v → Gives r (Ok v)

@@ -11,10 +11,9 @@ use Rattle.dns_name.specs.Labels.{Labels, spelled, with_length, IsName}
 use Rattle.dns_wire.specs.declared.name.Next.{Next}
 use Rattle.dns_wire.specs.declared.name.Next.TheVariants.{Finish, Label, Pointer, Reserved, Cut}
 use Rattle.dns_wire.specs.declared.fault.WireFault.{WireFault}
-use Rattle.dns_wire.specs.declared.fault.WireFault.TheVariants.{Short, BadName, BadPointer, BadData, Trailing, NoMemory}
 use Rattle.dns_wire.specs.Decoding.{UnlessMemory}
 use Rattle.dns_wire.specs.Name.{next_at, next_by, pointer_by, label_at, NameAt, finish, label, pointer, SpelledName, NameFails, UnspelledName, cut, reserved, long, cut_label, not_before, after_label, after_pointer, name_by, name_in, name_read, steps_left}
-use Rattle.dns_wire.specs.Reading.{◌>>=◌, Fails, Gives}
+use Rattle.dns_wire.specs.Reading.{Gives}
 use Rattle.dns_wire.proofs.Binds.{fails_told, fails_memory, then_match, match_weaker}
 
 -- a pointer to before the run leaves fewer steps

@@ -1,5 +1,5 @@
 -- Reading a question gives the one that stands there, and the first fault where none does.
-use Rattle.std.proofs.Common.{◌≡◌, ℕ, ◌+◌, ◌<◌, ◌≤◌, List, length, Result, Ok, Err, refl, sym, inl, inr, ltb, arith}
+use Rattle.std.proofs.Common.{◌≡◌, ℕ, ◌+◌, ◌≤◌, List, length, Result, Ok, Err, refl, inl, inr, ltb, arith}
 use Rattle.std.specs.Prelude.{MatchResult}
 use Rattle.std.proofs.lemmas.Bool.{cases_Bool, le-ltb, lt-ltb, ltb-true, ltb-false}
 use Rattle.dns_name.specs.Labels.{Labels}
@@ -9,7 +9,7 @@ use Rattle.dns_wire.specs.declared.message.Classed.{Classed}
 use Rattle.dns_wire.specs.Name.{SpelledName, UnspelledName, name_read}
 use Rattle.dns_wire.specs.Question.{QuestionAt, QuestionFails, bad_owner, short, question_behind, question_read}
 use Rattle.dns_wire.specs.Reading.{◌>>=◌}
-use Rattle.dns_wire.proofs.NameLaws.{name_read-match, name_read-spelled, name_read-unspelled, spelled_within}
+use Rattle.dns_wire.proofs.NameLaws.{name_read-match, name_read-spelled, name_read-unspelled}
 
 -- what stands is read
 pub question_read-stands : {m : List ℕ} {at after : ℕ} {q : Classed Question} → at ≤ length m → QuestionAt m at q after → question_read m at ≡ Ok (q, after)

@@ -1,28 +1,27 @@
 -- What octets spell is well formed.
-use Rattle.std.proofs.Common.{◌≡◌, ℕ, zero, suc, ◌+◌, ◌*◌, ◌/◌, ◌%◌, ◌^◌, ◌<◌, ◌≤◌, List, [], ◌∷◌, ◌++◌, length, take, drop, get_or, Option, Some, None, refl, sym, ap, subst, inl, inr, eqb, ltb, arith, length-drop}
+use Rattle.std.proofs.Common.{◌≡◌, ℕ, zero, suc, ◌+◌, ◌^◌, ◌<◌, List, [], ◌∷◌, ◌++◌, length, take, drop, get_or, Option, Some, None, refl, inl, inr, eqb, ltb, arith, length-drop}
 use Rattle.std.specs.Prelude.{slice_get, Result, Ok, Err, IfOk}
 use Rattle.std.specs.List.{AllByRecursion, flat_map}
-use Rattle.std.proofs.lemmas.Bool.{cases_Bool, eqb-false, ltb-true, ltb-false}
+use Rattle.std.proofs.lemmas.Bool.{cases_Bool, eqb-false, ltb-true}
 use Rattle.std.proofs.lemmas.List.{length-take}
 use Rattle.dns_name.specs.Labels.{Labels, IsLabel, IsName, with_length}
 use Rattle.dns_name.specs.Octets.{lower_label}
 use Rattle.dns_text.specs.declared.record.Data.{Data}
-use Rattle.dns_text.specs.declared.record.Data.TheVariants.{A, Aaaa, One, Mx, Soa, Txt, Srv, Opaque}
 use Rattle.dns_text.specs.declared.record.Question.{Question}
 use Rattle.dns_text.specs.declared.record.Record.{Record}
 use Rattle.dns_wire.specs.declared.rdata.Form.{Form}
 use Rattle.dns_wire.specs.declared.fault.WireFault.{WireFault}
 use Rattle.dns_wire.specs.declared.message.Classed.{Classed}
 use Rattle.dns_wire.specs.declared.message.Message.{Message}
-use Rattle.dns_wire.specs.declared.name.Next.TheVariants.{Finish, Label, Pointer, Reserved, Cut}
-use Rattle.dns_wire.specs.Header.{head_in, question_count, answer_count, authority_count, additional_count}
+use Rattle.dns_wire.specs.declared.name.Next.TheVariants.{Finish, Label, Reserved}
+use Rattle.dns_wire.specs.Header.{head_in}
 use Rattle.dns_wire.specs.Message.{QuestionsAt, RecordsAt, MessageAt, SpelledMessage}
-use Rattle.dns_wire.specs.Name.{next_at, next_by, pointer_by, NameAt, finish, label, pointer, SpelledName}
+use Rattle.dns_wire.specs.Name.{next_by, pointer_by, NameAt, finish, label, pointer, SpelledName}
 use Rattle.dns_wire.specs.Number.{u16_at, u32_at}
 use Rattle.dns_wire.specs.Question.{QuestionAt}
 use Rattle.dns_wire.specs.Rdata.{DataAt, ipv4, ipv6, one_name, mail, start, one_or_more, service, unknown}
 use Rattle.dns_wire.specs.Record.{ttl_of, RecordAt}
-use Rattle.dns_wire.specs.Section.{SectionAt, no_items, one_more}
+use Rattle.dns_wire.specs.Section.{no_items, one_more}
 use Rattle.dns_wire.specs.WellFormed.{IsHead, IsQuestion, AreOctets, IsString, form_of_data, IsData, IsRecord, IsWellFormed}
 
 -- ---- parts of octets

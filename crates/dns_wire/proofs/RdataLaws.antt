@@ -1,19 +1,17 @@
 -- Reading RDATA gives the data that stands there, and the first fault where none does.
-use Rattle.std.proofs.Common.{◌≡◌, ◌⊎◌, true, ℕ, zero, suc, ◌+◌, ◌<◌, ◌≤◌, List, [], ◌∷◌, ◌++◌, length, take, drop, Option, Some, None, Result, Ok, Err, refl, sym, ap, subst, ◌∙◌, append_assoc, inl, inr, ltb, eqb, eq-eqb, arith, length-append, length-drop}
+use Rattle.std.proofs.Common.{◌≡◌, ◌⊎◌, true, ℕ, suc, ◌+◌, ◌≤◌, List, [], ◌∷◌, length, drop, Option, Some, None, Result, Ok, Err, refl, sym, ap, subst, ◌∙◌, inl, inr, ltb, eqb, eq-eqb, arith}
 use Rattle.std.specs.Prelude.{MatchResult}
-use Rattle.std.specs.List.{flat_map}
-use Rattle.std.proofs.lemmas.Bool.{cases_Bool, le-ltb, lt-ltb, ltb-true, ltb-false, eqb-true}
-use Rattle.std.proofs.lemmas.List.{append-nil, length-take, take-append-drop, take_at, drop_at}
-use Rattle.dns_name.specs.Labels.{Labels, with_length}
+use Rattle.std.proofs.lemmas.Bool.{cases_Bool, le-ltb, ltb-false, eqb-true}
+use Rattle.dns_name.specs.Labels.{Labels}
 use Rattle.dns_text.specs.declared.record.Data.{Data}
-use Rattle.dns_text.specs.declared.record.Data.TheVariants.{A, Aaaa, One, Mx, Soa, Txt, Srv, Opaque}
+use Rattle.dns_text.specs.declared.record.Data.TheVariants.{One, Mx, Soa, Srv}
 use Rattle.dns_wire.specs.declared.rdata.Form.{Form}
 use Rattle.dns_wire.specs.declared.rdata.Form.TheVariants.{A as FormA, Aaaa as FormAaaa, Name as FormName, Mx as FormMx, Soa as FormSoa, Txt as FormTxt, Srv as FormSrv, Opaque as FormOpaque}
 use Rattle.dns_wire.specs.declared.fault.WireFault.{WireFault}
 use Rattle.dns_wire.specs.declared.fault.WireFault.TheVariants.{Short, BadName, BadPointer, BadData, Trailing, NoMemory}
 use Rattle.dns_wire.specs.Name.{SpelledName, NameFails, cut, reserved, long, cut_label, not_before, after_label, after_pointer, UnspelledName, name_read}
 use Rattle.dns_wire.specs.Number.{u16_at, u32_at}
-use Rattle.dns_wire.specs.Rdata.{DataAt, ipv4, ipv6, one_name, mail, start, one_or_more, service, unknown, NamePlace, only, host, first_name, second_name, target, BadNameIn, DataFails, bad_name, formless, data_fault, in_data, data_name_read, ending, one_read, mx_read, soa_read, txt_read, srv_read, ipv4_read, ipv6_read, first_string, strings_after, txt_by, data_read}
+use Rattle.dns_wire.specs.Rdata.{DataAt, ipv4, ipv6, one_name, mail, start, one_or_more, service, unknown, NamePlace, only, host, first_name, second_name, target, BadNameIn, DataFails, bad_name, formless, data_fault, in_data, data_name_read, ending, one_read, mx_read, soa_read, srv_read, ipv4_read, ipv6_read, strings_after, txt_by, data_read}
 use Rattle.dns_wire.specs.Reading.{◌>>=◌}
 use Rattle.dns_wire.proofs.NameLaws.{name_read-match, name_read-spelled, name_read-unspelled, spelled_within}
 use Rattle.dns_wire.proofs.StringLaws.{strings_spelled, strings_found}

@@ -1,5 +1,5 @@
 -- Reading a record gives the one that stands there, and the first fault where none does.
-use Rattle.std.proofs.Common.{◌≡◌, ℕ, ◌+◌, ◌<◌, ◌≤◌, List, length, take, Result, Ok, Err, refl, sym, inl, inr, ltb, arith}
+use Rattle.std.proofs.Common.{◌≡◌, ℕ, ◌≤◌, List, length, take, Result, Ok, Err, refl, inl, inr, ltb, arith}
 use Rattle.std.specs.Prelude.{MatchResult}
 use Rattle.std.proofs.lemmas.Bool.{cases_Bool, le-ltb, lt-ltb, ltb-true, ltb-false}
 use Rattle.std.proofs.lemmas.List.{length-take}
@@ -9,11 +9,10 @@ use Rattle.dns_text.specs.declared.record.Record.{Record}
 use Rattle.dns_wire.specs.declared.fault.WireFault.{WireFault}
 use Rattle.dns_wire.specs.declared.message.Classed.{Classed}
 use Rattle.dns_wire.specs.Name.{SpelledName, UnspelledName, name_read}
-use Rattle.dns_wire.specs.Number.{u16_at}
-use Rattle.dns_wire.specs.Rdata.{form_in, DataAt, DataFails, data_read}
+use Rattle.dns_wire.specs.Rdata.{DataAt, DataFails}
 use Rattle.dns_wire.specs.Reading.{◌>>=◌}
 use Rattle.dns_wire.specs.Record.{data_begin, data_end, form_at, RecordAt, RecordFails, bad_owner, short, short_data, bad_data, record_with, record_behind, record_read}
-use Rattle.dns_wire.proofs.NameLaws.{name_read-match, name_read-spelled, name_read-unspelled, spelled_within}
+use Rattle.dns_wire.proofs.NameLaws.{name_read-match, name_read-spelled, name_read-unspelled}
 use Rattle.dns_wire.proofs.RdataLaws.{data_read-stands, data_read-fails, data_read-match}
 
 -- where the RDATA begins is within the front that ends with it

@@ -1,5 +1,5 @@
 -- What decoding answers, and that the octets leave it no choice but by memory.
-use Rattle.std.specs.Prelude.{◌≡◌, ℕ, ◌<◌, ◌⊎◌, ◌↔◌, List, length}
+use Rattle.std.specs.Prelude.{◌≡◌, ℕ, ◌<◌, ◌⊎◌, List, length}
 use Rattle.dns_wire.specs.declared.fault.WireFault.{WireFault}
 use Rattle.dns_wire.specs.declared.fault.WireFault.TheVariants.{NoMemory}
 use Rattle.dns_wire.specs.declared.message.Message.{Message}
@@ -20,6 +20,14 @@ pub record HasTrailing (m : List ℕ) : Type 0 where
 abbrev pub UnlessMemory : WireFault → Type 0 → Type 0
 UnlessMemory fault p = (fault ≡ NoMemory) ⊎ p
 
+-- Octets spell a message, or a fault keeps them from it.
+abbrev pub SpelledOrFails : Type 0
+SpelledOrFails = (m : List ℕ) → ((v : Message) × SpelledMessage m v) ⊎ ((fault : WireFault) × MessageFails m fault)
+
+-- Octets that a fault keeps from being a message spell none.
+abbrev pub NeverBoth : Type 0
+NeverBoth = (m : List ℕ) (fault : WireFault) → MessageFails m fault → IsUnspelled m
+
 -- Octets spell one message at most.
 abbrev pub SpelledOnce : Type 0
 SpelledOnce = (m : List ℕ) (v w : Message) → SpelledMessage m v → SpelledMessage m w → v ≡ w
@@ -27,7 +35,3 @@ SpelledOnce = (m : List ℕ) (v w : Message) → SpelledMessage m v → SpelledM
 -- One fault at most keeps octets from being a message.
 abbrev pub FailsOnce : Type 0
 FailsOnce = (m : List ℕ) (fault other : WireFault) → MessageFails m fault → MessageFails m other → fault ≡ other
-
--- Octets that have such a fault spell no message.
-abbrev pub SpelledOrFails : Type 0
-SpelledOrFails = (m : List ℕ) (fault : WireFault) → MessageFails m fault → IsUnspelled m

@@ -48,9 +48,15 @@ RecordsFail m count at fault = SectionFails (RecordAt m) (RecordFails m) count a
 pub data MessageFails (m : List ℕ) : WireFault → Type 0 where
   short_header : length m < 12 → MessageFails m Short
   bad_questions : {fault : WireFault} → 12 ≤ length m → QuestionsFail m (question_count m) 12 fault → MessageFails m fault
-  bad_answer : {fault : WireFault} {at : ℕ} {questions : List (Classed Question)} → 12 ≤ length m → QuestionsAt m (question_count m) 12 questions at → RecordsFail m (answer_count m) at fault → MessageFails m fault
-  bad_authority : {fault : WireFault} {answer_place at : ℕ} {questions : List (Classed Question)} {answer : List (Classed Record)} → 12 ≤ length m → QuestionsAt m (question_count m) 12 questions answer_place → RecordsAt m (answer_count m) answer_place answer at → RecordsFail m (authority_count m) at fault → MessageFails m fault
-  bad_additional : {fault : WireFault} {answer_place authority_place at : ℕ} {questions : List (Classed Question)} {answer authority : List (Classed Record)} → 12 ≤ length m → QuestionsAt m (question_count m) 12 questions answer_place → RecordsAt m (answer_count m) answer_place answer authority_place → RecordsAt m (authority_count m) authority_place authority at → RecordsFail m (additional_count m) at fault → MessageFails m fault
+  bad_answer : {fault : WireFault} {at : ℕ} {questions : List (Classed Question)}
+      → 12 ≤ length m → QuestionsAt m (question_count m) 12 questions at → RecordsFail m (answer_count m) at fault → MessageFails m fault
+  bad_authority : {fault : WireFault} {answer_place at : ℕ} {questions : List (Classed Question)} {answer : List (Classed Record)}
+      → 12 ≤ length m → QuestionsAt m (question_count m) 12 questions answer_place
+      → RecordsAt m (answer_count m) answer_place answer at → RecordsFail m (authority_count m) at fault → MessageFails m fault
+  bad_additional : {fault : WireFault} {answer_place authority_place at : ℕ} {questions : List (Classed Question)} {answer authority : List (Classed Record)}
+      → 12 ≤ length m → QuestionsAt m (question_count m) 12 questions answer_place
+      → RecordsAt m (answer_count m) answer_place answer authority_place
+      → RecordsAt m (authority_count m) authority_place authority at → RecordsFail m (additional_count m) at fault → MessageFails m fault
   trailing : {v : Message} {after : ℕ} → MessageAt m v after → after < length m → MessageFails m Trailing
 
 -- ---- reading

@@ -17,7 +17,9 @@ pointer_by n (Some low) = Pointer ((n - 192) * 256 + low)
 
 abbrev pub next_by : List ℕ → ℕ → Option ℕ → Next
 next_by m at None = Cut
-next_by m at (Some n) = if n == 0 then Finish else if nat_lt n 64 then Label n else if nat_lt n 192 then Reserved else pointer_by n (slice_get m (at + 1))
+next_by m at (Some n) =
+    if n == 0 then Finish else if nat_lt n 64 then Label n else
+    if nat_lt n 192 then Reserved else pointer_by n (slice_get m (at + 1))
 
 abbrev pub next_at : List ℕ → ℕ → Next
 next_at m at = next_by m at (slice_get m at)
@@ -33,8 +35,10 @@ label_at m at n = map to_ascii_lowercase (take n (drop (at + 1) m))
 -- the run, and what stands there.
 pub data NameAt (m : List ℕ) : ℕ → ℕ → ℕ → Labels → Type 0 where
   finish : {at run after : ℕ} → next_at m at ≡ Finish → after ≡ at + 1 → NameAt m at run after []
-  label : {at run after n : ℕ} {labels : Labels} → next_at m at ≡ Label n → at + 1 + n ≤ length m → NameAt m (at + 1 + n) run after labels → NameAt m at run after (label_at m at n ∷ labels)
-  pointer : {at run after to end : ℕ} {labels : Labels} → next_at m at ≡ Pointer to → to < run → after ≡ at + 2 → NameAt m to to end labels → NameAt m at run after labels
+  label : {at run after n : ℕ} {labels : Labels} → next_at m at ≡ Label n → at + 1 + n ≤ length m
+      → NameAt m (at + 1 + n) run after labels → NameAt m at run after (label_at m at n ∷ labels)
+  pointer : {at run after to end : ℕ} {labels : Labels} → next_at m at ≡ Pointer to → to < run → after ≡ at + 2
+      → NameAt m to to end labels → NameAt m at run after labels
 
 -- At a place stands a name of at most 255 octets, its zero octet counted, and `after` is the place after it.
 pub record SpelledName (m : List ℕ) (at after : ℕ) (labels : Labels) : Type 0 where
@@ -44,15 +48,18 @@ pub record SpelledName (m : List ℕ) (at after : ℕ) (labels : Labels) : Type 
 -- ---- which fault keeps a name from standing at a place
 
 -- A name that began at `start` and has taken `used` octets can't go on at a place, in a run that began at `run`,
--- by this fault, the first that is met.
+-- by this fault, the first that is met. A label too long for the name is told even where its octets are missing too.
 pub data NameFails (m : List ℕ) (start : ℕ) : ℕ → ℕ → ℕ → WireFault → Type 0 where
   cut : {used at run : ℕ} → next_at m at ≡ Cut → NameFails m start used at run Short
   reserved : {used at run : ℕ} → next_at m at ≡ Reserved → NameFails m start used at run (BadName start)
   long : {used at run n : ℕ} → next_at m at ≡ Label n → 254 ≤ used + n → NameFails m start used at run (BadName start)
-  cut_label : {used at run n : ℕ} → next_at m at ≡ Label n → used + n < 254 → length m < at + 1 + n → NameFails m start used at run Short
+  cut_label : {used at run n : ℕ} → next_at m at ≡ Label n → used + n < 254 → length m < at + 1 + n
+      → NameFails m start used at run Short
   not_before : {used at run to : ℕ} → next_at m at ≡ Pointer to → run ≤ to → NameFails m start used at run (BadPointer at)
-  after_label : {used at run n : ℕ} {fault : WireFault} → next_at m at ≡ Label n → used + n < 254 → at + 1 + n ≤ length m → NameFails m start (used + n + 1) (at + 1 + n) run fault → NameFails m start used at run fault
-  after_pointer : {used at run to : ℕ} {fault : WireFault} → next_at m at ≡ Pointer to → to < run → NameFails m start used to to fault → NameFails m start used at run fault
+  after_label : {used at run n : ℕ} {fault : WireFault} → next_at m at ≡ Label n → used + n < 254 → at + 1 + n ≤ length m
+      → NameFails m start (used + n + 1) (at + 1 + n) run fault → NameFails m start used at run fault
+  after_pointer : {used at run to : ℕ} {fault : WireFault} → next_at m at ≡ Pointer to → to < run
+      → NameFails m start used to to fault → NameFails m start used at run fault
 
 -- The octets from a place on spell no name, by this fault.
 abbrev pub UnspelledName : List ℕ → ℕ → WireFault → Type 0
@@ -60,13 +67,16 @@ UnspelledName m at fault = NameFails m at 0 at at fault
 
 -- ---- reading
 
--- By what stands at a place: the labels from there and the place after the name, where `go` reads on with this many octets used, at this place, in this run.
-abbrev pub name_by : List ℕ → ℕ → ℕ → ℕ → ℕ → (ℕ → ℕ → ℕ → Result (Labels × ℕ) WireFault) → Next → Result (Labels × ℕ) WireFault
+-- By what stands at a place: the labels from there and the place after the name, where `go` reads on with this many
+-- octets used, at this place, in this run.
+abbrev pub name_by : List ℕ → ℕ → ℕ → ℕ → ℕ → (ℕ → ℕ → ℕ → Result (Labels × ℕ) WireFault) → Next
+    → Result (Labels × ℕ) WireFault
 name_by m start used at run go Finish = Ok ([], at + 1)
 name_by m start used at run go (Label n) =
     if nat_lt 253 (used + n) then Err (BadName start) else if nat_lt (length m) (at + 1 + n) then Err Short else
     (go (used + n + 1) (at + 1 + n) run >>= λ x. Ok (label_at m at n ∷ x.0, x.1))
-name_by m start used at run go (Pointer to) = if nat_lt to run then (go used to to >>= λ x. Ok (x.0, at + 2)) else Err (BadPointer at)
+name_by m start used at run go (Pointer to) =
+    if nat_lt to run then (go used to to >>= λ x. Ok (x.0, at + 2)) else Err (BadPointer at)
 name_by m start used at run go Reserved = Err (BadName start)
 name_by m start used at run go Cut = Err Short
 

@@ -1,6 +1,6 @@
 -- RDATA by class and type (RFC 1035, sections 3.3 and 3.4; RFC 3596, section 2.2; RFC 2782). Here `m` is the front of
 -- a message that ends with the RDATA, and `at` is where the RDATA begins: names may point back from it, not out of it.
-use Rattle.std.specs.Prelude.{◌≡◌, ℕ, zero, suc, ◌+◌, ◌<◌, ◌≤◌, ◌||◌, List, [], ◌∷◌, ◌++◌, length, take, drop, Option, Some, None, Result, Ok, Err, nat_lt, ◌==◌, if◌then◌else◌}
+use Rattle.std.specs.Prelude.{◌≡◌, ℕ, zero, suc, ◌+◌, ◌≤◌, ◌||◌, List, [], ◌∷◌, ◌++◌, length, take, drop, Option, Some, None, Result, Ok, Err, nat_lt, ◌==◌, if◌then◌else◌}
 use Rattle.std.specs.List.{flat_map}
 use Rattle.dns_name.specs.Labels.{Labels, with_length}
 use Rattle.dns_text.specs.declared.record.Data.{Data}
@@ -37,10 +37,18 @@ pub data DataAt (m : List ℕ) (at : ℕ) : Form → Data → Type 0 where
   ipv4 : {octets : List ℕ} → drop at m ≡ octets → length octets ≡ 4 → DataAt m at FormA (A octets)
   ipv6 : {octets : List ℕ} → drop at m ≡ octets → length octets ≡ 16 → DataAt m at FormAaaa (Aaaa octets)
   one_name : {name : Labels} → SpelledName m at (length m) name → DataAt m at FormName (One name)
-  mail : {preference : ℕ} {name : Labels} → at + 2 ≤ length m → preference ≡ u16_at m at → SpelledName m (at + 2) (length m) name → DataAt m at FormMx (Mx preference name)
-  start : {second numbers serial refresh retry expire minimum : ℕ} {primary mailbox : Labels} → SpelledName m at second primary → SpelledName m second numbers mailbox → numbers + 20 ≡ length m → serial ≡ u32_at m numbers → refresh ≡ u32_at m (numbers + 4) → retry ≡ u32_at m (numbers + 8) → expire ≡ u32_at m (numbers + 12) → minimum ≡ u32_at m (numbers + 16) → DataAt m at FormSoa (Soa primary mailbox serial refresh retry expire minimum)
-  one_or_more : {string : List ℕ} {strings : List (List ℕ)} → drop at m ≡ flat_map with_length (string ∷ strings) → DataAt m at FormTxt (Txt (string ∷ strings))
-  service : {priority weight port : ℕ} {target : Labels} → at + 6 ≤ length m → priority ≡ u16_at m at → weight ≡ u16_at m (at + 2) → port ≡ u16_at m (at + 4) → SpelledName m (at + 6) (length m) target → DataAt m at FormSrv (Srv priority weight port target)
+  mail : {preference : ℕ} {name : Labels} → at + 2 ≤ length m → preference ≡ u16_at m at
+      → SpelledName m (at + 2) (length m) name → DataAt m at FormMx (Mx preference name)
+  start : {second numbers serial refresh retry expire minimum : ℕ} {primary mailbox : Labels}
+      → SpelledName m at second primary → SpelledName m second numbers mailbox → numbers + 20 ≡ length m
+      → serial ≡ u32_at m numbers → refresh ≡ u32_at m (numbers + 4) → retry ≡ u32_at m (numbers + 8)
+      → expire ≡ u32_at m (numbers + 12) → minimum ≡ u32_at m (numbers + 16)
+      → DataAt m at FormSoa (Soa primary mailbox serial refresh retry expire minimum)
+  one_or_more : {string : List ℕ} {strings : List (List ℕ)} → drop at m ≡ flat_map with_length (string ∷ strings)
+      → DataAt m at FormTxt (Txt (string ∷ strings))
+  service : {priority weight port : ℕ} {target : Labels} → at + 6 ≤ length m
+      → priority ≡ u16_at m at → weight ≡ u16_at m (at + 2) → port ≡ u16_at m (at + 4)
+      → SpelledName m (at + 6) (length m) target → DataAt m at FormSrv (Srv priority weight port target)
   unknown : {octets : List ℕ} → drop at m ≡ octets → DataAt m at FormOpaque (Opaque octets)
 
 -- ---- which fault keeps data from standing
@@ -63,7 +71,8 @@ pub record BadNameIn (m : List ℕ) (at : ℕ) (form : Form) (fault : WireFault)
 -- No data in this form stands, by this fault, the first that is met: that of a name, or else that the RDATA hasn't the form.
 pub data DataFails (m : List ℕ) (at : ℕ) (form : Form) : WireFault → Type 0 where
   bad_name : {fault : WireFault} → BadNameIn m at form fault → DataFails m at form fault
-  formless : ((fault : WireFault) → ¬ (BadNameIn m at form fault)) → ((body : Data) → ¬ (DataAt m at form body)) → DataFails m at form (BadData at)
+  formless : ((fault : WireFault) → ¬ (BadNameIn m at form fault)) → ((body : Data) → ¬ (DataAt m at form body))
+      → DataFails m at form (BadData at)
 
 -- ---- reading
 

@@ -42,8 +42,10 @@ pub record RecordAt (m : List ℕ) (at : ℕ) (r : Classed Record) (after : ℕ)
 pub data RecordFails (m : List ℕ) (at : ℕ) : WireFault → Type 0 where
   bad_owner : {fault : WireFault} → UnspelledName m at fault → RecordFails m at fault
   short : {fixed : ℕ} {name : Labels} → SpelledName m at fixed name → length m < data_begin fixed → RecordFails m at Short
-  short_data : {fixed : ℕ} {name : Labels} → SpelledName m at fixed name → data_begin fixed ≤ length m → length m < data_end m fixed → RecordFails m at Short
-  bad_data : {fixed : ℕ} {name : Labels} {fault : WireFault} → SpelledName m at fixed name → data_end m fixed ≤ length m → DataFails (take (data_end m fixed) m) (data_begin fixed) (form_at m fixed) fault → RecordFails m at fault
+  short_data : {fixed : ℕ} {name : Labels} → SpelledName m at fixed name → data_begin fixed ≤ length m
+      → length m < data_end m fixed → RecordFails m at Short
+  bad_data : {fixed : ℕ} {name : Labels} {fault : WireFault} → SpelledName m at fixed name → data_end m fixed ≤ length m
+      → DataFails (take (data_end m fixed) m) (data_begin fixed) (form_at m fixed) fault → RecordFails m at fault
 
 -- the record of an owner, and the place after it
 abbrev pub record_with : List ℕ → Labels × ℕ → Data → Result (Classed Record × ℕ) WireFault

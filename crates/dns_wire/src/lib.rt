@@ -1,4 +1,7 @@
 //! Messages of the domain name system, from their octets (RFC 1035, section 4).
+//!
+//! `message` has the types. `header`, `name`, `question`, `rdata` and `record` read the parts of a message, over
+//! `number`, and `read` reads the whole. `fault` says what keeps octets from being a message.
 #![tactic(auto)]
 
 mod fault;

@@ -18,7 +18,7 @@ pub struct Head {
     pub rd: bool,
     /// Whether recursion is available.
     pub ra: bool,
-    /// 3 bits, which no rule reads.
+    /// 3 bits, reserved.
     pub z: u8,
     /// 4 bits.
     pub rcode: u8,

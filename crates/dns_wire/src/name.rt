@@ -49,7 +49,8 @@ fn next_at(message: &[u8], at: usize) -> Next
 /// Follows a name from a place of a message on, and gives the place after it too.
 fn find_name(alloc: Global, message: &[u8], start: usize) -> Result<(Name, usize), WireFault>
     requires { start ≤ length message.now }
-    ensures stands { MatchResult result (λ r. NameAt message.now start start r.1 r.0) (λ e. UnlessMemory e (UnspelledName message.now start e)) }
+    ensures stands { MatchResult result (λ r. NameAt message.now start start r.1 r.0)
+        (λ e. UnlessMemory e (UnspelledName message.now start e)) }
     ensures name { IfOk result (λ r. IsName r.0) }
 {
     let mut labels = NameBuilder::new();

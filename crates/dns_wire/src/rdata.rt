@@ -9,7 +9,7 @@ use crate::name::name_at;
 use crate::number::{u16_at, u32_at};
 use dns_name::Name;
 use dns_text::{Data, Items, Octets};
-use std::alloc::Global;
+use std::alloc::{AllocError, Global};
 
 /// The forms that data can have.
 #[derive(Clone, Copy)]
@@ -175,7 +175,7 @@ fn srv_at(alloc: Global, front: &[u8], at: usize) -> Result<Data, WireFault>
 }
 
 /// The octets from a place on.
-fn octets_from(alloc: Global, front: &[u8], at: usize) -> Result<Octets, std::alloc::AllocError>
+fn octets_from(alloc: Global, front: &[u8], at: usize) -> Result<Octets, AllocError>
     requires { at ≤ length front.now }
     ensures { IfOk result (λ octets. octets ≡ drop at front.now) }
 {

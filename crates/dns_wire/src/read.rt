@@ -1,7 +1,7 @@
 //! Messages from their octets.
 
 ghost use Rattle.std.specs.Prelude.{◌≡◌, ◌≤◌, length, IfOk, IfErr};
-ghost use Rattle.dns_wire.specs.Decoding.{IsUnspelled, HasTrailing, UnlessMemory, SpelledOnce, FailsOnce, SpelledOrFails};
+ghost use Rattle.dns_wire.specs.Decoding.{IsUnspelled, HasTrailing, UnlessMemory, SpelledOrFails, NeverBoth, SpelledOnce, FailsOnce};
 ghost use Rattle.dns_wire.specs.Message.{SpelledMessage, MessageFails, sections_read, message_read};
 ghost use Rattle.dns_wire.specs.Reading.{Gives};
 ghost use Rattle.dns_wire.specs.WellFormed.{IsWellFormed};
@@ -71,9 +71,10 @@ pub fn decode(alloc: Global, octets: &[u8]) -> Result<Message, WireFault>
     message_of(alloc, octets)
 }
 
-/// Octets spell one message or have one first fault, and never both.
+/// Octets spell one message, or one fault is the first that keeps them from it, and never both.
 pub fn one_meaning()
+    ensures either { SpelledOrFails }
+    ensures never_both { NeverBoth }
     ensures message { SpelledOnce }
     ensures fault { FailsOnce }
-    ensures either { SpelledOrFails }
 {}

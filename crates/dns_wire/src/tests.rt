@@ -1,6 +1,6 @@
 use super::*;
 use dns_text::Data;
-use std::alloc::Global;
+use std::alloc::{AllocError, Global};
 use std::test::*;
 
 /// A query for `A.tEst.`, type A.
@@ -26,12 +26,21 @@ const RESPONSE: &[u8; 206] = b"\x12\x34\x85\x80\0\x01\0\x04\0\x02\0\x03\
 \xc0\x0c\0\x01\0\x03\0\0\0\x3c\0\x05\xc0\xff\x40\x41\x80\
 \xc0\x0c\0\x23\0\x01\x7f\xff\xff\xff\0\0";
 
+/// What octets are refused with.
+fn fault_in(alloc: Global, octets: &[u8]) -> Result<Option<WireFault>, AllocError> {
+    match decode(alloc, octets) {
+        Ok(_) => Ok(None),
+        Err(WireFault::NoMemory) => Err(AllocError),
+        Err(fault) => Ok(Some(fault)),
+    }
+}
+
 /// What a header and the octets after it are refused with.
-fn fault_of(alloc: Global, header: &[u8], rest: &[u8]) -> Option<WireFault> {
+fn fault_of(alloc: Global, header: &[u8], rest: &[u8]) -> Result<Option<WireFault>, AllocError> {
     let mut octets = Vec::new(alloc);
-    octets.extend_from_slice(header).ok()?;
-    octets.extend_from_slice(rest).ok()?;
-    decode(alloc, &octets).err()
+    octets.extend_from_slice(header)?;
+    octets.extend_from_slice(rest)?;
+    fault_in(alloc, &octets)
 }
 
 #[test]
@@ -48,21 +57,22 @@ fn question(rt: HostRuntime) -> Result<(), Fail> {
 }
 
 #[test]
-fn ends(rt: HostRuntime) {
+fn ends(rt: HostRuntime) -> Result<(), Fail> {
     assert_eq!(rt;
-        fault_of(rt.alloc(), QUERY, b"\0"),
+        fault_of(rt.alloc(), QUERY, b"\0")?,
         Some(WireFault::Trailing)
     );
     for end in 0..QUERY.len() {
         assert_eq!(rt;
-            fault_of(rt.alloc(), &QUERY[..end], b""),
+            fault_in(rt.alloc(), &QUERY[..end])?,
             Some(WireFault::Short)
         );
     }
+    Ok(())
 }
 
 #[test]
-fn names(rt: HostRuntime) {
+fn names(rt: HostRuntime) -> Result<(), Fail> {
     let rows = [
         (b"\x40".as_slice(), WireFault::BadName { at: 12 }),
         (b"\x80".as_slice(), WireFault::BadName { at: 12 }),
@@ -75,8 +85,9 @@ fn names(rt: HostRuntime) {
         (b"\x01a\xc0".as_slice(), WireFault::Short),
     ];
     for (rest, fault) in rows {
-        assert_eq!(rt; fault_of(rt.alloc(), ASK, rest), Some(fault));
+        assert_eq!(rt; fault_of(rt.alloc(), ASK, rest)?, Some(fault));
     }
+    Ok(())
 }
 
 #[test]
@@ -88,18 +99,19 @@ fn long_names(rt: HostRuntime) -> Result<(), Fail> {
     }
     octets.extend_from_slice(&[61; 62])?;
     octets.extend_from_slice(b"\0\0\x01\0\x01")?;
-    assert!(rt; decode(rt.alloc(), &octets).is_ok());
+    let message = decode(rt.alloc(), &octets)?;
+    assert_eq!(rt; message.questions.as_slice().len(), 1);
     octets.truncate(12 + 192);
     octets.push(62)?;
     assert_eq!(rt;
-        decode(rt.alloc(), &octets).err(),
+        fault_in(rt.alloc(), &octets)?,
         Some(WireFault::BadName { at: 12 })
     );
     Ok(())
 }
 
 #[test]
-fn bad_data(rt: HostRuntime) {
+fn bad_data(rt: HostRuntime) -> Result<(), Fail> {
     let rows = [
         (
             b"\0\0\x01\0\x01\0\0\0\x01\0\x05abcde".as_slice(),
@@ -135,8 +147,9 @@ fn bad_data(rt: HostRuntime) {
         ),
     ];
     for (rest, fault) in rows {
-        assert_eq!(rt; fault_of(rt.alloc(), ANSWER, rest), Some(fault));
+        assert_eq!(rt; fault_of(rt.alloc(), ANSWER, rest)?, Some(fault));
     }
+    Ok(())
 }
 
 #[test]

@@ -4,6 +4,7 @@
 
 mod draws;
 mod tally;
+mod values;
 
 use std::io;
 use tally::Tally;
@@ -17,5 +18,5 @@ fn main(rt: HostRuntime) -> io::Result<()> {
         tally.bad_names, tally.bad_pointers
     )?;
     println!(rt; "bad data {}", tally.bad_data)?;
-    println!(rt; "offsets {}", tally.offsets)
+    println!(rt; "offsets {}, values {}", tally.offsets, tally.values.sum)
 }

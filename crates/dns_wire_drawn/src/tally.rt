@@ -1,6 +1,7 @@
 //! How many answers of each kind there were.
 
 use crate::draws::drawn;
+use crate::values::Values;
 use dns_wire::{Message, WireFault, decode};
 use rand_pcg::Pcg32;
 use std::alloc::{AllocError, Global};
@@ -17,6 +18,8 @@ pub struct Tally {
     pub bad_data: u32,
     /// The offsets that faults told, each taken into all before it.
     pub offsets: u32,
+    /// What the messages say.
+    pub values: Values,
 }
 
 fn items_in(message: &Message) -> u32 {
@@ -38,6 +41,7 @@ impl Tally {
             bad_pointers: 0,
             bad_data: 0,
             offsets: 0,
+            values: Values { sum: 0 },
         }
     }
 
@@ -72,6 +76,7 @@ impl Tally {
             Ok(message) => {
                 self.messages = self.messages.wrapping_add(1);
                 self.items = self.items.wrapping_add(items_in(&message));
+                self.values.take_message(&message);
                 Ok(())
             }
             Err(fault) => self.take_fault(fault),

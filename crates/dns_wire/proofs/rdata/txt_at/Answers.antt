@@ -1,6 +1,5 @@
-use Rattle.std.proofs.Common.{◌≡◌, ◌<◌, length, refl, sym, ◌∙◌, arith, None}
+use Rattle.std.proofs.Common.{length, refl, sym, ◌∙◌, arith}
 use Rattle.std.proofs.lemmas.Bool.{eqb-true, eqb-false}
-use Rattle.dns_wire.specs.Rdata.{first_string}
 use Rattle.dns_wire.proofs.StringLaws.{strings_one, strings_none, strings_done, txt_some, txt_none}
 use Rattle.dns_wire.proofs.rdata.txt_at.Goals as goal
 
