@@ -7,7 +7,8 @@ use Rattle.dns_text.specs.declared.record.Data.{Data}
 use Rattle.dns_text.specs.Word.{next_word}
 use Rattle.dns_text.specs.Number.{number_in}
 use Rattle.dns_text.specs.Kind.{type_in}
-use Rattle.dns_text.specs.Data.{named, data_in}
+use Rattle.dns_text.specs.Data.{data_in}
+use Rattle.dns_text.specs.Field.{named}
 use Rattle.dns_text.specs.Steps.{◌>>=◌ as ◌>>=?◌}
 use Rattle.ranked.specs.declared.rank.Rank.{Rank}
 use Rattle.ranked.specs.Rank.{rank_at}

@@ -2,7 +2,8 @@
 
 ghost use Rattle.std.specs.Prelude.{◌≡◌, ◌≤◌, ◌<◌, Ok, IsTrue, IfOk, IfErr, IfSome, IsErrOf, is_ok, length};
 ghost use Rattle.dns_text.specs.Word.{next_word};
-ghost use Rattle.dns_text.specs.Data.{named, data_in};
+ghost use Rattle.dns_text.specs.Data.{data_in};
+ghost use Rattle.dns_text.specs.Field.{named};
 ghost use Rattle.dns_text.specs.Kind.{type_in};
 ghost use Rattle.resolver_cli.specs.declared.line.LineFault.TheVariants.{Missing, BadName, BadType, BadData, NoMemory};
 ghost use Rattle.resolver_cli.specs.Fault.{Gives, or_fault, result_map};
