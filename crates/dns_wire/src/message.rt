@@ -5,6 +5,7 @@ use dns_text::{Items, Question, Record};
 /// The header of a message without its counts (RFC 1035, section 4.1.1).
 #[derive(Clone, Copy, Debug, PartialEq, Eq)]
 pub struct Head {
+    /// A response has that of its query.
     pub id: u16,
     /// Whether it is a response.
     pub qr: bool,

@@ -54,10 +54,6 @@ fn message_of(alloc: Global, octets: &[u8]) -> Result<Message, WireFault>
 }
 
 /// The message that octets are, all of them, or else the first fault in the order of reading (RFC 1035, section 4).
-///
-/// Each fault's `at` is an offset into the octets: of the first octet of a name that has bits 01 or 10 or more than
-/// 255 octets, of a pointer that does not point before the run of labels that it ends, or of RDATA that has not the
-/// form of its type.
 pub fn decode(alloc: Global, octets: &[u8]) -> Result<Message, WireFault>
     ensures spelled { IfOk result (SpelledMessage octets.now) }
     ensures well_formed { IfOk result IsWellFormed }

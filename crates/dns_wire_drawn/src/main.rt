@@ -1,5 +1,6 @@
 //! Decodes 100,000 drawn octet strings of at most 600 octets, half of them good messages with a few octets changed,
-//! and prints how each kind of answer came out. A decoder in another language, over the same draws, gave the numbers.
+//! and prints how each kind of answer came out and all that the messages say, taken into one number. The wanted
+//! numbers are those of reference.py, a decoder written apart from this one, over the same draws.
 #![tactic(auto)]
 
 mod draws;

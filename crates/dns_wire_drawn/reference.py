@@ -1,0 +1,187 @@
+#!/usr/bin/env python3
+"""Decodes the octet strings that src/draws.rt draws, and prints what stdout must hold.
+
+Written from RFC 1035 section 4 (and RFC 3596, RFC 2782, RFC 2181 section 8) apart from the Rattle code, so that
+`reference.py | diff - stdout` compares two decoders."""
+import struct
+
+QUERY = bytes.fromhex("123401000001000000000000" "0141" "0474457374" "00" "00010001")
+RESPONSE = bytes.fromhex(
+    "123485800001000400020003" "0161" "0474657374" "00" "00ff0001"
+    "c00c00010001" "0000003c" "0004" "c0000201"
+    "c00c001c0001" "80000000" "0010" "20010db8000000000000000000000001"
+    "c00c000f0001" "0000003c" "0004" "000ac00c"
+    "c00c00100001" "0000003c" "0007" "02616200026364"
+    "c00e00020001" "0000003c" "0004" "014ec00e"
+    "c00e00060001" "0000003c" "001a" "c00e016dc00e" "0000000100000002000000030000000400000005"
+    "c00c00210001" "0000003c" "0008" "000100020035c00c"
+    "c00c00010003" "0000003c" "0005" "c0ff404180"
+    "c00c00230001" "7fffffff" "0000")
+WORD = 0xFFFFFFFF
+
+
+class Pcg32:
+    """The generator of PCG's C code, XSH RR 64/32."""
+
+    def __init__(self, state, stream):
+        self.increment = (stream << 1) | 1
+        self.state = state + self.increment
+        self.step()
+
+    def step(self):
+        self.state = (self.state * 6364136223846793005 + self.increment) % 2**64
+
+    def next(self):
+        old = self.state
+        self.step()
+        word = (((old >> 18) ^ old) >> 27) & WORD
+        turn = old >> 59
+        return ((word >> turn) | (word << (-turn & 31))) & WORD
+
+
+def push_octets(rng, out, count):
+    for _ in range(count):
+        out.append(rng.next() % 256)
+
+
+def change(rng, out):
+    at, octet, kind = rng.next() % 300, rng.next() % 256, rng.next() % 16
+    if kind == 0:
+        del out[at:]
+    elif kind == 1:
+        push_octets(rng, out, 3)
+    elif at < len(out):
+        out[at] = {2: octet % 4 + 192, 3: octet % 64}.get(kind, octet)
+
+
+def drawn(rng):
+    out = bytearray()
+    if rng.next() % 2 == 0:
+        push_octets(rng, out, rng.next() % 601)
+    else:
+        out += QUERY if rng.next() % 8 == 0 else RESPONSE
+        for _ in range(rng.next() % 4):
+            change(rng, out)
+    return bytes(out)
+
+
+class Fault(Exception):
+    """A word, and where it has one the offset."""
+
+
+class Reader:
+    def __init__(self, octets, at, end):
+        self.octets, self.at, self.end = octets, at, end
+
+    def take(self, count):
+        if self.at + count > self.end:
+            raise Fault("Short")
+        self.at += count
+        return self.octets[self.at - count:self.at]
+
+    def numbers(self, form):
+        return list(struct.unpack(form, self.take(struct.calcsize(form))))
+
+    def name(self):
+        start = run = self.at
+        labels, size, after = [], 1, None
+        while True:
+            here = self.at
+            octet = self.take(1)[0]
+            if octet == 0:
+                break
+            if octet < 64:
+                size += octet + 1
+                if size > 255:
+                    raise Fault("BadName", start)
+                labels.append(bytes([octet]) + self.take(octet).lower())
+            elif octet >= 192:
+                to = (octet & 63) << 8 | self.take(1)[0]
+                after = self.at if after is None else after
+                if to >= run:
+                    raise Fault("BadPointer", here)
+                run = self.at = to
+            else:
+                raise Fault("BadName", start)
+        self.at = self.at if after is None else after
+        return ended(b"".join(reversed(labels)))
+
+
+def ended(octets):
+    return list(octets) + [256]
+
+
+def form_of(reader, kind):
+    """What data of a type in class IN says, or None for a type without a form."""
+    if kind in (1, 28):
+        return ended(reader.take(4 if kind == 1 else 16))
+    if kind in (2, 5, 12):
+        return reader.name()
+    if kind == 15:
+        return reader.numbers(">H") + reader.name()
+    if kind == 6:
+        return reader.name() + reader.name() + reader.numbers(">5I")
+    if kind == 33:
+        return reader.numbers(">3H") + reader.name()
+    if kind == 16:
+        said = ended(reader.take(reader.take(1)[0]))
+        while reader.at < reader.end:
+            said += ended(reader.take(reader.take(1)[0]))
+        return said
+    return None
+
+
+def data(octets, begin, end, kind, where):
+    reader = Reader(octets, begin, end)
+    try:
+        said = form_of(reader, kind) if where == 1 else None
+        if said is None:
+            return ended(octets[begin:end])
+        if reader.at != end:
+            raise Fault("BadData", begin)
+        return said
+    except Fault as fault:
+        raise Fault("BadData", begin) if fault.args[0] == "Short" else fault
+
+
+def decode(octets):
+    """How many items, and all that they say, as numbers."""
+    reader = Reader(octets, 0, len(octets))
+    identifier, flags, *counts = reader.numbers(">6H")
+    said = [identifier, flags >> 15] + [flags >> bit & 1 for bit in (10, 9, 8, 7)]
+    said += [flags >> 11 & 15, flags >> 4 & 7, flags & 15]
+    for _ in range(counts[0]):
+        said += reader.name() + reader.numbers(">HH")
+    for _ in range(sum(counts[1:])):
+        owner = reader.name()
+        kind, where, ttl, size = reader.numbers(">HHIH")
+        begin = reader.at
+        reader.take(size)
+        said += owner + [kind, where, ttl if ttl < 2**31 else 0] + data(octets, begin, begin + size, kind, where)
+    if reader.at != len(octets):
+        raise Fault("Trailing")
+    return sum(counts), said
+
+
+def main():
+    rng = Pcg32(42, 54)
+    tally = dict.fromkeys(("Short", "Trailing", "BadName", "BadPointer", "BadData"), 0)
+    messages = items = offsets = values = 0
+    for _ in range(100_000):
+        try:
+            count, said = decode(drawn(rng))
+            messages, items = messages + 1, items + count
+            for number in said:
+                values = (values * 31 + number) & WORD
+        except Fault as fault:
+            tally[fault.args[0]] += 1
+            for at in fault.args[1:]:
+                offsets = (offsets * 31 + at) & WORD
+    print(f"messages {messages} of {items} items")
+    print(f"short {tally['Short']}, trailing {tally['Trailing']}")
+    print(f"bad names {tally['BadName']}, bad pointers {tally['BadPointer']}")
+    print(f"bad data {tally['BadData']}")
+    print(f"offsets {offsets}, values {values}")
+
+
+main()
