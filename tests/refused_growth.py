@@ -6,41 +6,20 @@ given, while those answered `fault reply_lost` stand.
 """
 
 import os
-import subprocess
 import sys
 import tempfile
+
+import refusing
 
 LEFT_OUT = {b"error no_memory", b"fault no_memory"}
 LOST = b"fault reply_lost"
 MOST = 100_000
 
 
-def build(folder):
-    library = os.path.join(folder, "refuse.so")
-    source = os.path.join(os.path.dirname(os.path.abspath(__file__)), "refuse.c")
-    compiler = os.environ.get("CC", "cc").split()
-    subprocess.run(compiler + ["-shared", "-fPIC", "-O2", "-o", library, source], check=True)
-    return library
-
-
 def answer(program, arguments, text, library=None, nth=0):
     """Status, replies, what stands on standard error, and whether a growth was refused."""
-    reading, writing = os.pipe()
-    environment = {}
-    if library:
-        environment = {"LD_PRELOAD": library, "REFUSE_NTH": str(nth)}
-
-    def prepare():
-        os.dup2(writing, 9)
-
-    done = subprocess.run(
-        [program, "script"] + arguments, input=text, capture_output=True, env=environment,
-        preexec_fn=prepare, close_fds=False, timeout=60,
-    )
-    os.close(writing)
-    refused = os.read(reading, 64) != b""
-    os.close(reading)
-    return done.returncode, done.stdout.split(b"\n")[:-1], done.stderr, refused
+    status, out, told, refused = refusing.run([program, "script"] + arguments, text, library, nth)
+    return status, out.split(b"\n")[:-1], told, refused
 
 
 def lines_of(text):
@@ -75,7 +54,7 @@ def main():
     wrong = 0
     runs = 0
     with tempfile.TemporaryDirectory() as folder:
-        library = build(folder)
+        library = refusing.build(folder)
         for script in scripts:
             with open(script, "rb") as file:
                 text = file.read()
