@@ -104,7 +104,7 @@ class Reader:
             else:
                 raise Fault("BadName", start)
         self.at = self.at if after is None else after
-        return ended(b"".join(reversed(labels)))
+        return ended(b"".join(labels))
 
 
 def ended(octets):

@@ -1,4 +1,5 @@
 use super::*;
+use dns_name::Name;
 use dns_text::Data;
 use std::alloc::{AllocError, Global};
 use std::test::*;
@@ -50,7 +51,7 @@ fn question(rt: HostRuntime) -> Result<(), Fail> {
     assert!(rt; message.head.rd && !message.head.qr);
     assert_eq!(rt; message.questions.as_slice().len(), 1);
     for question in message.questions.as_slice() {
-        assert_eq!(rt; question.item.owner.octets(), b"\x04test\x01a".as_slice());
+        assert!(rt; is_of(&question.item.owner, &[b"a", b"test"]));
         assert_eq!(rt; (question.item.kind, question.class), (1, 1));
     }
     Ok(())
@@ -164,44 +165,59 @@ fn addresses(rt: HostRuntime) -> Result<(), Fail> {
     Ok(())
 }
 
-/// The labels from the root of the names in data, each after its length.
-fn names_in(body: &Data) -> (&[u8], &[u8]) {
+/// The names in data.
+fn names_in(body: &Data) -> (Option<&Name>, Option<&Name>) {
     match body {
-        Data::One(name) => (name.octets(), b"".as_slice()),
-        Data::Mx { exchange, .. } => (exchange.octets(), b"".as_slice()),
+        Data::One(name) => (Some(name), None),
+        Data::Mx { exchange, .. } => (Some(exchange), None),
         Data::Soa {
             primary,
             mailbox,
             ..
-        } => (primary.octets(), mailbox.octets()),
-        Data::Srv { target, .. } => (target.octets(), b"".as_slice()),
-        _ => (b"".as_slice(), b"".as_slice()),
+        } => (Some(primary), Some(mailbox)),
+        Data::Srv { target, .. } => (Some(target), None),
+        _ => (None, None),
+    }
+}
+
+/// Whether a name has these labels.
+fn is_of(name: &Name, labels: &[&[u8]]) -> bool {
+    let mut rest = name.labels();
+    for label in labels {
+        match rest.next() {
+            Some(next) => {
+                if next != *label {
+                    return false;
+                }
+            }
+            None => return false,
+        }
+    }
+    rest.next().is_none()
+}
+
+fn is_some_of(name: Option<&Name>, labels: &[&[u8]]) -> bool {
+    match name {
+        Some(name) => is_of(name, labels),
+        None => false,
     }
 }
 
 #[test]
 fn names_in_data(rt: HostRuntime) -> Result<(), Fail> {
     let message = decode(rt.alloc(), RESPONSE)?;
-    let host = b"\x04test\x01a".as_slice();
-    let zone = b"\x04test".as_slice();
     let records = message.answer.as_slice();
     assert_eq!(rt; records.len(), 4);
-    assert_eq!(rt; names_in(&records[2].item.body).0, host);
+    assert!(rt; is_some_of(names_in(&records[2].item.body).0, &[b"a", b"test"]));
     let records = message.authority.as_slice();
     assert_eq!(rt; records.len(), 2);
-    assert_eq!(rt; records[0].item.owner.octets(), zone);
-    assert_eq!(rt;
-        names_in(&records[0].item.body).0,
-        b"\x04test\x01n".as_slice()
-    );
-    assert_eq!(rt; names_in(&records[1].item.body).0, zone);
-    assert_eq!(rt;
-        names_in(&records[1].item.body).1,
-        b"\x04test\x01m".as_slice()
-    );
+    assert!(rt; is_of(&records[0].item.owner, &[b"test"]));
+    assert!(rt; is_some_of(names_in(&records[0].item.body).0, &[b"n", b"test"]));
+    assert!(rt; is_some_of(names_in(&records[1].item.body).0, &[b"test"]));
+    assert!(rt; is_some_of(names_in(&records[1].item.body).1, &[b"m", b"test"]));
     let records = message.additional.as_slice();
     assert_eq!(rt; records.len(), 3);
-    assert_eq!(rt; names_in(&records[0].item.body).0, host);
+    assert!(rt; is_some_of(names_in(&records[0].item.body).0, &[b"a", b"test"]));
     Ok(())
 }
 

@@ -1,5 +1,6 @@
 //! A number that all that messages say goes into.
 
+use dns_name::Name;
 use dns_text::{Data, Question, Record};
 use dns_wire::{Classed, Message};
 
@@ -20,8 +21,19 @@ impl Values {
         self.take(256);
     }
 
+    /// Each label after its length, the leftmost first.
+    fn take_name(&mut self, name: &Name) {
+        for label in name.labels() {
+            self.take((label.len() % 256) as u32);
+            for octet in label {
+                self.take(u32::from(*octet));
+            }
+        }
+        self.take(256);
+    }
+
     fn take_question(&mut self, question: &Classed<Question>) {
-        self.take_octets(question.item.owner.octets());
+        self.take_name(&question.item.owner);
         self.take(u32::from(question.item.kind));
         self.take(u32::from(question.class));
     }
@@ -44,13 +56,13 @@ impl Values {
         match body {
             Data::A(octets) => self.take_octets(octets),
             Data::Aaaa(octets) => self.take_octets(octets),
-            Data::One(name) => self.take_octets(name.octets()),
+            Data::One(name) => self.take_name(name),
             Data::Mx {
                 preference,
                 exchange,
             } => {
                 self.take(u32::from(*preference));
-                self.take_octets(exchange.octets());
+                self.take_name(exchange);
             }
             Data::Soa {
                 primary,
@@ -61,8 +73,8 @@ impl Values {
                 expire,
                 minimum,
             } => {
-                self.take_octets(primary.octets());
-                self.take_octets(mailbox.octets());
+                self.take_name(primary);
+                self.take_name(mailbox);
                 self.take_times(*serial, *refresh, *retry, *expire, *minimum);
             }
             Data::Txt(strings) => {
@@ -77,7 +89,7 @@ impl Values {
                 target,
             } => {
                 self.take_service(*priority, *weight, *port);
-                self.take_octets(target.octets());
+                self.take_name(target);
             }
             Data::Opaque(octets) => self.take_octets(octets.as_slice()),
         }
@@ -85,7 +97,7 @@ impl Values {
 
     fn take_records(&mut self, records: &[Classed<Record>]) {
         for record in records {
-            self.take_octets(record.item.owner.octets());
+            self.take_name(&record.item.owner);
             self.take(u32::from(record.item.kind));
             self.take(u32::from(record.class));
             self.take(record.item.ttl);
