@@ -1,5 +1,5 @@
 -- What the arguments come to.
-use Rattle.std.specs.Prelude.{◌≡◌, ◌⊎◌, ◌++◌, ◌∷◌, [], codes}
+use Rattle.std.specs.Prelude.{◌≡◌, ◌⊎◌, codes}
 use Rattle.undo_book.specs.Event.{AreSettings}
 use Rattle.resolver_cli.specs.declared.args.Mode.{Mode}
 use Rattle.resolver_cli.specs.declared.args.Mode.TheVariants.{Script}

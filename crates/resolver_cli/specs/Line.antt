@@ -1,7 +1,6 @@
 -- What a line says: its first word is a command, and the words after it are the command's.
 use Rattle.std.specs.Prelude.{ℕ, ◌-◌, ◌≤◌, ◌^◌, Bool, true, false, nat_lt, ◌==◌, Option, Some, None, Result, Ok, Err, is_ok, List, [], ◌∷◌, length, codes, if◌then◌else◌}
 use Rattle.std.specs.Str.{bytes_eq}
-use Rattle.dns_name.specs.Labels.{Labels}
 use Rattle.dns_text.specs.declared.record.Question.{Question}
 use Rattle.dns_text.specs.declared.record.Data.{Data}
 use Rattle.dns_text.specs.Word.{next_word}

@@ -1,6 +1,5 @@
 -- What a script is told, line by line.
 use Rattle.std.specs.Prelude.{◌≡◌, ℕ, min, Bool, IsTrue, ◌⊎◌, Result, Ok, Err, List, [], ◌∷◌, ◌++◌, take, codes}
-use Rattle.dns_text.specs.declared.record.Data.{Data}
 use Rattle.dns_text.specs.Equal.{data_eq}
 use Rattle.ranked.specs.declared.find.Find.{Find}
 use Rattle.ranked.specs.declared.find.Scope.TheVariants.{One}
@@ -20,7 +19,6 @@ use Rattle.resolver_cli.specs.declared.line.Line.{Line}
 use Rattle.resolver_cli.specs.declared.line.Line.TheVariants.{Silent, At, Admit, Look, FlushType, Undo}
 use Rattle.resolver_cli.specs.declared.line.LineFault.{LineFault}
 use Rattle.resolver_cli.specs.declared.line.LineFault.TheVariants.{NoMemory}
-use Rattle.resolver_cli.specs.Fault.{Gives}
 use Rattle.resolver_cli.specs.Line.{says, takes_memory}
 use Rattle.resolver_cli.specs.Text.{ended, is_found, reply_text, fault_text, line_fault_text}
 

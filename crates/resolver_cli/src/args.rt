@@ -1,6 +1,6 @@
 //! The arguments of the program.
 
-ghost use Rattle.std.specs.Prelude.{IfOk, IfErr, IfSome};
+ghost use Rattle.std.specs.Prelude.{◌≡◌, ◌↔◌, IsSome, IfOk, IfErr, IfSome};
 ghost use Rattle.undo_book.specs.Event.{AreSettings};
 ghost use Rattle.resolver_cli.specs.Args.{IsInRange, HasStatus};
 
@@ -66,19 +66,34 @@ fn usage(alloc: Global, error: Error) -> CliFault
 }
 
 /// An option with a number.
-fn number<'a>(alloc: Global, name: &'a str, default: &'a str) -> Arg<'a> {
+fn number<'a>(alloc: Global, name: &'a str, default: &'a str, help: &'a str) -> Arg<'a> {
     Arg::new(alloc, name)
         .long(name)
+        .value_name("N")
+        .help(help)
         .action(ArgAction::Set)
         .default_value(default)
 }
 
 fn script_command<'a>(alloc: Global) -> Result<Command<'a>, AllocError> {
-    let journal = number(alloc, "journal", "64").value_parser(value_parser!(u16).range(1..=256));
-    let cells = number(alloc, "cells", "100000").value_parser(value_parser!(u32).range(
-        1..=1_000_000,
-    ));
-    Command::new(alloc, "script").arg(journal)?.arg(cells)
+    let journal = number(
+        alloc,
+        "journal",
+        "64",
+        "How many commands can be undone, 1 to 256",
+    )
+    .value_parser(value_parser!(u16).range(1..=256));
+    let cells = number(
+        alloc,
+        "cells",
+        "100000",
+        "How many cells there may be, 1 to 1000000",
+    )
+    .value_parser(value_parser!(u32).range(1..=1_000_000));
+    Command::new(alloc, "script")
+        .about("Obeys the lines of standard input and writes a reply to each")
+        .arg(journal)?
+        .arg(cells)
 }
 
 fn command<'a>(alloc: Global) -> Result<Command<'a>, AllocError> {
@@ -87,17 +102,27 @@ fn command<'a>(alloc: Global) -> Result<Command<'a>, AllocError> {
         .subcommand(script_command(alloc)?)
 }
 
-/// The settings that were given, each number in its range.
-fn settings_in(found: &ArgMatches<'_>) -> Option<Settings>
-    ensures { IfSome result (λ settings. AreSettings settings) }
+/// The settings of these numbers, if each is in its range.
+fn settings_of(journal: u16, cells: u32) -> Option<Settings>
+    ensures some { IsSome result ↔ AreSettings (record { journal = journal; cells = cells }) }
+    ensures value { IfSome result (λ settings. settings ≡ record { journal = journal; cells = cells }) }
 {
-    let journal = found.get_one::<u16>("journal")? as usize;
-    let cells = found.get_one::<u32>("cells")? as usize;
-    // `clap` tests the ranges and tells which number is wrong; it states them of a top command alone.
     if journal < 1 || journal > 256 || cells < 1 || cells > 1_000_000 {
         return None;
     }
-    Some(Settings { journal, cells })
+    Some(Settings {
+        journal: journal as usize,
+        cells: cells as usize,
+    })
+}
+
+/// The settings that were given. `clap` has tested the ranges and told which number is wrong, but states them of a top command alone.
+fn settings_in(found: &ArgMatches<'_>) -> Option<Settings>
+    ensures { IfSome result (λ settings. AreSettings settings) }
+{
+    let journal = found.get_one::<u16>("journal")?;
+    let cells = found.get_one::<u32>("cells")?;
+    settings_of(journal, cells)
 }
 
 fn mode_in(found: &ArgMatches<'_>) -> Option<Mode>

@@ -1,4 +1,4 @@
-use Rattle.std.proofs.Common.{◌≡◌, ◌≢◌, ◌<◌, ℕ, List, [], ◌∷◌, refl, sym, ◌∙◌, arith}
+use Rattle.std.proofs.Common.{[], refl, sym, ◌∙◌, arith}
 use Rattle.std.specs.Cmp.Lexicographic.{same_text, other_text}
 use Rattle.resolver_cli.proofs.Bars.{onto-pieces, at-bar, past-word, at-end}
 use Rattle.resolver_cli.proofs.bar.cut_at_bar.Goals as goal

@@ -1,4 +1,4 @@
-use Rattle.std.proofs.Common.{ap, ◌∙◌, sym, append_assoc, ◌∷◌, []}
+use Rattle.std.proofs.Common.{◌∙◌, sym, append_assoc, ◌∷◌, []}
 use Rattle.resolver_cli.proofs.Bars.{no-bar, word-bar, word-more}
 use Rattle.resolver_cli.proofs.laws.bars_are.Goals as goal
 

@@ -1,4 +1,4 @@
-use Rattle.std.proofs.Common.{◌≡◌, Result, Ok, List, ℕ, [], ◌∷◌, inl, refl, sym, subst, ap, ◌∙◌}
+use Rattle.std.proofs.Common.{Result, Ok, [], ◌∷◌, inl, refl, sym, subst, ap, ◌∙◌}
 use Rattle.resolver_cli.specs.declared.line.Line.{Line}
 use Rattle.resolver_cli.specs.declared.line.Line.TheVariants.{At}
 use Rattle.resolver_cli.specs.declared.line.LineFault.{LineFault}

@@ -1,4 +1,4 @@
-use Rattle.std.proofs.Common.{ℕ, List, [], refl, sym, subst, ap, ◌∙◌, true-eqb}
+use Rattle.std.proofs.Common.{ℕ, List, [], refl, sym, subst, true-eqb}
 use Rattle.std.proofs.lemmas.Bool.{eqb-false}
 use Rattle.undo_book.specs.declared.event.Settings.{Settings}
 use Rattle.resolver_cli.specs.Split.{held_of}
