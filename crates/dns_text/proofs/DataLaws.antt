@@ -7,7 +7,7 @@ use Rattle.std.proofs.lemmas.Bool.{and_parts}
 use Rattle.std.proofs.lemmas.Bool.Decides.{nat_tests}
 use Rattle.std.proofs.lemmas.Fmt.{decimal_nonempty}
 use Rattle.dns_text.specs.declared.record.Data.{Data}
-use Rattle.dns_text.specs.declared.record.Data.TheVariants.{A, Aaaa, One, Mx, Soa, Srv}
+use Rattle.dns_text.specs.declared.record.Data.TheVariants.{A, Aaaa, One, Mx, Soa, Srv, Opaque}
 use Rattle.dns_text.specs.declared.kind.Form.{Form}
 use Rattle.dns_text.specs.declared.kind.Form.TheVariants.{A as FormA, Aaaa as FormAaaa, Name as FormName, Mx as FormMx, Soa as FormSoa, Txt as FormTxt, Srv as FormSrv, Opaque as FormOpaque}
 use Rattle.dns_text.specs.declared.word.Within.TheVariants.{Plain}
@@ -21,6 +21,8 @@ use Rattle.dns_text.specs.Ipv6.{ipv6_text}
 use Rattle.dns_text.proofs.WordLaws.{only_word-whole}
 use Rattle.dns_text.proofs.Ipv4Laws.{ipv4_in-ipv4_text, ipv4_is_word}
 use Rattle.dns_text.proofs.FieldLaws.{name_at-text_of, last_name-text_of, number_at-decimal, last_number-decimal}
+use Rattle.dns_text.specs.Opaque.{octets_in}
+use Rattle.dns_text.proofs.OpaqueLaws.{octets_again}
 use Rattle.dns_text.proofs.Ipv6Laws.{ipv6_again}
 
 -- ---- each form
@@ -90,16 +92,21 @@ srv_again kind priority weight port target s1 s2 s3 is_name h =
     (rw (number_at-decimal 65535 port r2 (omega arith) (omega arith) refl)
     (rw (last_name-text_of target is_name) refl)))))
 
+pub opaque_again : (kind : ℕ) (octets : List ℕ) → ((i : ℕ) → slice_index octets i < 256) → HasForm kind (Opaque octets) → data_in kind (data_text (Opaque octets)) ≡ Some (Opaque octets)
+unfolding data_as data_text
+opaque_again kind octets fits h = rw h.same (rw (octets_again octets h.sized fits) refl)
+
 -- a blank before data
 data_as-blank : (form : Form) (text : List ℕ) → data_as form (32 ∷ text) ≡ data_as form text
-unfolding data_as mx_in soa_in srv_in
+unfolding data_as mx_in soa_in srv_in octets_in
 data_as-blank FormA text = refl
 data_as-blank FormAaaa text = refl
 data_as-blank FormName text = refl
 data_as-blank FormMx text = refl
 data_as-blank FormSoa text = refl
 data_as-blank FormSrv text = refl
-data_as-blank _ text = refl
+data_as-blank FormOpaque text = refl
+data_as-blank FormTxt text = refl
 
 pub data_in-blank : (kind : ℕ) (text : List ℕ) → data_in kind (32 ∷ text) ≡ data_in kind text
 data_in-blank kind text = data_as-blank (form_of kind) text

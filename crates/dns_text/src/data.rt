@@ -11,8 +11,10 @@ use crate::fault::TextFault;
 use crate::field::{last_name, last_number, next_name, next_number, push_name};
 use crate::ipv4::{push_ipv4, read_ipv4};
 use crate::ipv6::{push_ipv6, read_ipv6};
+use crate::items::Octets;
 use crate::kind::{Form, form_of};
 use crate::number::push_number;
+use crate::opaque::{push_octets, read_octets};
 use crate::record::Data;
 use crate::word::only_word;
 use dns_name::{Name, NoMemory};
@@ -96,7 +98,11 @@ pub fn read_data(alloc: Global, kind: u16, text: &[u8]) -> Result<Data, TextFaul
         Form::Mx => read_mx(alloc, text),
         Form::Soa => read_soa(alloc, text),
         Form::Srv => read_srv(alloc, text),
-        _ => Err(TextFault::BadData),
+        Form::Opaque => {
+            let octets = read_octets(alloc, text)?;
+            Ok(Data::Opaque(Octets::new(octets)))
+        }
+        Form::Txt => Err(TextFault::BadData),
     }
 }
 
@@ -197,6 +203,7 @@ pub fn push_data(body: &Data, out: &mut Vec<u8>) -> Result<(), NoMemory>
             port,
             target,
         } => push_srv(*priority, *weight, *port, target, out),
-        _ => Ok(()),
+        Data::Opaque(octets) => push_octets(octets.as_slice(), out),
+        Data::Txt(_) => Ok(()),
     }
 }

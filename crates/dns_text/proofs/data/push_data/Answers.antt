@@ -1,10 +1,10 @@
-use Rattle.std.proofs.Common.{◌≡◌, ℕ, Option, Some, sym, subst, arith, Ok, Err, Result}
-use Rattle.std.specs.Prelude.{OnOk}
+use Rattle.std.proofs.Common.{◌≡◌, ℕ, ◌<◌, List, Option, Some, sym, subst, arith, Ok, Err, Result}
+use Rattle.std.specs.Prelude.{OnOk, slice_index}
 use Rattle.std.proofs.lemmas.Result.{on_ok_weaker}
 use Rattle.dns_text.specs.declared.record.Data.{Data}
 use Rattle.dns_text.specs.Kind.{form_of}
 use Rattle.dns_text.specs.Data.{data_in, data_text, HasForm, IsWritten}
-use Rattle.dns_text.proofs.DataLaws.{a_again, aaaa_again, one_again, mx_again, soa_again, srv_again}
+use Rattle.dns_text.proofs.DataLaws.{a_again, aaaa_again, one_again, mx_again, soa_again, srv_again, opaque_again}
 use Rattle.dns_text.proofs.data.push_data.Goals as goal
 
 abbrev Again : Data → Type 0
@@ -36,3 +36,6 @@ returns-in_ok-push_names-in-Soa-clause-again c =
 pub returns-in-Srv-clause-again : goal.returns-in-Srv-clause-again
 returns-in-Srv-clause-again c =
     on_ok_weaker c.push_srv.result (λ fits. subst Again (sym c.in-Srv.is) (λ kind written. srv_again kind c.in-Srv.priority c.in-Srv.weight c.in-Srv.port _ fits.0 fits.1 fits.2 fits.3)) c.push_srv.ensures.fits
+
+pub returns-in-Opaque-clause-again : goal.returns-in-Opaque-clause-again
+returns-in-Opaque-clause-again c = on_ok _ _ (subst Again (sym c.in-Opaque.is) (λ kind written. opaque_again kind _ (subst (λ (x : List ℕ). (i : ℕ) → slice_index x i < 256) c.as_slice.ensures c.push_octets.ensures.octets)))
