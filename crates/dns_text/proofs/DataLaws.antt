@@ -7,7 +7,7 @@ use Rattle.std.proofs.lemmas.Bool.{and_parts}
 use Rattle.std.proofs.lemmas.Bool.Decides.{nat_tests}
 use Rattle.std.proofs.lemmas.Fmt.{decimal_nonempty}
 use Rattle.dns_text.specs.declared.record.Data.{Data}
-use Rattle.dns_text.specs.declared.record.Data.TheVariants.{A, Aaaa, One, Mx, Soa, Srv, Opaque}
+use Rattle.dns_text.specs.declared.record.Data.TheVariants.{A, Aaaa, One, Mx, Soa, Txt, Srv, Opaque}
 use Rattle.dns_text.specs.declared.kind.Form.{Form}
 use Rattle.dns_text.specs.declared.kind.Form.TheVariants.{A as FormA, Aaaa as FormAaaa, Name as FormName, Mx as FormMx, Soa as FormSoa, Txt as FormTxt, Srv as FormSrv, Opaque as FormOpaque}
 use Rattle.dns_text.specs.declared.word.Within.TheVariants.{Plain}
@@ -23,6 +23,7 @@ use Rattle.dns_text.proofs.Ipv4Laws.{ipv4_in-ipv4_text, ipv4_is_word}
 use Rattle.dns_text.proofs.FieldLaws.{name_at-text_of, last_name-text_of, number_at-decimal, last_number-decimal}
 use Rattle.dns_text.specs.Opaque.{octets_in}
 use Rattle.dns_text.proofs.OpaqueLaws.{octets_again}
+use Rattle.dns_text.proofs.StringLaws.{strings_in-blank}
 use Rattle.dns_text.proofs.Ipv6Laws.{ipv6_again}
 
 -- ---- each form
@@ -106,7 +107,7 @@ data_as-blank FormMx text = refl
 data_as-blank FormSoa text = refl
 data_as-blank FormSrv text = refl
 data_as-blank FormOpaque text = refl
-data_as-blank FormTxt text = refl
+data_as-blank FormTxt text = ap (option_map (λ strings. Txt strings)) (strings_in-blank text)
 
 pub data_in-blank : (kind : ℕ) (text : List ℕ) → data_in kind (32 ∷ text) ≡ data_in kind text
 data_in-blank kind text = data_as-blank (form_of kind) text

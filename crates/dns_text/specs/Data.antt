@@ -11,6 +11,7 @@ use Rattle.dns_text.specs.Field.{name_at, last_name, number_at, last_number}
 use Rattle.dns_text.specs.Ipv4.{ipv4_in, ipv4_text}
 use Rattle.dns_text.specs.Ipv6.{ipv6_in, ipv6_text}
 use Rattle.dns_text.specs.Opaque.{octets_in, opaque_text}
+use Rattle.dns_text.specs.String.{strings_in, strings_text}
 use Rattle.dns_text.specs.Kind.{form_of}
 use Rattle.dns_text.specs.Word.{only_word}
 use Rattle.dns_text.specs.Steps.{◌>>=◌}
@@ -69,7 +70,7 @@ data_as FormMx text = mx_in text
 data_as FormSoa text = soa_in text
 data_as FormSrv text = srv_in text
 data_as FormOpaque text = option_map Opaque (octets_in text)
-data_as FormTxt text = None
+data_as FormTxt text = option_map Txt (strings_in text)
 
 -- the data of a type
 abbrev pub data_in : ℕ → List ℕ → Option Data
@@ -83,7 +84,7 @@ data_text (Mx preference exchange) = mx_text preference exchange
 data_text (Soa primary mailbox serial refresh retry expire minimum) = names_text primary mailbox ++ soa_numbers_text serial refresh retry expire minimum
 data_text (Srv priority weight port target) = srv_text priority weight port target
 data_text (Opaque octets) = opaque_text octets
-data_text (Txt strings) = []
+data_text (Txt strings) = strings_text strings
 
 -- the form of data
 abbrev pub form_in : Data → Form

@@ -16,6 +16,7 @@ use crate::kind::{Form, form_of};
 use crate::number::push_number;
 use crate::opaque::{push_octets, read_octets};
 use crate::record::Data;
+use crate::string::{push_strings, read_strings};
 use crate::word::only_word;
 use dns_name::{Name, NoMemory};
 use std::alloc::Global;
@@ -102,7 +103,10 @@ pub fn read_data(alloc: Global, kind: u16, text: &[u8]) -> Result<Data, TextFaul
             let octets = read_octets(alloc, text)?;
             Ok(Data::Opaque(Octets::new(octets)))
         }
-        Form::Txt => Err(TextFault::BadData),
+        Form::Txt => {
+            let strings = read_strings(alloc, text)?;
+            Ok(Data::Txt(strings))
+        }
     }
 }
 
@@ -204,6 +208,6 @@ pub fn push_data(body: &Data, out: &mut Vec<u8>) -> Result<(), NoMemory>
             target,
         } => push_srv(*priority, *weight, *port, target, out),
         Data::Opaque(octets) => push_octets(octets.as_slice(), out),
-        Data::Txt(_) => Ok(()),
+        Data::Txt(strings) => push_strings(strings.as_slice(), out),
     }
 }

@@ -13,6 +13,7 @@ mod number;
 mod opaque;
 mod record;
 mod record_text;
+mod string;
 mod word;
 
 pub use addr::{Addr, Ip, push_addr, read_addr, write_addr};
