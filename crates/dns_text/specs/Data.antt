@@ -113,14 +113,3 @@ pub record IsOfForm (form : Form) (body : Data) : Type 0 where
 -- Data has the form of its type.
 abbrev pub HasForm : ℕ → Data → Type 0
 HasForm kind body = IsOfForm (form_of kind) body
-
--- the forms that have a text
-abbrev pub IsWritten : Form → Type 0
-IsWritten FormA = Unit {0}
-IsWritten FormAaaa = Unit {0}
-IsWritten FormName = Unit {0}
-IsWritten FormMx = Unit {0}
-IsWritten FormSoa = Unit {0}
-IsWritten FormSrv = Unit {0}
-IsWritten FormOpaque = Unit {0}
-IsWritten FormTxt = ⊥

@@ -1,6 +1,6 @@
 -- Strings of TXT data: words, in quotes or not, with escapes.
-use Rattle.std.specs.Prelude.{ℕ, zero, suc, ◌+◌, ◌-◌, ◌*◌, ◌/◌, ◌%◌, Bool, ◌||◌, ◌&&◌, List, [], ◌∷◌, ◌++◌, length, map, Option, Some, None, nat_lt, ◌==◌, if◌then◌else◌, option_map}
-use Rattle.std.specs.List.{flat_map}
+use Rattle.std.specs.Prelude.{ℕ, zero, suc, ◌+◌, ◌-◌, ◌*◌, ◌/◌, ◌%◌, ◌<◌, Bool, ◌||◌, ◌&&◌, List, [], ◌∷◌, ◌++◌, length, map, Option, Some, None, nat_lt, ◌==◌, if◌then◌else◌, option_map}
+use Rattle.std.specs.List.{flat_map, AllByRecursion}
 use Rattle.std.specs.Char.{is_ascii_digit, is_ascii_graphic}
 use Rattle.dns_name.specs.Text.{decimal}
 use Rattle.dns_text.specs.Word.{next_word}
@@ -85,3 +85,6 @@ quoted octets = 34 ∷ flat_map quoted_octet octets ++ 34 ∷ []
 abbrev pub strings_text : List (List ℕ) → List ℕ
 strings_text [] = []
 strings_text (octets ∷ strings) = quoted octets ++ flat_map (λ s. 32 ∷ quoted s) strings
+
+abbrev pub AreOctets : List ℕ → Type 0
+AreOctets octets = AllByRecursion (λ b. b < 256) octets

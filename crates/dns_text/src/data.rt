@@ -5,7 +5,7 @@ ghost use Rattle.dns_name.specs.Labels.{IsName};
 ghost use Rattle.dns_text.specs.Fault.{Gives, or_fault};
 ghost use Rattle.dns_text.specs.declared.fault.TextFault.TheVariants.{BadData};
 ghost use Rattle.dns_text.specs.Kind.{form_of};
-ghost use Rattle.dns_text.specs.Data.{mx_in, soa_in, srv_in, blank_number, names_text, soa_numbers_text, mx_text, srv_text, data_in, data_text, IsOfForm, HasForm, IsWritten};
+ghost use Rattle.dns_text.specs.Data.{mx_in, soa_in, srv_in, blank_number, names_text, soa_numbers_text, mx_text, srv_text, data_in, data_text, IsOfForm, HasForm};
 
 use crate::fault::TextFault;
 use crate::field::{last_name, last_number, next_name, next_number, push_name};
@@ -179,7 +179,7 @@ fn push_srv(
 #[tactic(auto, unfolding(crate::specs::Data::data_text))]
 pub fn push_data(body: &Data, out: &mut Vec<u8>) -> Result<(), NoMemory>
     ensures text { OnOk result (out.new.items ≡ out.old.items ++ data_text body.now) }
-    ensures again { OnOk result ((kind : ℕ) → IsWritten (form_of kind) → HasForm kind body.now → data_in kind (data_text body.now) ≡ Some body.now) }
+    ensures again { OnOk result ((kind : ℕ) → HasForm kind body.now → data_in kind (data_text body.now) ≡ Some body.now) }
 {
     match body {
         Data::A(octets) => push_ipv4(octets, out),

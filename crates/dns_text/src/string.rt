@@ -4,7 +4,7 @@ ghost use Rattle.std.specs.Prelude.{◌≡◌, ◌<◌, ◌≤◌, ◌+◌, ◌+
 ghost use Rattle.std.specs.List.{flat_map, AllByRecursion};
 ghost use Rattle.dns_text.specs.declared.fault.TextFault.TheVariants.{BadData};
 ghost use Rattle.dns_text.specs.Fault.{Gives, or_fault, result_map};
-ghost use Rattle.dns_text.specs.String.{escape_in, octet_at, octets_after, before_last_quote, unquoted, string_in, strings_after, strings_in, quoted_octet, quoted, strings_text};
+ghost use Rattle.dns_text.specs.String.{escape_in, octet_at, octets_after, before_last_quote, unquoted, string_in, strings_after, strings_in, quoted_octet, quoted, strings_text, AreOctets};
 
 use crate::fault::TextFault;
 use crate::items::{Items, Octets};
@@ -158,7 +158,8 @@ fn push_quoted_octet(b: u8, out: &mut Vec<u8>) -> Result<(), NoMemory>
 
 /// Writes a string in quotes.
 fn push_quoted(octets: &[u8], out: &mut Vec<u8>) -> Result<(), NoMemory>
-    ensures { OnOk result (out.new.items ≡ out.old.items ++ quoted octets.now) }
+    ensures text { OnOk result (out.new.items ≡ out.old.items ++ quoted octets.now) }
+    ensures octets { AreOctets octets.now }
 {
     out.push(b'"')?;
     for b in octets {
@@ -170,7 +171,8 @@ fn push_quoted(octets: &[u8], out: &mut Vec<u8>) -> Result<(), NoMemory>
 
 /// Writes strings in quotes, with a blank between each two.
 pub(crate) fn push_strings(strings: &[Octets], out: &mut Vec<u8>) -> Result<(), NoMemory>
-    ensures { OnOk result (out.new.items ≡ out.old.items ++ strings_text strings.now) }
+    ensures text { OnOk result (out.new.items ≡ out.old.items ++ strings_text strings.now) }
+    ensures octets { OnOk result (AllByRecursion AreOctets strings.now) }
 {
     let Some((first, rest)) = strings.split_first() else {
         return Ok(());
