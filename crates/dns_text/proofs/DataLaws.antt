@@ -7,7 +7,7 @@ use Rattle.std.proofs.lemmas.Bool.{and_parts}
 use Rattle.std.proofs.lemmas.Bool.Decides.{nat_tests}
 use Rattle.std.proofs.lemmas.Fmt.{decimal_nonempty}
 use Rattle.dns_text.specs.declared.record.Data.{Data}
-use Rattle.dns_text.specs.declared.record.Data.TheVariants.{A, Aaaa, One, Mx, Soa, Srv}
+use Rattle.dns_text.specs.declared.record.Data.TheVariants.{A, Aaaa, One, Mx, Soa, Txt, Srv, Opaque}
 use Rattle.dns_text.specs.declared.kind.Form.{Form}
 use Rattle.dns_text.specs.declared.kind.Form.TheVariants.{A as FormA, Aaaa as FormAaaa, Name as FormName, Mx as FormMx, Soa as FormSoa, Txt as FormTxt, Srv as FormSrv, Opaque as FormOpaque}
 use Rattle.dns_text.specs.declared.word.Within.TheVariants.{Plain}
@@ -21,6 +21,11 @@ use Rattle.dns_text.specs.Ipv6.{ipv6_text}
 use Rattle.dns_text.proofs.WordLaws.{only_word-whole}
 use Rattle.dns_text.proofs.Ipv4Laws.{ipv4_in-ipv4_text, ipv4_is_word}
 use Rattle.dns_text.proofs.FieldLaws.{name_at-text_of, last_name-text_of, number_at-decimal, last_number-decimal}
+use Rattle.std.specs.List.{AllByRecursion}
+use Rattle.dns_text.specs.String.{AreOctets}
+use Rattle.dns_text.specs.Opaque.{octets_in}
+use Rattle.dns_text.proofs.OpaqueLaws.{octets_again}
+use Rattle.dns_text.proofs.StringLaws.{IsString, strings_again, strings_in-blank}
 use Rattle.dns_text.proofs.Ipv6Laws.{ipv6_again}
 
 -- ---- each form
@@ -90,16 +95,29 @@ srv_again kind priority weight port target s1 s2 s3 is_name h =
     (rw (number_at-decimal 65535 port r2 (omega arith) (omega arith) refl)
     (rw (last_name-text_of target is_name) refl)))))
 
+pub opaque_again : (kind : ℕ) (octets : List ℕ) → ((i : ℕ) → slice_index octets i < 256) → HasForm kind (Opaque octets) → data_in kind (data_text (Opaque octets)) ≡ Some (Opaque octets)
+unfolding data_as data_text
+opaque_again kind octets fits h = rw h.same (rw (octets_again octets h.sized fits) refl)
+
+are_strings : (strings : List (List ℕ)) → AllByRecursion AreOctets strings → AllByRecursion (λ s. length s < 256) strings → AllByRecursion IsString strings
+are_strings [] h k = tt
+are_strings (s ∷ strings) h k = (record { each = h.0; few = k.0 }, are_strings strings h.1 k.1)
+
+pub txt_again : (kind : ℕ) (strings : List (List ℕ)) → AllByRecursion AreOctets strings → HasForm kind (Txt strings) → data_in kind (data_text (Txt strings)) ≡ Some (Txt strings)
+unfolding data_as data_text
+txt_again kind strings each h = rw h.same (rw (strings_again strings h.sized.0 (are_strings strings each h.sized.1)) refl)
+
 -- a blank before data
 data_as-blank : (form : Form) (text : List ℕ) → data_as form (32 ∷ text) ≡ data_as form text
-unfolding data_as mx_in soa_in srv_in
+unfolding data_as mx_in soa_in srv_in octets_in
 data_as-blank FormA text = refl
 data_as-blank FormAaaa text = refl
 data_as-blank FormName text = refl
 data_as-blank FormMx text = refl
 data_as-blank FormSoa text = refl
 data_as-blank FormSrv text = refl
-data_as-blank _ text = refl
+data_as-blank FormOpaque text = refl
+data_as-blank FormTxt text = ap (option_map (λ strings. Txt strings)) (strings_in-blank text)
 
 pub data_in-blank : (kind : ℕ) (text : List ℕ) → data_in kind (32 ∷ text) ≡ data_in kind text
 data_in-blank kind text = data_as-blank (form_of kind) text

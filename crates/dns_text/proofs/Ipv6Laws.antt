@@ -85,7 +85,7 @@ both true b e h = h
 both false b e h = absurd cc
 
 -- what holds of the sixteen digits holds of a group's text
-hex_all : (p : ℕ → Bool) → ((d : ℕ) → d < 16 → p (digit_char d) ≡ true) → (n : ℕ) → n < 65536 → list_all p (hex n) ≡ true
+pub hex_all : (p : ℕ → Bool) → ((d : ℕ) → d < 16 → p (digit_char d) ≡ true) → (n : ℕ) → n < 65536 → list_all p (hex n) ≡ true
 unfolding hex
 hex_all p digits n fits = all-drop p (leading_zero_digits n) _
     (both _ _ (digits (n / 4096) (omega arith)) (both _ _ (digits (n / 256 % 16) (omega arith)) (both _ _ (digits (n / 16 % 16) (omega arith)) (both _ _ (digits (n % 16) (omega arith)) refl))))
@@ -123,10 +123,10 @@ skip_colon : (word text : List ℕ) → 0 < length word → list_all no_colon wo
 skip_colon [] text some e none = absurd (omega arith)
 skip_colon (c ∷ word) text some e none = let parts = and_parts _ _ e in let other : is_colon c ≡ false = not-true _ parts.0 in rw other (rw none refl)
 
-abbrev AllGroups : List ℕ → Type 0
+abbrev pub AllGroups : List ℕ → Type 0
 AllGroups segments = AllByRecursion (λ s. s < 65536) segments
 
-abbrev more_text : List ℕ → List ℕ
+abbrev pub more_text : List ℕ → List ℕ
 more_text segments = flat_map (λ t. 58 ∷ hex t) segments
 
 no_gap : (segments : List ℕ) → AllGroups segments → cut_at_gap (more_text segments) ≡ None
@@ -171,7 +171,7 @@ pub record Segments (octets : List ℕ) (n : ℕ) : Type 0 where
   pub many : length (segments_of octets) ≡ n
   pub each : AllGroups (segments_of octets)
 
-segments : (n : ℕ) (octets : List ℕ) → length octets ≡ n + n → ((i : ℕ) → get_or octets i 0 < 256) → Segments octets n
+pub segments : (n : ℕ) (octets : List ℕ) → length octets ≡ n + n → ((i : ℕ) → get_or octets i 0 < 256) → Segments octets n
 segments zero [] e fits = record { back = refl; many = refl; each = tt }
 segments zero (a ∷ octets) e fits = absurd (omega arith)
 segments (suc n) [] e fits = absurd (omega arith)

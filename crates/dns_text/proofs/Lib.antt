@@ -5,5 +5,8 @@ pub mod NameLaws
 pub mod Ipv4Laws
 pub mod Ipv6Laws
 pub mod FieldLaws
+pub mod OpaqueLaws
+pub mod StringLaws
 pub mod DataLaws
 pub mod RecordLaws
+pub mod AddrLaws

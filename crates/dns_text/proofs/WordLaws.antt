@@ -1,6 +1,7 @@
 -- Words that stand in a text.
-use Rattle.std.proofs.Common.{◌≡◌, ℕ, ◌<◌, Bool, true, false, List, [], ◌∷◌, ◌++◌, length, Option, Some, None, refl, sym, ap, ◌∙◌, arith, inl, inr, append_assoc}
-use Rattle.std.specs.Prelude.{◌&&◌, not, ◌==◌, if◌then◌else◌}
+use Rattle.std.proofs.Common.{◌≡◌, ℕ, ◌<◌, Bool, true, false, List, [], ◌∷◌, ◌++◌, length, Option, Some, None, refl, sym, ap, ◌∙◌, arith, inl, inr, append_assoc, length-append, ◌≢◌}
+use Rattle.std.specs.Prelude.{◌&&◌, ◌⊎◌, not, ◌==◌, if◌then◌else◌, option_map, IfSome}
+use Rattle.std.specs.Borrow.{Bor}
 use Rattle.std.specs.Char.{is_ascii_digit}
 use Rattle.std.specs.Str.{all_ascii_digits}
 use Rattle.std.proofs.lemmas.Bool.{cases_Bool, agree_below, agree_below_at, and_parts, not-true}
@@ -116,3 +117,56 @@ pub plain_scanned : (word : List ℕ) → list_all is_plain word ≡ true → sc
 unfolding scanned
 plain_scanned [] e = refl
 plain_scanned (c ∷ word) e = let parts = and_parts _ _ e in rw (plain_octet c parts.0) (plain_scanned word parts.1)
+
+-- ---- words take up the text
+
+cut_parts_goes : (c : ℕ) (text : List ℕ) (o : Option Within) → ((w : Within) → (cut_word w text).0 ++ (cut_word w text).1 ≡ text) → (goes_on c text (λ w. cut_word w text) o).0 ++ (goes_on c text (λ w. cut_word w text) o).1 ≡ c ∷ text
+cut_parts_goes c text None more = refl
+cut_parts_goes c text (Some w) more = ap (λ (x : List ℕ). c ∷ x) (more w)
+
+cut_parts : (within : Within) (text : List ℕ) → (cut_word within text).0 ++ (cut_word within text).1 ≡ text
+unfolding cut_word
+cut_parts within [] = refl
+cut_parts within (c ∷ text) = cut_parts_goes c text (after_octet within c) (λ w. cut_parts w text)
+
+cut_first_goes : (c : ℕ) (text : List ℕ) (o : Option Within) → o ≢ None → 0 < length (goes_on c text (λ w. cut_word w text) o).0
+cut_first_goes c text None some = absurd (some refl)
+cut_first_goes c text (Some w) some = omega arith
+
+blank_only : (c : ℕ) → is_blank c ≡ false → after_octet Plain c ≢ None
+blank_only c plain none = elim (cases_Bool (c == 92)) [
+  | inl slash ↦ let e = rw slash at none in absurd cc
+  | inr other ↦ elim (cases_Bool (c == 34)) [
+    | inl quote ↦ let e = rw (other, quote) at none in absurd cc
+    | inr letter ↦ let e = rw (other, letter, plain) at none in absurd cc
+  ]
+]
+
+word_less : (c : ℕ) (text : List ℕ) → is_blank c ≡ false → length (cut_word Plain (c ∷ text)).1 < length (c ∷ text)
+unfolding cut_word
+word_less c text plain =
+    omega (arith, ap length (cut_parts Plain (c ∷ text)), cut_first_goes c text (after_octet Plain c) (blank_only c plain), length-append (cut_word Plain (c ∷ text)).0 (cut_word Plain (c ∷ text)).1)
+
+unfoldable pub rest_length : Option (List ℕ × List ℕ) → ℕ
+rest_length None = 0
+rest_length (Some parts) = length parts.1
+
+-- a text with a word is longer than what follows the word
+pub next_less : (text : List ℕ) → (next_word text ≡ None) ⊎ (rest_length (next_word text) < length text)
+unfolding rest_length
+next_less [] = inl refl
+next_less (c ∷ text) = elim (cases_Bool (is_blank c)) [
+  | inl blank ↦ elim (next_less text) [
+    | inl none ↦ inl (rw blank none)
+    | inr less ↦ inr (rw blank (omega arith))
+  ]
+  | inr plain ↦ inr (rw plain (word_less c text plain))
+]
+
+pub next_word-less : (text : List ℕ) (o : Option (Bor (List ℕ) × Bor (List ℕ))) → option_map (λ r. (r.0.now, r.1.now)) o ≡ next_word text → IfSome o (λ r. length r.1.now < length text)
+unfolding rest_length
+next_word-less text None e = tt
+next_word-less text (Some r) e = elim (next_less text) [
+  | inl none ↦ let here : Some (r.0.now, r.1.now) ≡ None = e ∙ none in absurd cc
+  | inr less ↦ let same : rest_length (next_word text) ≡ length r.1.now = ap rest_length (sym e) in omega arith
+]

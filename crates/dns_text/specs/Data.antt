@@ -10,6 +10,8 @@ use Rattle.dns_text.specs.declared.kind.Form.TheVariants.{A as FormA, Aaaa as Fo
 use Rattle.dns_text.specs.Field.{name_at, last_name, number_at, last_number}
 use Rattle.dns_text.specs.Ipv4.{ipv4_in, ipv4_text}
 use Rattle.dns_text.specs.Ipv6.{ipv6_in, ipv6_text}
+use Rattle.dns_text.specs.Opaque.{octets_in, opaque_text}
+use Rattle.dns_text.specs.String.{strings_in, strings_text}
 use Rattle.dns_text.specs.Kind.{form_of}
 use Rattle.dns_text.specs.Word.{only_word}
 use Rattle.dns_text.specs.Steps.{◌>>=◌}
@@ -67,7 +69,8 @@ data_as FormName text = option_map One (last_name text)
 data_as FormMx text = mx_in text
 data_as FormSoa text = soa_in text
 data_as FormSrv text = srv_in text
-data_as _ text = None
+data_as FormOpaque text = option_map Opaque (octets_in text)
+data_as FormTxt text = option_map Txt (strings_in text)
 
 -- the data of a type
 abbrev pub data_in : ℕ → List ℕ → Option Data
@@ -80,7 +83,8 @@ data_text (One name) = text_of name
 data_text (Mx preference exchange) = mx_text preference exchange
 data_text (Soa primary mailbox serial refresh retry expire minimum) = names_text primary mailbox ++ soa_numbers_text serial refresh retry expire minimum
 data_text (Srv priority weight port target) = srv_text priority weight port target
-data_text _ = []
+data_text (Opaque octets) = opaque_text octets
+data_text (Txt strings) = strings_text strings
 
 -- the form of data
 abbrev pub form_in : Data → Form
@@ -98,6 +102,7 @@ abbrev pub IsSized : Data → Type 0
 IsSized (A octets) = length octets ≡ 4
 IsSized (Aaaa octets) = length octets ≡ 16
 IsSized (Txt strings) = (0 < length strings) × AllByRecursion (λ octets. length octets < 256) strings
+IsSized (Opaque octets) = length octets < 65536
 IsSized _ = Unit {0}
 
 -- Data has this form.
@@ -108,13 +113,3 @@ pub record IsOfForm (form : Form) (body : Data) : Type 0 where
 -- Data has the form of its type.
 abbrev pub HasForm : ℕ → Data → Type 0
 HasForm kind body = IsOfForm (form_of kind) body
-
--- the forms that have a text
-abbrev pub IsWritten : Form → Type 0
-IsWritten FormA = Unit {0}
-IsWritten FormAaaa = Unit {0}
-IsWritten FormName = Unit {0}
-IsWritten FormMx = Unit {0}
-IsWritten FormSoa = Unit {0}
-IsWritten FormSrv = Unit {0}
-IsWritten _ = ⊥

@@ -4,8 +4,11 @@ pub mod Number
 pub mod Word
 pub mod Kind
 pub mod Field
+pub mod Opaque
+pub mod String
 pub mod Ipv4
 pub mod Ipv6
+pub mod Addr
 pub mod Data
 pub mod Equal
 pub mod Record

@@ -7,9 +7,9 @@ use Rattle.dns_text.specs.declared.record.Record.{Record}
 use Rattle.dns_text.specs.Fault.{◌>>=◌, or_fault}
 use Rattle.dns_text.specs.Number.{is_digits, number_in}
 use Rattle.dns_text.specs.Word.{next_word}
-use Rattle.dns_text.specs.Kind.{type_in, type_text, is_excluded, form_of}
+use Rattle.dns_text.specs.Kind.{type_in, type_text, is_excluded}
 use Rattle.dns_text.specs.Field.{named}
-use Rattle.dns_text.specs.Data.{data_in, data_text, HasForm, IsWritten}
+use Rattle.dns_text.specs.Data.{data_in, data_text, HasForm}
 
 abbrev pub ttl_of : List ℕ → Option (List ℕ × List ℕ) → Result (Option ℕ × List ℕ) TextFault
 ttl_of text None = Ok (None, text)
@@ -62,4 +62,3 @@ pub record IsTextual (r : Record) : Type 0 where
   pub form : HasForm r.kind r.body
   pub kind : is_excluded r.kind ≡ false
   pub ttl : r.ttl < 2 ^ 31
-  pub written : IsWritten (form_of r.kind)

@@ -5,15 +5,18 @@ ghost use Rattle.dns_name.specs.Labels.{IsName};
 ghost use Rattle.dns_text.specs.Fault.{Gives, or_fault};
 ghost use Rattle.dns_text.specs.declared.fault.TextFault.TheVariants.{BadData};
 ghost use Rattle.dns_text.specs.Kind.{form_of};
-ghost use Rattle.dns_text.specs.Data.{mx_in, soa_in, srv_in, blank_number, names_text, soa_numbers_text, mx_text, srv_text, data_in, data_text, IsOfForm, HasForm, IsWritten};
+ghost use Rattle.dns_text.specs.Data.{mx_in, soa_in, srv_in, blank_number, names_text, soa_numbers_text, mx_text, srv_text, data_in, data_text, IsOfForm, HasForm};
 
 use crate::fault::TextFault;
 use crate::field::{last_name, last_number, next_name, next_number, push_name};
 use crate::ipv4::{push_ipv4, read_ipv4};
 use crate::ipv6::{push_ipv6, read_ipv6};
+use crate::items::Octets;
 use crate::kind::{Form, form_of};
 use crate::number::push_number;
+use crate::opaque::{push_octets, read_octets};
 use crate::record::Data;
+use crate::string::{push_strings, read_strings};
 use crate::word::only_word;
 use dns_name::{Name, NoMemory};
 use std::alloc::Global;
@@ -96,7 +99,14 @@ pub fn read_data(alloc: Global, kind: u16, text: &[u8]) -> Result<Data, TextFaul
         Form::Mx => read_mx(alloc, text),
         Form::Soa => read_soa(alloc, text),
         Form::Srv => read_srv(alloc, text),
-        _ => Err(TextFault::BadData),
+        Form::Opaque => {
+            let octets = read_octets(alloc, text)?;
+            Ok(Data::Opaque(Octets::new(octets)))
+        }
+        Form::Txt => {
+            let strings = read_strings(alloc, text)?;
+            Ok(Data::Txt(strings))
+        }
     }
 }
 
@@ -169,7 +179,7 @@ fn push_srv(
 #[tactic(auto, unfolding(crate::specs::Data::data_text))]
 pub fn push_data(body: &Data, out: &mut Vec<u8>) -> Result<(), NoMemory>
     ensures text { OnOk result (out.new.items ≡ out.old.items ++ data_text body.now) }
-    ensures again { OnOk result ((kind : ℕ) → IsWritten (form_of kind) → HasForm kind body.now → data_in kind (data_text body.now) ≡ Some body.now) }
+    ensures again { OnOk result ((kind : ℕ) → HasForm kind body.now → data_in kind (data_text body.now) ≡ Some body.now) }
 {
     match body {
         Data::A(octets) => push_ipv4(octets, out),
@@ -197,6 +207,7 @@ pub fn push_data(body: &Data, out: &mut Vec<u8>) -> Result<(), NoMemory>
             port,
             target,
         } => push_srv(*priority, *weight, *port, target, out),
-        _ => Ok(()),
+        Data::Opaque(octets) => push_octets(octets.as_slice(), out),
+        Data::Txt(strings) => push_strings(strings.as_slice(), out),
     }
 }

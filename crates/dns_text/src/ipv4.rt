@@ -1,6 +1,6 @@
 //! IPv4 addresses as text.
 
-ghost use Rattle.std.specs.Prelude.{◌≡◌, ◌<◌, ◌++◌, ℕ, slice_index, OnOk};
+ghost use Rattle.std.specs.Prelude.{length, ◌≡◌, ◌<◌, ◌++◌, ℕ, slice_index, OnOk};
 ghost use Rattle.dns_text.specs.Ipv4.{octet_in, ipv4_in, dotted, ipv4_text};
 
 use crate::number::{push_number, read_short_number};
@@ -44,6 +44,7 @@ fn push_dotted(n: u8, out: &mut Vec<u8>) -> Result<(), NoMemory>
 pub(crate) fn push_ipv4(octets: &[u8; 4], out: &mut Vec<u8>) -> Result<(), NoMemory>
     ensures text { OnOk result (out.new.items ≡ out.old.items ++ ipv4_text octets.now) }
     ensures octets { (i : ℕ) → slice_index octets.now i < 256 }
+    ensures length { length octets.now ≡ 4 }
 {
     let [a, b, c, d] = *octets;
     push_dotted(a, out)?;

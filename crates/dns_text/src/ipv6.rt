@@ -181,6 +181,7 @@ fn push_group(high: u8, low: u8, out: &mut Vec<u8>) -> Result<(), NoMemory>
 pub(crate) fn push_ipv6(octets: &[u8; 16], out: &mut Vec<u8>) -> Result<(), NoMemory>
     ensures text { OnOk result (out.new.items ≡ out.old.items ++ ipv6_text octets.now) }
     ensures octets { (i : ℕ) → slice_index octets.now i < 256 }
+    ensures length { length octets.now ≡ 16 }
 {
     push_group(octets[0], octets[1], out)?;
     let mut rest = &octets[2..];

@@ -1,6 +1,7 @@
 //! Questions and records of the domain name system, as values and as text.
 #![tactic(auto)]
 
+mod addr;
 mod data;
 mod fault;
 mod field;
@@ -9,10 +10,13 @@ mod ipv6;
 mod items;
 mod kind;
 mod number;
+mod opaque;
 mod record;
 mod record_text;
+mod string;
 mod word;
 
+pub use addr::{Addr, Ip, push_addr, read_addr, write_addr};
 pub use data::{push_data, read_data};
 pub use fault::TextFault;
 pub use items::{Items, Octets};

@@ -66,6 +66,13 @@ fn skip_blanks(text: &[u8]) -> &[u8]
 
 /// The first word of a text as it stands there, with its quotes, and the text after it.
 pub fn next_word(text: &[u8]) -> Option<(&[u8], &[u8])>
+    ensures value { option_map (λ r. (r.0.now, r.1.now)) result ≡ next_word text.now }
+    ensures less { IfSome result (λ r. length r.1.now < length text.now) }
+{
+    first_word(text)
+}
+
+fn first_word(text: &[u8]) -> Option<(&[u8], &[u8])>
     ensures { option_map (λ r. (r.0.now, r.1.now)) result ≡ next_word text.now }
 {
     let rest = skip_blanks(text);

@@ -1,0 +1,186 @@
+//! Strings of TXT data, each a word, in quotes or not.
+
+ghost use Rattle.std.specs.Prelude.{◌≡◌, ◌<◌, ◌≤◌, ◌+◌, ◌++◌, [], List, ℕ, option_map, length, IfOk, IfSome, OnOk, MatchOption, None};
+ghost use Rattle.std.specs.List.{flat_map, AllByRecursion};
+ghost use Rattle.dns_text.specs.declared.fault.TextFault.TheVariants.{BadData};
+ghost use Rattle.dns_text.specs.Fault.{Gives, or_fault, result_map};
+ghost use Rattle.dns_text.specs.String.{escape_in, octet_at, octets_after, before_last_quote, unquoted, string_in, strings_after, strings_in, quoted_octet, quoted, strings_text, AreOctets};
+
+use crate::fault::TextFault;
+use crate::items::{Items, Octets};
+use crate::word::next_word;
+use arrayvec::ArrayVec;
+use dns_name::NoMemory;
+use std::alloc::Global;
+
+/// The octet that a backslash before this text stands for, and how many octets of text it takes with the backslash.
+fn next_escape(text: &[u8]) -> Option<(u8, usize)>
+    ensures value { result ≡ escape_in text.now }
+    ensures within { IfSome result (λ a. (0 < a.1) × (a.1 ≤ length text.now + 1)) }
+{
+    let x = *text.first()?;
+    if !x.is_ascii_digit() {
+        return if x.is_ascii_graphic() {
+            Some((x, 2))
+        } else {
+            None
+        };
+    }
+    match text {
+        [_, y, z, ..] => {
+            if !y.is_ascii_digit() || !z.is_ascii_digit() {
+                return None;
+            }
+            let value = u16::from(x - b'0') * 100
+                + u16::from(*y - b'0') * 10
+                + u16::from(*z - b'0');
+            if value < 256 {
+                Some((value as u8, 4))
+            } else {
+                None
+            }
+        }
+        _ => None,
+    }
+}
+
+/// The octet at the front of a text, escaped or not, and how many octets of text it takes; none at a bare quote.
+fn next_octet(text: &[u8]) -> Option<(u8, usize)>
+    ensures value { result ≡ octet_at text.now }
+    ensures within { IfSome result (λ a. (0 < a.1) × (a.1 ≤ length text.now)) }
+{
+    match text {
+        [] => None,
+        [b'"', ..] => None,
+        [b'\\', rest @ ..] => next_escape(rest),
+        [c, ..] => Some((*c, 1)),
+    }
+}
+
+/// Reads one octet more of a string, of which there are at most 255, and answers the text after it.
+fn take_octet<'a>(text: &'a [u8], octets: &mut ArrayVec<u8, 255>) -> Option<&'a [u8]>
+    requires { 0 < length text.now }
+    ensures { MatchOption result (octets_after octets.old.items 0 text.now ≡ None) (λ rest. (octets_after octets.old.items 0 text.now ≡ octets_after octets.new.items 0 rest.now) × (length rest.now < length text.now)) }
+{
+    let (octet, taken) = next_octet(text)?;
+    if octets.len() >= 255 {
+        return None;
+    }
+    octets.push(octet);
+    Some(&text[taken..])
+}
+
+/// The octets of a string.
+fn read_string_octets(text: &[u8]) -> Option<ArrayVec<u8, 255>>
+    ensures { option_map (λ v. v.items) result ≡ octets_after [] 0 text.now }
+{
+    let mut octets: ArrayVec<u8, 255> = ArrayVec::new();
+    let mut rest = text;
+    while !rest.is_empty() {
+        rest = take_octet(rest, &mut octets)?;
+    }
+    Some(octets)
+}
+
+/// What stands in the quotes round a word, or the word itself where it begins with none.
+fn unquoted(word: &[u8]) -> Option<&[u8]>
+    ensures { option_map (λ r. r.now) result ≡ unquoted word.now }
+{
+    match word {
+        [b'"', rest @ ..] => before_last_quote(rest),
+        _ => Some(word),
+    }
+}
+
+/// What stands before the quote at the end of a text.
+fn before_last_quote(text: &[u8]) -> Option<&[u8]>
+    ensures { option_map (λ r. r.now) result ≡ before_last_quote text.now }
+{
+    let (last, front) = text.split_last()?;
+    if *last == b'"' { Some(front) } else { None }
+}
+
+/// The octets of a word.
+#[tactic(auto, unfolding(crate::specs::String::string_in))]
+fn read_string(alloc: Global, word: &[u8]) -> Result<Option<Octets>, NoMemory>
+    ensures value { IfOk result (λ s. s ≡ string_in word.now) }
+    ensures few { IfOk result (λ s. IfSome s (λ octets. length octets < 256)) }
+{
+    let Some(inside) = unquoted(word) else {
+        return Ok(None);
+    };
+    match read_string_octets(inside) {
+        None => Ok(None),
+        Some(octets) => Ok(Some(Octets::new(Vec::from_slice(alloc, octets.as_slice())?))),
+    }
+}
+
+/// The strings of a text, one or more.
+fn read_all_strings(alloc: Global, text: &[u8]) -> Result<Vec<Octets>, TextFault>
+    ensures value { Gives (result_map (λ v. v.items) result) (or_fault BadData (strings_after [] (length text.now) text.now)) }
+    ensures few { IfOk result (λ v. AllByRecursion (λ octets. length octets < 256) v.items) }
+{
+    let mut strings = Vec::new(alloc);
+    let mut rest = text;
+    while let Some((word, after)) = next_word(rest) {
+        match read_string(alloc, word)? {
+            None => return Err(TextFault::BadData),
+            Some(octets) => strings.push(octets)?,
+        }
+        rest = after;
+    }
+    Ok(strings)
+}
+
+/// The strings of a text, one or more.
+#[tactic(auto, unfolding(crate::specs::String::strings_in))]
+pub(crate) fn read_strings(alloc: Global, text: &[u8]) -> Result<Items<Octets>, TextFault>
+    ensures value { Gives result (or_fault BadData (strings_in text.now)) }
+    ensures sized { IfOk result (λ strings. (0 < length strings) × AllByRecursion (λ octets. length octets < 256) strings) }
+{
+    let strings = read_all_strings(alloc, text)?;
+    if strings.is_empty() {
+        return Err(TextFault::BadData);
+    }
+    Ok(Items::new(strings))
+}
+
+/// Writes an octet in quotes.
+fn push_quoted_octet(b: u8, out: &mut Vec<u8>) -> Result<(), NoMemory>
+    ensures { OnOk result (out.new.items ≡ out.old.items ++ quoted_octet b) }
+{
+    match b {
+        b'"' | b'\\' => out.extend_from_slice(&[b'\\', b]),
+        32..=126 => out.extend_from_slice(&[b]),
+        _ => out.extend_from_slice(&[b'\\', b / 100 + b'0', b / 10 % 10 + b'0', b % 10 + b'0']),
+    }
+}
+
+/// Writes a string in quotes.
+fn push_quoted(octets: &[u8], out: &mut Vec<u8>) -> Result<(), NoMemory>
+    ensures text { OnOk result (out.new.items ≡ out.old.items ++ quoted octets.now) }
+    ensures octets { AreOctets octets.now }
+{
+    out.push(b'"')?;
+    for b in octets {
+        push_quoted_octet(*b, out)?;
+    }
+    out.push(b'"')?;
+    Ok(())
+}
+
+/// Writes strings in quotes, with a blank between each two.
+pub(crate) fn push_strings(strings: &[Octets], out: &mut Vec<u8>) -> Result<(), NoMemory>
+    ensures text { OnOk result (out.new.items ≡ out.old.items ++ strings_text strings.now) }
+    ensures octets { OnOk result (AllByRecursion AreOctets strings.now) }
+{
+    let Some((first, rest)) = strings.split_first() else {
+        return Ok(());
+    };
+    push_quoted(first.as_slice(), out)?;
+    for octets in rest {
+        out.push(b' ')?;
+        push_quoted(octets.as_slice(), out)?;
+    }
+    Ok(())
+}
