@@ -1,5 +1,5 @@
 -- Addresses that are written are read back.
-use Rattle.std.proofs.Common.{◌≡◌, ℕ, zero, suc, ◌+◌, ◌<◌, ◌≤◌, ◌^◌, Bool, true, false, List, [], ◌∷◌, ◌++◌, length, get_or, Option, Some, None, refl, sym, ap, ◌∙◌, arith, ne_eqb}
+use Rattle.std.proofs.Common.{◌≡◌, ℕ, ◌<◌, Bool, true, false, List, [], ◌∷◌, ◌++◌, length, get_or, Some, None, refl, ◌∙◌, arith, ne_eqb}
 use Rattle.std.specs.Prelude.{◌==◌, ◌&&◌, not, decimal, slice_index}
 use Rattle.std.specs.Char.{is_ascii_digit, digit_char}
 use Rattle.std.specs.Str.{all_ascii_digits}
@@ -9,16 +9,15 @@ use Rattle.std.specs.Net.Addr.{segments_of}
 use Rattle.std.proofs.lemmas.Bool.{and_parts, not-true, agree_below_at}
 use Rattle.std.proofs.lemmas.Bool.Decides.{nat_tests}
 use Rattle.std.proofs.lemmas.List.Folds.{list_all-append}
-use Rattle.dns_text.specs.declared.addr.Ip.{Ip}
 use Rattle.dns_text.specs.declared.addr.Ip.TheVariants.{V4, V6}
 use Rattle.dns_text.specs.declared.addr.Addr.{Addr}
 use Rattle.dns_text.specs.Word.{cut_at}
 use Rattle.dns_text.specs.Ipv4.{ipv4_in, dotted, ipv4_text}
-use Rattle.dns_text.specs.Ipv6.{ipv6_in, ipv6_text}
-use Rattle.dns_text.specs.Addr.{ip_in, port_in, addr_in, ip_text, addr_text, IpReads}
+use Rattle.dns_text.specs.Ipv6.{ipv6_text}
+use Rattle.dns_text.specs.Addr.{addr_in, ip_text, addr_text, IpReads}
 use Rattle.dns_text.proofs.NumberLaws.{digits-decimal, number_in-decimal}
 use Rattle.dns_text.proofs.Ipv4Laws.{ipv4_in-ipv4_text}
-use Rattle.dns_text.proofs.Ipv6Laws.{AllGroups, Segments, segments, more_text, hex_all, ipv6_again}
+use Rattle.dns_text.proofs.Ipv6Laws.{AllGroups, segments, more_text, hex_all, ipv6_again}
 
 -- octets other than this one
 abbrev other : ℕ → ℕ → Bool

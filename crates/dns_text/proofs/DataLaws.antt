@@ -1,20 +1,12 @@
 -- Data that is written is read back.
-use Rattle.std.proofs.Common.{◌≡◌, ℕ, ◌+◌, ◌<◌, ◌^◌, Bool, true, false, List, [], ◌∷◌, ◌++◌, length, get_or, Option, Some, None, refl, sym, ap, subst, ◌∙◌, arith, append_assoc, length-append}
-use Rattle.std.specs.Prelude.{◌==◌, decimal, option_map, slice_index}
-use Rattle.std.specs.Char.{is_ascii_digit}
-use Rattle.std.specs.Str.{all_ascii_digits}
-use Rattle.std.proofs.lemmas.Bool.{and_parts}
-use Rattle.std.proofs.lemmas.Bool.Decides.{nat_tests}
-use Rattle.std.proofs.lemmas.Fmt.{decimal_nonempty}
-use Rattle.dns_text.specs.declared.record.Data.{Data}
+use Rattle.std.proofs.Common.{◌≡◌, ℕ, ◌<◌, ◌^◌, List, [], ◌∷◌, ◌++◌, length, get_or, Some, refl, ap, ◌∙◌, arith, append_assoc}
+use Rattle.std.specs.Prelude.{decimal, option_map, slice_index}
 use Rattle.dns_text.specs.declared.record.Data.TheVariants.{A, Aaaa, One, Mx, Soa, Txt, Srv, Opaque}
 use Rattle.dns_text.specs.declared.kind.Form.{Form}
 use Rattle.dns_text.specs.declared.kind.Form.TheVariants.{A as FormA, Aaaa as FormAaaa, Name as FormName, Mx as FormMx, Soa as FormSoa, Txt as FormTxt, Srv as FormSrv, Opaque as FormOpaque}
-use Rattle.dns_text.specs.declared.word.Within.TheVariants.{Plain}
 use Rattle.dns_name.specs.Labels.{Labels, IsName}
 use Rattle.dns_name.specs.Text.{text_of}
 use Rattle.dns_text.specs.Kind.{form_of}
-use Rattle.dns_text.specs.Word.{only_word}
 use Rattle.dns_text.specs.Data.{mx_in, soa_in, srv_in, data_as, data_in, data_text, HasForm}
 use Rattle.dns_text.specs.Ipv4.{ipv4_text}
 use Rattle.dns_text.specs.Ipv6.{ipv6_text}

@@ -1,6 +1,6 @@
 -- IPv6 addresses that are written are read back.
-use Rattle.std.proofs.Common.{zero, suc, map, le-ltb, lt-ltb, le-leb, eq-eqb, length-drop, ◌≡◌, ℕ, ◌+◌, ◌-◌, ◌*◌, ◌/◌, ◌%◌, ◌<◌, ◌≤◌, ◌^◌, Bool, true, false, List, [], ◌∷◌, ◌++◌, length, get_or, drop, Option, Some, None, refl, sym, ap, ◌∙◌, arith, append_assoc, length-append, inl, inr, flat_map}
-use Rattle.std.specs.Prelude.{◌==◌, ◌&&◌, not, slice_index, option_map, nat_lt, MatchOption}
+use Rattle.std.proofs.Common.{zero, suc, map, le-ltb, lt-ltb, le-leb, eq-eqb, length-drop, ◌≡◌, ℕ, ◌+◌, ◌*◌, ◌/◌, ◌%◌, ◌<◌, ◌≤◌, Bool, true, false, List, [], ◌∷◌, ◌++◌, length, get_or, drop, Option, Some, None, refl, sym, ap, ◌∙◌, arith, append_assoc, length-append, inl, inr, flat_map}
+use Rattle.std.specs.Prelude.{◌==◌, ◌&&◌, not, slice_index, option_map, MatchOption}
 use Rattle.std.specs.Borrow.{Bor}
 use Rattle.std.specs.Char.{digit_value, digit_char}
 use Rattle.std.specs.Net.Text.{hex, leading_zero_digits, groups_text}

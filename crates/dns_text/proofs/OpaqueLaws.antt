@@ -1,14 +1,14 @@
 -- Octets that are written with a count are read back.
-use Rattle.std.proofs.Common.{◌≡◌, ℕ, suc, ◌+◌, ◌*◌, ◌/◌, ◌%◌, ◌<◌, ◌^◌, Bool, true, false, List, [], ◌∷◌, ◌++◌, length, get_or, Option, Some, None, refl, sym, ap, ◌∙◌, arith, append_assoc, eq-eqb}
+use Rattle.std.proofs.Common.{◌≡◌, ℕ, suc, ◌/◌, ◌%◌, ◌<◌, Bool, true, false, List, [], ◌∷◌, ◌++◌, length, Option, Some, refl, sym, ap, ◌∙◌, arith, append_assoc, eq-eqb}
 use Rattle.std.specs.Prelude.{◌&&◌, decimal, slice_index}
 use Rattle.std.specs.List.{list_all}
-use Rattle.std.proofs.lemmas.Bool.{and_parts, agree_below_at}
+use Rattle.std.proofs.lemmas.Bool.{agree_below_at}
 use Rattle.std.proofs.lemmas.List.{append-nil}
 use Rattle.hex.specs.Hex.{lower_digits, encode_with, encode_lower}
 use Rattle.hex.proofs.HexLemmas.{length-encode_with, decode_of-encode_lower}
 use Rattle.dns_text.specs.declared.word.Within.TheVariants.{Plain}
 use Rattle.dns_text.specs.Word.{next_word, cut_word}
-use Rattle.dns_text.specs.Opaque.{or_nothing, word_or_nothing, unhexed, ok_or_none, octets_in, hex_part, opaque_text}
+use Rattle.dns_text.specs.Opaque.{or_nothing, word_or_nothing, octets_in, hex_part, opaque_text}
 use Rattle.dns_text.proofs.WordLaws.{scanned, IsWord, EndsWord, is_plain, plain_scanned, next_word-front}
 use Rattle.dns_text.proofs.FieldLaws.{number_at-decimal}
 

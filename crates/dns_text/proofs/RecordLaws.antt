@@ -1,17 +1,15 @@
 -- Records that are written are read back.
-use Rattle.std.proofs.Common.{◌≡◌, ℕ, ◌<◌, ◌^◌, Bool, true, false, List, [], ◌∷◌, ◌++◌, length, Option, Some, None, Ok, refl, sym, ap, ◌∙◌, arith, append_assoc}
+use Rattle.std.proofs.Common.{◌≡◌, ℕ, ◌<◌, ◌^◌, false, List, ◌∷◌, ◌++◌, Some, Ok, refl, arith, append_assoc}
 use Rattle.std.specs.Prelude.{decimal}
-use Rattle.std.proofs.lemmas.Fmt.{decimal_nonempty}
 use Rattle.dns_name.specs.Labels.{IsName}
 use Rattle.dns_name.specs.Text.{text_of}
 use Rattle.dns_text.specs.declared.record.Record.{Record}
 use Rattle.dns_text.specs.Word.{next_word}
-use Rattle.dns_text.specs.Kind.{type_in, type_text}
+use Rattle.dns_text.specs.Kind.{type_text}
 use Rattle.dns_text.specs.Data.{data_in, data_text}
-use Rattle.dns_text.specs.Field.{named}
-use Rattle.dns_text.specs.Record.{is_class, class_of, after_class, ttl_at, with_ttl, ttl_and_class, record_in, record_text, IsTextual}
-use Rattle.dns_text.proofs.NumberLaws.{digits-decimal, is_digits-decimal, number_in-decimal}
-use Rattle.dns_text.proofs.WordLaws.{IsWord, digits_scanned, next_word-front}
+use Rattle.dns_text.specs.Record.{is_class, after_class, ttl_at, ttl_and_class, record_in, record_text, IsTextual}
+use Rattle.dns_text.proofs.NumberLaws.{is_digits-decimal, number_in-decimal}
+use Rattle.dns_text.proofs.WordLaws.{IsWord, next_word-front}
 use Rattle.dns_text.proofs.FieldLaws.{number_is_word}
 use Rattle.dns_text.proofs.NameLaws.{named-text_of, name_is_word}
 use Rattle.dns_text.proofs.KindLaws.{type_is_word, type_in-type_text, type_is_no_class}

@@ -1,6 +1,6 @@
 -- Strings that are written in quotes are read back.
 use Rattle.std.proofs.Common.{◌≡◌, ℕ, zero, suc, ◌+◌, ◌-◌, ◌/◌, ◌%◌, ◌<◌, ◌≤◌, Bool, true, false, List, [], ◌∷◌, ◌++◌, length, get_or, drop, Option, Some, None, refl, sym, ap, ◌∙◌, arith, append_assoc, length-append, inl, inr, le-ltb, lt-ltb, eqb, eq-eqb, ne_eqb, ◌≢◌}
-use Rattle.std.specs.Prelude.{◌==◌, ◌&&◌, ◌||◌, ◌⊎◌, not, nat_lt, option_map, if◌then◌else◌}
+use Rattle.std.specs.Prelude.{◌==◌, ◌&&◌, ◌||◌, ◌⊎◌, not, nat_lt, if◌then◌else◌}
 use Rattle.std.specs.List.{flat_map, AllByRecursion}
 use Rattle.std.specs.Char.{is_ascii_digit, is_ascii_graphic}
 use Rattle.std.proofs.lemmas.Bool.{cases_Bool, eqb-true, and_parts, not-true, agree_below, agree_below_at}
@@ -11,7 +11,7 @@ use Rattle.dns_text.specs.declared.word.Within.{Within}
 use Rattle.dns_text.specs.declared.word.Within.TheVariants.{Plain, Quotes, Escape, QuotedEscape}
 use Rattle.dns_text.specs.Word.{next_word}
 use Rattle.dns_text.specs.Steps.{◌>>=◌}
-use Rattle.dns_text.specs.String.{octet_at, octets_after, before_last_quote, unquoted, string_in, then_string, strings_after, some_strings, strings_in, quoted_octet, quoted, strings_text}
+use Rattle.dns_text.specs.String.{octet_at, octets_after, before_last_quote, string_in, then_string, strings_after, some_strings, strings_in, quoted_octet, quoted, strings_text}
 use Rattle.dns_text.proofs.WordLaws.{scanned, IsWord, EndsWord, scanned-append, next_word-front, rest_length, next_less}
 
 -- ---- one octet after another

@@ -1,16 +1,16 @@
 -- Words that stand in a text.
-use Rattle.std.proofs.Common.{◌≡◌, ℕ, ◌<◌, Bool, true, false, List, [], ◌∷◌, ◌++◌, length, Option, Some, None, refl, sym, ap, ◌∙◌, arith, inl, inr, append_assoc, length-append, ◌≢◌}
-use Rattle.std.specs.Prelude.{◌&&◌, ◌⊎◌, not, ◌==◌, if◌then◌else◌, option_map, IfSome}
+use Rattle.std.proofs.Common.{◌≡◌, ℕ, ◌<◌, Bool, true, false, List, [], ◌∷◌, ◌++◌, length, Option, Some, None, refl, sym, ap, ◌∙◌, arith, inl, inr, length-append, ◌≢◌}
+use Rattle.std.specs.Prelude.{◌&&◌, ◌⊎◌, not, ◌==◌, option_map, IfSome}
 use Rattle.std.specs.Borrow.{Bor}
 use Rattle.std.specs.Char.{is_ascii_digit}
 use Rattle.std.specs.Str.{all_ascii_digits}
-use Rattle.std.proofs.lemmas.Bool.{cases_Bool, agree_below, agree_below_at, and_parts, not-true}
+use Rattle.std.proofs.lemmas.Bool.{cases_Bool, and_parts, not-true}
 use Rattle.std.specs.List.{list_all}
 use Rattle.std.proofs.lemmas.Bool.Decides.{nat_tests}
 use Rattle.std.proofs.lemmas.List.{append-nil}
 use Rattle.dns_text.specs.declared.word.Within.{Within}
-use Rattle.dns_text.specs.declared.word.Within.TheVariants.{Plain, Quotes, Escape, QuotedEscape}
-use Rattle.dns_text.specs.Word.{is_blank, after_octet, goes_on, with_first, cut_word, skip_blanks, word_at, next_word, only_word, unless_more}
+use Rattle.dns_text.specs.declared.word.Within.TheVariants.{Plain}
+use Rattle.dns_text.specs.Word.{is_blank, after_octet, goes_on, with_first, cut_word, next_word, only_word}
 
 -- where a word stands after some octets, none of which ends it
 abbrev pub then_octets : Option Within → (Within → Option Within) → Option Within

@@ -1,5 +1,5 @@
 -- Addresses of servers as text: ip@port, or ip for port 53.
-use Rattle.std.specs.Prelude.{◌≡◌, ℕ, true, not, List, [], ◌∷◌, ◌++◌, Option, Some, None, option_map, ◌==◌, if◌then◌else◌, decimal}
+use Rattle.std.specs.Prelude.{◌≡◌, ℕ, true, not, List, ◌∷◌, ◌++◌, Option, Some, None, option_map, ◌==◌, if◌then◌else◌, decimal}
 use Rattle.std.specs.List.{list_all}
 use Rattle.dns_text.specs.declared.addr.Ip.{Ip}
 use Rattle.dns_text.specs.declared.addr.Ip.TheVariants.{V4, V6}

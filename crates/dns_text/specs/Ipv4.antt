@@ -1,5 +1,5 @@
 -- IPv4 addresses as text: four numbers joined by dots.
-use Rattle.std.specs.Prelude.{ℕ, List, [], ◌∷◌, ◌++◌, Option, Some, None, slice_index, decimal}
+use Rattle.std.specs.Prelude.{ℕ, List, [], ◌∷◌, ◌++◌, Option, Some, slice_index, decimal}
 use Rattle.dns_text.specs.Number.{short_number_in}
 use Rattle.dns_text.specs.Word.{cut_at}
 use Rattle.dns_text.specs.Steps.{◌>>=◌}

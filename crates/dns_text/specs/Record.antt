@@ -1,5 +1,5 @@
 -- Records as text: NAME [TTL] [IN] TYPE DATA.
-use Rattle.std.specs.Prelude.{◌≡◌, ℕ, ◌<◌, ◌^◌, Bool, false, ◌||◌, ◌&&◌, List, [], ◌∷◌, ◌++◌, Option, Some, None, Result, Ok, Err, ◌==◌, if◌then◌else◌, unwrap_or, decimal}
+use Rattle.std.specs.Prelude.{◌≡◌, ℕ, ◌<◌, ◌^◌, Bool, false, ◌||◌, ◌&&◌, List, [], ◌∷◌, ◌++◌, Option, Some, None, Result, Ok, ◌==◌, if◌then◌else◌, unwrap_or, decimal}
 use Rattle.dns_name.specs.Text.{text_of}
 use Rattle.dns_text.specs.declared.fault.TextFault.{TextFault}
 use Rattle.dns_text.specs.declared.fault.TextFault.TheVariants.{BadName, BadTtl, BadType, BadData}

@@ -1,4 +1,4 @@
-use Rattle.std.proofs.Common.{◌≡◌, ◌<◌, Ok, Err, Result, arith}
+use Rattle.std.proofs.Common.{◌<◌, Ok, Err, Result, arith}
 use Rattle.std.specs.Prelude.{OnOk}
 use Rattle.dns_text.proofs.AddrLaws.{addr_again}
 use Rattle.dns_text.proofs.addr.push_addr.Goals as goal

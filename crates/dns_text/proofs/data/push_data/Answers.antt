@@ -1,8 +1,7 @@
-use Rattle.std.proofs.Common.{◌≡◌, ℕ, ◌<◌, List, Option, Some, sym, subst, arith, Ok, Err, Result}
+use Rattle.std.proofs.Common.{◌≡◌, ℕ, ◌<◌, List, Some, sym, subst, Ok, Err, Result}
 use Rattle.std.specs.Prelude.{OnOk, slice_index}
 use Rattle.std.proofs.lemmas.Result.{on_ok_weaker}
 use Rattle.dns_text.specs.declared.record.Data.{Data}
-use Rattle.dns_text.specs.Kind.{form_of}
 use Rattle.std.specs.List.{AllByRecursion}
 use Rattle.dns_text.specs.String.{AreOctets}
 use Rattle.dns_text.specs.Data.{data_in, data_text, HasForm}

@@ -1,4 +1,4 @@
-use Rattle.std.proofs.Common.{◌≡◌, ◌++◌, ◌∷◌, ◌+◌, ◌*◌, List, ℕ, length, take, drop, flat_map, sym, ap, ◌∙◌, append_assoc, arith, length-drop}
+use Rattle.std.proofs.Common.{◌++◌, ◌∷◌, ◌+◌, ◌*◌, List, ℕ, take, drop, flat_map, sym, ap, ◌∙◌, append_assoc, arith, length-drop}
 use Rattle.std.specs.Prelude.{slice_index}
 use Rattle.std.specs.Net.Text.{hex}
 use Rattle.std.specs.Net.Addr.{segments_of}

@@ -1,5 +1,4 @@
-use Rattle.std.proofs.Common.{◌≡◌, sym, ◌∙◌}
-use Rattle.dns_text.specs.Kind.{Entry}
+use Rattle.std.proofs.Common.{sym, ◌∙◌}
 use Rattle.dns_text.proofs.KindLaws.{by_name_other}
 use Rattle.dns_text.proofs.kind.by_name.Goals as goal
 

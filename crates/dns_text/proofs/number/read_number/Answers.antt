@@ -1,4 +1,4 @@
-use Rattle.std.proofs.Common.{◌<◌, ◌≡◌, length, arith, sym, ◌∙◌}
+use Rattle.std.proofs.Common.{arith, sym, ◌∙◌}
 use Rattle.dns_text.proofs.NumberLaws.{digits_in-some, number_in_none}
 use Rattle.dns_text.proofs.number.read_number.Goals as goal
 

@@ -1,5 +1,5 @@
-use Rattle.std.proofs.Common.{◌<◌, ◌≡◌, List, ℕ, [], ◌∷◌, ◌++◌, Some, None, length, sym, ap, subst, ◌∙◌}
-use Rattle.std.specs.Prelude.{option_map, IfSome}
+use Rattle.std.proofs.Common.{◌<◌, ◌≡◌, List, ℕ, [], Some, None, length, sym, ap, subst, ◌∙◌}
+use Rattle.std.specs.Prelude.{option_map}
 use Rattle.std.specs.List.{AllByRecursion}
 use Rattle.dns_text.specs.declared.fault.TextFault.TheVariants.{BadData}
 use Rattle.dns_text.specs.Fault.{or_fault}
