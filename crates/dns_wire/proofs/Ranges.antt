@@ -1,5 +1,5 @@
 -- What octets spell is well formed.
-use Rattle.std.proofs.Common.{◌≡◌, ℕ, zero, suc, ◌+◌, ◌^◌, ◌<◌, List, [], ◌∷◌, ◌++◌, length, take, drop, get_or, Option, Some, None, refl, inl, inr, eqb, ltb, arith, length-drop}
+use Rattle.std.proofs.Common.{◌≡◌, ℕ, zero, suc, ◌+◌, ◌^◌, ◌<◌, List, [], ◌∷◌, ◌++◌, length, take, drop, get_or, Option, Some, None, refl, ap, inl, inr, eqb, ltb, arith, length-drop}
 use Rattle.std.specs.Prelude.{slice_get, Result, Ok, Err, IfOk}
 use Rattle.std.specs.List.{AllByRecursion, flat_map}
 use Rattle.std.proofs.lemmas.Bool.{cases_Bool, eqb-false, ltb-true}
@@ -7,9 +7,10 @@ use Rattle.std.proofs.lemmas.List.{length-take}
 use Rattle.dns_name.specs.Labels.{Labels, IsLabel, IsName, with_length}
 use Rattle.dns_name.specs.Octets.{lower_label}
 use Rattle.dns_text.specs.declared.record.Data.{Data}
+use Rattle.dns_text.specs.Data.{IsOfForm}
 use Rattle.dns_text.specs.declared.record.Question.{Question}
 use Rattle.dns_text.specs.declared.record.Record.{Record}
-use Rattle.dns_wire.specs.declared.rdata.Form.{Form}
+use Rattle.dns_text.specs.declared.kind.Form.{Form}
 use Rattle.dns_wire.specs.declared.fault.WireFault.{WireFault}
 use Rattle.dns_wire.specs.declared.message.Classed.{Classed}
 use Rattle.dns_wire.specs.declared.message.Message.{Message}
@@ -20,9 +21,9 @@ use Rattle.dns_wire.specs.Name.{next_by, pointer_by, NameAt, finish, label, poin
 use Rattle.dns_wire.specs.Number.{u16_at, u32_at}
 use Rattle.dns_wire.specs.Question.{QuestionAt}
 use Rattle.dns_wire.specs.Rdata.{DataAt, ipv4, ipv6, one_name, mail, start, one_or_more, service, unknown}
-use Rattle.dns_wire.specs.Record.{ttl_of, RecordAt}
+use Rattle.dns_wire.specs.Record.{ttl_of, data_begin, RecordAt}
 use Rattle.dns_wire.specs.Section.{no_items, one_more}
-use Rattle.dns_wire.specs.WellFormed.{IsHead, IsQuestion, AreOctets, IsString, form_of_data, IsData, IsRecord, IsWellFormed}
+use Rattle.dns_wire.specs.WellFormed.{IsHead, IsQuestion, AreOctets, IsData, IsRecord, IsWellFormed}
 
 -- ---- parts of octets
 
@@ -49,11 +50,17 @@ octets_split : (a b : List ℕ) → AreOctets (a ++ b) → AreOctets a × AreOct
 octets_split [] b h = (tt, h)
 octets_split (x ∷ a) b h = let rest = octets_split a b h.1 in ((h.0, rest.0), rest.1)
 
-strings_range : (strings : List (List ℕ)) → AreOctets (flat_map with_length strings) → AllByRecursion IsString strings
+strings_range : (strings : List (List ℕ)) → AreOctets (flat_map with_length strings) → AllByRecursion AreOctets strings
 strings_range [] h = tt
 strings_range (string ∷ strings) h =
     let parts = octets_split (with_length string) (flat_map with_length strings) h in
-    (record { short = parts.0.0; octets = parts.0.1 }, strings_range strings parts.1)
+    (parts.0.1, strings_range strings parts.1)
+
+strings_short : (strings : List (List ℕ)) → AreOctets (flat_map with_length strings) → AllByRecursion (λ octets. length octets < 256) strings
+strings_short [] h = tt
+strings_short (string ∷ strings) h =
+    let parts = octets_split (with_length string) (flat_map with_length strings) h in
+    (parts.0.0, strings_short strings parts.1)
 
 -- ---- numbers
 
@@ -120,22 +127,27 @@ question_range {m} octets h = record {
   class = rw h.class (u16_range m (h.fixed + 2) octets);
 }
 
-data_range : {m : List ℕ} {at : ℕ} {form : Form} {body : Data} → AreOctets m → DataAt m at form body → (form ≡ form_of_data body) × IsData body
-data_range {m} {at} octets (ipv4 is four) = (refl, (four, rw (← is) (octets_drop at m octets)))
-data_range {m} {at} octets (ipv6 is sixteen) = (refl, (sixteen, rw (← is) (octets_drop at m octets)))
-data_range octets (one_name h) = (refl, name_range octets h)
-data_range {m} {at} octets (mail room preference h) = (refl, (rw preference (u16_range m at octets), name_range octets h))
-data_range {m} octets (start {numbers = n} h k end serial refresh retry expire minimum) =
-    (refl, (name_range octets h, name_range octets k, rw serial (u32_range m n octets), rw refresh (u32_range m (n + 4) octets), rw retry (u32_range m (n + 8) octets), rw expire (u32_range m (n + 12) octets), rw minimum (u32_range m (n + 16) octets)))
-data_range {m} {at} octets (one_or_more {string = string} {strings = strings} is) =
-    (refl, (omega arith, strings_range (string ∷ strings) (rw is at (octets_drop at m octets))))
-data_range {m} {at} octets (service room priority weight port h) =
-    (refl, (rw priority (u16_range m at octets), rw weight (u16_range m (at + 2) octets), rw port (u16_range m (at + 4) octets), name_range octets h))
-data_range {m} {at} octets (unknown is) = (refl, rw (← is) (octets_drop at m octets))
+-- RDATA has as many octets as 16 bits can count
+data_range : {m : List ℕ} {at : ℕ} {form : Form} {body : Data} → AreOctets m → length m < at + 65536 → DataAt m at form body → IsOfForm form body × IsData body
+data_range {m} {at} octets few (ipv4 is four) = (record { same = refl; sized = four }, rw (← is) (octets_drop at m octets))
+data_range {m} {at} octets few (ipv6 is sixteen) = (record { same = refl; sized = sixteen }, rw (← is) (octets_drop at m octets))
+data_range octets few (one_name h) = (record { same = refl; sized = tt }, name_range octets h)
+data_range {m} {at} octets few (mail room preference h) =
+    (record { same = refl; sized = tt }, (rw preference (u16_range m at octets), name_range octets h))
+data_range {m} octets few (start {numbers = n} h k end serial refresh retry expire minimum) =
+    (record { same = refl; sized = tt }, (name_range octets h, name_range octets k, rw serial (u32_range m n octets), rw refresh (u32_range m (n + 4) octets), rw retry (u32_range m (n + 8) octets), rw expire (u32_range m (n + 12) octets), rw minimum (u32_range m (n + 16) octets)))
+data_range {m} {at} octets few (one_or_more {string = string} {strings = strings} is) =
+    let all = rw is at (octets_drop at m octets) in
+    (record { same = refl; sized = (omega arith, strings_short (string ∷ strings) all) }, strings_range (string ∷ strings) all)
+data_range {m} {at} octets few (service room priority weight port h) =
+    (record { same = refl; sized = tt }, (rw priority (u16_range m at octets), rw weight (u16_range m (at + 2) octets), rw port (u16_range m (at + 4) octets), name_range octets h))
+data_range {m} {at} octets few (unknown is) =
+    (record { same = refl; sized = omega (arith, ap length is, length-drop at m) }, rw (← is) (octets_drop at m octets))
 
 record_range : {m : List ℕ} {at after : ℕ} {r : Classed Record} → AreOctets m → RecordAt m at r after → IsRecord r
 record_range {m} {after = after} octets h =
-    let body = data_range (octets_take after m octets) h.body in
+    let few : length (take after m) < data_begin h.fixed + 65536 = omega (arith, h.ends, u16_range m (h.fixed + 8) octets, length-take after m) in
+    let body = data_range (octets_take after m octets) few h.body in
     record {
       owner = name_range octets h.owner;
       kind = rw h.kind (u16_range m h.fixed octets);

@@ -5,8 +5,8 @@ use Rattle.std.proofs.lemmas.Bool.{cases_Bool, le-ltb, ltb-false, eqb-true}
 use Rattle.dns_name.specs.Labels.{Labels}
 use Rattle.dns_text.specs.declared.record.Data.{Data}
 use Rattle.dns_text.specs.declared.record.Data.TheVariants.{One, Mx, Soa, Srv}
-use Rattle.dns_wire.specs.declared.rdata.Form.{Form}
-use Rattle.dns_wire.specs.declared.rdata.Form.TheVariants.{A as FormA, Aaaa as FormAaaa, Name as FormName, Mx as FormMx, Soa as FormSoa, Txt as FormTxt, Srv as FormSrv, Opaque as FormOpaque}
+use Rattle.dns_text.specs.declared.kind.Form.{Form}
+use Rattle.dns_text.specs.declared.kind.Form.TheVariants.{A as FormA, Aaaa as FormAaaa, Name as FormName, Mx as FormMx, Soa as FormSoa, Txt as FormTxt, Srv as FormSrv, Opaque as FormOpaque}
 use Rattle.dns_wire.specs.declared.fault.WireFault.{WireFault}
 use Rattle.dns_wire.specs.declared.fault.WireFault.TheVariants.{Short, BadName, BadPointer, BadData, Trailing, NoMemory}
 use Rattle.dns_wire.specs.Name.{SpelledName, NameFails, cut, reserved, long, cut_label, not_before, after_label, after_pointer, UnspelledName, name_read}

@@ -1,30 +1,20 @@
 -- RDATA by class and type (RFC 1035, sections 3.3 and 3.4; RFC 3596, section 2.2; RFC 2782). Here `m` is the front of
 -- a message that ends with the RDATA, and `at` is where the RDATA begins: names may point back from it, not out of it.
-use Rattle.std.specs.Prelude.{◌≡◌, ℕ, zero, suc, ◌+◌, ◌≤◌, ◌||◌, List, [], ◌∷◌, ◌++◌, length, take, drop, Option, Some, None, Result, Ok, Err, nat_lt, ◌==◌, if◌then◌else◌}
+use Rattle.std.specs.Prelude.{◌≡◌, ℕ, zero, suc, ◌+◌, ◌≤◌, List, [], ◌∷◌, ◌++◌, length, take, drop, Option, Some, None, Result, Ok, Err, nat_lt, ◌==◌, if◌then◌else◌}
 use Rattle.std.specs.List.{flat_map}
 use Rattle.dns_name.specs.Labels.{Labels, with_length}
 use Rattle.dns_text.specs.declared.record.Data.{Data}
 use Rattle.dns_text.specs.declared.record.Data.TheVariants.{A, Aaaa, One, Mx, Soa, Txt, Srv, Opaque}
-use Rattle.dns_wire.specs.declared.rdata.Form.{Form}
-use Rattle.dns_wire.specs.declared.rdata.Form.TheVariants.{A as FormA, Aaaa as FormAaaa, Name as FormName, Mx as FormMx, Soa as FormSoa, Txt as FormTxt, Srv as FormSrv, Opaque as FormOpaque}
+use Rattle.dns_text.specs.declared.kind.Form.{Form}
+use Rattle.dns_text.specs.declared.kind.Form.TheVariants.{A as FormA, Aaaa as FormAaaa, Name as FormName, Mx as FormMx, Soa as FormSoa, Txt as FormTxt, Srv as FormSrv, Opaque as FormOpaque}
 use Rattle.dns_wire.specs.declared.fault.WireFault.{WireFault}
 use Rattle.dns_wire.specs.declared.fault.WireFault.TheVariants.{Short, BadName, BadPointer, BadData, Trailing, NoMemory}
+use Rattle.dns_text.specs.Kind.{form_of}
 use Rattle.dns_wire.specs.Name.{SpelledName, UnspelledName, name_read}
 use Rattle.dns_wire.specs.Number.{u16_at, u32_at}
 use Rattle.dns_wire.specs.Reading.{◌>>=◌}
 
 -- ---- forms
-
--- the form of a type in class IN
-abbrev pub form_of : ℕ → Form
-form_of kind =
-    if kind == 1 then FormA else
-    if kind == 2 || kind == 5 || kind == 12 then FormName else
-    if kind == 6 then FormSoa else
-    if kind == 15 then FormMx else
-    if kind == 16 then FormTxt else
-    if kind == 28 then FormAaaa else
-    if kind == 33 then FormSrv else FormOpaque
 
 -- Another class than IN has no forms of its own.
 abbrev pub form_in : ℕ → ℕ → Form

@@ -3,7 +3,7 @@ use Rattle.std.specs.Prelude.{◌≡◌, ℕ, ◌+◌, ◌<◌, ◌≤◌, List,
 use Rattle.dns_name.specs.Labels.{Labels}
 use Rattle.dns_text.specs.declared.record.Data.{Data}
 use Rattle.dns_text.specs.declared.record.Record.{Record}
-use Rattle.dns_wire.specs.declared.rdata.Form.{Form}
+use Rattle.dns_text.specs.declared.kind.Form.{Form}
 use Rattle.dns_wire.specs.declared.fault.WireFault.{WireFault}
 use Rattle.dns_wire.specs.declared.fault.WireFault.TheVariants.{Short}
 use Rattle.dns_wire.specs.declared.message.Classed.{Classed}

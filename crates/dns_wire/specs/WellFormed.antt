@@ -1,13 +1,12 @@
 -- Messages whose fields are in range (RFC 1035, sections 2.3.4, 3.3 and 4.1; RFC 2181, section 8).
-use Rattle.std.specs.Prelude.{◌≡◌, ℕ, ◌<◌, ◌^◌, List, length}
+use Rattle.std.specs.Prelude.{ℕ, ◌<◌, ◌^◌, List}
 use Rattle.std.specs.List.{AllByRecursion}
 use Rattle.dns_name.specs.Labels.{IsName}
 use Rattle.dns_text.specs.declared.record.Data.{Data}
 use Rattle.dns_text.specs.declared.record.Data.TheVariants.{A, Aaaa, One, Mx, Soa, Txt, Srv, Opaque}
 use Rattle.dns_text.specs.declared.record.Question.{Question}
 use Rattle.dns_text.specs.declared.record.Record.{Record}
-use Rattle.dns_wire.specs.declared.rdata.Form.{Form}
-use Rattle.dns_wire.specs.declared.rdata.Form.TheVariants.{A as FormA, Aaaa as FormAaaa, Name as FormName, Mx as FormMx, Soa as FormSoa, Txt as FormTxt, Srv as FormSrv, Opaque as FormOpaque}
+use Rattle.dns_text.specs.Data.{IsOfForm}
 use Rattle.dns_wire.specs.declared.message.Classed.{Classed}
 use Rattle.dns_wire.specs.declared.message.Head.{Head}
 use Rattle.dns_wire.specs.declared.message.Message.{Message}
@@ -27,30 +26,14 @@ pub record IsQuestion (q : Classed Question) : Type 0 where
 abbrev pub AreOctets : List ℕ → Type 0
 AreOctets octets = AllByRecursion (λ b. b < 256) octets
 
--- a string whose length one octet holds
-pub record IsString (string : List ℕ) : Type 0 where
-  pub short : length string < 256
-  pub octets : AreOctets string
-
--- the form of data
-abbrev pub form_of_data : Data → Form
-form_of_data (A octets) = FormA
-form_of_data (Aaaa octets) = FormAaaa
-form_of_data (One name) = FormName
-form_of_data (Mx preference exchange) = FormMx
-form_of_data (Soa primary mailbox serial refresh retry expire minimum) = FormSoa
-form_of_data (Txt strings) = FormTxt
-form_of_data (Srv priority weight port target) = FormSrv
-form_of_data (Opaque octets) = FormOpaque
-
--- Its fields are in range.
+-- The fields of data are in range.
 abbrev pub IsData : Data → Type 0
-IsData (A octets) = (length octets ≡ 4) × AreOctets octets
-IsData (Aaaa octets) = (length octets ≡ 16) × AreOctets octets
+IsData (A octets) = AreOctets octets
+IsData (Aaaa octets) = AreOctets octets
 IsData (One name) = IsName name
 IsData (Mx preference exchange) = (preference < 2 ^ 16) × IsName exchange
 IsData (Soa primary mailbox serial refresh retry expire minimum) = IsName primary × IsName mailbox × (serial < 2 ^ 32) × (refresh < 2 ^ 32) × (retry < 2 ^ 32) × (expire < 2 ^ 32) × (minimum < 2 ^ 32)
-IsData (Txt strings) = (0 < length strings) × AllByRecursion IsString strings
+IsData (Txt strings) = AllByRecursion AreOctets strings
 IsData (Srv priority weight port target) = (priority < 2 ^ 16) × (weight < 2 ^ 16) × (port < 2 ^ 16) × IsName target
 IsData (Opaque octets) = AreOctets octets
 
@@ -60,7 +43,7 @@ pub record IsRecord (r : Classed Record) : Type 0 where
   pub class : r.class < 2 ^ 16
   pub ttl : r.item.ttl < 2 ^ 31
   -- The data has the form of its class and type.
-  pub form : form_in r.class r.item.kind ≡ form_of_data r.item.body
+  pub form : IsOfForm (form_in r.class r.item.kind) r.item.body
   pub data_fits : IsData r.item.body
 
 -- Each field is in its range, each TTL is below 2^31, and all data has the form of its class and type.

@@ -1,51 +1,15 @@
 //! RDATA in the form of its type. Each function here reads the front of a message that ends with the RDATA.
 
 ghost use Rattle.std.specs.Prelude.{◌≡◌, ◌<◌, ◌≤◌, ◌+◌, length, drop, IfOk, IfSome, option_map};
-ghost use Rattle.dns_wire.specs.Rdata.{form_of, form_in, first_string, data_name_read, ipv4_read, ipv6_read, one_read, mx_read, soa_read, txt_read, srv_read, data_read};
+ghost use Rattle.dns_wire.specs.Rdata.{form_in, first_string, data_name_read, ipv4_read, ipv6_read, one_read, mx_read, soa_read, txt_read, srv_read, data_read};
 ghost use Rattle.dns_wire.specs.Reading.{Gives};
 
 use crate::fault::WireFault;
 use crate::name::name_at;
 use crate::number::{u16_at, u32_at};
 use dns_name::Name;
-use dns_text::{Data, Items, Octets};
+use dns_text::{Data, Form, Items, Octets, form_of};
 use std::alloc::{AllocError, Global};
-
-/// The forms that data can have.
-#[derive(Clone, Copy)]
-pub enum Form {
-    /// Four octets.
-    A,
-    /// Sixteen octets.
-    Aaaa,
-    /// A name.
-    Name,
-    /// 16 bits and a name.
-    Mx,
-    /// Two names and five numbers of 32 bits.
-    Soa,
-    /// One or more strings, each behind its length.
-    Txt,
-    /// Three numbers of 16 bits and a name.
-    Srv,
-    /// Any octets.
-    Opaque,
-}
-
-fn form_of(kind: u16) -> Form
-    ensures { result ≡ form_of kind }
-{
-    match kind {
-        1 => Form::A,
-        2 | 5 | 12 => Form::Name,
-        6 => Form::Soa,
-        15 => Form::Mx,
-        16 => Form::Txt,
-        28 => Form::Aaaa,
-        33 => Form::Srv,
-        _ => Form::Opaque,
-    }
-}
 
 /// The form of a type in a class.
 pub(crate) fn form_in(class: u16, kind: u16) -> Form
