@@ -8,4 +8,5 @@ pub mod Record
 pub mod Section
 pub mod Message
 pub mod WellFormed
+pub mod Writing
 pub mod Decoding

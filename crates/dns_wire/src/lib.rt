@@ -9,6 +9,7 @@ mod header;
 mod message;
 mod name;
 mod number;
+mod query;
 mod question;
 mod rdata;
 mod read;
@@ -16,6 +17,7 @@ mod record;
 
 pub use fault::WireFault;
 pub use message::{Classed, Head, Message};
+pub use query::{Asked, Query};
 pub use read::{decode, one_meaning};
 
 #[cfg(test)]
