@@ -1,5 +1,5 @@
 -- Reading a name gives the name that stands there, and the first fault where none does.
-use Rattle.std.proofs.Common.{◌≡◌, ℕ, zero, suc, ◌+◌, ◌-◌, ◌*◌, ◌<◌, ◌≤◌, List, ◌∷◌, length, take, drop, Option, Some, None, Result, Ok, Err, refl, inl, inr, eqb, ltb, arith, length-append}
+use Rattle.std.proofs.Common.{◌≡◌, ℕ, zero, suc, ◌+◌, ◌-◌, ◌*◌, ◌<◌, ◌≤◌, List, ◌∷◌, length, take, drop, Option, Some, None, Result, Ok, Err, refl, sym, inl, inr, eqb, ltb, arith, length-append}
 use Rattle.std.specs.Prelude.{slice_get, MatchResult, IfOk}
 use Rattle.std.proofs.lemmas.Option.{slice_get_within}
 use Rattle.std.proofs.lemmas.Bool.{cases_Bool}
@@ -11,10 +11,8 @@ use Rattle.dns_name.specs.Labels.{Labels, spelled, with_length, IsName}
 use Rattle.dns_wire.specs.declared.name.Next.{Next}
 use Rattle.dns_wire.specs.declared.name.Next.TheVariants.{Finish, Label, Pointer, Reserved, Cut}
 use Rattle.dns_wire.specs.declared.fault.WireFault.{WireFault}
-use Rattle.dns_wire.specs.Decoding.{UnlessMemory}
 use Rattle.dns_wire.specs.Name.{next_at, next_by, pointer_by, label_at, NameAt, finish, label, pointer, SpelledName, NameFails, UnspelledName, cut, reserved, long, cut_label, not_before, after_label, after_pointer, name_by, name_in, name_read, steps_left}
-use Rattle.dns_wire.specs.Reading.{Gives}
-use Rattle.dns_wire.proofs.Binds.{fails_told, fails_memory, then_match, match_weaker}
+use Rattle.dns_wire.proofs.Binds.{then_match, match_weaker}
 
 -- a pointer to before the run leaves fewer steps
 fewer : (size run at to : ℕ) → to < run → run ≤ at → at ≤ size → to * (size + 1) + (size - to) < run * (size + 1) + (size - at)
@@ -153,13 +151,10 @@ spelled_within h = after_within h.stands
 
 -- ---- what the loop finds is what reading gives
 
-pub found_within : (m : List ℕ) (at : ℕ) (r : Result (Labels × ℕ) WireFault) → MatchResult r (λ x. NameAt m at at x.1 x.0) (λ e. UnlessMemory e (UnspelledName m at e)) → IfOk r (λ x. x.1 ≤ length m)
+pub found_within : (m : List ℕ) (at : ℕ) (r : Result (Labels × ℕ) WireFault) → MatchResult r (λ x. NameAt m at at x.1 x.0) (λ e. UnspelledName m at e) → IfOk r (λ x. x.1 ≤ length m)
 found_within m at (Ok x) h = after_within h
 found_within m at (Err e) h = tt
 
-pub found_exact : (m : List ℕ) (at : ℕ) → at ≤ length m → (r : Result (Labels × ℕ) WireFault) → MatchResult r (λ x. NameAt m at at x.1 x.0) (λ e. UnlessMemory e (UnspelledName m at e)) → IfOk r (λ x. IsName x.0) → Gives r (name_read m at)
-found_exact m at within (Ok x) h name = name_read-spelled m at x.1 x.0 within (record { stands = h; short = name.short })
-found_exact m at within (Err e) h name = elim h [
-  | inl memory ↦ fails_memory e _ memory
-  | inr fails ↦ fails_told e _ (name_read-unspelled m at e within fails)
-]
+pub found_exact : (m : List ℕ) (at : ℕ) → at ≤ length m → (r : Result (Labels × ℕ) WireFault) → MatchResult r (λ x. NameAt m at at x.1 x.0) (λ e. UnspelledName m at e) → IfOk r (λ x. IsName x.0) → r ≡ name_read m at
+found_exact m at within (Ok x) h name = sym (name_read-spelled m at x.1 x.0 within (record { stands = h; short = name.short }))
+found_exact m at within (Err e) h name = sym (name_read-unspelled m at e within h)

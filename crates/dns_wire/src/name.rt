@@ -2,7 +2,6 @@
 
 ghost use Rattle.std.specs.Prelude.{◌≡◌, ◌≤◌, length, MatchResult, IfOk};
 ghost use Rattle.dns_name.specs.Labels.{IsName};
-ghost use Rattle.dns_wire.specs.Decoding.{UnlessMemory};
 ghost use Rattle.dns_wire.specs.Name.{next_at, NameAt, UnspelledName, name_read};
 ghost use Rattle.dns_wire.specs.Reading.{Gives};
 
@@ -46,11 +45,10 @@ fn next_at(message: &[u8], at: usize) -> Next
     }
 }
 
-/// Follows a name from a place of a message on, and gives the place after it too.
-fn find_name(alloc: Global, message: &[u8], start: usize) -> Result<(Name, usize), WireFault>
+/// Follows a name from a place of a message on: its labels, and the place after it. It takes no memory.
+fn find_labels(message: &[u8], start: usize) -> Result<(NameBuilder, usize), WireFault>
     requires { start ≤ length message.now }
-    ensures stands { MatchResult result (λ r. NameAt message.now start start r.1 r.0)
-        (λ e. UnlessMemory e (UnspelledName message.now start e)) }
+    ensures stands { MatchResult result (λ r. NameAt message.now start start r.1 r.0) (λ e. UnspelledName message.now start e) }
     ensures name { IfOk result (λ r. IsName r.0) }
 {
     let mut labels = NameBuilder::new();
@@ -60,8 +58,9 @@ fn find_name(alloc: Global, message: &[u8], start: usize) -> Result<(Name, usize
     loop {
         match next_at(message, at) {
             Next::Finish => {
-                let name = labels.name(alloc)?;
-                return Ok((name, after.unwrap_or(at + 1)));
+                // The builder ensures that its labels are a name.
+                let _room = labels.room();
+                return Ok((labels, after.unwrap_or(at + 1)));
             }
             Next::Label(n) => {
                 if n >= labels.room() {
@@ -87,11 +86,21 @@ fn find_name(alloc: Global, message: &[u8], start: usize) -> Result<(Name, usize
     }
 }
 
+/// The labels of the name at a place of a message, and the place after it. It takes no memory.
+pub(crate) fn labels_at(message: &[u8], at: usize) -> Result<(NameBuilder, usize), WireFault>
+    requires { at ≤ length message.now }
+    ensures exact { result ≡ name_read message.now at }
+    ensures within { IfOk result (λ r. r.1 ≤ length message.now) }
+{
+    find_labels(message, at)
+}
+
 /// The name at a place of a message, and the place after it.
 pub(crate) fn name_at(alloc: Global, message: &[u8], at: usize) -> Result<(Name, usize), WireFault>
     requires { at ≤ length message.now }
     ensures exact { Gives result (name_read message.now at) }
     ensures within { IfOk result (λ r. r.1 ≤ length message.now) }
 {
-    find_name(alloc, message, at)
+    let (labels, after) = labels_at(message, at)?;
+    Ok((labels.name(alloc)?, after))
 }

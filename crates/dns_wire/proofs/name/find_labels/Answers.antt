@@ -1,23 +1,17 @@
-use Rattle.std.proofs.Common.{◌≡◌, inl, inr, refl, ◌+◌, ◌-◌, drop, take, sym, ap, arith, map}
-use Rattle.std.proofs.lemmas.Result.{err_from_is_err_and}
+use Rattle.std.proofs.Common.{◌≡◌, refl, ◌+◌, ◌-◌, drop, take, sym, ap, arith, map}
 use Rattle.std.specs.Char.{to_ascii_lowercase}
 use Rattle.dns_wire.specs.Name.{reserved, cut, long, cut_label, not_before}
 use Rattle.dns_wire.proofs.Following.{reads_finish, reads_label, reads_pointer}
-use Rattle.dns_wire.proofs.name.find_name.Goals as goal
-
-pub returns-in_err-name-in-Finish-clause-stands : goal.returns-in_err-name-in-Finish-clause-stands
-returns-in_err-name-in-Finish-clause-stands c =
-    let p = err_from_is_err_and c.from_residual.result c.from_residual.ensures.1 in
-    rw (p.1, p.2) (inl refl)
+use Rattle.dns_wire.proofs.name.find_labels.Goals as goal
 
 pub returns-in-Finish-clause-stands : goal.returns-in-Finish-clause-stands
-returns-in-Finish-clause-stands c = reads_finish c.loop-labels.invariant.reads (sym c.in-Finish.ensures) _ _ c.in_ok-name-in-Finish.ensures.made c.unwrap_or.ensures
+returns-in-Finish-clause-stands c = reads_finish c.loop-labels.invariant.reads (sym c.in-Finish.ensures) _ _ refl c.unwrap_or.ensures
 
 pub returns-then-n-room-clause-stands : goal.returns-then-n-room-clause-stands
-returns-then-n-room-clause-stands c = inr (c.loop-labels.invariant.reads.fault _ (long (sym c.in-Label.ensures) (omega (arith, c.room.ensures.room, c.if-n-room.true))))
+returns-then-n-room-clause-stands c = (c.loop-labels.invariant.reads.fault _ (long (sym c.in-Label.ensures) (omega (arith, c.room.ensures.room, c.if-n-room.true))))
 
 pub returns-then-message-at-clause-stands : goal.returns-then-message-at-clause-stands
-returns-then-message-at-clause-stands c = inr (c.loop-labels.invariant.reads.fault _ (cut_label (sym c.in-Label.ensures) (omega (arith, c.room.ensures.room, c.if-n-room.false)) (omega arith)))
+returns-then-message-at-clause-stands c = (c.loop-labels.invariant.reads.fault _ (cut_label (sym c.in-Label.ensures) (omega (arith, c.room.ensures.room, c.if-n-room.false)) (omega arith)))
 
 pub loop-labels-preserved-in-Label : goal.loop-labels-preserved-in-Label
 loop-labels-preserved-in-Label c =
@@ -32,7 +26,7 @@ loop-labels-preserved-in-Label c =
     }
 
 pub returns-then-to-run-clause-stands : goal.returns-then-to-run-clause-stands
-returns-then-to-run-clause-stands c = inr (c.loop-labels.invariant.reads.fault _ (not_before (sym c.in-Pointer.ensures) (omega arith)))
+returns-then-to-run-clause-stands c = (c.loop-labels.invariant.reads.fault _ (not_before (sym c.in-Pointer.ensures) (omega arith)))
 
 pub loop-labels-preserved : goal.loop-labels-preserved
 loop-labels-preserved c = record {
@@ -42,7 +36,7 @@ loop-labels-preserved c = record {
 }
 
 pub returns-in-Reserved-clause-stands : goal.returns-in-Reserved-clause-stands
-returns-in-Reserved-clause-stands c = inr (c.loop-labels.invariant.reads.fault _ (reserved (sym c.in-Reserved.ensures)))
+returns-in-Reserved-clause-stands c = (c.loop-labels.invariant.reads.fault _ (reserved (sym c.in-Reserved.ensures)))
 
 pub returns-in-Cut-clause-stands : goal.returns-in-Cut-clause-stands
-returns-in-Cut-clause-stands c = inr (c.loop-labels.invariant.reads.fault _ (cut (sym c.in-Cut.ensures)))
+returns-in-Cut-clause-stands c = (c.loop-labels.invariant.reads.fault _ (cut (sym c.in-Cut.ensures)))

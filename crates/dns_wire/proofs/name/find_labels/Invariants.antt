@@ -1,6 +1,6 @@
 use Rattle.std.proofs.Common.{◌≤◌, length, ◌+◌, ◌-◌, ◌*◌}
 use Rattle.dns_wire.proofs.Following.{Reads}
-use Rattle.dns_wire.proofs.name.find_name.Given as goal
+use Rattle.dns_wire.proofs.name.find_labels.Given as goal
 
 abbrev pub invariant-loop-labels : goal.invariant-loop-labels
 invariant-loop-labels l = record {
