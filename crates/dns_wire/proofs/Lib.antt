@@ -9,3 +9,4 @@ pub mod Ranges
 pub mod SectionLoops
 pub mod SectionLaws
 pub mod StringLaws
+pub mod WalkLaws

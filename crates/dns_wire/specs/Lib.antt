@@ -9,4 +9,5 @@ pub mod Section
 pub mod Message
 pub mod WellFormed
 pub mod Writing
+pub mod Walking
 pub mod Decoding

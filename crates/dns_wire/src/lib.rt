@@ -14,6 +14,7 @@ mod question;
 mod rdata;
 mod read;
 mod record;
+mod walk;
 
 pub use fault::WireFault;
 pub use message::{Classed, Head, Message};

@@ -149,7 +149,7 @@ fn octets_from(alloc: Global, front: &[u8], at: usize) -> Result<Octets, AllocEr
 }
 
 /// The string behind the length at the front, and what follows it.
-fn split_string(octets: &[u8]) -> Option<(&[u8], &[u8])>
+pub(crate) fn split_string(octets: &[u8]) -> Option<(&[u8], &[u8])>
     ensures value { option_map (λ r. (r.0.now, r.1.now)) result ≡ first_string octets.now }
     ensures less { IfSome result (λ r. length r.1.now < length octets.now) }
 {

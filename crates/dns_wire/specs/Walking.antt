@@ -1,0 +1,45 @@
+-- The places that reading a message comes to, whatever stands between them.
+use Rattle.std.specs.Prelude.{ℕ, ◌+◌, Bool, false, List, length, Option, Some, None, Result, Ok, Err, ◌==◌, nat_lt, if◌then◌else◌, option_and_then}
+use Rattle.dns_wire.specs.declared.fault.WireFault.{WireFault}
+use Rattle.dns_wire.specs.Header.{answer_count, authority_count, additional_count}
+use Rattle.dns_wire.specs.Message.{records_read}
+use Rattle.dns_wire.specs.Name.{name_read}
+
+-- the place after what was read
+abbrev pub place_after : {A : Type 0} → Result (A × ℕ) WireFault → Option ℕ
+place_after (Ok x) = Some x.1
+place_after (Err fault) = None
+
+-- the place after a name
+abbrev pub name_place : List ℕ → ℕ → Option ℕ
+name_place m at = place_after (name_read m at)
+
+-- the place after so many records
+abbrev pub records_place : List ℕ → ℕ → ℕ → Option ℕ
+records_place m count at = place_after (records_read m count at)
+
+-- the place after all records, by where the first section of them begins
+unfoldable pub sections_place : List ℕ → ℕ → Option ℕ
+sections_place m at =
+    option_and_then (λ authority. option_and_then (λ additional. records_place m (additional_count m) additional) (records_place m (authority_count m) authority)) (records_place m (answer_count m) at)
+
+-- Whether a place is the end.
+abbrev pub is_end : List ℕ → Option ℕ → Bool
+is_end m None = false
+is_end m (Some at) = at == length m
+
+-- whether a name stands at a place and ends with the octets
+abbrev pub ends_with_name : List ℕ → ℕ → Bool
+ends_with_name m at = if nat_lt (length m) at then false else is_end m (name_place m at)
+
+-- whether two names and five numbers of 32 bits begin at a place and end with the octets
+abbrev pub ends_with_numbers : List ℕ → Option ℕ → Bool
+ends_with_numbers m None = false
+ends_with_numbers m (Some numbers) = numbers + 20 == length m
+
+abbrev pub soa_behind : List ℕ → Option ℕ → Bool
+soa_behind m None = false
+soa_behind m (Some second) = ends_with_numbers m (name_place m second)
+
+abbrev pub ends_with_soa : List ℕ → ℕ → Bool
+ends_with_soa m at = soa_behind m (name_place m at)

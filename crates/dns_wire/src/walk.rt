@@ -1,0 +1,137 @@
+//! Messages walked without keeping what they say, and so without memory.
+
+ghost use Rattle.std.specs.Prelude.{◌≡◌, ◌≤◌, length, is_ok, IfSome};
+ghost use Rattle.dns_wire.specs.Message.{records_read};
+ghost use Rattle.dns_wire.specs.Name.{name_read};
+ghost use Rattle.dns_wire.specs.Rdata.{data_read, txt_read};
+ghost use Rattle.dns_wire.specs.Record.{record_read};
+ghost use Rattle.dns_wire.specs.Walking.{place_after, name_place, records_place, sections_place, ends_with_name, ends_with_soa};
+
+use crate::name::labels_at;
+use crate::number::u16_at;
+use crate::rdata::{form_in, split_string};
+use dns_text::Form;
+
+/// The place after a name, where one stands.
+fn name_end(message: &[u8], at: usize) -> Option<usize>
+    requires { at ≤ length message.now }
+    ensures exact { result ≡ name_place message.now at }
+    ensures within { IfSome result (λ after. after ≤ length message.now) }
+{
+    match labels_at(message, at) {
+        Ok((_, after)) => Some(after),
+        Err(_) => None,
+    }
+}
+
+/// Whether a name stands at a place and ends with the front.
+fn ends_with_name(front: &[u8], at: usize) -> bool
+    ensures { result ≡ ends_with_name front.now at }
+{
+    if front.len() < at {
+        return false;
+    }
+    match name_end(front, at) {
+        Some(after) => after == front.len(),
+        None => false,
+    }
+}
+
+/// Whether the front ends with the start of a zone of authority: two names and five numbers.
+fn is_soa(front: &[u8], at: usize) -> bool
+    requires { at ≤ length front.now }
+    ensures { result ≡ ends_with_soa front.now at }
+{
+    let Some(second) = name_end(front, at) else {
+        return false;
+    };
+    match name_end(front, second) {
+        Some(numbers) => numbers + 20 == front.len(),
+        None => false,
+    }
+}
+
+/// Whether the front ends with one string or more, each behind its length.
+fn are_strings(front: &[u8], at: usize) -> bool
+    requires { at ≤ length front.now }
+    ensures { result ≡ is_ok (txt_read front.now at) }
+{
+    let (_, mut rest) = front.split_at(at);
+    if rest.is_empty() {
+        return false;
+    }
+    while !rest.is_empty() {
+        let Some((_, behind)) = split_string(rest) else {
+            return false;
+        };
+        rest = behind;
+    }
+    true
+}
+
+/// Whether data of a form begins at a place and ends with the front.
+#[tactic(auto, unfolding(crate::specs::Rdata::data_read))]
+fn has_form(front: &[u8], at: usize, form: Form) -> bool
+    requires { at ≤ length front.now }
+    ensures { result ≡ is_ok (data_read front.now at form) }
+{
+    match form {
+        Form::A => front.len() - at == 4,
+        Form::Aaaa => front.len() - at == 16,
+        Form::Name => ends_with_name(front, at),
+        Form::Mx => ends_with_name(front, at + 2),
+        Form::Soa => is_soa(front, at),
+        Form::Txt => are_strings(front, at),
+        Form::Srv => ends_with_name(front, at + 6),
+        Form::Opaque => true,
+    }
+}
+
+/// The place after a record, where one stands.
+#[tactic(auto, unfolding(crate::specs::Record::record_read))]
+fn record_end(message: &[u8], at: usize) -> Option<usize>
+    requires { at ≤ length message.now }
+    ensures exact { result ≡ place_after (record_read message.now at) }
+    ensures within { IfSome result (λ after. after ≤ length message.now) }
+{
+    let at = name_end(message, at)?;
+    let begin = at + 10;
+    if message.len() < begin {
+        return None;
+    }
+    let end = begin + u16_at(message, at + 8) as usize;
+    if message.len() < end {
+        return None;
+    }
+    let (front, _) = message.split_at(end);
+    let form = form_in(u16_at(message, at + 2), u16_at(message, at));
+    if !has_form(front, begin, form) {
+        return None;
+    }
+    Some(end)
+}
+
+/// The place after so many records, where they stand.
+fn records_end(message: &[u8], count: u16, at: usize) -> Option<usize>
+    requires { at ≤ length message.now }
+    ensures exact { result ≡ records_place message.now count at }
+    ensures within { IfSome result (λ after. after ≤ length message.now) }
+{
+    let mut place = at;
+    for _ in 0..count {
+        place = record_end(message, place)?;
+    }
+    Some(place)
+}
+
+/// The place after the records of all sections, of which the first begins at a place, where they stand.
+#[tactic(auto, unfolding(crate::specs::Walking::sections_place))]
+pub(crate) fn sections_end(message: &[u8], at: usize) -> Option<usize>
+    requires header { 12 ≤ length message.now }
+    requires within { at ≤ length message.now }
+    ensures { result ≡ sections_place message.now at }
+{
+    let at = records_end(message, u16_at(message, 6), at)?;
+    let at = records_end(message, u16_at(message, 8), at)?;
+    records_end(message, u16_at(message, 10), at)
+}
