@@ -156,7 +156,7 @@ fn numbered(word: &[u8]) -> Option<u16>
 }
 
 /// Whether no record has this type: obsolete types of mail, those of questions alone, and OPT.
-fn is_excluded(kind: u16) -> bool
+pub fn is_excluded(kind: u16) -> bool
     ensures { result ≡ is_excluded kind }
 {
     matches!(kind, 3 | 4 | 7 | 8 | 9 | 14 | 41 | 251..=255)

@@ -20,7 +20,7 @@ pub use addr::{Addr, Ip, push_addr, read_addr, write_addr};
 pub use data::{push_data, read_data};
 pub use fault::TextFault;
 pub use items::{Items, Octets};
-pub use kind::{Form, form_of, push_type, read_type, write_type};
+pub use kind::{Form, form_of, is_excluded, push_type, read_type, write_type};
 pub use number::read_number;
 pub use record::{Data, Question, Record, equality_law};
 pub use record_text::{push_record, read_record, write_record};

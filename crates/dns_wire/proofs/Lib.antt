@@ -10,3 +10,5 @@ pub mod SectionLoops
 pub mod SectionLaws
 pub mod StringLaws
 pub mod WalkLaws
+pub mod PointerLaws
+pub mod AskingLaws

@@ -42,22 +42,22 @@ questions_stand {m} within h = section_read-stands (length m) (QuestionAt m) (Qu
 questions_fail : {m : List ℕ} {count at : ℕ} {fault : WireFault} → at ≤ length m → QuestionsFail m count at fault → questions_read m count at ≡ Err fault
 questions_fail {m} within h = section_read-fails (length m) (QuestionAt m) (QuestionFails m) (λ i. question_read m i) (question_reader m) within h
 
-questions_within : {m : List ℕ} {count at after : ℕ} {items : List (Classed Question)} → at ≤ length m → QuestionsAt m count at items after → after ≤ length m
+pub questions_within : {m : List ℕ} {count at after : ℕ} {items : List (Classed Question)} → at ≤ length m → QuestionsAt m count at items after → after ≤ length m
 questions_within {m} within h = section_within (length m) (QuestionAt m) (QuestionFails m) (λ i. question_read m i) (question_reader m) within h
 
 questions_match : (m : List ℕ) (count at : ℕ) → at ≤ length m → MatchResult (questions_read m count at) (λ x. QuestionsAt m count at x.0 x.1) (λ e. QuestionsFail m count at e)
 questions_match m count at within = section_read-match (length m) (QuestionAt m) (QuestionFails m) (λ i. question_read m i) (question_reader m) count at within
 
-records_stand : {m : List ℕ} {count at after : ℕ} {items : List (Classed Record)} → at ≤ length m → RecordsAt m count at items after → records_read m count at ≡ Ok (items, after)
+pub records_stand : {m : List ℕ} {count at after : ℕ} {items : List (Classed Record)} → at ≤ length m → RecordsAt m count at items after → records_read m count at ≡ Ok (items, after)
 records_stand {m} within h = section_read-stands (length m) (RecordAt m) (RecordFails m) (λ i. record_read m i) (record_reader m) within h
 
 records_fail : {m : List ℕ} {count at : ℕ} {fault : WireFault} → at ≤ length m → RecordsFail m count at fault → records_read m count at ≡ Err fault
 records_fail {m} within h = section_read-fails (length m) (RecordAt m) (RecordFails m) (λ i. record_read m i) (record_reader m) within h
 
-records_within : {m : List ℕ} {count at after : ℕ} {items : List (Classed Record)} → at ≤ length m → RecordsAt m count at items after → after ≤ length m
+pub records_within : {m : List ℕ} {count at after : ℕ} {items : List (Classed Record)} → at ≤ length m → RecordsAt m count at items after → after ≤ length m
 records_within {m} within h = section_within (length m) (RecordAt m) (RecordFails m) (λ i. record_read m i) (record_reader m) within h
 
-records_match : (m : List ℕ) (count at : ℕ) → at ≤ length m → MatchResult (records_read m count at) (λ x. RecordsAt m count at x.0 x.1) (λ e. RecordsFail m count at e)
+pub records_match : (m : List ℕ) (count at : ℕ) → at ≤ length m → MatchResult (records_read m count at) (λ x. RecordsAt m count at x.0 x.1) (λ e. RecordsFail m count at e)
 records_match m count at within = section_read-match (length m) (RecordAt m) (RecordFails m) (λ i. record_read m i) (record_reader m) count at within
 
 -- ---- what stands is read, and the first fault is told

@@ -72,7 +72,7 @@ next_within : (m : List ℕ) (at : ℕ) (o : Option ℕ) → slice_get m at ≡ 
 next_within m at None e = ((λ h. absurd cc), λ to h. absurd cc)
 next_within m at (Some n) e = ((λ h. slice_get_within m at n e), λ to h. pointer_within m at n to h)
 
-after_within : {m : List ℕ} {at run after : ℕ} {labels : Labels} → NameAt m at run after labels → after ≤ length m
+pub after_within : {m : List ℕ} {at run after : ℕ} {labels : Labels} → NameAt m at run after labels → after ≤ length m
 after_within {m} {at} (finish here is) = omega (arith, (next_within m at (slice_get m at) refl).0 here)
 after_within (label here inside rest) = after_within rest
 after_within {m} {at} (pointer {to = to} here before is rest) = omega (arith, (next_within m at (slice_get m at) refl).1 to here)

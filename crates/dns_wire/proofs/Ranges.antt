@@ -27,17 +27,17 @@ use Rattle.dns_wire.specs.WellFormed.{IsHead, IsQuestion, AreOctets, IsData, IsR
 
 -- ---- parts of octets
 
-octets_drop : (n : ℕ) (xs : List ℕ) → AreOctets xs → AreOctets (drop n xs)
+pub octets_drop : (n : ℕ) (xs : List ℕ) → AreOctets xs → AreOctets (drop n xs)
 octets_drop zero xs h = h
 octets_drop (suc n) [] h = tt
 octets_drop (suc n) (x ∷ xs) h = octets_drop n xs h.1
 
-octets_take : (n : ℕ) (xs : List ℕ) → AreOctets xs → AreOctets (take n xs)
+pub octets_take : (n : ℕ) (xs : List ℕ) → AreOctets xs → AreOctets (take n xs)
 octets_take zero xs h = tt
 octets_take (suc n) [] h = tt
 octets_take (suc n) (x ∷ xs) h = (h.0, octets_take n xs h.1)
 
-octet_of : (xs : List ℕ) → AreOctets xs → (i : ℕ) → get_or xs i 0 < 256
+pub octet_of : (xs : List ℕ) → AreOctets xs → (i : ℕ) → get_or xs i 0 < 256
 octet_of [] h i = omega arith
 octet_of (x ∷ xs) h zero = h.0
 octet_of (x ∷ xs) h (suc i) = octet_of xs h.1 i
@@ -115,7 +115,7 @@ labels_range {m} octets (label {at = at} {n = n} here inside rest) =
     (lower_label text (octet_of text (octets_take n (drop (at + 1) m) (octets_drop (at + 1) m octets))) (omega (arith, long, size.0)) (omega (arith, long, size.1)), labels_range octets rest)
 labels_range octets (pointer here before is rest) = labels_range octets rest
 
-name_range : {m : List ℕ} {at after : ℕ} {labels : Labels} → AreOctets m → SpelledName m at after labels → IsName labels
+pub name_range : {m : List ℕ} {at after : ℕ} {labels : Labels} → AreOctets m → SpelledName m at after labels → IsName labels
 name_range octets h = record { each = labels_range octets h.stands; short = h.short }
 
 -- ---- questions and records

@@ -65,7 +65,7 @@ ok_soa m at = ok_second m at (name_read m at)
 
 -- ---- sections
 
-read_by : {A : Type 0} (r : Result (A × ℕ) WireFault) (next : ℕ) → place_after r ≡ Some next → (item : A) × (r ≡ Ok (item, next))
+pub read_by : {A : Type 0} (r : Result (A × ℕ) WireFault) (next : ℕ) → place_after r ≡ Some next → (item : A) × (r ≡ Ok (item, next))
 read_by (Ok x) next h = let e : x.1 ≡ next = cc in (x.0, rw (← e) refl)
 read_by (Err fault) next h = absurd cc
 

@@ -11,3 +11,4 @@ pub mod WellFormed
 pub mod Writing
 pub mod Walking
 pub mod Decoding
+pub mod Asking

@@ -4,6 +4,7 @@
 //! `number`, and `read` reads the whole. `fault` says what keeps octets from being a message.
 #![tactic(auto)]
 
+mod asking;
 mod fault;
 mod header;
 mod message;
@@ -16,6 +17,7 @@ mod read;
 mod record;
 mod walk;
 
+pub use asking::read_question;
 pub use fault::WireFault;
 pub use message::{Classed, Head, Message};
 pub use query::{Asked, Query};

@@ -24,7 +24,7 @@ pub enum Next {
     Cut,
 }
 
-fn next_at(message: &[u8], at: usize) -> Next
+pub(crate) fn next_at(message: &[u8], at: usize) -> Next
     ensures { result ≡ next_at message.now at }
 {
     match message.get(at) {
