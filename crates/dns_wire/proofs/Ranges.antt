@@ -167,7 +167,7 @@ records_range octets (one_more one rest) = (record_range octets one, records_ran
 
 -- ---- messages
 
-head_range : (m : List ℕ) → AreOctets m → IsHead (head_in m)
+pub head_range : (m : List ℕ) → AreOctets m → IsHead (head_in m)
 head_range m octets = record { id = u16_range m 0 octets; opcode = omega arith; z = omega arith; rcode = omega arith }
 
 pub message_range : {m : List ℕ} {v : Message} {after : ℕ} → AreOctets m → MessageAt m v after → IsWellFormed v

@@ -12,3 +12,4 @@ pub mod Writing
 pub mod Walking
 pub mod Decoding
 pub mod Asking
+pub mod Replying

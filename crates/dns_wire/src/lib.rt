@@ -15,6 +15,7 @@ mod question;
 mod rdata;
 mod read;
 mod record;
+mod reply;
 mod walk;
 
 pub use asking::read_question;
@@ -22,6 +23,7 @@ pub use fault::WireFault;
 pub use message::{Classed, Head, Message};
 pub use query::{Asked, Query};
 pub use read::{decode, one_meaning};
+pub use reply::{cut_for_udp, fault_reply};
 
 #[cfg(test)]
 mod tests;

@@ -1,0 +1,58 @@
+//! Replies that are made without memory.
+
+ghost use Rattle.std.specs.Prelude.{◌≡◌, ◌≤◌, ◌<◌, ◌++◌, length, IfNone, IfSome};
+ghost use Rattle.dns_wire.specs.Header.{head_in};
+ghost use Rattle.dns_wire.specs.Replying.{fault_head, cut_reply};
+ghost use Rattle.dns_wire.specs.Writing.{header_octets, octets_with};
+
+use crate::header::{head_in, header_of};
+use crate::message::Head;
+use crate::query::Query;
+
+/// How many octets a message may have over UDP (RFC 1035, section 4.2.1).
+const UDP_OCTETS: usize = 512;
+
+/// The reply that tells a fault: a header alone, with the identifier, the opcode and the wish for recursion of the query.
+/// None where fewer than 12 octets came. It takes no memory.
+pub fn fault_reply(octets: &[u8], rcode: u8) -> Option<[u8; 12]>
+    requires { rcode < 16 }
+    ensures none { IfNone result (length octets.now < 12) }
+    ensures some { IfSome result (λ reply. 12 ≤ length octets.now) }
+    ensures reply { IfSome result (λ reply. reply ≡ header_octets (fault_head (head_in octets.now) rcode) 0 0 0 0) }
+{
+    if octets.len() < 12 {
+        return None;
+    }
+    let query = head_in(octets);
+    let head = Head {
+        id: query.id,
+        qr: true,
+        opcode: query.opcode,
+        aa: false,
+        tc: false,
+        rd: query.rd,
+        ra: true,
+        z: 0,
+        rcode,
+    };
+    Some(header_of(&head, 0, 0, 0, 0))
+}
+
+/// Cuts a reply to the query, where it is too long for UDP, to its header, with TC set, and the question. It takes no
+/// memory (RFC 2181, section 9).
+#[tactic(auto, unfolding(crate::specs::Writing::octets_with))]
+pub fn cut_for_udp(reply: &mut Vec<u8>, query: &Query)
+    ensures short { length reply.old.items ≤ 512 → reply.new.items ≡ reply.old.items }
+    ensures cut { 512 < length reply.old.items → reply.new.items ≡ octets_with query.now.octets (cut_reply (head_in reply.old.items) query.now.question) }
+{
+    if reply.len() <= UDP_OCTETS {
+        return;
+    }
+    let mut head = head_in(reply);
+    head.tc = true;
+    let question = query.octets.as_slice();
+    reply.truncate(12 + question.len());
+    let (front, behind) = reply.split_at_mut(12);
+    front.copy_from_slice(&header_of(&head, 1, 0, 0, 0));
+    behind.copy_from_slice(question);
+}
