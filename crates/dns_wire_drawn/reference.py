@@ -1,8 +1,8 @@
 #!/usr/bin/env python3
-"""Decodes the octet strings that src/draws.rt draws, and prints what stdout must hold.
+"""Decodes the octet strings that src/draws.rt draws, writes what they say again, and prints what stdout must hold.
 
 Written from RFC 1035 section 4 (and RFC 3596, RFC 2782, RFC 2181 section 8) apart from the Rattle code, so that
-`reference.py | diff - stdout` compares two decoders."""
+`reference.py | diff - stdout` compares two decoders, two encoders and two servers' views of a query."""
 import struct
 
 QUERY = bytes.fromhex("123401000001000000000000" "0141" "0474457374" "00" "00010001")
@@ -104,75 +104,152 @@ class Reader:
             else:
                 raise Fault("BadName", start)
         self.at = self.at if after is None else after
-        return ended(b"".join(labels))
+        return "name", b"".join(labels)
+
+    def string(self):
+        return "string", self.take(self.take(1)[0])
+
+    def shorts(self, count):
+        return [("short", number) for number in self.numbers(f">{count}H")]
+
+    def longs(self, count):
+        return [("long", number) for number in self.numbers(f">{count}I")]
 
 
-def ended(octets):
-    return list(octets) + [256]
+# What a part of a question or record says, as numbers, and how it is written: (kind, value).
+
+def said(part):
+    kind, value = part
+    return [value] if kind in ("short", "long") else list(value) + [256]
+
+
+def written(part):
+    kind, value = part
+    if kind == "short":
+        return struct.pack(">H", value)
+    if kind == "long":
+        return struct.pack(">I", value)
+    if kind == "name":
+        return value + b"\0"
+    return bytes([len(value)]) + value if kind == "string" else value
 
 
 def form_of(reader, kind):
-    """What data of a type in class IN says, or None for a type without a form."""
+    """The parts of data of a type in class IN, or None for a type without a form."""
     if kind in (1, 28):
-        return ended(reader.take(4 if kind == 1 else 16))
+        return [("octets", reader.take(4 if kind == 1 else 16))]
     if kind in (2, 5, 12):
-        return reader.name()
+        return [reader.name()]
     if kind == 15:
-        return reader.numbers(">H") + reader.name()
+        return reader.shorts(1) + [reader.name()]
     if kind == 6:
-        return reader.name() + reader.name() + reader.numbers(">5I")
+        return [reader.name(), reader.name()] + reader.longs(5)
     if kind == 33:
-        return reader.numbers(">3H") + reader.name()
+        return reader.shorts(3) + [reader.name()]
     if kind == 16:
-        said = ended(reader.take(reader.take(1)[0]))
+        strings = [reader.string()]
         while reader.at < reader.end:
-            said += ended(reader.take(reader.take(1)[0]))
-        return said
+            strings.append(reader.string())
+        return strings
     return None
 
 
 def data(octets, begin, end, kind, where):
     reader = Reader(octets, begin, end)
     try:
-        said = form_of(reader, kind) if where == 1 else None
-        if said is None:
-            return ended(octets[begin:end])
+        parts = form_of(reader, kind) if where == 1 else None
+        if parts is None:
+            return [("octets", octets[begin:end])]
         if reader.at != end:
             raise Fault("BadData", begin)
-        return said
+        return parts
     except Fault as fault:
         raise Fault("BadData", begin) if fault.args[0] == "Short" else fault
 
 
 def decode(octets):
-    """How many items, and all that they say, as numbers."""
+    """Identifier, flags, counts, questions (name, type, class) and records (name, type, class, TTL, data)."""
     reader = Reader(octets, 0, len(octets))
     identifier, flags, *counts = reader.numbers(">6H")
-    said = [identifier, flags >> 15] + [flags >> bit & 1 for bit in (10, 9, 8, 7)]
-    said += [flags >> 11 & 15, flags >> 4 & 7, flags & 15]
-    for _ in range(counts[0]):
-        said += reader.name() + reader.numbers(">HH")
+    questions = [[reader.name()] + reader.shorts(2) for _ in range(counts[0])]
+    records = []
     for _ in range(sum(counts[1:])):
         owner = reader.name()
         kind, where, ttl, size = reader.numbers(">HHIH")
         begin = reader.at
         reader.take(size)
-        said += owner + [kind, where, ttl if ttl < 2**31 else 0] + data(octets, begin, begin + size, kind, where)
+        fixed = [("short", kind), ("short", where), ("long", ttl if ttl < 2**31 else 0)]
+        records.append((owner, fixed, data(octets, begin, begin + size, kind, where)))
     if reader.at != len(octets):
         raise Fault("Trailing")
-    return sum(counts), said
+    return identifier, flags, counts, questions, records
+
+
+def numbers_of(message):
+    """All that a message says, as numbers."""
+    identifier, flags, counts, questions, records = message
+    numbers = [identifier, flags >> 15] + [flags >> bit & 1 for bit in (10, 9, 8, 7)]
+    numbers += [flags >> 11 & 15, flags >> 4 & 7, flags & 15]
+    for parts in questions + [[owner] + fixed + body for owner, fixed, body in records]:
+        for part in parts:
+            numbers += said(part)
+    return numbers
+
+
+def encode(message):
+    """Names whole, but for an owner that is the first question's."""
+    identifier, flags, counts, questions, records = message
+    out = struct.pack(">6H", identifier, flags, *counts)
+    out += b"".join(written(part) for parts in questions for part in parts)
+    for owner, fixed, body in records:
+        out += b"\xc0\x0c" if questions and owner == questions[0][0] else written(owner)
+        body = b"".join(map(written, body))
+        out += b"".join(map(written, fixed)) + struct.pack(">H", len(body)) + body
+    return out
+
+
+def has_pointer(octets, at):
+    while octets[at] not in (0, *range(192, 256)):
+        at += octets[at] + 1
+    return octets[at] != 0
+
+
+def asked(octets):
+    """Whether there is no reply, a fault with an RCODE, or a query."""
+    if len(octets) < 12 or octets[2] >> 7:
+        return "no reply"
+    if octets[2] >> 3 & 15:
+        return "fault 4"
+    if octets[4:6] != b"\0\x01":
+        return "fault 1"
+    try:
+        (_, (_, kind), (_, where)), = decode(octets)[3]
+    except Fault:
+        return "fault 1"
+    if has_pointer(octets, 12):
+        return "fault 1"
+    excluded = kind in (3, 4, 7, 8, 9, 14, 41) or 251 <= kind <= 255
+    return "fault 4" if where != 1 or excluded else "query"
 
 
 def main():
     rng = Pcg32(42, 54)
     tally = dict.fromkeys(("Short", "Trailing", "BadName", "BadPointer", "BadData"), 0)
-    messages = items = offsets = values = 0
+    verdicts = dict.fromkeys(("no reply", "fault 1", "fault 4", "query"), 0)
+    messages = items = offsets = values = size = octets = 0
     for _ in range(100_000):
+        string = drawn(rng)
+        verdicts[asked(string)] += 1
         try:
-            count, said = decode(drawn(rng))
-            messages, items = messages + 1, items + count
-            for number in said:
+            message = decode(string)
+            messages, items = messages + 1, items + sum(message[2])
+            for number in numbers_of(message):
                 values = (values * 31 + number) & WORD
+            again = encode(message)
+            assert encode(decode(again)) == again
+            size = (size + len(again)) & WORD
+            for octet in again:
+                octets = (octets * 31 + octet) & WORD
         except Fault as fault:
             tally[fault.args[0]] += 1
             for at in fault.args[1:]:
@@ -182,6 +259,9 @@ def main():
     print(f"bad names {tally['BadName']}, bad pointers {tally['BadPointer']}")
     print(f"bad data {tally['BadData']}")
     print(f"offsets {offsets}, values {values}")
+    print(f"written again {messages}, octets {size}, values {octets}")
+    print(f"no reply {verdicts['no reply']}, malformed {verdicts['fault 1']}")
+    print(f"not implemented {verdicts['fault 4']}, queries {verdicts['query']}")
 
 
 main()

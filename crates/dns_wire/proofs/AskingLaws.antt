@@ -50,12 +50,15 @@ message_parts {m} {v} one h =
     let q = one_item h.questions one in
     let in_q = questions_within h.header h.questions in
     let in_a = records_within in_q h.answer in
-    let in_u = records_within in_a h.authority in
-    (q.0.item.owner, q.1.fixed, record {
-      name = name_read-spelled m 12 q.1.fixed q.0.item.owner h.header q.1.owner;
-      room = omega (arith, q.1.ends, in_q);
-      places = rw (← q.1.ends, records_stand in_q h.answer, records_stand in_a h.authority, records_stand in_u h.additional) refl;
-    })
+    let in_u = records_within in_a h.authority in (
+      q.0.item.owner,
+      q.1.fixed,
+      record {
+        name = name_read-spelled m 12 q.1.fixed q.0.item.owner h.header q.1.owner;
+        room = omega (arith, q.1.ends, in_q);
+        places = rw (← q.1.ends, records_stand in_q h.answer, records_stand in_a h.authority, records_stand in_u h.additional) refl;
+      },
+    )
 
 -- Without these parts there is no message.
 malformed_by : {m : List ℕ} → question_count m ≡ 1 → ((labels : Labels) (at : ℕ) → ¬ (Parts m labels at)) → IsMalformed m
@@ -115,19 +118,20 @@ parts_message {m} {labels} {at} header one p =
     let at_a = records_found p.room answer.1 in
     let in_a = records_within p.room at_a in
     let at_u = records_found in_a authority.1 in
-    let in_u = records_within in_a at_u in
-    (record { head = head_in m; questions = question_with m labels at ∷ []; answer = answer.0; authority = authority.0; additional = additional.0 },
-    record {
-      header = header;
-      head = refl;
-      answer_place = at + 4;
-      authority_place = a;
-      additional_place = u;
-      questions = rw one (one_more q (no_items refl));
-      answer = at_a;
-      authority = at_u;
-      additional = records_found in_u additional.1;
-    })))
+    let in_u = records_within in_a at_u in (
+      record { head = head_in m; questions = question_with m labels at ∷ []; answer = answer.0; authority = authority.0; additional = additional.0 },
+      record {
+        header = header;
+        head = refl;
+        answer_place = at + 4;
+        authority_place = a;
+        additional_place = u;
+        questions = rw one (one_more q (no_items refl));
+        answer = at_a;
+        authority = at_u;
+        additional = records_found in_u additional.1;
+      },
+    )))
 
 pub asks_name : {m : List ℕ} {labels : Labels} {at : ℕ} → 12 ≤ length m → question_count m ≡ 1 → Parts m labels at → ¬ (HasPointer m 12) → AsksName m labels at
 asks_name header one p whole =
@@ -157,19 +161,19 @@ question_stands {m} {labels} {at} octets h class =
     let end : at + 4 ≡ 12 + ((at - 12) + 4) = omega (arith, whole.before) in
     let begin : 12 + (at - 12) ≡ at = omega (arith, whole.before) in
     let is : drop 12 (take (at + 4) m) ≡ name ++ fixed =
-        rw end (drop-take 12 ((at - 12) + 4) m ∙ take-add (at - 12) 4 (drop 12 m) ∙ rw (drop-drop (at - 12) 12 m, begin) refl) in
+    rw end (drop-take 12 ((at - 12) + 4) m ∙ take-add (at - 12) 4 (drop 12 m) ∙ rw (drop-drop (at - 12) 12 m, begin) refl) in
     let size : length name ≡ at - 12 = omega (arith, length-take (at - 12) (drop 12 m), length-drop 12 m) in
     let four : length fixed ≡ 4 = omega (arith, length-take 4 (drop at m), length-drop at m) in
     let all : length (name ++ fixed) - 4 ≡ length name = omega (arith, length-append name fixed) in
     let long : length name < 256 =
-        omega (arith, length-map name to_ascii_lowercase, ap length whole.lower, length-append (spelled labels) (0 ∷ []), h.owner.short) in
+    omega (arith, length-map name to_ascii_lowercase, ap length whole.lower, length-append (spelled labels) (0 ∷ []), h.owner.short) in
     let range = λ (i : ℕ). octet_of (take 2 (drop i m)) (octets_take 2 (drop i m) (octets_drop i m octets)) in
     let two = λ (i : ℕ) (room : i + 2 ≤ length m). (let e : length (take 2 (drop i m)) ≡ 2 = omega (arith, length-take 2 (drop i m), length-drop i m) in e) in
     let kind : to_be_bytes w16 (u16_at m at) ≡ take 2 (drop at m) = be_bytes_2 (take 2 (drop at m)) (u16_at m at) (two at (omega arith)) (range at) refl in
     let of_in : to_be_bytes w16 1 ≡ take 2 (drop (at + 2) m) = be_bytes_2 (take 2 (drop (at + 2) m)) 1 (two (at + 2) (omega arith)) (range (at + 2)) (sym class) in
     let parts : fixed ≡ to_be_bytes w16 (u16_at m at) ++ to_be_bytes w16 1 =
-        take-add 2 2 (drop at m) ∙ ap (λ (x : List ℕ). take 2 (drop at m) ++ take 2 x) (drop-drop 2 at m)
-        ∙ ap (λ (x : List ℕ). x ++ take 2 (drop (at + 2) m)) (sym kind) ∙ ap (λ (x : List ℕ). to_be_bytes w16 (u16_at m at) ++ x) (sym of_in) in
+    take-add 2 2 (drop at m) ∙ ap (λ (x : List ℕ). take 2 (drop at m) ++ take 2 x) (drop-drop 2 at m)
+    ∙ ap (λ (x : List ℕ). x ++ take 2 (drop (at + 2) m)) (sym kind) ∙ ap (λ (x : List ℕ). to_be_bytes w16 (u16_at m at) ++ x) (sym of_in) in
     record {
       octets = rw is (record {
         owner = rw (all, take_at name fixed (length name) refl) whole.lower;

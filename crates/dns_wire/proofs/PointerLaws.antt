@@ -98,9 +98,9 @@ name_whole {m} {at} {run} {after} (label {n = n} {labels = labels} e inside rest
     let long : length text ≡ n = omega (arith, length-map (take n (drop (at + 1) m)) to_ascii_lowercase, length-take n (drop (at + 1) m), length-drop (at + 1) m) in
     let size : after - at ≡ suc (n + (after - (at + 1 + n))) = omega (arith, behind.before) in
     let parts : take (n + (after - (at + 1 + n))) (drop (at + 1) m) ≡ take n (drop (at + 1) m) ++ take (after - (at + 1 + n)) (drop (at + 1 + n) m) =
-        take-add n (after - (at + 1 + n)) (drop (at + 1) m) ∙ ap (λ (x : List ℕ). take n (drop (at + 1) m) ++ take (after - (at + 1 + n)) x) (drop-drop n (at + 1) m) in
+    take-add n (after - (at + 1 + n)) (drop (at + 1) m) ∙ ap (λ (x : List ℕ). take n (drop (at + 1) m) ++ take (after - (at + 1 + n)) x) (drop-drop n (at + 1) m) in
     let low : map to_ascii_lowercase (take (after - at) (drop at m)) ≡ n ∷ (text ++ name_octets labels) =
-        rw (size, front, parts, small_lower n octet.1, map-append to_ascii_lowercase (take n (drop (at + 1) m)) (take (after - (at + 1 + n)) (drop (at + 1 + n) m)), behind.lower) refl in
+    rw (size, front, parts, small_lower n octet.1, map-append to_ascii_lowercase (take n (drop (at + 1) m)) (take (after - (at + 1 + n)) (drop (at + 1 + n) m)), behind.lower) refl in
     record {
       before = omega (arith, behind.before);
       lower = low ∙ ap (λ (k : ℕ). k ∷ (text ++ name_octets labels)) (sym long) ∙ sym (append_assoc (with_length text) (spelled labels) (0 ∷ []));

@@ -26,4 +26,6 @@ pub use read::{decode, one_meaning};
 pub use reply::{cut_for_udp, fault_reply};
 
 #[cfg(test)]
+mod query_tests;
+#[cfg(test)]
 mod tests;
