@@ -12,3 +12,4 @@ pub mod StringLaws
 pub mod WalkLaws
 pub mod PointerLaws
 pub mod AskingLaws
+pub mod VerdictLaws

@@ -86,3 +86,14 @@ pub record IsGood (m : List ℕ) : Type 0 where
   pub after : ℕ
   pub question : AsksQuestion m q after
   pub answerable : IsAnswerable q
+
+-- Both are no reply, or the same fault, or queries of the same fields.
+abbrev pub SameAsked : Asked → Asked → Type 0
+SameAsked Drop Drop = Unit {0}
+SameAsked (Fault a) (Fault b) = a ≡ b
+SameAsked (Good a) (Good b) = (a.id ≡ b.id) × (a.rd ≡ b.rd) × (a.question ≡ b.question) × (a.octets ≡ b.octets)
+SameAsked _ _ = ⊥
+
+-- Octets ask for one thing at most.
+abbrev pub AskedOnce : Type 0
+AskedOnce = (m : List ℕ) (a b : Asked) → AsksFor m a → AsksFor m b → SameAsked a b

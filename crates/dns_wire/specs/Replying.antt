@@ -1,5 +1,5 @@
 -- Replies that are made of a query's header and question alone (RFC 1035, section 4.1.1; RFC 2181, section 9).
-use Rattle.std.specs.Prelude.{ℕ, true, false, List, [], ◌∷◌}
+use Rattle.std.specs.Prelude.{ℕ, true, false, [], ◌∷◌}
 use Rattle.dns_text.specs.declared.record.Question.{Question}
 use Rattle.dns_wire.specs.declared.message.Head.{Head}
 use Rattle.dns_wire.specs.declared.message.Message.{Message}

@@ -1,7 +1,7 @@
 //! What octets that came to a server ask for.
 
 ghost use Rattle.std.specs.Prelude.{◌≡◌, ◌↔◌, ◌≤◌, ◌+◌, length, IsTrue, IfOk, IfErr, MatchOption};
-ghost use Rattle.dns_wire.specs.Asking.{HasPointer, IsStandardQuery, IsMalformed, AsksName, AsksFor, IsGood, IsQueryFrom};
+ghost use Rattle.dns_wire.specs.Asking.{HasPointer, IsStandardQuery, IsMalformed, AsksName, AsksFor, IsGood, IsQueryFrom, AskedOnce};
 ghost use Rattle.dns_wire.specs.Number.{u16_at};
 
 use crate::header::head_in;
@@ -107,3 +107,8 @@ pub fn read_question(alloc: Global, octets: &[u8]) -> Result<Asked, NoMemory>
     }
     Ok(Asked::Good(query_of(alloc, octets, &labels, at)?))
 }
+
+/// Octets ask for one thing, and for no other.
+pub fn one_verdict()
+    ensures { AskedOnce }
+{}

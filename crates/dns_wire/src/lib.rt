@@ -18,7 +18,7 @@ mod record;
 mod reply;
 mod walk;
 
-pub use asking::read_question;
+pub use asking::{one_verdict, read_question};
 pub use fault::WireFault;
 pub use message::{Classed, Head, Message};
 pub use query::{Asked, Query};
