@@ -1,6 +1,7 @@
 //! Decodes 100,000 drawn octet strings of at most 600 octets, half of them good messages with a few octets changed,
-//! and prints how each kind of answer came out and all that the messages say, taken into one number. The wanted
-//! numbers are those of reference.py, a decoder written apart from this one, over the same draws.
+//! writes each message again and reads what was written, and takes each string as a query. Prints how each kind of
+//! answer came out, and what the messages say and are written as, taken into a number each. The wanted numbers are
+//! those of reference.py, which was written apart from the crate, over the same draws.
 #![tactic(auto)]
 
 mod draws;
@@ -19,5 +20,17 @@ fn main(rt: HostRuntime) -> io::Result<()> {
         tally.bad_names, tally.bad_pointers
     )?;
     println!(rt; "bad data {}", tally.bad_data)?;
-    println!(rt; "offsets {}, values {}", tally.offsets, tally.values.sum)
+    println!(rt; "offsets {}, values {}", tally.offsets, tally.values.sum)?;
+    println!(rt;
+        "written again {}, octets {}, values {}",
+        tally.again, tally.octets, tally.octet_values.sum
+    )?;
+    println!(rt;
+        "no reply {}, malformed {}",
+        tally.no_replies, tally.malformed
+    )?;
+    println!(rt;
+        "not implemented {}, queries {}",
+        tally.not_implemented, tally.queries
+    )
 }

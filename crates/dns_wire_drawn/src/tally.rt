@@ -1,8 +1,10 @@
 //! How many answers of each kind there were.
 
+ghost use Rattle.dns_wire.specs.WellFormed.{IsWellFormed};
+
 use crate::draws::drawn;
 use crate::values::Values;
-use dns_wire::{Message, WireFault, decode};
+use dns_wire::{Asked, EncodeFault, Message, WireFault, decode, encode, read_question};
 use rand_pcg::Pcg32;
 use std::alloc::{AllocError, Global};
 
@@ -20,6 +22,15 @@ pub struct Tally {
     pub offsets: u32,
     /// What the messages say.
     pub values: Values,
+    /// The messages that, written and read, were the same again.
+    pub again: u32,
+    /// The octets that were written.
+    pub octets: u32,
+    pub octet_values: Values,
+    pub no_replies: u32,
+    pub malformed: u32,
+    pub not_implemented: u32,
+    pub queries: u32,
 }
 
 fn items_in(message: &Message) -> u32 {
@@ -42,6 +53,13 @@ impl Tally {
             bad_data: 0,
             offsets: 0,
             values: Values { sum: 0 },
+            again: 0,
+            octets: 0,
+            octet_values: Values { sum: 0 },
+            no_replies: 0,
+            malformed: 0,
+            not_implemented: 0,
+            queries: 0,
         }
     }
 
@@ -71,13 +89,48 @@ impl Tally {
         Ok(())
     }
 
+    /// Writes a message, and reads what was written.
+    fn take_again(&mut self, alloc: Global, message: &Message) -> Result<(), AllocError>
+        requires { IsWellFormed message.now }
+    {
+        let octets = match encode(alloc, message) {
+            Ok(octets) => octets,
+            Err(EncodeFault::NoMemory) => return Err(AllocError),
+            Err(EncodeFault::TooLong) => return Ok(()),
+        };
+        self.octets = self.octets.wrapping_add((octets.len() % 65536) as u32);
+        self.octet_values.take_each(&octets);
+        match decode(alloc, &octets) {
+            Ok(again) => {
+                if again == *message {
+                    self.again = self.again.wrapping_add(1);
+                }
+                Ok(())
+            }
+            Err(WireFault::NoMemory) => Err(AllocError),
+            Err(_) => Ok(()),
+        }
+    }
+
+    /// What the octets ask a server for.
+    fn take_asked(&mut self, alloc: Global, octets: &[u8]) -> Result<(), AllocError> {
+        match read_question(alloc, octets)? {
+            Asked::Drop => self.no_replies = self.no_replies.wrapping_add(1),
+            Asked::Fault(1) => self.malformed = self.malformed.wrapping_add(1),
+            Asked::Fault(_) => self.not_implemented = self.not_implemented.wrapping_add(1),
+            Asked::Good(_) => self.queries = self.queries.wrapping_add(1),
+        }
+        Ok(())
+    }
+
     fn take(&mut self, alloc: Global, octets: &[u8]) -> Result<(), AllocError> {
+        self.take_asked(alloc, octets)?;
         match decode(alloc, octets) {
             Ok(message) => {
                 self.messages = self.messages.wrapping_add(1);
                 self.items = self.items.wrapping_add(items_in(&message));
                 self.values.take_message(&message);
-                Ok(())
+                self.take_again(alloc, &message)
             }
             Err(fault) => self.take_fault(fault),
         }

@@ -14,10 +14,15 @@ impl Values {
         self.sum = self.sum.wrapping_mul(31).wrapping_add(number);
     }
 
-    fn take_octets(&mut self, octets: &[u8]) {
+    /// Takes in each octet.
+    pub fn take_each(&mut self, octets: &[u8]) {
         for octet in octets {
             self.take(u32::from(*octet));
         }
+    }
+
+    fn take_octets(&mut self, octets: &[u8]) {
+        self.take_each(octets);
         self.take(256);
     }
 
