@@ -8,4 +8,5 @@ pub mod MessageLaws
 pub mod Ranges
 pub mod SectionLoops
 pub mod SectionLaws
+pub mod SizeLaws
 pub mod StringLaws

@@ -10,3 +10,4 @@ pub mod Message
 pub mod WellFormed
 pub mod Writing
 pub mod Decoding
+pub mod Encoding

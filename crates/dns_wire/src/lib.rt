@@ -4,6 +4,7 @@
 //! `number`, and `read` reads the whole. `fault` says what keeps octets from being a message.
 #![tactic(auto)]
 
+mod encoding;
 mod fault;
 mod header;
 mod message;
@@ -14,7 +15,11 @@ mod question;
 mod rdata;
 mod read;
 mod record;
+mod size;
+mod write;
+mod write_data;
 
+pub use encoding::{EncodeFault, encode, encode_reply};
 pub use fault::WireFault;
 pub use message::{Classed, Head, Message};
 pub use query::{Asked, Query};
