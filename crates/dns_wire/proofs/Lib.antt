@@ -10,3 +10,8 @@ pub mod SectionLoops
 pub mod SectionLaws
 pub mod SizeLaws
 pub mod StringLaws
+pub mod WrittenName
+pub mod WrittenData
+pub mod WrittenHead
+pub mod WrittenRecord
+pub mod WrittenMessage

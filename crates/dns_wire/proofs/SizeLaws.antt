@@ -1,13 +1,12 @@
 -- How many octets there are, where a message may have as many.
-use Rattle.std.proofs.Common.{◌≡◌, ℕ, ◌+◌, ◌-◌, ◌<◌, ◌≤◌, ltb, List, [], ◌∷◌, ◌++◌, length, get_or, take, drop, Option, Some, None, refl, sym, ap, ◌∙◌, inl, inr, arith, length-append}
+use Rattle.std.proofs.Common.{◌≡◌, ℕ, ◌+◌, ◌-◌, ◌<◌, ◌≤◌, ltb, List, [], ◌∷◌, ◌++◌, length, take, Option, Some, None, refl, sym, ap, ◌∙◌, inl, inr, arith, length-append}
 use Rattle.std.specs.List.{flat_map}
 use Rattle.std.specs.Bool.{Decides}
 use Rattle.std.specs.Char.{to_ascii_lowercase}
 use Rattle.std.specs.Prelude.{◌⊎◌, MatchOption}
 use Rattle.std.proofs.lemmas.Bool.{cases_Bool, lt-ltb, ltb-true, ltb-false}
 use Rattle.std.proofs.lemmas.Bool.Decides.{Decides-or, Decides-ltb, not_from_Decides}
-use Rattle.std.proofs.lemmas.List.{take_more, take-append-drop, length-map, length-take, length-drop}
-use Rattle.std.proofs.lemmas.List.Concat.{flat_map-append}
+use Rattle.std.proofs.lemmas.List.{length-map, length-take, length-drop}
 use Rattle.dns_name.specs.Labels.{Labels, spelled}
 use Rattle.dns_text.specs.declared.record.Question.{Question}
 use Rattle.dns_text.specs.declared.record.Record.{Record}
@@ -33,14 +32,6 @@ as_many {n} {k} e =
       | inl over ↦ absurd (let bad : None ≡ Some k = sym (rw over refl) ∙ e in cc)
       | inr fits ↦ (let same : Some n ≡ Some k = sym (rw fits refl) ∙ e in cc, ltb-false 65535 n fits)
     ]
-
--- the part of the item at a place, and those before it, are no more than all
-pub part_of_all : {X : Type 0} (f : X → List ℕ) (xs : List X) (i : ℕ) (x : X) → i < length xs → length (flat_map f (take i xs)) + length (f (get_or xs i x)) ≤ length (flat_map f xs)
-part_of_all f xs i x h =
-    let item = get_or xs i x in
-    let one : flat_map f (take (i + 1) xs) ≡ flat_map f (take i xs) ++ (f item ++ []) = ap (flat_map f) (take_more xs i x h) ∙ flat_map-append f (take i xs) (item ∷ []) in
-    let all : flat_map f xs ≡ flat_map f (take (i + 1) xs) ++ flat_map f (drop (i + 1) xs) = ap (flat_map f) (sym (take-append-drop (i + 1) xs)) ∙ flat_map-append f (take (i + 1) xs) (drop (i + 1) xs) in
-    omega (arith, ap length one, ap length all, length-append (flat_map f (take i xs)) (f item ++ []), length-append (f item) [], length-append (flat_map f (take (i + 1) xs)) (flat_map f (drop (i + 1) xs)))
 
 -- A message that isn't too long has a place for all of it.
 pub record Fits (v : Message) : Type 0 where

@@ -3,6 +3,8 @@
 ghost use Rattle.std.specs.Prelude.{◌≡◌, ◌⊎◌, [], ◌∷◌, IfOk, IfErr, Err};
 ghost use Rattle.dns_wire.specs.declared.encoding.EncodeFault.{EncodeFault};
 ghost use Rattle.dns_wire.specs.declared.encoding.EncodeFault.TheVariants.{TooLong, NoMemory};
+ghost use Rattle.dns_wire.specs.Encoding.{WrittenIsRead, RepliesAreRead};
+ghost use Rattle.dns_wire.specs.Message.{SpelledMessage};
 ghost use Rattle.dns_wire.specs.WellFormed.{IsWellFormed};
 ghost use Rattle.dns_wire.specs.Writing.{message_octets, octets_with, in_class_in, IsTooLong};
 
@@ -58,6 +60,7 @@ fn write_message(alloc: Global, message: &Message, size: usize) -> Result<Vec<u8
 pub fn encode(alloc: Global, message: &Message) -> Result<Vec<u8>, EncodeFault>
     requires { IsWellFormed message.now }
     ensures octets { IfOk result (λ out. out.items ≡ message_octets message.now) }
+    ensures spelled { IfOk result (λ out. SpelledMessage out.items message.now) }
     ensures fits { IfOk result (λ _. ¬ (IsTooLong message.now)) }
     ensures too_long { IsTooLong message.now → result ≡ Err TooLong }
     ensures fault { IfErr result (λ fault. (fault ≡ NoMemory) ⊎ IsTooLong message.now) }
@@ -92,6 +95,7 @@ pub fn encode_reply(alloc: Global, query: &Query, reply: &Message) -> Result<Vec
     requires well_formed { IsWellFormed reply.now }
     requires question { reply.now.questions ≡ in_class_in query.now.question ∷ [] }
     ensures octets { IfOk result (λ out. out.items ≡ octets_with query.now.octets reply.now) }
+    ensures spelled { IfOk result (λ out. SpelledMessage out.items reply.now) }
     ensures fits { IfOk result (λ _. ¬ (IsTooLong reply.now)) }
     ensures too_long { IsTooLong reply.now → result ≡ Err TooLong }
     ensures fault { IfErr result (λ fault. (fault ≡ NoMemory) ⊎ IsTooLong reply.now) }
@@ -101,3 +105,9 @@ pub fn encode_reply(alloc: Global, query: &Query, reply: &Message) -> Result<Vec
         Some(size) => Ok(write_reply(alloc, query, reply, size)?),
     }
 }
+
+/// What a message is written as is read back, and is no other message.
+pub fn written_is_read()
+    ensures messages { WrittenIsRead }
+    ensures replies { RepliesAreRead }
+{}

@@ -19,7 +19,7 @@ mod size;
 mod write;
 mod write_data;
 
-pub use encoding::{EncodeFault, encode, encode_reply};
+pub use encoding::{EncodeFault, encode, encode_reply, written_is_read};
 pub use fault::WireFault;
 pub use message::{Classed, Head, Message};
 pub use query::{Asked, Query};
