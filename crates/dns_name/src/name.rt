@@ -1,6 +1,6 @@
 //! A name, its labels and its order.
 
-ghost use Rattle.std.specs.Prelude.{◌≡◌, ◌↔◌, ◌++◌, IsTrue, IfOk, IfErr, OnOk, MatchOption, List, ℕ, [], map};
+ghost use Rattle.std.specs.Prelude.{◌≡◌, ◌↔◌, ◌++◌, IsTrue, IfOk, IfErr, OnOk, MatchOption, List, ℕ, ◌+◌, [], length, map};
 ghost use Rattle.std.specs.Iterator.{YieldsFirstBy, item_count};
 ghost use Rattle.dns_name.specs.Labels.{IsAtOrBelow, octets_of, spelled, IsName, IsOctets, labels_in, labels_of, parent_of};
 ghost use Rattle.dns_name.specs.Making.{Gives, name_after, lowered};
@@ -98,6 +98,14 @@ impl Name {
         ensures name { IsName self.now }
     {
         &self.octets
+    }
+
+    /// How many octets the name takes in a message, with the zero octet that ends it: 1 to 255 (RFC 1035 section 3.1).
+    pub fn wire_len(&self) -> usize
+        ensures len { result ≡ length (spelled self.now) + 1 }
+        ensures name { IsName self.now }
+    {
+        self.octets().len() + 1
     }
 
     /// Writes the labels behind what `out` holds, as they stand in a message, each behind its length,

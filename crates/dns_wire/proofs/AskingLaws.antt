@@ -1,13 +1,12 @@
 -- Octets that are a message of one question, by their parts.
-use Rattle.std.proofs.Common.{◌≡◌, ℕ, ◌+◌, ◌-◌, ◌<◌, ◌≤◌, List, [], ◌∷◌, ◌++◌, length, take, drop, Option, Some, None, Result, Ok, Err, refl, sym, ap, ◌∙◌, arith, length-append}
+use Rattle.std.proofs.Common.{◌≡◌, ℕ, ◌+◌, ◌-◌, ◌^◌, ◌<◌, ◌≤◌, List, [], ◌∷◌, ◌++◌, length, take, drop, Option, Some, None, Result, Ok, Err, refl, sym, ap, ◌∙◌, arith, length-append}
 use Rattle.std.specs.Prelude.{true, false, IfErr}
 use Rattle.std.specs.Int.{w16, to_be_bytes}
 use Rattle.std.proofs.Math.Seq.{take-add}
-use Rattle.std.proofs.lemmas.List.{drop-drop, drop-take, take_at, drop_at, length-take, length-drop, length-map}
+use Rattle.std.proofs.lemmas.List.{drop-drop, drop-take, take_at, drop_at, length-take, length-drop}
 use Rattle.std.proofs.lemmas.Nat.{be_bytes_2}
 use Rattle.std.proofs.lemmas.Option.{option_and_then_some}
-use Rattle.std.specs.Char.{to_ascii_lowercase}
-use Rattle.dns_name.specs.Labels.{Labels, spelled}
+use Rattle.dns_name.specs.Labels.{Labels}
 use Rattle.dns_text.specs.declared.record.Record.{Record}
 use Rattle.dns_wire.specs.declared.fault.WireFault.{WireFault}
 use Rattle.dns_wire.specs.declared.message.Classed.{Classed}
@@ -25,7 +24,7 @@ use Rattle.dns_wire.specs.Writing.{IsQuestionOctets}
 use Rattle.dns_wire.proofs.MessageLaws.{questions_within, records_stand, records_within, records_match}
 use Rattle.dns_wire.proofs.NameLaws.{name_read-match, name_read-spelled}
 use Rattle.dns_wire.proofs.PointerLaws.{name_whole}
-use Rattle.dns_wire.proofs.Ranges.{octets_drop, octets_take, octet_of}
+use Rattle.dns_wire.proofs.Ranges.{octets_drop, octets_take, octet_of, u16_range}
 use Rattle.dns_wire.proofs.WalkLaws.{read_by}
 
 -- What walking a message of one question comes to: its name, and the end behind all records.
@@ -146,12 +145,9 @@ asks_question h = record { one = h.one; message = h.message; spelled = h.spelled
 pub question_begins : {m : List ℕ} {labels : Labels} {at : ℕ} → AsksName m labels at → 12 < at
 question_begins h = (name_whole h.owner.stands h.whole).before
 
--- The octets of a question, from the header to the place after it.
-pub record Stands (m : List ℕ) (labels : Labels) (at : ℕ) : Type 0 where
-  pub octets : IsQuestionOctets (drop 12 (take (at + 4) m)) (record { owner = labels; kind = u16_at m at })
-  pub short : length (drop 12 (take (at + 4) m)) ≤ 259
-
-pub question_stands : {m : List ℕ} {labels : Labels} {at : ℕ} → AreOctets m → AsksName m labels at → u16_at m (at + 2) ≡ 1 → Stands m labels at
+-- The octets of a question stand from the header to the place after it.
+pub question_stands : {m : List ℕ} {labels : Labels} {at : ℕ} → AreOctets m → AsksName m labels at → u16_at m (at + 2) ≡ 1
+    → IsQuestionOctets (drop 12 (take (at + 4) m)) (record { owner = labels; kind = u16_at m at })
 unfolding u16_at
 question_stands {m} {labels} {at} octets h class =
     let whole = name_whole h.owner.stands h.whole in
@@ -165,19 +161,16 @@ question_stands {m} {labels} {at} octets h class =
     let size : length name ≡ at - 12 = omega (arith, length-take (at - 12) (drop 12 m), length-drop 12 m) in
     let four : length fixed ≡ 4 = omega (arith, length-take 4 (drop at m), length-drop at m) in
     let all : length (name ++ fixed) - 4 ≡ length name = omega (arith, length-append name fixed) in
-    let long : length name < 256 =
-    omega (arith, length-map name to_ascii_lowercase, ap length whole.lower, length-append (spelled labels) (0 ∷ []), h.owner.short) in
     let range = λ (i : ℕ). octet_of (take 2 (drop i m)) (octets_take 2 (drop i m) (octets_drop i m octets)) in
     let two = λ (i : ℕ) (room : i + 2 ≤ length m). (let e : length (take 2 (drop i m)) ≡ 2 = omega (arith, length-take 2 (drop i m), length-drop i m) in e) in
     let kind : to_be_bytes w16 (u16_at m at) ≡ take 2 (drop at m) = be_bytes_2 (take 2 (drop at m)) (u16_at m at) (two at (omega arith)) (range at) refl in
     let of_in : to_be_bytes w16 1 ≡ take 2 (drop (at + 2) m) = be_bytes_2 (take 2 (drop (at + 2) m)) 1 (two (at + 2) (omega arith)) (range (at + 2)) (sym class) in
+    let small : u16_at m at < 2 ^ 16 = u16_range m at octets in
     let parts : fixed ≡ to_be_bytes w16 (u16_at m at) ++ to_be_bytes w16 1 =
     take-add 2 2 (drop at m) ∙ ap (λ (x : List ℕ). take 2 (drop at m) ++ take 2 x) (drop-drop 2 at m)
     ∙ ap (λ (x : List ℕ). x ++ take 2 (drop (at + 2) m)) (sym kind) ∙ ap (λ (x : List ℕ). to_be_bytes w16 (u16_at m at) ++ x) (sym of_in) in
-    record {
-      octets = rw is (record {
-        owner = rw (all, take_at name fixed (length name) refl) whole.lower;
-        fixed = rw (all, drop_at name fixed (length name) refl) parts;
-      });
-      short = rw is (omega (arith, length-append name fixed, four, long));
-    }
+    rw is (record {
+      owner = rw (all, take_at name fixed (length name) refl) whole.lower;
+      fixed = rw (all, drop_at name fixed (length name) refl) parts;
+      kind = small;
+    })

@@ -8,8 +8,15 @@ pub mod MessageLaws
 pub mod Ranges
 pub mod SectionLoops
 pub mod SectionLaws
+pub mod SizeLaws
 pub mod StringLaws
 pub mod WalkLaws
 pub mod PointerLaws
 pub mod AskingLaws
 pub mod VerdictLaws
+pub mod WrittenName
+pub mod WrittenData
+pub mod WrittenHead
+pub mod WrittenRecord
+pub mod WrittenMessage
+pub mod ReplyLaws

@@ -46,6 +46,10 @@ pub octets_all : (xs : List ℕ) → ((i : ℕ) → get_or xs i 0 < 256) → Are
 octets_all [] h = tt
 octets_all (x ∷ xs) h = (h 0, octets_all xs (λ i. h (suc i)))
 
+pub octets_within : (xs : List ℕ) → ((i : ℕ) → i < length xs → get_or xs i 0 < 256) → AreOctets xs
+octets_within [] h = tt
+octets_within (x ∷ xs) h = (h 0 (omega arith), octets_within xs (λ i less. h (suc i) (omega arith)))
+
 octets_split : (a b : List ℕ) → AreOctets (a ++ b) → AreOctets a × AreOctets b
 octets_split [] b h = (tt, h)
 octets_split (x ∷ a) b h = let rest = octets_split a b h.1 in ((h.0, rest.0), rest.1)
@@ -64,7 +68,7 @@ strings_short (string ∷ strings) h =
 
 -- ---- numbers
 
-u16_range : (m : List ℕ) (at : ℕ) → AreOctets m → u16_at m at < 2 ^ 16
+pub u16_range : (m : List ℕ) (at : ℕ) → AreOctets m → u16_at m at < 2 ^ 16
 unfolding u16_at
 u16_range m at h =
     let fits = octet_of (take 2 (drop at m)) (octets_take 2 (drop at m) (octets_drop at m h)) in

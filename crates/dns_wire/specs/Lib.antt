@@ -13,3 +13,4 @@ pub mod Walking
 pub mod Decoding
 pub mod Asking
 pub mod Replying
+pub mod Encoding

@@ -1,6 +1,6 @@
 -- Messages as octets (RFC 1035, section 4.1). An owner that is the first question's name is a pointer to that name, which
 -- stands behind the header; every other name is whole.
-use Rattle.std.specs.Prelude.{◌≡◌, ℕ, ◌+◌, ◌-◌, ◌*◌, ◌<◌, ◌⊎◌, Bool, true, false, List, [], ◌∷◌, ◌++◌, length, take, drop, map, Option, Some, None, if◌then◌else◌}
+use Rattle.std.specs.Prelude.{◌≡◌, ℕ, ◌+◌, ◌-◌, ◌*◌, ◌^◌, ◌<◌, ◌⊎◌, Bool, true, false, List, [], ◌∷◌, ◌++◌, length, take, drop, map, Option, Some, None, if◌then◌else◌}
 use Rattle.std.specs.Char.{to_ascii_lowercase}
 use Rattle.std.specs.Int.{w16, w32, to_be_bytes}
 use Rattle.std.specs.List.{flat_map}
@@ -101,3 +101,4 @@ in_class_in q = record { item = q; class = 1 }
 pub record IsQuestionOctets (octets : List ℕ) (q : Question) : Type 0 where
   pub owner : map to_ascii_lowercase (take (length octets - 4) octets) ≡ name_octets q.owner
   pub fixed : drop (length octets - 4) octets ≡ u16_octets q.kind ++ u16_octets 1
+  pub kind : q.kind < 2 ^ 16

@@ -1,6 +1,5 @@
 //! A query, as a server sees it.
 
-ghost use Rattle.std.specs.Prelude.{◌≤◌, length};
 ghost use Rattle.dns_wire.specs.Writing.{IsQuestionOctets};
 
 use dns_text::{Octets, Question};
@@ -15,7 +14,6 @@ pub struct Query {
     /// The question's octets in the case in which they came, at most 259: a reply repeats them.
     pub octets: Octets,
     pub ghost spelled: { IsQuestionOctets octets question },
-    pub ghost short: { length octets ≤ 259 },
 }
 
 /// What octets that came to a server ask for.

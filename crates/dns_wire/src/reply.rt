@@ -1,8 +1,10 @@
 //! Replies that are made without memory.
 
 ghost use Rattle.std.specs.Prelude.{◌≡◌, ◌≤◌, ◌<◌, ◌++◌, length, IfNone, IfSome};
+ghost use Rattle.dns_name.specs.Labels.{IsName};
 ghost use Rattle.dns_wire.specs.Header.{head_in};
-ghost use Rattle.dns_wire.specs.Replying.{fault_head, cut_reply};
+ghost use Rattle.dns_wire.specs.Message.{SpelledMessage};
+ghost use Rattle.dns_wire.specs.Replying.{fault_head, head_alone, cut_reply};
 ghost use Rattle.dns_wire.specs.Writing.{header_octets, octets_with};
 
 use crate::header::{head_in, header_of};
@@ -19,6 +21,7 @@ pub fn fault_reply(octets: &[u8], rcode: u8) -> Option<[u8; 12]>
     ensures none { IfNone result (length octets.now < 12) }
     ensures some { IfSome result (λ reply. 12 ≤ length octets.now) }
     ensures reply { IfSome result (λ reply. reply ≡ header_octets (fault_head (head_in octets.now) rcode) 0 0 0 0) }
+    ensures spelled { IfSome result (λ reply. SpelledMessage reply (head_alone (fault_head (head_in octets.now) rcode))) }
 {
     if octets.len() < 12 {
         return None;
@@ -38,21 +41,30 @@ pub fn fault_reply(octets: &[u8], rcode: u8) -> Option<[u8; 12]>
     Some(header_of(&head, 0, 0, 0, 0))
 }
 
+/// Cuts a reply to its header, with TC set, and the question.
+#[tactic(auto, unfolding(crate::specs::Writing::octets_with))]
+fn cut_to_question(reply: &mut Vec<u8>, query: &Query)
+    requires { 512 < length reply.old.items }
+    ensures cut { reply.new.items ≡ octets_with query.now.octets (cut_reply (head_in reply.old.items) query.now.question) }
+    ensures name { IsName query.now.question.owner }
+{
+    let mut head = head_in(reply);
+    head.tc = true;
+    // The header, then a name, a type and a class.
+    reply.truncate(12 + query.question.owner.wire_len() + 4);
+    let (front, behind) = reply.split_at_mut(12);
+    front.copy_from_slice(&header_of(&head, 1, 0, 0, 0));
+    behind.copy_from_slice(query.octets.as_slice());
+}
+
 /// Cuts a reply to the query, where it is too long for UDP, to its header, with TC set, and the question. It takes no
 /// memory (RFC 2181, section 9).
-#[tactic(auto, unfolding(crate::specs::Writing::octets_with))]
 pub fn cut_for_udp(reply: &mut Vec<u8>, query: &Query)
     ensures short { length reply.old.items ≤ 512 → reply.new.items ≡ reply.old.items }
     ensures cut { 512 < length reply.old.items → reply.new.items ≡ octets_with query.now.octets (cut_reply (head_in reply.old.items) query.now.question) }
+    ensures spelled { 512 < length reply.old.items → SpelledMessage reply.new.items (cut_reply (head_in reply.old.items) query.now.question) }
 {
-    if reply.len() <= UDP_OCTETS {
-        return;
+    if reply.len() > UDP_OCTETS {
+        cut_to_question(reply, query);
     }
-    let mut head = head_in(reply);
-    head.tc = true;
-    let question = query.octets.as_slice();
-    reply.truncate(12 + question.len());
-    let (front, behind) = reply.split_at_mut(12);
-    front.copy_from_slice(&header_of(&head, 1, 0, 0, 0));
-    behind.copy_from_slice(question);
 }

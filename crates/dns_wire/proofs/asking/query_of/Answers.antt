@@ -12,4 +12,4 @@ invariant_of-result c =
     let octets : c.new.result ≡ drop 12 (take (c.args.at + 4) m) =
     c.new.ensures ∙ c.in_ok-octets.ensures.items ∙ c.split_at-2.ensures.back ∙ ap (drop 12) c.split_at.ensures.front in
     let stands = question_stands (octets_all m (λ i. omega (arith, c.type_inv.message i))) c.requires.name c.requires.class in
-    rw (octets, c.in_ok-owner.ensures.made, c.u16_at-kind.ensures) (record { spelled = stands.octets; short = stands.short })
+    rw (octets, c.in_ok-owner.ensures.made, c.u16_at-kind.ensures) (record { spelled = stands })

@@ -1,0 +1,53 @@
+-- Replies of a header alone, or of a header and a question, spell what they are to say.
+use Rattle.std.proofs.Common.{◌≡◌, ℕ, ◌+◌, ◌-◌, ◌<◌, ◌≤◌, List, [], ◌∷◌, length, take, refl, ap, inl, inr, arith, length-append}
+use Rattle.std.specs.Prelude.{true}
+use Rattle.std.specs.Char.{to_ascii_lowercase}
+use Rattle.std.proofs.lemmas.List.{length-map, length-take, length-drop}
+use Rattle.dns_name.specs.Labels.{IsName, spelled}
+use Rattle.dns_text.specs.declared.record.Question.{Question}
+use Rattle.dns_wire.specs.declared.message.Head.{Head}
+use Rattle.dns_wire.specs.declared.message.Message.{Message}
+use Rattle.dns_wire.specs.Header.{head_in}
+use Rattle.dns_wire.specs.Message.{SpelledMessage}
+use Rattle.dns_wire.specs.Replying.{fault_head, head_alone, cut_reply}
+use Rattle.dns_wire.specs.WellFormed.{AreOctets, IsHead}
+use Rattle.dns_wire.specs.Writing.{header_octets, octets_with, message_octets, IsTooLong, IsQuestionOctets}
+use Rattle.dns_wire.proofs.Ranges.{head_range}
+use Rattle.dns_wire.proofs.SizeLaws.{length-octets_with, as_long}
+use Rattle.dns_wire.proofs.WrittenMessage.{message_written, reply_written}
+
+-- A short message without records, and with a question at most, isn't too long.
+not_long : (v : Message) → length (message_octets v) ≤ 65535 → length v.questions ≤ 1 → v.answer ≡ [] → v.authority ≡ [] → v.additional ≡ [] → ¬ (IsTooLong v)
+not_long v short few a u x (inl long) = omega arith
+not_long v short few a u x (inr (inl many)) = omega arith
+not_long v short few a u x (inr (inr (inl many))) = omega (arith, ap length a)
+not_long v short few a u x (inr (inr (inr (inl many)))) = omega (arith, ap length u)
+not_long v short few a u x (inr (inr (inr (inr many)))) = omega (arith, ap length x)
+
+pub head_spelled : (h : Head) → IsHead h → SpelledMessage (header_octets h 0 0 0 0) (head_alone h)
+unfolding octets_with header_octets
+head_spelled h fits =
+    message_written (head_alone h) (record { head = fits; questions = tt; answer = tt; authority = tt; additional = tt })
+    (not_long (head_alone h) (omega (arith, length-octets_with [] (head_alone h))) (omega arith) refl refl refl)
+
+pub fault_fits : (m : List ℕ) (rcode : ℕ) → AreOctets m → rcode < 16 → IsHead (fault_head (head_in m) rcode)
+fault_fits m rcode octets small =
+    let h = head_range m octets in
+    record { id = h.id; opcode = h.opcode; z = omega arith; rcode = omega (arith, small) }
+
+pub cut_fits : (m : List ℕ) → AreOctets m → IsHead (record (head_in m) { tc = true })
+cut_fits m octets = let h = head_range m octets in record { id = h.id; opcode = h.opcode; z = h.z; rcode = h.rcode }
+
+-- how many octets a question takes
+pub length-question : {q : Question} {octets : List ℕ} → IsQuestionOctets octets q → length octets ≡ length (spelled q.owner) + 5
+length-question {q} {octets} h =
+    omega (arith, ap length h.owner, ap length h.fixed, length-map (take (length octets - 4) octets) to_ascii_lowercase, length-take (length octets - 4) octets, length-drop (length octets - 4) octets, length-append (spelled q.owner) (0 ∷ []))
+
+pub cut_spelled : (h : Head) (q : Question) (octets : List ℕ) → IsHead (record h { tc = true }) → IsName q.owner → IsQuestionOctets octets q → SpelledMessage (octets_with octets (cut_reply h q)) (cut_reply h q)
+cut_spelled h q octets fits name is =
+    let v = cut_reply h q in
+    let size = length-question is in
+    reply_written q octets v is
+    (record { head = fits; questions = (record { owner = name; kind = is.kind; class = omega arith }, tt); answer = tt; authority = tt; additional = tt })
+    refl
+    (not_long v (omega (arith, size, name.short, as_long v is refl, length-octets_with octets v)) (omega arith) refl refl refl)

@@ -1,0 +1,121 @@
+-- How many octets there are, where a message may have as many.
+use Rattle.std.proofs.Common.{◌≡◌, ℕ, ◌+◌, ◌-◌, ◌<◌, ◌≤◌, ltb, List, [], ◌∷◌, ◌++◌, length, take, Option, Some, None, refl, sym, ap, ◌∙◌, inl, inr, arith, length-append}
+use Rattle.std.specs.List.{flat_map}
+use Rattle.std.specs.Bool.{Decides}
+use Rattle.std.specs.Char.{to_ascii_lowercase}
+use Rattle.std.specs.Prelude.{◌⊎◌, MatchOption}
+use Rattle.std.proofs.lemmas.Bool.{cases_Bool, lt-ltb, ltb-true, ltb-false}
+use Rattle.std.proofs.lemmas.Bool.Decides.{Decides-or, Decides-ltb, not_from_Decides}
+use Rattle.std.proofs.lemmas.List.{length-map, length-take, length-drop}
+use Rattle.dns_name.specs.Labels.{Labels, spelled}
+use Rattle.dns_text.specs.declared.record.Question.{Question}
+use Rattle.dns_text.specs.declared.record.Record.{Record}
+use Rattle.dns_wire.specs.declared.message.Classed.{Classed}
+use Rattle.dns_wire.specs.declared.message.Message.{Message}
+use Rattle.dns_wire.specs.Encoding.{within, records_len, has_long_section, len_behind}
+use Rattle.dns_wire.specs.Writing.{u16_octets, u32_octets, question_octets, in_class_in, IsQuestionOctets, data_octets, owner_octets, behind_owner_octets, record_octets, records_octets, first_name, header_octets, octets_with, message_octets, IsTooLong}
+
+pub too_many : {n : ℕ} → 65535 < n → None ≡ within n
+too_many {n} h = rw (lt-ltb 65535 n h) refl
+
+pub more_than_fit : {n : ℕ} → within n ≡ None → 65535 < n
+more_than_fit {n} e =
+    elim (cases_Bool (ltb 65535 n)) [
+      | inl over ↦ ltb-true 65535 n over
+      | inr fits ↦ absurd (let bad : Some n ≡ None = sym (rw fits refl) ∙ e in cc)
+    ]
+
+-- What fits is the whole number.
+pub as_many : {n k : ℕ} → within n ≡ Some k → (k ≡ n) × (n ≤ 65535)
+as_many {n} {k} e =
+    elim (cases_Bool (ltb 65535 n)) [
+      | inl over ↦ absurd (let bad : None ≡ Some k = sym (rw over refl) ∙ e in cc)
+      | inr fits ↦ (let same : Some n ≡ Some k = sym (rw fits refl) ∙ e in cc, ltb-false 65535 n fits)
+    ]
+
+-- A message that isn't too long has a place for all of it.
+pub record Fits (v : Message) : Type 0 where
+  pub octets : length (message_octets v) ≤ 65535
+  pub questions : length v.questions ≤ 65535
+  pub answer : length v.answer ≤ 65535
+  pub authority : length v.authority ≤ 65535
+  pub additional : length v.additional ≤ 65535
+
+no_more : (n : ℕ) → ¬ (65535 < n) → n ≤ 65535
+no_more n h = elim (cases_Bool (ltb 65535 n)) [
+  | inl over ↦ absurd (h (ltb-true 65535 n over))
+  | inr fits ↦ ltb-false 65535 n fits
+]
+
+pub all_fits : (v : Message) → ¬ (IsTooLong v) → Fits v
+all_fits v h = record {
+  octets = no_more _ (λ over. h (inl over));
+  questions = no_more _ (λ over. h (inr (inl over)));
+  answer = no_more _ (λ over. h (inr (inr (inl over))));
+  authority = no_more _ (λ over. h (inr (inr (inr (inl over)))));
+  additional = no_more _ (λ over. h (inr (inr (inr (inr over)))));
+}
+
+pub data_of_record : (first : Option Labels) (r : Classed Record) → length (data_octets r.item.body) ≤ length (record_octets first r)
+data_of_record first r =
+    let owner = owner_octets first r.item.owner in
+    omega (arith, length-append owner (behind_owner_octets r), length-append (u16_octets r.item.kind) (u16_octets r.class ++ u32_octets r.item.ttl ++ u16_octets (length (data_octets r.item.body)) ++ data_octets r.item.body), length-append (u16_octets r.class ++ u32_octets r.item.ttl ++ u16_octets (length (data_octets r.item.body))) (data_octets r.item.body))
+
+pub length-question_octets : (q : Classed Question) → length (question_octets q) ≡ length (spelled q.item.owner) + 5
+length-question_octets q = simp length-append (omega arith)
+
+-- ---- whole messages
+
+pub length-octets_with : (questions : List ℕ) (v : Message) → length (octets_with questions v) ≡ 12 + length questions + records_len v
+unfolding octets_with header_octets
+length-octets_with questions v =
+    let answer = records_octets (first_name v.questions) v.answer in
+    let authority = records_octets (first_name v.questions) v.authority in
+    let additional = records_octets (first_name v.questions) v.additional in
+    omega (arith, length-append questions (answer ++ authority ++ additional), length-append (questions ++ answer ++ authority) additional, length-append (questions ++ answer) authority, length-append questions answer)
+
+long_section : (v : Message) → Decides (has_long_section v) ((65535 < length v.questions) ⊎ ((65535 < length v.answer) ⊎ ((65535 < length v.authority) ⊎ (65535 < length v.additional))))
+long_section v =
+    Decides-or _ _ (Decides-ltb 65535 (length v.questions)) (Decides-or _ _ (Decides-ltb 65535 (length v.answer)) (Decides-or _ _ (Decides-ltb 65535 (length v.authority)) (Decides-ltb 65535 (length v.additional))))
+
+-- So many octets there are, or the message is too long.
+abbrev pub Measures : List ℕ → Message → Option ℕ → Type 0
+Measures octets v found = MatchOption found (IsTooLong v) (λ n. (n ≡ length octets) × ¬ (IsTooLong v))
+
+pub measured : (questions : List ℕ) (v : Message) → length (octets_with questions v) ≡ length (message_octets v) → Measures (octets_with questions v) v (len_behind (12 + length questions) v)
+measured questions v same =
+    let all = length-octets_with questions v in
+    elim (cases_Bool (has_long_section v)) [
+      | inl long ↦ rw long (inr ((long_section v).0 long))
+      | inr short ↦ elim (cases_Bool (ltb 65535 (12 + length questions + records_len v))) [
+        | inl over ↦ rw (short, over) (inl (let more = ltb-true 65535 (12 + length questions + records_len v) over in omega arith))
+        | inr fits ↦ rw (short, fits) (
+          sym all,
+          λ h. elim h [
+            | inl over ↦ let few = ltb-false 65535 (12 + length questions + records_len v) fits in omega arith
+            | inr long ↦ not_from_Decides (has_long_section v) (long_section v) short long
+          ],
+        )
+      ]
+    ]
+
+-- Too many octets in front are too many in all.
+pub front_is_long : (questions : List ℕ) (v : Message) → length (octets_with questions v) ≡ length (message_octets v) → within (12 + length questions) ≡ None → IsTooLong v
+front_is_long questions v same e =
+    let more = more_than_fit e in
+    let all = length-octets_with questions v in
+    inl (omega arith)
+
+-- A question takes as many octets in whatever case.
+pub as_long : {q : Question} {octets : List ℕ} (v : Message) → IsQuestionOctets octets q → v.questions ≡ in_class_in q ∷ [] → length (octets_with octets v) ≡ length (message_octets v)
+as_long {q} {octets} v h is =
+    let one = length-question_octets (in_class_in q) in
+    let front = take (length octets - 4) octets in
+    let name = ap length h.owner in
+    let whole : length (flat_map question_octets v.questions) ≡ length (question_octets (in_class_in q) ++ []) = ap (λ (qs : List (Classed Question)). length (flat_map question_octets qs)) is in
+    omega (arith, length-octets_with octets v, length-octets_with (flat_map question_octets v.questions) v, ap length h.fixed, length-map front to_ascii_lowercase, length-take (length octets - 4) octets, length-drop (length octets - 4) octets, length-append (question_octets (in_class_in q)) [], length-append (spelled q.owner) (0 ∷ []))
+
+pub sections_fit : (v : Message) → ¬ (IsTooLong v) → records_len v ≤ 65535
+sections_fit v h =
+    let fits = all_fits v h in
+    omega (arith, length-octets_with (flat_map question_octets v.questions) v)

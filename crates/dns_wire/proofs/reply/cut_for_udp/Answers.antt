@@ -1,0 +1,11 @@
+use Rattle.std.proofs.Common.{arith}
+use Rattle.dns_wire.specs.Header.{head_in}
+use Rattle.dns_wire.proofs.Ranges.{octets_within}
+use Rattle.dns_wire.proofs.ReplyLaws.{cut_fits, cut_spelled}
+use Rattle.dns_wire.proofs.reply.cut_for_udp.Goals as goal
+
+pub returns-then-len-gt-UDP_OCTETS-clause-spelled : goal.returns-then-len-gt-UDP_OCTETS-clause-spelled
+returns-then-len-gt-UDP_OCTETS-clause-spelled c =
+    let m = c.args.reply.now.items in
+    let q = c.args.query.now in
+    λ more. rw c.cut_to_question.ensures.cut (cut_spelled (head_in m) q.question q.octets (cut_fits m (octets_within m (λ i less. omega (arith, c.type_inv.reply i)))) c.cut_to_question.ensures.name q.spelled)
