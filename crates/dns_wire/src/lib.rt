@@ -1,7 +1,8 @@
-//! Messages of the domain name system, from their octets (RFC 1035, section 4).
+//! Messages of the domain name system, from their octets and as octets (RFC 1035, section 4).
 //!
 //! `message` has the types. `header`, `name`, `question`, `rdata` and `record` read the parts of a message, over
-//! `number`, and `read` reads the whole. `fault` says what keeps octets from being a message.
+//! `number`, and `read` reads the whole. `fault` says what keeps octets from being a message. `encoding` writes a
+//! message, in a buffer of the size that `size` tells, by `write` and `write_data`.
 #![tactic(auto)]
 
 mod encoding;
@@ -27,3 +28,5 @@ pub use read::{decode, one_meaning};
 
 #[cfg(test)]
 mod tests;
+#[cfg(test)]
+mod tests_encode;
