@@ -81,8 +81,8 @@ fn query_of(
     })
 }
 
-/// What octets that came to a server ask for. Bits of Z and what other sections say are ignored, and take no memory
-/// (RFC 1035, section 4.1; RFC 6891, section 7).
+/// What octets that came to a server ask for (RFC 1035, section 4.1). The bits of Z and what the other sections say are
+/// ignored, and take no memory.
 pub fn read_question(alloc: Global, octets: &[u8]) -> Result<Asked, NoMemory>
     ensures asked { IfOk result (AsksFor octets.now) }
 

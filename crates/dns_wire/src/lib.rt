@@ -34,6 +34,8 @@ pub use read::{decode, one_meaning};
 pub use reply::{cut_for_udp, fault_reply};
 
 #[cfg(test)]
+mod encode_tests;
+#[cfg(test)]
 mod query_tests;
 #[cfg(test)]
 mod tests;

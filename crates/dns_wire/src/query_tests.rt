@@ -1,10 +1,8 @@
 use super::*;
+use crate::tests::QUERY;
 use dns_name::Name;
 use std::alloc::{AllocError, Global};
 use std::test::*;
-
-/// A query for `A.tEst.`, type A.
-const QUERY: &[u8; 24] = b"\x12\x34\x01\0\0\x01\0\0\0\0\0\0\x01A\x04tEst\0\0\x01\0\x01";
 
 /// The question of that query.
 const QUESTION: &[u8; 12] = b"\x01A\x04tEst\0\0\x01\0\x01";

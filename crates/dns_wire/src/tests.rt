@@ -5,7 +5,7 @@ use std::alloc::{AllocError, Global};
 use std::test::*;
 
 /// A query for `A.tEst.`, type A.
-const QUERY: &[u8; 24] = b"\x12\x34\x01\0\0\x01\0\0\0\0\0\0\x01A\x04tEst\0\0\x01\0\x01";
+pub(crate) const QUERY: &[u8; 24] = b"\x12\x34\x01\0\0\x01\0\0\0\0\0\0\x01A\x04tEst\0\0\x01\0\x01";
 
 /// A header that counts one question.
 const ASK: &[u8; 12] = b"\x12\x34\x01\0\0\x01\0\0\0\0\0\0";
@@ -15,7 +15,7 @@ const ANSWER: &[u8; 12] = b"\x12\x34\x80\0\0\0\0\x01\0\0\0\0";
 
 /// A response for `a.test.`, whose records have each form. The names in their data point to 12 (`a.test.`) and 14
 /// (`test.`).
-const RESPONSE: &[u8; 206] = b"\x12\x34\x85\x80\0\x01\0\x04\0\x02\0\x03\
+pub(crate) const RESPONSE: &[u8; 206] = b"\x12\x34\x85\x80\0\x01\0\x04\0\x02\0\x03\
 \x01a\x04test\0\0\xff\0\x01\
 \xc0\x0c\0\x01\0\x01\0\0\0\x3c\0\x04\xc0\0\x02\x01\
 \xc0\x0c\0\x1c\0\x01\x80\0\0\0\0\x10\x20\x01\x0d\xb8\0\0\0\0\0\0\0\0\0\0\0\x01\
