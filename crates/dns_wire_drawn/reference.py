@@ -69,13 +69,17 @@ class Fault(Exception):
     """A word, and where it has one the offset."""
 
 
+class Cut(Exception):
+    """The octets end too soon: those of the message, or of RDATA."""
+
+
 class Reader:
     def __init__(self, octets, at, end):
         self.octets, self.at, self.end = octets, at, end
 
     def take(self, count):
         if self.at + count > self.end:
-            raise Fault("Short")
+            raise Cut
         self.at += count
         return self.octets[self.at - count:self.at]
 
@@ -83,27 +87,31 @@ class Reader:
         return list(struct.unpack(form, self.take(struct.calcsize(form))))
 
     def name(self):
-        start = run = self.at
-        labels, size, after = [], 1, None
+        """The name from here on. Its own octets end where the reader does; behind a pointer the whole message is read."""
+        start, labels, size = self.at, [], 1
+        reader = run = None
         while True:
-            here = self.at
-            octet = self.take(1)[0]
-            if octet == 0:
-                break
-            if octet < 64:
-                size += octet + 1
-                if size > 255:
+            here = reader or self
+            run = here.at if run is None else run
+            at = here.at
+            try:
+                octet = here.take(1)[0]
+                if octet == 0:
+                    break
+                if octet < 64:
+                    size += octet + 1
+                    if size > 255:
+                        raise Fault("BadName", start)
+                    labels.append(bytes([octet]) + here.take(octet).lower())
+                elif octet >= 192:
+                    to = (octet & 63) << 8 | here.take(1)[0]
+                    if to >= run:
+                        raise Fault("BadPointer", at)
+                    reader, run = Reader(self.octets, to, len(self.octets)), to
+                else:
                     raise Fault("BadName", start)
-                labels.append(bytes([octet]) + self.take(octet).lower())
-            elif octet >= 192:
-                to = (octet & 63) << 8 | self.take(1)[0]
-                after = self.at if after is None else after
-                if to >= run:
-                    raise Fault("BadPointer", here)
-                run = self.at = to
-            else:
-                raise Fault("BadName", start)
-        self.at = self.at if after is None else after
+            except Cut:
+                raise Cut if reader is None else Fault("Short")
         return "name", b"".join(labels)
 
     def string(self):
@@ -163,11 +171,19 @@ def data(octets, begin, end, kind, where):
         if reader.at != end:
             raise Fault("BadData", begin)
         return parts
-    except Fault as fault:
-        raise Fault("BadData", begin) if fault.args[0] == "Short" else fault
+    except Cut:
+        raise Fault("BadData", begin)
 
 
 def decode(octets):
+    """What the octets say, or the first fault."""
+    try:
+        return parts_of(octets)
+    except Cut:
+        raise Fault("Short")
+
+
+def parts_of(octets):
     """Identifier, flags, counts, questions (name, type, class) and records (name, type, class, TTL, data)."""
     reader = Reader(octets, 0, len(octets))
     identifier, flags, *counts = reader.numbers(">6H")

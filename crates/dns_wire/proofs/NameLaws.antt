@@ -11,7 +11,8 @@ use Rattle.dns_name.specs.Labels.{Labels, spelled, with_length, IsName}
 use Rattle.dns_wire.specs.declared.name.Next.{Next}
 use Rattle.dns_wire.specs.declared.name.Next.TheVariants.{Finish, Label, Pointer, Reserved, Cut}
 use Rattle.dns_wire.specs.declared.fault.WireFault.{WireFault}
-use Rattle.dns_wire.specs.Name.{next_at, next_by, pointer_by, label_at, NameAt, finish, label, pointer, SpelledName, NameFails, UnspelledName, cut, reserved, long, cut_label, not_before, after_label, after_pointer, name_by, name_in, name_read, steps_left}
+use Rattle.dns_wire.specs.declared.fault.WireFault.TheVariants.{Short}
+use Rattle.dns_wire.specs.Name.{next_at, next_by, pointer_by, label_at, NameAt, finish, label, pointer, SpelledIn, SpelledName, NameFails, UnspelledIn, UnspelledName, cut, reserved, long, cut_label, not_before, after_label, after_pointer, name_by, name_in, name_read_in, name_read, steps_left}
 use Rattle.dns_wire.proofs.Binds.{then_match, match_weaker}
 
 -- a pointer to before the run leaves fewer steps
@@ -21,33 +22,34 @@ fewer size run at to before behind within = omega (arith, mul-le-mul_right (size
 length_label_at : (m : List ℕ) (at n : ℕ) → at + 1 + n ≤ length m → length (label_at m at n) ≡ n
 length_label_at m at n within = omega (arith, length-map (take n (drop (at + 1) m)) to_ascii_lowercase, length-take n (drop (at + 1) m), length-drop (at + 1) m)
 
-pub name_in-found : (more : ℕ) {m : List ℕ} {at run after : ℕ} {labels : Labels} (start used : ℕ) → NameAt m at run after labels → steps_left m at run < more → run ≤ at → at ≤ length m → used + length (spelled labels) < 255 → name_in more m start used at run ≡ Ok (labels, after)
+pub name_in-found : (more : ℕ) {m front : List ℕ} {at run after : ℕ} {labels : Labels} (ending : WireFault) (start used : ℕ) → NameAt m front at run after labels → steps_left m at run < more → run ≤ at → at ≤ length front → length front ≤ length m → used + length (spelled labels) < 255 → name_in more m front ending start used at run ≡ Ok (labels, after)
 unfolding name_in
-name_in-found zero start used h enough behind within short = absurd (omega arith)
-name_in-found (suc more) start used (finish here is) enough behind within short = rw (here, is) refl
-name_in-found (suc more) {m} {at} {run} {after} start used (label {n = n} {labels = labels} here inside rest) enough behind within short =
-    let len = length_label_at m at n inside in
-    let total : used + (n + 1 + length (spelled labels)) < 255 = omega (arith, length-append (with_length (label_at m at n)) (spelled labels)) in
-    let go = name_in-found more start (used + n + 1) rest (omega arith) (omega arith) inside (omega arith) in
-    rw (here, le-ltb 253 (used + n) (omega arith), le-ltb (length m) (at + 1 + n) inside, go) refl
-name_in-found (suc more) {m} {at} {run} {after} start used (pointer {to = to} {labels = labels} here before is rest) enough behind within short =
-    let go = name_in-found more start used rest (omega (arith, fewer (length m) run at to before behind within)) (omega arith) (omega arith) short in
-    rw (here, lt-ltb to run before, go, is) refl
+name_in-found zero ending start used h enough behind within part short = absurd (omega arith)
+name_in-found (suc more) ending start used (finish here is) enough behind within part short = rw (here, is) refl
+name_in-found (suc more) {m} {front} {at} {run} {after} ending start used (label {n = n} {labels = labels} here inside rest) enough behind within part short =
+    let len = length_label_at front at n inside in
+    let total : used + (n + 1 + length (spelled labels)) < 255 = omega (arith, length-append (with_length (label_at front at n)) (spelled labels)) in
+    let go = name_in-found more ending start (used + n + 1) rest (omega arith) (omega arith) inside part (omega arith) in
+    rw (here, le-ltb 253 (used + n) (omega arith), le-ltb (length front) (at + 1 + n) inside, go) refl
+name_in-found (suc more) {m} {front} {at} {run} {after} ending start used (pointer {to = to} {labels = labels} here before is rest) enough behind within part short =
+    let jump = name_in-found more Short start used rest (omega (arith, fewer (length m) run at to before behind (omega arith))) (omega arith) (omega arith) (omega arith) short in
+    rw (here, lt-ltb to run before, jump, is) refl
 
-pub name_in-fails : (more : ℕ) {m : List ℕ} {start used at run : ℕ} {fault : WireFault} → NameFails m start used at run fault → steps_left m at run < more → run ≤ at → at ≤ length m → name_in more m start used at run ≡ Err fault
+pub name_in-fails : (more : ℕ) {m : List ℕ} {start : ℕ} {front : List ℕ} {ending : WireFault} {used at run : ℕ} {fault : WireFault} → NameFails m start front ending used at run fault → steps_left m at run < more → run ≤ at → at ≤ length front → length front ≤ length m → name_in more m front ending start used at run ≡ Err fault
 unfolding name_in
-name_in-fails zero h enough behind within = absurd (omega arith)
-name_in-fails (suc more) (cut here) enough behind within = rw here refl
-name_in-fails (suc more) (reserved here) enough behind within = rw here refl
-name_in-fails (suc more) {m} {start} {used} (long {n = n} here much) enough behind within = rw (here, lt-ltb 253 (used + n) (omega arith)) refl
-name_in-fails (suc more) {m} {start} {used} {at} (cut_label {n = n} here few beyond) enough behind within = rw (here, le-ltb 253 (used + n) (omega arith), lt-ltb (length m) (at + 1 + n) beyond) refl
-name_in-fails (suc more) {m} {start} {used} {at} {run} (not_before {to = to} here not) enough behind within = rw (here, le-ltb to run not) refl
-name_in-fails (suc more) {m} {start} {used} {at} {run} {fault} (after_label {n = n} here few inside rest) enough behind within =
-    let go = name_in-fails more rest (omega arith) (omega arith) inside in
-    rw (here, le-ltb 253 (used + n) (omega arith), le-ltb (length m) (at + 1 + n) inside, go) refl
-name_in-fails (suc more) {m} {start} {used} {at} {run} {fault} (after_pointer {to = to} here before rest) enough behind within =
-    let go = name_in-fails more rest (omega (arith, fewer (length m) run at to before behind within)) (omega arith) (omega arith) in
-    rw (here, lt-ltb to run before, go) refl
+name_in-fails zero h enough behind within part = absurd (omega arith)
+name_in-fails (suc more) (cut here is) enough behind within part = rw (here, is) refl
+name_in-fails (suc more) (reserved here) enough behind within part = rw here refl
+name_in-fails (suc more) {used = used} (long {n = n} here much) enough behind within part = rw (here, lt-ltb 253 (used + n) (omega arith)) refl
+name_in-fails (suc more) {front = front} {used = used} {at = at} (cut_label {n = n} here few beyond is) enough behind within part =
+    rw (here, le-ltb 253 (used + n) (omega arith), lt-ltb (length front) (at + 1 + n) beyond, is) refl
+name_in-fails (suc more) {run = run} (not_before {to = to} here not) enough behind within part = rw (here, le-ltb to run not) refl
+name_in-fails (suc more) {front = front} {used = used} {at = at} (after_label {n = n} here few inside rest) enough behind within part =
+    let go = name_in-fails more rest (omega arith) (omega arith) inside part in
+    rw (here, le-ltb 253 (used + n) (omega arith), le-ltb (length front) (at + 1 + n) inside, go) refl
+name_in-fails (suc more) {m} {at = at} {run = run} (after_pointer {to = to} here before rest) enough behind within part =
+    let jump = name_in-fails more rest (omega (arith, fewer (length m) run at to before behind (omega arith))) (omega arith) (omega arith) (omega arith) in
+    rw (here, lt-ltb to run before, jump) refl
 
 -- ---- what was found is what reading gives
 
@@ -72,89 +74,113 @@ next_within : (m : List ℕ) (at : ℕ) (o : Option ℕ) → slice_get m at ≡ 
 next_within m at None e = ((λ h. absurd cc), λ to h. absurd cc)
 next_within m at (Some n) e = ((λ h. slice_get_within m at n e), λ to h. pointer_within m at n to h)
 
-pub after_within : {m : List ℕ} {at run after : ℕ} {labels : Labels} → NameAt m at run after labels → after ≤ length m
-after_within {m} {at} (finish here is) = omega (arith, (next_within m at (slice_get m at) refl).0 here)
+pub after_within : {m front : List ℕ} {at run after : ℕ} {labels : Labels} → NameAt m front at run after labels → after ≤ length front
+after_within {front = front} {at = at} (finish here is) = omega (arith, (next_within front at (slice_get front at) refl).0 here)
 after_within (label here inside rest) = after_within rest
-after_within {m} {at} (pointer {to = to} here before is rest) = omega (arith, (next_within m at (slice_get m at) refl).1 to here)
+after_within {front = front} {at = at} (pointer {to = to} here before is rest) = omega (arith, (next_within front at (slice_get front at) refl).1 to here)
 
 -- ---- reading gives what stands, and the first fault where nothing does
 
-pub record Stands (m : List ℕ) (used at run : ℕ) (x : Labels × ℕ) : Type 0 where
-  pub stands : NameAt m at run x.1 x.0
+pub record Stands (m front : List ℕ) (used at run : ℕ) (x : Labels × ℕ) : Type 0 where
+  pub stands : NameAt m front at run x.1 x.0
   pub short : used + length (spelled x.0) < 255
 
+-- what reading from a place of a front gives
+abbrev pub Matches : List ℕ → List ℕ → WireFault → ℕ → ℕ → ℕ → ℕ → Result (Labels × ℕ) WireFault → Type 0
+Matches m front ending start used at run r = MatchResult r (λ x. Stands m front used at run x) (λ e. NameFails m start front ending used at run e)
+
 -- what is known of reading on in fewer steps
-abbrev pub Goes : List ℕ → ℕ → ℕ → (ℕ → ℕ → ℕ → Result (Labels × ℕ) WireFault) → Type 0
-Goes m start steps go = (u a r : ℕ) → u < 255 → r ≤ a → a ≤ length m → steps_left m a r < steps → MatchResult (go u a r) (λ x. Stands m u a r x) (λ e. NameFails m start u a r e)
+abbrev pub Goes : List ℕ → List ℕ → WireFault → ℕ → ℕ → (ℕ → ℕ → ℕ → Result (Labels × ℕ) WireFault) → Type 0
+Goes m front ending start steps go = (u a r : ℕ) → u < 255 → r ≤ a → a ≤ length front → steps_left m a r < steps → Matches m front ending start u a r (go u a r)
 
-label_match : (m : List ℕ) (start used at run n : ℕ) (go : ℕ → ℕ → ℕ → Result (Labels × ℕ) WireFault) → run ≤ at → Goes m start (steps_left m at run) go → next_at m at ≡ Label n → MatchResult (name_by m start used at run go (Label n)) (λ x. Stands m used at run x) (λ e. NameFails m start used at run e)
-label_match m start used at run n go behind goes here =
-    elim (cases_Bool (ltb 253 (used + n))) [
-      | inl much ↦ rw much (long {used = used} here (omega (arith, ltb-true 253 (used + n) much)))
-      | inr few ↦
-          let room : used + n < 254 = omega (arith, ltb-false 253 (used + n) few) in
-          elim (cases_Bool (ltb (length m) (at + 1 + n))) [
-            | inl beyond ↦ rw (few, beyond) (cut_label {used = used} here room (ltb-true (length m) (at + 1 + n) beyond))
-            | inr fits ↦
-                let inside : at + 1 + n ≤ length m = omega (arith, ltb-false (length m) (at + 1 + n) fits) in
-                let rest = goes (used + n + 1) (at + 1 + n) run (omega arith) (omega arith) inside (omega arith) in
-                rw (few, fits) (then_match (go (used + n + 1) (at + 1 + n) run) (λ (x : Labels × ℕ). (label_at m at n ∷ x.0, x.1)) _ _ _ _ rest
-                (λ x h. record { stands = label here inside h.stands; short = omega (arith, h.short, length_label_at m at n inside, length-append (with_length (label_at m at n)) (spelled x.0)) })
-                (λ e h. after_label here room inside h))
-          ]
-    ]
+-- what is known of reading on behind a pointer
+abbrev pub Jumps : List ℕ → ℕ → ℕ → (ℕ → ℕ → Result (Labels × ℕ) WireFault) → Type 0
+Jumps m start steps jump = (u to : ℕ) → u < 255 → to ≤ length m → steps_left m to to < steps → Matches m m Short start u to to (jump u to)
 
-pointer_match : (m : List ℕ) (start used at run to : ℕ) (go : ℕ → ℕ → ℕ → Result (Labels × ℕ) WireFault) → used < 255 → run ≤ at → at ≤ length m → Goes m start (steps_left m at run) go → next_at m at ≡ Pointer to → MatchResult (name_by m start used at run go (Pointer to)) (λ x. Stands m used at run x) (λ e. NameFails m start used at run e)
-pointer_match m start used at run to go room behind within goes here =
-    elim (cases_Bool (ltb to run)) [
-      | inl is_before ↦
-          let before : to < run = ltb-true to run is_before in
-          let rest = goes used to to room (omega arith) (omega arith) (fewer (length m) run at to before behind within) in
-          rw is_before (then_match (go used to to) (λ (x : Labels × ℕ). (x.0, at + 2)) _ _ _ _ rest
-          (λ x h. record { stands = pointer here before refl h.stands; short = h.short })
-          (λ e h. after_pointer here before h))
-      | inr not ↦ rw not (not_before here (ltb-false to run not))
-    ]
+module _ (m front : List ℕ) (ending : WireFault) (start used at run : ℕ) (go : ℕ → ℕ → ℕ → Result (Labels × ℕ) WireFault) (jump : ℕ → ℕ → Result (Labels × ℕ) WireFault) where
+  label_match : (n : ℕ) → run ≤ at → length front ≤ length m → Goes m front ending start (steps_left m at run) go → next_at front at ≡ Label n → Matches m front ending start used at run (name_by front ending start used at run go jump (Label n))
+  label_match n behind part goes here =
+      elim (cases_Bool (ltb 253 (used + n))) [
+        | inl much ↦ rw much (long {used = used} here (omega (arith, ltb-true 253 (used + n) much)))
+        | inr few ↦
+            let room : used + n < 254 = omega (arith, ltb-false 253 (used + n) few) in
+            elim (cases_Bool (ltb (length front) (at + 1 + n))) [
+              | inl beyond ↦ rw (few, beyond) (cut_label {used = used} here room (ltb-true (length front) (at + 1 + n) beyond) refl)
+              | inr fits ↦
+                  let inside : at + 1 + n ≤ length front = omega (arith, ltb-false (length front) (at + 1 + n) fits) in
+                  let rest = goes (used + n + 1) (at + 1 + n) run (omega arith) (omega arith) inside (omega arith) in
+                  rw (few, fits) (then_match (go (used + n + 1) (at + 1 + n) run) (λ (x : Labels × ℕ). (label_at front at n ∷ x.0, x.1)) _ _ _ _ rest
+                  (λ x h. record { stands = label here inside h.stands; short = omega (arith, h.short, length_label_at front at n inside, length-append (with_length (label_at front at n)) (spelled x.0)) })
+                  (λ e h. after_label here room inside h))
+            ]
+      ]
 
-name_by-match : (m : List ℕ) (start used at run : ℕ) (go : ℕ → ℕ → ℕ → Result (Labels × ℕ) WireFault) → used < 255 → run ≤ at → at ≤ length m → Goes m start (steps_left m at run) go → (next : Next) → next_at m at ≡ next → MatchResult (name_by m start used at run go next) (λ x. Stands m used at run x) (λ e. NameFails m start used at run e)
-name_by-match m start used at run go room behind within goes Finish here = record { stands = finish here refl; short = omega arith }
-name_by-match m start used at run go room behind within goes (Label n) here = label_match m start used at run n go behind goes here
-name_by-match m start used at run go room behind within goes (Pointer to) here = pointer_match m start used at run to go room behind within goes here
-name_by-match m start used at run go room behind within goes Reserved here = reserved here
-name_by-match m start used at run go room behind within goes Cut here = cut here
+  pointer_match : (to : ℕ) → used < 255 → run ≤ at → at ≤ length m → Jumps m start (steps_left m at run) jump → next_at front at ≡ Pointer to → Matches m front ending start used at run (name_by front ending start used at run go jump (Pointer to))
+  pointer_match to room behind within jumps here =
+      elim (cases_Bool (ltb to run)) [
+        | inl is_before ↦
+            let before : to < run = ltb-true to run is_before in
+            let rest = jumps used to room (omega arith) (fewer (length m) run at to before behind within) in
+            rw is_before (then_match (jump used to) (λ (x : Labels × ℕ). (x.0, at + 2)) _ _ _ _ rest
+            (λ x h. record { stands = pointer here before refl h.stands; short = h.short })
+            (λ e h. after_pointer here before h))
+        | inr not ↦ rw not (not_before here (ltb-false to run not))
+      ]
 
-name_in-match : (more : ℕ) (m : List ℕ) (start used at run : ℕ) → used < 255 → run ≤ at → at ≤ length m → steps_left m at run < more → MatchResult (name_in more m start used at run) (λ x. Stands m used at run x) (λ e. NameFails m start used at run e)
+  name_by-match : used < 255 → run ≤ at → at ≤ length front → length front ≤ length m → Goes m front ending start (steps_left m at run) go → Jumps m start (steps_left m at run) jump → (next : Next) → next_at front at ≡ next → Matches m front ending start used at run (name_by front ending start used at run go jump next)
+  name_by-match room behind within part goes jumps Finish here = record { stands = finish here refl; short = omega arith }
+  name_by-match room behind within part goes jumps (Label n) here = label_match n behind part goes here
+  name_by-match room behind within part goes jumps (Pointer to) here = pointer_match to room behind (omega arith) jumps here
+  name_by-match room behind within part goes jumps Reserved here = reserved here
+  name_by-match room behind within part goes jumps Cut here = cut here refl
+
+name_in-match : (more : ℕ) (m front : List ℕ) (ending : WireFault) (start used at run : ℕ) → used < 255 → run ≤ at → at ≤ length front → length front ≤ length m → steps_left m at run < more → Matches m front ending start used at run (name_in more m front ending start used at run)
 unfolding name_in
-name_in-match zero m start used at run room behind within enough = absurd (omega arith)
-name_in-match (suc more) m start used at run room behind within enough =
-    name_by-match m start used at run (λ u a r. name_in more m start u a r) room behind within (λ u a r room' behind' within' less. name_in-match more m start u a r room' behind' within' (omega arith)) (next_at m at) refl
+name_in-match zero m front ending start used at run room behind within part enough = absurd (omega arith)
+name_in-match (suc more) m front ending start used at run room behind within part enough =
+    name_by-match m front ending start used at run (λ u a r. name_in more m front ending start u a r) (λ u to. name_in more m m Short start u to to) room behind within part
+    (λ u a r room' behind' within' less. name_in-match more m front ending start u a r room' behind' within' part (omega arith))
+    (λ u to room' within' less. name_in-match more m m Short start u to to room' (omega arith) within' (omega arith) (omega arith)) (next_at front at) refl
 
-pub name_read-match : (m : List ℕ) (at : ℕ) → at ≤ length m → MatchResult (name_read m at) (λ x. SpelledName m at x.1 x.0) (λ e. UnspelledName m at e)
-unfolding name_read
-name_read-match m at within =
-    match_weaker (name_in (suc (steps_left m at at)) m at 0 at at) _ _ _ _ (name_in-match (suc (steps_left m at at)) m at 0 at at (omega arith) (omega arith) within (omega arith))
+-- ---- names in a front
+
+pub name_read_in-match : (m front : List ℕ) (ending : WireFault) (at : ℕ) → at ≤ length front → length front ≤ length m → MatchResult (name_read_in m front ending at) (λ x. SpelledIn m front at x.1 x.0) (λ e. UnspelledIn m front ending at e)
+unfolding name_read_in
+name_read_in-match m front ending at within part =
+    match_weaker (name_in (suc (steps_left m at at)) m front ending at 0 at at) _ _ _ _ (name_in-match (suc (steps_left m at at)) m front ending at 0 at at (omega arith) (omega arith) within part (omega arith))
     (λ x h. record { stands = h.stands; short = omega (arith, h.short) })
     (λ e h. h)
 
 -- what stands is read
-pub name_read-spelled : (m : List ℕ) (at after : ℕ) (labels : Labels) → at ≤ length m → SpelledName m at after labels → name_read m at ≡ Ok (labels, after)
-unfolding name_read
-name_read-spelled m at after labels within h = name_in-found (suc (steps_left m at at)) at 0 h.stands (omega arith) (omega arith) within (omega (arith, h.short))
+pub name_read_in-spelled : (m front : List ℕ) (ending : WireFault) (at after : ℕ) (labels : Labels) → at ≤ length front → length front ≤ length m → SpelledIn m front at after labels → name_read_in m front ending at ≡ Ok (labels, after)
+unfolding name_read_in
+name_read_in-spelled m front ending at after labels within part h = name_in-found (suc (steps_left m at at)) ending at 0 h.stands (omega arith) (omega arith) within part (omega (arith, h.short))
 
 -- the first fault is told
-pub name_read-unspelled : (m : List ℕ) (at : ℕ) (fault : WireFault) → at ≤ length m → UnspelledName m at fault → name_read m at ≡ Err fault
-unfolding name_read
-name_read-unspelled m at fault within h = name_in-fails (suc (steps_left m at at)) h (omega arith) (omega arith) within
+pub name_read_in-unspelled : (m front : List ℕ) (ending : WireFault) (at : ℕ) (fault : WireFault) → at ≤ length front → length front ≤ length m → UnspelledIn m front ending at fault → name_read_in m front ending at ≡ Err fault
+unfolding name_read_in
+name_read_in-unspelled m front ending at fault within part h = name_in-fails (suc (steps_left m at at)) h (omega arith) (omega arith) within part
 
-pub spelled_within : {m : List ℕ} {at after : ℕ} {labels : Labels} → SpelledName m at after labels → after ≤ length m
+pub spelled_within : {m front : List ℕ} {at after : ℕ} {labels : Labels} → SpelledIn m front at after labels → after ≤ length front
 spelled_within h = after_within h.stands
+
+-- ---- names in a message
+
+pub name_read-match : (m : List ℕ) (at : ℕ) → at ≤ length m → MatchResult (name_read m at) (λ x. SpelledName m at x.1 x.0) (λ e. UnspelledName m at e)
+name_read-match m at within = name_read_in-match m m Short at within (omega arith)
+
+pub name_read-spelled : (m : List ℕ) (at after : ℕ) (labels : Labels) → at ≤ length m → SpelledName m at after labels → name_read m at ≡ Ok (labels, after)
+name_read-spelled m at after labels within h = name_read_in-spelled m m Short at after labels within (omega arith) h
+
+pub name_read-unspelled : (m : List ℕ) (at : ℕ) (fault : WireFault) → at ≤ length m → UnspelledName m at fault → name_read m at ≡ Err fault
+name_read-unspelled m at fault within h = name_read_in-unspelled m m Short at fault within (omega arith) h
 
 -- ---- what the loop finds is what reading gives
 
-pub found_within : (m : List ℕ) (at : ℕ) (r : Result (Labels × ℕ) WireFault) → MatchResult r (λ x. NameAt m at at x.1 x.0) (λ e. UnspelledName m at e) → IfOk r (λ x. x.1 ≤ length m)
-found_within m at (Ok x) h = after_within h
-found_within m at (Err e) h = tt
+pub found_within : (m : List ℕ) (limit : ℕ) (ending : WireFault) (at : ℕ) (r : Result (Labels × ℕ) WireFault) → MatchResult r (λ x. NameAt m (take limit m) at at x.1 x.0) (λ e. UnspelledIn m (take limit m) ending at e) → IfOk r (λ x. x.1 ≤ limit)
+found_within m limit ending at (Ok x) h = omega (arith, after_within h, length-take limit m)
+found_within m limit ending at (Err e) h = tt
 
-pub found_exact : (m : List ℕ) (at : ℕ) → at ≤ length m → (r : Result (Labels × ℕ) WireFault) → MatchResult r (λ x. NameAt m at at x.1 x.0) (λ e. UnspelledName m at e) → IfOk r (λ x. IsName x.0) → r ≡ name_read m at
-found_exact m at within (Ok x) h name = sym (name_read-spelled m at x.1 x.0 within (record { stands = h; short = name.short }))
-found_exact m at within (Err e) h name = sym (name_read-unspelled m at e within h)
+pub found_exact : (m front : List ℕ) (ending : WireFault) (at : ℕ) → at ≤ length front → length front ≤ length m → (r : Result (Labels × ℕ) WireFault) → MatchResult r (λ x. NameAt m front at at x.1 x.0) (λ e. UnspelledIn m front ending at e) → IfOk r (λ x. IsName x.0) → r ≡ name_read_in m front ending at
+found_exact m front ending at within part (Ok x) h name = sym (name_read_in-spelled m front ending at x.1 x.0 within part (record { stands = h; short = name.short }))
+found_exact m front ending at within part (Err e) h name = sym (name_read_in-unspelled m front ending at e within part h)

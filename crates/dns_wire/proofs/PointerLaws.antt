@@ -85,12 +85,12 @@ pub record IsWhole (m : List ℕ) (at after : ℕ) (labels : Labels) : Type 0 wh
 small_lower : (n : ℕ) → n < 64 → to_ascii_lowercase n ≡ n
 small_lower n small = rw (lt-ltb n 65 (omega (arith, small))) refl
 
-pub name_whole : {m : List ℕ} {at run after : ℕ} {labels : Labels} → NameAt m at run after labels → ¬ (HasPointer m at) → IsWhole m at after labels
-name_whole {m} {at} {run} {after} (finish e is) whole =
+pub name_whole : {m front : List ℕ} {at run after : ℕ} {labels : Labels} → NameAt m front at run after labels → ¬ (HasPointer front at) → IsWhole front at after labels
+name_whole {front = m} {at = at} {after = after} (finish e is) whole =
     let front = octet_front m at 0 (finish_octet m at (slice_get m at) e) in
     let one : after - at ≡ 1 = omega arith in
     record { before = omega arith; lower = rw (one, front) refl }
-name_whole {m} {at} {run} {after} (label {n = n} {labels = labels} e inside rest) whole =
+name_whole {front = m} {at = at} {after = after} (label {n = n} {labels = labels} e inside rest) whole =
     let octet = label_octet m at n (slice_get m at) e in
     let front = octet_front m at n octet.0 in
     let behind = name_whole rest (λ h. whole (behind_label e h)) in

@@ -17,7 +17,7 @@ use Rattle.dns_wire.specs.declared.message.Message.{Message}
 use Rattle.dns_wire.specs.declared.name.Next.TheVariants.{Finish, Label, Reserved}
 use Rattle.dns_wire.specs.Header.{head_in}
 use Rattle.dns_wire.specs.Message.{QuestionsAt, RecordsAt, MessageAt, SpelledMessage}
-use Rattle.dns_wire.specs.Name.{next_by, pointer_by, NameAt, finish, label, pointer, SpelledName}
+use Rattle.dns_wire.specs.Name.{next_by, pointer_by, NameAt, finish, label, pointer, SpelledIn}
 use Rattle.dns_wire.specs.Number.{u16_at, u32_at}
 use Rattle.dns_wire.specs.Question.{QuestionAt}
 use Rattle.dns_wire.specs.Rdata.{DataAt, ipv4, ipv6, one_name, mail, start, one_or_more, service, unknown}
@@ -110,50 +110,50 @@ label_length m at n (Some k) h =
     no_label k n None h = absurd cc
     no_label k n (Some low) h = absurd cc
 
-labels_range : {m : List ℕ} {at run after : ℕ} {labels : Labels} → AreOctets m → NameAt m at run after labels → AllByRecursion IsLabel labels
-labels_range octets (finish here is) = tt
-labels_range {m} octets (label {at = at} {n = n} here inside rest) =
-    let size = label_length m at n (slice_get m at) here in
-    let text = take n (drop (at + 1) m) in
-    let long : length text ≡ n = omega (arith, length-take n (drop (at + 1) m), length-drop (at + 1) m) in
-    (lower_label text (octet_of text (octets_take n (drop (at + 1) m) (octets_drop (at + 1) m octets))) (omega (arith, long, size.0)) (omega (arith, long, size.1)), labels_range octets rest)
-labels_range octets (pointer here before is rest) = labels_range octets rest
+labels_range : {m front : List ℕ} {at run after : ℕ} {labels : Labels} → AreOctets m → AreOctets front → NameAt m front at run after labels → AllByRecursion IsLabel labels
+labels_range octets part (finish here is) = tt
+labels_range {front = front} octets part (label {at = at} {n = n} here inside rest) =
+    let size = label_length front at n (slice_get front at) here in
+    let text = take n (drop (at + 1) front) in
+    let long : length text ≡ n = omega (arith, length-take n (drop (at + 1) front), length-drop (at + 1) front) in
+    (lower_label text (octet_of text (octets_take n (drop (at + 1) front) (octets_drop (at + 1) front part))) (omega (arith, long, size.0)) (omega (arith, long, size.1)), labels_range octets part rest)
+labels_range octets part (pointer here before is rest) = labels_range octets octets rest
 
-pub name_range : {m : List ℕ} {at after : ℕ} {labels : Labels} → AreOctets m → SpelledName m at after labels → IsName labels
-name_range octets h = record { each = labels_range octets h.stands; short = h.short }
+pub name_range : {m front : List ℕ} {at after : ℕ} {labels : Labels} → AreOctets m → AreOctets front → SpelledIn m front at after labels → IsName labels
+name_range octets part h = record { each = labels_range octets part h.stands; short = h.short }
 
 -- ---- questions and records
 
 question_range : {m : List ℕ} {at after : ℕ} {q : Classed Question} → AreOctets m → QuestionAt m at q after → IsQuestion q
 question_range {m} octets h = record {
-  owner = name_range octets h.owner;
+  owner = name_range octets octets h.owner;
   kind = rw h.kind (u16_range m h.fixed octets);
   class = rw h.class (u16_range m (h.fixed + 2) octets);
 }
 
 -- RDATA has as many octets as 16 bits can count
-data_range : {m : List ℕ} {at : ℕ} {form : Form} {body : Data} → AreOctets m → length m < at + 65536 → DataAt m at form body → IsOfForm form body × IsData body
-data_range {m} {at} octets few (ipv4 is four) = (record { same = refl; sized = four }, rw (← is) (octets_drop at m octets))
-data_range {m} {at} octets few (ipv6 is sixteen) = (record { same = refl; sized = sixteen }, rw (← is) (octets_drop at m octets))
-data_range octets few (one_name h) = (record { same = refl; sized = tt }, name_range octets h)
-data_range {m} {at} octets few (mail room preference h) =
-    (record { same = refl; sized = tt }, (rw preference (u16_range m at octets), name_range octets h))
-data_range {m} octets few (start {numbers = n} h k end serial refresh retry expire minimum) =
-    (record { same = refl; sized = tt }, (name_range octets h, name_range octets k, rw serial (u32_range m n octets), rw refresh (u32_range m (n + 4) octets), rw retry (u32_range m (n + 8) octets), rw expire (u32_range m (n + 12) octets), rw minimum (u32_range m (n + 16) octets)))
-data_range {m} {at} octets few (one_or_more {string = string} {strings = strings} is) =
-    let all = rw is at (octets_drop at m octets) in
+data_range : {m front : List ℕ} {at : ℕ} {form : Form} {body : Data} → AreOctets m → AreOctets front → length front < at + 65536 → DataAt m front at form body → IsOfForm form body × IsData body
+data_range {front = front} {at = at} octets part few (ipv4 is four) = (record { same = refl; sized = four }, rw (← is) (octets_drop at front part))
+data_range {front = front} {at = at} octets part few (ipv6 is sixteen) = (record { same = refl; sized = sixteen }, rw (← is) (octets_drop at front part))
+data_range octets part few (one_name h) = (record { same = refl; sized = tt }, name_range octets part h)
+data_range {front = front} {at = at} octets part few (mail room preference h) =
+    (record { same = refl; sized = tt }, (rw preference (u16_range front at part), name_range octets part h))
+data_range {front = front} octets part few (start {numbers = n} h k end serial refresh retry expire minimum) =
+    (record { same = refl; sized = tt }, (name_range octets part h, name_range octets part k, rw serial (u32_range front n part), rw refresh (u32_range front (n + 4) part), rw retry (u32_range front (n + 8) part), rw expire (u32_range front (n + 12) part), rw minimum (u32_range front (n + 16) part)))
+data_range {front = front} {at = at} octets part few (one_or_more {string = string} {strings = strings} is) =
+    let all = rw is at (octets_drop at front part) in
     (record { same = refl; sized = (omega arith, strings_short (string ∷ strings) all) }, strings_range (string ∷ strings) all)
-data_range {m} {at} octets few (service room priority weight port h) =
-    (record { same = refl; sized = tt }, (rw priority (u16_range m at octets), rw weight (u16_range m (at + 2) octets), rw port (u16_range m (at + 4) octets), name_range octets h))
-data_range {m} {at} octets few (unknown is) =
-    (record { same = refl; sized = omega (arith, ap length is, length-drop at m) }, rw (← is) (octets_drop at m octets))
+data_range {front = front} {at = at} octets part few (service room priority weight port h) =
+    (record { same = refl; sized = tt }, (rw priority (u16_range front at part), rw weight (u16_range front (at + 2) part), rw port (u16_range front (at + 4) part), name_range octets part h))
+data_range {front = front} {at = at} octets part few (unknown is) =
+    (record { same = refl; sized = omega (arith, ap length is, length-drop at front) }, rw (← is) (octets_drop at front part))
 
 record_range : {m : List ℕ} {at after : ℕ} {r : Classed Record} → AreOctets m → RecordAt m at r after → IsRecord r
 record_range {m} {after = after} octets h =
     let few : length (take after m) < data_begin h.fixed + 65536 = omega (arith, h.ends, u16_range m (h.fixed + 8) octets, length-take after m) in
-    let body = data_range (octets_take after m octets) few h.body in
+    let body = data_range octets (octets_take after m octets) few h.body in
     record {
-      owner = name_range octets h.owner;
+      owner = name_range octets octets h.owner;
       kind = rw h.kind (u16_range m h.fixed octets);
       class = rw h.class (u16_range m (h.fixed + 2) octets);
       ttl = rw h.ttl (ttl_range (u32_at m (h.fixed + 4)));

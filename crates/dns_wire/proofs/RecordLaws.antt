@@ -19,6 +19,10 @@ use Rattle.dns_wire.proofs.RdataLaws.{data_read-stands, data_read-fails, data_re
 begin_within : (m : List ℕ) (fixed : ℕ) → data_end m fixed ≤ length m → data_begin fixed ≤ length (take (data_end m fixed) m)
 begin_within m fixed within = omega (arith, length-take (data_end m fixed) m)
 
+-- a front has no more octets than the message
+part_of : (m : List ℕ) (end : ℕ) → length (take end m) ≤ length m
+part_of m end = omega (arith, length-take end m)
+
 -- what stands is read
 pub record_read-stands : {m : List ℕ} {at after : ℕ} {r : Classed Record} → at ≤ length m → RecordAt m at r after → record_read m at ≡ Ok (r, after)
 unfolding record_read
@@ -27,7 +31,7 @@ record_read-stands {m} {at} {after} {r} within h =
     let inside : data_end m fixed ≤ length m = omega (arith, h.ends, h.within) in
     let owner = name_read-spelled m at fixed r.item.owner within h.owner in
     let body = rw (h.ends, h.class, h.kind) at h.body in
-    let read = data_read-stands (begin_within m fixed inside) body in
+    let read = data_read-stands (part_of m (data_end m fixed)) (begin_within m fixed inside) body in
     rw (owner, le-ltb (length m) (data_begin fixed) (omega arith), le-ltb (length m) (data_end m fixed) inside, read, ← h.kind, ← h.class, ← h.ttl, ← h.ends) refl
 
 -- the first fault is told
@@ -39,9 +43,9 @@ record_read-fails {m} {at} within (short {fixed = fixed} {name = name} h few) =
 record_read-fails {m} {at} within (short_data {fixed = fixed} {name = name} h begun few) =
     rw (name_read-spelled m at fixed name within h, le-ltb (length m) (data_begin fixed) begun, lt-ltb (length m) (data_end m fixed) few) refl
 record_read-fails {m} {at} {fault} within (bad_data {fixed = fixed} {name = name} h inside bad) =
-    rw (name_read-spelled m at fixed name within h, le-ltb (length m) (data_begin fixed) (omega arith), le-ltb (length m) (data_end m fixed) inside, data_read-fails (begin_within m fixed inside) bad) refl
+    rw (name_read-spelled m at fixed name within h, le-ltb (length m) (data_begin fixed) (omega arith), le-ltb (length m) (data_end m fixed) inside, data_read-fails (part_of m (data_end m fixed)) (begin_within m fixed inside) bad) refl
 
-with_match : (m : List ℕ) (at : ℕ) (x : Labels × ℕ) → SpelledName m at x.1 x.0 → data_end m x.1 ≤ length m → (r : Result Data WireFault) → MatchResult r (λ body. DataAt (take (data_end m x.1) m) (data_begin x.1) (form_at m x.1) body) (λ e. DataFails (take (data_end m x.1) m) (data_begin x.1) (form_at m x.1) e) → MatchResult (r >>= record_with m x) (λ y. RecordAt m at y.0 y.1) (λ e. RecordFails m at e)
+with_match : (m : List ℕ) (at : ℕ) (x : Labels × ℕ) → SpelledName m at x.1 x.0 → data_end m x.1 ≤ length m → (r : Result Data WireFault) → MatchResult r (λ body. DataAt m (take (data_end m x.1) m) (data_begin x.1) (form_at m x.1) body) (λ e. DataFails m (take (data_end m x.1) m) (data_begin x.1) (form_at m x.1) e) → MatchResult (r >>= record_with m x) (λ y. RecordAt m at y.0 y.1) (λ e. RecordFails m at e)
 with_match m at x name inside (Err e) h = bad_data name inside h
 with_match m at x name inside (Ok body) h = record { fixed = x.1; owner = name; kind = refl; class = refl; ttl = refl; ends = refl; within = inside; body = h }
 
@@ -54,7 +58,7 @@ behind_match m at (Ok x) h =
         | inl few ↦ rw (begun, few) (short_data h (ltb-false (length m) (data_begin x.1) begun) (ltb-true (length m) (data_end m x.1) few))
         | inr enough ↦
             let inside : data_end m x.1 ≤ length m = ltb-false (length m) (data_end m x.1) enough in
-            rw (begun, enough) (with_match m at x h inside _ (data_read-match (take (data_end m x.1) m) (data_begin x.1) (form_at m x.1) (begin_within m x.1 inside)))
+            rw (begun, enough) (with_match m at x h inside _ (data_read-match m (take (data_end m x.1) m) (data_begin x.1) (form_at m x.1) (part_of m (data_end m x.1)) (begin_within m x.1 inside)))
       ]
     ]
 

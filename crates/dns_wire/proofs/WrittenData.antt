@@ -8,7 +8,7 @@ use Rattle.dns_text.specs.Data.{IsOfForm}
 use Rattle.dns_text.specs.declared.kind.Form.{Form}
 use Rattle.dns_text.specs.declared.record.Data.{Data}
 use Rattle.dns_text.specs.declared.record.Data.TheVariants.{A, Aaaa, One, Mx, Soa, Txt, Srv, Opaque}
-use Rattle.dns_wire.specs.Name.{SpelledName}
+use Rattle.dns_wire.specs.Name.{SpelledIn}
 use Rattle.dns_wire.specs.Number.{u16_at, u32_at}
 use Rattle.dns_wire.specs.Rdata.{DataAt, ipv4, ipv6, one_name, mail, start, one_or_more, service, unknown}
 use Rattle.dns_wire.specs.WellFormed.{IsData}
@@ -39,27 +39,27 @@ stands_all : {m : List ℕ} {at : ℕ} {octets : List ℕ} → EndsAt m at octet
 stands_all {m} {at} {octets} h = ([], h.are ∙ sym (append-nil octets))
 
 -- a name with which the octets end
-last_name : (m : List ℕ) (at place : ℕ) (front : List ℕ) (name : Labels) → EndsAt m at (front ++ name_octets name) → place ≡ at + length front → IsName name → SpelledName m place (length m) name
-last_name m at place front name h is fits =
+last_name : (message m : List ℕ) (at place : ℕ) (front : List ℕ) (name : Labels) → EndsAt m at (front ++ name_octets name) → place ≡ at + length front → IsName name → SpelledIn message m place (length m) name
+last_name message m at place front name h is fits =
     let there = stands_second m at front (name_octets name) (stands_all h) in
     let end : place + length (name_octets name) ≡ length m = omega (arith, h.long, length-append front (name_octets name)) in
-    subst (λ (e : ℕ). SpelledName m place e name) end (whole_name m place name fits (subst (λ (p : ℕ). StandsAt m p (name_octets name)) (sym is) there))
+    subst (λ (e : ℕ). SpelledIn message m place e name) end (whole_name message m place name fits (subst (λ (p : ℕ). StandsAt m p (name_octets name)) (sym is) there))
 
 regroup : (a b c d e f g : List ℕ) → a ++ b ++ c ++ d ++ e ++ f ++ g ≡ (a ++ b) ++ (c ++ d ++ e ++ f ++ g)
 regroup a b c d e f g = simp append_assoc
 
 -- Data that is written at the end of a message's front stands there.
-pub data_written : (m : List ℕ) (at : ℕ) (form : Form) (body : Data) → IsOfForm form body → IsData body → EndsAt m at (data_octets body) → DataAt m at form body
+pub data_written : (message m : List ℕ) (at : ℕ) (form : Form) (body : Data) → IsOfForm form body → IsData body → EndsAt m at (data_octets body) → DataAt message m at form body
 unfolding data_octets
-data_written m at form (A octets) is fits h = rw is.same (ipv4 h.are is.sized)
-data_written m at form (Aaaa octets) is fits h = rw is.same (ipv6 h.are is.sized)
-data_written m at form (One name) is fits h = rw is.same (one_name (last_name m at at [] name h (omega arith) fits))
-data_written m at form (Mx preference exchange) is fits h =
+data_written message m at form (A octets) is fits h = rw is.same (ipv4 h.are is.sized)
+data_written message m at form (Aaaa octets) is fits h = rw is.same (ipv6 h.are is.sized)
+data_written message m at form (One name) is fits h = rw is.same (one_name (last_name message m at at [] name h (omega arith) fits))
+data_written message m at form (Mx preference exchange) is fits h =
     let name : List ℕ = name_octets exchange in
     rw is.same (mail (omega (arith, h.long))
     (u16_written m at preference fits.0 (stands_first m at (u16_octets preference) name (stands_all h)))
-    (last_name m at (at + 2) (u16_octets preference) exchange h refl fits.1))
-data_written m at form (Soa primary mailbox serial refresh retry expire minimum) is fits h =
+    (last_name message m at (at + 2) (u16_octets preference) exchange h refl fits.1))
+data_written message m at form (Soa primary mailbox serial refresh retry expire minimum) is fits h =
     let first : List ℕ = name_octets primary in
     let second : List ℕ = name_octets mailbox in
     let numbers : List ℕ = u32_octets serial ++ u32_octets refresh ++ u32_octets retry ++ u32_octets expire ++ u32_octets minimum in
@@ -70,22 +70,22 @@ data_written m at form (Soa primary mailbox serial refresh retry expire minimum)
     let there : StandsAt m place numbers = subst (λ (p : ℕ). StandsAt m p numbers) (omega (arith, length-append first second)) (stands_second m at (first ++ second) numbers all) in
     let end : place + 20 ≡ length m = omega (arith, h.long, ap length parts, length-append (first ++ second) numbers, length-append first second) in
     rw is.same (start
-    (whole_name m at primary fits.0 (stands_first m at first second names))
-    (whole_name m (at + length first) mailbox fits.1 (stands_second m at first second names))
+    (whole_name message m at primary fits.0 (stands_first m at first second names))
+    (whole_name message m (at + length first) mailbox fits.1 (stands_second m at first second names))
     end
     (u32_written m place serial fits.2 (stands_first m place (u32_octets serial) (u32_octets refresh ++ u32_octets retry ++ u32_octets expire ++ u32_octets minimum) there))
     (u32_behind m place (u32_octets serial) refresh (u32_octets retry ++ u32_octets expire ++ u32_octets minimum) fits.3 there)
     (u32_behind m place (u32_octets serial ++ u32_octets refresh) retry (u32_octets expire ++ u32_octets minimum) fits.4 there)
     (u32_behind m place (u32_octets serial ++ u32_octets refresh ++ u32_octets retry) expire (u32_octets minimum) fits.5 there)
     (u32_behind m place (u32_octets serial ++ u32_octets refresh ++ u32_octets retry ++ u32_octets expire) minimum [] fits.6 there))
-data_written m at form (Txt []) is fits h = absurd (let some = is.sized.0 in omega arith)
-data_written m at form (Txt (string ∷ strings)) is fits h = rw is.same (one_or_more h.are)
-data_written m at form (Srv priority weight port target) is fits h =
+data_written message m at form (Txt []) is fits h = absurd (let some = is.sized.0 in omega arith)
+data_written message m at form (Txt (string ∷ strings)) is fits h = rw is.same (one_or_more h.are)
+data_written message m at form (Srv priority weight port target) is fits h =
     let all = stands_all h in
     let name : List ℕ = name_octets target in
     rw is.same (service (omega (arith, h.long))
     (u16_written m at priority fits.0 (stands_first m at (u16_octets priority) (u16_octets weight ++ u16_octets port ++ name) all))
     (u16_behind m at (u16_octets priority) weight (u16_octets port ++ name) fits.1 all)
     (u16_behind m at (u16_octets priority ++ u16_octets weight) port name fits.2 all)
-    (last_name m at (at + 6) (u16_octets priority ++ u16_octets weight ++ u16_octets port) target h refl fits.3))
-data_written m at form (Opaque octets) is fits h = rw is.same (unknown h.are)
+    (last_name message m at (at + 6) (u16_octets priority ++ u16_octets weight ++ u16_octets port) target h refl fits.3))
+data_written message m at form (Opaque octets) is fits h = rw is.same (unknown h.are)

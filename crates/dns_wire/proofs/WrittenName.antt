@@ -1,4 +1,4 @@
--- A name that is written at a place of a message, in whatever case, stands there.
+-- A name that is written at a place of a message's front, in whatever case, stands there.
 use Rattle.std.proofs.Common.{◌≡◌, ℕ, ◌+◌, ◌<◌, ◌≤◌, ltb, List, [], ◌∷◌, ◌++◌, length, take, drop, get_or, map, Some, refl, sym, ap, subst, ◌∙◌, append_assoc, inl, inr, arith, length-append}
 use Rattle.std.specs.Prelude.{slice_get}
 use Rattle.std.specs.Char.{to_ascii_lowercase}
@@ -9,7 +9,7 @@ use Rattle.std.proofs.lemmas.Option.{slice_get-get_or}
 use Rattle.std.proofs.lemmas.Str.Ascii.{lowercase_is}
 use Rattle.dns_name.specs.Labels.{Labels, IsLowerOctet, IsLabel, IsName, spelled, with_length}
 use Rattle.dns_wire.specs.declared.name.Next.TheVariants.{Finish, Label}
-use Rattle.dns_wire.specs.Name.{next_at, label_at, NameAt, finish, label, SpelledName}
+use Rattle.dns_wire.specs.Name.{next_at, label_at, NameAt, finish, label, SpelledIn}
 use Rattle.dns_wire.specs.Writing.{name_octets}
 
 -- ---- octets at a place
@@ -75,15 +75,15 @@ finish_here m at more h = rw (octet_at m at 0 more h) refl
 label_here : (m : List ℕ) (at n : ℕ) (more : List ℕ) → 0 < n → n < 64 → StandsAt m at (n ∷ more) → next_at m at ≡ Label n
 label_here m at n more some few h = rw (octet_at m at n more h) (rw (ne_eqb n 0 (λ e. omega arith), lt-ltb n 64 few) refl)
 
-pub name_written : (m : List ℕ) (at run : ℕ) (labels : Labels) (written : List ℕ) → AllByRecursion IsLabel labels → map to_ascii_lowercase written ≡ name_octets labels → StandsAt m at written → NameAt m at run (at + length written) labels
-name_written m at run [] [] each is h = absurd cc
-name_written m at run [] (b ∷ written) each is h =
+pub name_written : (message m : List ℕ) (at run : ℕ) (labels : Labels) (written : List ℕ) → AllByRecursion IsLabel labels → map to_ascii_lowercase written ≡ name_octets labels → StandsAt m at written → NameAt message m at run (at + length written) labels
+name_written message m at run [] [] each is h = absurd cc
+name_written message m at run [] (b ∷ written) each is h =
     let zero_octet : to_ascii_lowercase b ≡ 0 = cc in
     let nothing : map to_ascii_lowercase written ≡ [] = cc in
     let end = ap length nothing in
     finish (finish_here m at written (subst (λ (x : ℕ). StandsAt m at (x ∷ written)) (below_letters b 0 (omega arith) zero_octet) h)) (omega (arith, length-map written to_ascii_lowercase))
-name_written m at run (l ∷ ls) [] each is h = absurd cc
-name_written m at run (l ∷ ls) (b ∷ written) each is h =
+name_written message m at run (l ∷ ls) [] each is h = absurd cc
+name_written message m at run (l ∷ ls) (b ∷ written) each is h =
     let n : ℕ = length l in
     let parts : name_octets (l ∷ ls) ≡ n ∷ (l ++ name_octets ls) = append_assoc (with_length l) (spelled ls) (0 ∷ []) in
     let both : to_ascii_lowercase b ∷ map to_ascii_lowercase written ≡ n ∷ (l ++ name_octets ls) = is ∙ parts in
@@ -97,14 +97,14 @@ name_written m at run (l ∷ ls) (b ∷ written) each is h =
     let label_is : label_at m at n ≡ l = ap (λ (x : List ℕ). map to_ascii_lowercase (take n x)) behind.1 ∙ ap (map to_ascii_lowercase) (take-append-le n written behind.0 (omega arith)) ∙ text in
     let within : at + length (n ∷ written) ≤ length m = stands_within m at (n ∷ written) (omega arith) here in
     let next : StandsAt m (at + 1 + n) (drop n written) = (behind.0, sym (drop-drop n (at + 1) m) ∙ ap (drop n) behind.1 ∙ drop-append-le n written behind.0 (omega arith)) in
-    let rest = name_written m (at + 1 + n) run ls (drop n written) each.1 tail next in
+    let rest = name_written message m (at + 1 + n) run ls (drop n written) each.1 tail next in
     let after : at + 1 + n + length (drop n written) ≡ at + length (b ∷ written) = omega (arith, length-drop n written) in
-    subst (λ (x : List ℕ). NameAt m at run (at + length (b ∷ written)) (x ∷ ls)) label_is
-    (label (label_here m at n written each.0.no_less each.0.no_more here) (omega arith) (subst (λ (e : ℕ). NameAt m (at + 1 + n) run e ls) after rest))
+    subst (λ (x : List ℕ). NameAt message m at run (at + length (b ∷ written)) (x ∷ ls)) label_is
+    (label (label_here m at n written each.0.no_less each.0.no_more here) (omega arith) (subst (λ (e : ℕ). NameAt message m (at + 1 + n) run e ls) after rest))
 
 -- a name whose octets are these in lower case
-pub cased_name : (m : List ℕ) (at : ℕ) (labels : Labels) (written : List ℕ) → IsName labels → map to_ascii_lowercase written ≡ name_octets labels → StandsAt m at written → SpelledName m at (at + length written) labels
-cased_name m at labels written name is h = record { stands = name_written m at at labels written name.each is h; short = name.short }
+pub cased_name : (message m : List ℕ) (at : ℕ) (labels : Labels) (written : List ℕ) → IsName labels → map to_ascii_lowercase written ≡ name_octets labels → StandsAt m at written → SpelledIn message m at (at + length written) labels
+cased_name message m at labels written name is h = record { stands = name_written message m at at labels written name.each is h; short = name.short }
 
-pub whole_name : (m : List ℕ) (at : ℕ) (labels : Labels) → IsName labels → StandsAt m at (name_octets labels) → SpelledName m at (at + length (name_octets labels)) labels
-whole_name m at labels name h = cased_name m at labels (name_octets labels) name (lower_name labels name.each) h
+pub whole_name : (message m : List ℕ) (at : ℕ) (labels : Labels) → IsName labels → StandsAt m at (name_octets labels) → SpelledIn message m at (at + length (name_octets labels)) labels
+whole_name message m at labels name h = cased_name message m at labels (name_octets labels) name (lower_name labels name.each) h

@@ -31,7 +31,7 @@ cased_question m at q name fits is h =
     let fixed : ℕ = at + length name in
     record {
       fixed = fixed;
-      owner = cased_name m at q.item.owner name fits.owner is (stands_first m at name numbers h);
+      owner = cased_name m m at q.item.owner name fits.owner is (stands_first m at name numbers h);
       kind = u16_written m fixed q.item.kind fits.kind (stands_first m fixed (u16_octets q.item.kind) (u16_octets q.class) behind);
       class = u16_behind m fixed (u16_octets q.item.kind) q.class [] fits.class behind;
       ends = refl;
@@ -56,7 +56,7 @@ questions_written m at (q ∷ questions) fits h =
 -- The first question's name, if there is one, stands behind the header, and the place is behind it.
 pub data FirstAt (m : List ℕ) (at : ℕ) : Option Labels → Type 0 where
   no_question : FirstAt m at None
-  first : {name : Labels} {end : ℕ} → 12 < at → NameAt m 12 12 end name → FirstAt m at (Some name)
+  first : {name : Labels} {end : ℕ} → 12 < at → NameAt m m 12 12 end name → FirstAt m at (Some name)
 
 pub later : {m : List ℕ} {at next : ℕ} {name : Option Labels} → at ≤ next → FirstAt m at name → FirstAt m next name
 later h no_question = no_question
@@ -68,16 +68,16 @@ pointer_here m at h =
     rw (octet_at m at 192 (12 ∷ []) h) (rw low refl)
 
 pub owner_written : (m : List ℕ) (at : ℕ) (question : Option Labels) (owner : Labels) → IsName owner → FirstAt m at question → StandsAt m at (owner_octets question owner) → SpelledName m at (at + length (owner_octets question owner)) owner
-owner_written m at None owner fits named h = whole_name m at owner fits h
+owner_written m at None owner fits named h = whole_name m m at owner fits h
 owner_written m at (Some name) owner fits (first {end = end} behind stands) h =
     elim (cases_Bool (name_eq name owner)) [
       | inl same ↦
           let is : owner_octets (Some name) owner ≡ 192 ∷ 12 ∷ [] = rw same refl in
-          let there : NameAt m 12 12 end owner = subst (λ (n : Labels). NameAt m 12 12 end n) (name_eq_exact name owner same) stands in
+          let there : NameAt m m 12 12 end owner = subst (λ (n : Labels). NameAt m m 12 12 end n) (name_eq_exact name owner same) stands in
           rw is (record { stands = pointer (pointer_here m at (subst (StandsAt m at) is h)) behind refl there; short = fits.short })
       | inr other ↦
           let is : owner_octets (Some name) owner ≡ name_octets owner = rw other refl in
-          rw is (whole_name m at owner fits (subst (StandsAt m at) is h))
+          rw is (whole_name m m at owner fits (subst (StandsAt m at) is h))
     ]
 
 -- what stands at a place, as the end of the front that ends with it
@@ -102,7 +102,7 @@ record_written m at question r fits short named h =
     let end : at + length (record_octets question r) ≡ fixed + 10 + length body = omega (arith, length-append owner (behind_owner_octets r)) in
     let long = u16_behind m fixed (kind ++ class ++ ttl) (length body) body (omega arith) behind in
     let time = u32_behind m fixed (kind ++ class) r.item.ttl (len ++ body) (omega (arith, fits.ttl)) behind in
-    let there = data_written (take (fixed + 10 + length body) m) (fixed + 10) _ r.item.body fits.form fits.data_fits (front_ends m (fixed + 10) body (omega arith) data_place) in
+    let there = data_written m (take (fixed + 10 + length body) m) (fixed + 10) _ r.item.body fits.form fits.data_fits (front_ends m (fixed + 10) body (omega arith) data_place) in
     rw end (record {
       fixed = fixed;
       owner = owner_written m at question r.item.owner fits.owner named (stands_first m at owner (behind_owner_octets r) h);

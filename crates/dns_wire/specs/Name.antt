@@ -30,65 +30,85 @@ label_at m at n = map to_ascii_lowercase (take n (drop (at + 1) m))
 
 -- ---- which name stands at a place
 
--- At a place, in a run of labels that began at `run`, these labels stand, and `after` is the place after them:
--- a zero octet and no label; a label, and what stands after it in the same run; or a pointer to a place before
--- the run, and what stands there.
-pub data NameAt (m : List ℕ) : ℕ → ℕ → ℕ → Labels → Type 0 where
-  finish : {at run after : ℕ} → next_at m at ≡ Finish → after ≡ at + 1 → NameAt m at run after []
-  label : {at run after n : ℕ} {labels : Labels} → next_at m at ≡ Label n → at + 1 + n ≤ length m
-      → NameAt m (at + 1 + n) run after labels → NameAt m at run after (label_at m at n ∷ labels)
-  pointer : {at run after to end : ℕ} {labels : Labels} → next_at m at ≡ Pointer to → to < run → after ≡ at + 2
-      → NameAt m to to end labels → NameAt m at run after labels
+-- At a place of a front of a message, in a run of labels that began at `run`, these labels stand, and `after` is the
+-- place after them: a zero octet and no label; a label, and what stands after it in the same run; or a pointer to a
+-- place before the run, and what stands there in the message.
+pub data NameAt (m : List ℕ) : List ℕ → ℕ → ℕ → ℕ → Labels → Type 0 where
+  finish : {front : List ℕ} {at run after : ℕ} → next_at front at ≡ Finish → after ≡ at + 1 → NameAt m front at run after []
+  label : {front : List ℕ} {at run after n : ℕ} {labels : Labels} → next_at front at ≡ Label n → at + 1 + n ≤ length front
+      → NameAt m front (at + 1 + n) run after labels → NameAt m front at run after (label_at front at n ∷ labels)
+  pointer : {front : List ℕ} {at run after to end : ℕ} {labels : Labels} → next_at front at ≡ Pointer to → to < run → after ≡ at + 2
+      → NameAt m m to to end labels → NameAt m front at run after labels
 
--- At a place stands a name of at most 255 octets, its zero octet counted, and `after` is the place after it.
-pub record SpelledName (m : List ℕ) (at after : ℕ) (labels : Labels) : Type 0 where
-  pub stands : NameAt m at at after labels
+-- At a place of a front of a message stands a name of at most 255 octets, its zero octet counted, and `after` is the
+-- place after it. Its own octets, those before a pointer's end or the zero octet, are within the front.
+pub record SpelledIn (m front : List ℕ) (at after : ℕ) (labels : Labels) : Type 0 where
+  pub stands : NameAt m front at at after labels
   pub short : length (spelled labels) < 255
+
+-- At a place of a message stands such a name.
+abbrev pub SpelledName : List ℕ → ℕ → ℕ → Labels → Type 0
+SpelledName m at after labels = SpelledIn m m at after labels
 
 -- ---- which fault keeps a name from standing at a place
 
--- A name that began at `start` and has taken `used` octets can't go on at a place, in a run that began at `run`,
--- by this fault, the first that is met. A label too long for the name is told even where its octets are missing too.
-pub data NameFails (m : List ℕ) (start : ℕ) : ℕ → ℕ → ℕ → WireFault → Type 0 where
-  cut : {used at run : ℕ} → next_at m at ≡ Cut → NameFails m start used at run Short
-  reserved : {used at run : ℕ} → next_at m at ≡ Reserved → NameFails m start used at run (BadName start)
-  long : {used at run n : ℕ} → next_at m at ≡ Label n → 254 ≤ used + n → NameFails m start used at run (BadName start)
-  cut_label : {used at run n : ℕ} → next_at m at ≡ Label n → used + n < 254 → length m < at + 1 + n
-      → NameFails m start used at run Short
-  not_before : {used at run to : ℕ} → next_at m at ≡ Pointer to → run ≤ to → NameFails m start used at run (BadPointer at)
-  after_label : {used at run n : ℕ} {fault : WireFault} → next_at m at ≡ Label n → used + n < 254 → at + 1 + n ≤ length m
-      → NameFails m start (used + n + 1) (at + 1 + n) run fault → NameFails m start used at run fault
-  after_pointer : {used at run to : ℕ} {fault : WireFault} → next_at m at ≡ Pointer to → to < run
-      → NameFails m start used to to fault → NameFails m start used at run fault
+-- A name that began at `start` and has taken `used` octets can't go on at a place of a front, which ends with this
+-- fault, in a run that began at `run`, by a fault, the first that is met. A label too long for the name is told even
+-- where its octets are missing too. Behind a pointer the message ends with `Short`.
+pub data NameFails (m : List ℕ) (start : ℕ) : List ℕ → WireFault → ℕ → ℕ → ℕ → WireFault → Type 0 where
+  cut : {front : List ℕ} {ending fault : WireFault} {used at run : ℕ} → next_at front at ≡ Cut → fault ≡ ending
+      → NameFails m start front ending used at run fault
+  reserved : {front : List ℕ} {ending : WireFault} {used at run : ℕ} → next_at front at ≡ Reserved
+      → NameFails m start front ending used at run (BadName start)
+  long : {front : List ℕ} {ending : WireFault} {used at run n : ℕ} → next_at front at ≡ Label n → 254 ≤ used + n
+      → NameFails m start front ending used at run (BadName start)
+  cut_label : {front : List ℕ} {ending fault : WireFault} {used at run n : ℕ} → next_at front at ≡ Label n → used + n < 254
+      → length front < at + 1 + n → fault ≡ ending → NameFails m start front ending used at run fault
+  not_before : {front : List ℕ} {ending : WireFault} {used at run to : ℕ} → next_at front at ≡ Pointer to → run ≤ to
+      → NameFails m start front ending used at run (BadPointer at)
+  after_label : {front : List ℕ} {ending fault : WireFault} {used at run n : ℕ} → next_at front at ≡ Label n → used + n < 254
+      → at + 1 + n ≤ length front → NameFails m start front ending (used + n + 1) (at + 1 + n) run fault
+      → NameFails m start front ending used at run fault
+  after_pointer : {front : List ℕ} {ending fault : WireFault} {used at run to : ℕ} → next_at front at ≡ Pointer to → to < run
+      → NameFails m start m Short used to to fault → NameFails m start front ending used at run fault
 
--- The octets from a place on spell no name, by this fault.
+-- The octets from a place of a front on, which ends with this fault, spell no name, by a fault.
+abbrev pub UnspelledIn : List ℕ → List ℕ → WireFault → ℕ → WireFault → Type 0
+UnspelledIn m front ending at fault = NameFails m at front ending 0 at at fault
+
+-- The octets of a message from a place on spell no name, by a fault.
 abbrev pub UnspelledName : List ℕ → ℕ → WireFault → Type 0
-UnspelledName m at fault = NameFails m at 0 at at fault
+UnspelledName m at fault = UnspelledIn m m Short at fault
 
 -- ---- reading
 
 -- By what stands at a place: the labels from there and the place after the name, where `go` reads on with this many
--- octets used, at this place, in this run.
-abbrev pub name_by : List ℕ → ℕ → ℕ → ℕ → ℕ → (ℕ → ℕ → ℕ → Result (Labels × ℕ) WireFault) → Next
+-- octets used, at this place, in this run, and `jump` reads on behind a pointer to this place.
+abbrev pub name_by : List ℕ → WireFault → ℕ → ℕ → ℕ → ℕ → (ℕ → ℕ → ℕ → Result (Labels × ℕ) WireFault) → (ℕ → ℕ → Result (Labels × ℕ) WireFault) → Next
     → Result (Labels × ℕ) WireFault
-name_by m start used at run go Finish = Ok ([], at + 1)
-name_by m start used at run go (Label n) =
-    if nat_lt 253 (used + n) then Err (BadName start) else if nat_lt (length m) (at + 1 + n) then Err Short else
-    (go (used + n + 1) (at + 1 + n) run >>= λ x. Ok (label_at m at n ∷ x.0, x.1))
-name_by m start used at run go (Pointer to) =
-    if nat_lt to run then (go used to to >>= λ x. Ok (x.0, at + 2)) else Err (BadPointer at)
-name_by m start used at run go Reserved = Err (BadName start)
-name_by m start used at run go Cut = Err Short
+name_by front ending start used at run go jump Finish = Ok ([], at + 1)
+name_by front ending start used at run go jump (Label n) =
+    if nat_lt 253 (used + n) then Err (BadName start) else if nat_lt (length front) (at + 1 + n) then Err ending else
+    (go (used + n + 1) (at + 1 + n) run >>= λ x. Ok (label_at front at n ∷ x.0, x.1))
+name_by front ending start used at run go jump (Pointer to) =
+    if nat_lt to run then (jump used to >>= λ x. Ok (x.0, at + 2)) else Err (BadPointer at)
+name_by front ending start used at run go jump Reserved = Err (BadName start)
+name_by front ending start used at run go jump Cut = Err ending
 
 -- in as many steps as are more than enough
-unfoldable pub name_in : ℕ → List ℕ → ℕ → ℕ → ℕ → ℕ → Result (Labels × ℕ) WireFault
-name_in zero m start used at run = Err Short
-name_in (suc more) m start used at run = name_by m start used at run (λ u a r. name_in more m start u a r) (next_at m at)
+unfoldable pub name_in : ℕ → List ℕ → List ℕ → WireFault → ℕ → ℕ → ℕ → ℕ → Result (Labels × ℕ) WireFault
+name_in zero m front ending start used at run = Err Short
+name_in (suc more) m front ending start used at run =
+    name_by front ending start used at run (λ u a r. name_in more m front ending start u a r) (λ u to. name_in more m m Short start u to to) (next_at front at)
 
 -- how far a place is from where no name can go on
 abbrev pub steps_left : List ℕ → ℕ → ℕ → ℕ
 steps_left m at run = run * (length m + 1) + (length m - at)
 
--- the name at a place, and the place after it
-unfoldable pub name_read : List ℕ → ℕ → Result (Labels × ℕ) WireFault
-name_read m at = name_in (suc (steps_left m at at)) m at 0 at at
+-- the name at a place of a front, and the place after it
+unfoldable pub name_read_in : List ℕ → List ℕ → WireFault → ℕ → Result (Labels × ℕ) WireFault
+name_read_in m front ending at = name_in (suc (steps_left m at at)) m front ending at 0 at at
+
+-- the name at a place of a message, and the place after it
+abbrev pub name_read : List ℕ → ℕ → Result (Labels × ℕ) WireFault
+name_read m at = name_read_in m m Short at

@@ -36,7 +36,7 @@ pub record RecordAt (m : List ℕ) (at : ℕ) (r : Classed Record) (after : ℕ)
   pub ttl : r.item.ttl ≡ ttl_of (u32_at m (fixed + 4))
   pub ends : after ≡ data_end m fixed
   pub within : after ≤ length m
-  pub body : DataAt (take after m) (data_begin fixed) (form_in r.class r.item.kind) r.item.body
+  pub body : DataAt m (take after m) (data_begin fixed) (form_in r.class r.item.kind) r.item.body
 
 -- No record stands at a place, by this fault, the first that is met.
 pub data RecordFails (m : List ℕ) (at : ℕ) : WireFault → Type 0 where
@@ -45,7 +45,7 @@ pub data RecordFails (m : List ℕ) (at : ℕ) : WireFault → Type 0 where
   short_data : {fixed : ℕ} {name : Labels} → SpelledName m at fixed name → data_begin fixed ≤ length m
       → length m < data_end m fixed → RecordFails m at Short
   bad_data : {fixed : ℕ} {name : Labels} {fault : WireFault} → SpelledName m at fixed name → data_end m fixed ≤ length m
-      → DataFails (take (data_end m fixed) m) (data_begin fixed) (form_at m fixed) fault → RecordFails m at fault
+      → DataFails m (take (data_end m fixed) m) (data_begin fixed) (form_at m fixed) fault → RecordFails m at fault
 
 -- the record of an owner, and the place after it
 abbrev pub record_with : List ℕ → Labels × ℕ → Data → Result (Classed Record × ℕ) WireFault
@@ -56,7 +56,7 @@ abbrev pub record_behind : List ℕ → Labels × ℕ → Result (Classed Record
 record_behind m owner =
     if nat_lt (length m) (data_begin owner.1) then Err Short else
     if nat_lt (length m) (data_end m owner.1) then Err Short else
-    (data_read (take (data_end m owner.1) m) (data_begin owner.1) (form_at m owner.1) >>= record_with m owner)
+    (data_read m (take (data_end m owner.1) m) (data_begin owner.1) (form_at m owner.1) >>= record_with m owner)
 
 unfoldable pub record_read : List ℕ → ℕ → Result (Classed Record × ℕ) WireFault
 record_read m at = name_read m at >>= record_behind m

@@ -4,6 +4,7 @@ use Rattle.dns_wire.specs.declared.fault.WireFault.{WireFault}
 use Rattle.dns_wire.specs.Header.{answer_count, authority_count, additional_count}
 use Rattle.dns_wire.specs.Message.{records_read}
 use Rattle.dns_wire.specs.Name.{name_read}
+use Rattle.dns_wire.specs.Rdata.{data_name_read}
 
 -- the place after what was read
 abbrev pub place_after : {A : Type 0} → Result (A × ℕ) WireFault → Option ℕ
@@ -25,21 +26,26 @@ sections_place m at =
 
 -- Whether a place is the end.
 abbrev pub is_end : List ℕ → Option ℕ → Bool
-is_end m None = false
-is_end m (Some at) = at == length m
+is_end front None = false
+is_end front (Some at) = at == length front
 
--- whether a name stands at a place and ends with the octets
-abbrev pub ends_with_name : List ℕ → ℕ → Bool
-ends_with_name m at = if nat_lt (length m) at then false else is_end m (name_place m at)
+-- the place after a name at a place of RDATA, which begins at `at` and ends with the front
+abbrev pub data_name_place : List ℕ → List ℕ → ℕ → ℕ → Option ℕ
+data_name_place m front at place = place_after (data_name_read m front at place)
 
--- whether two names and five numbers of 32 bits begin at a place and end with the octets
+-- whether a name stands at a place of RDATA and ends with it
+abbrev pub ends_with_name : List ℕ → List ℕ → ℕ → ℕ → Bool
+ends_with_name m front at place = if nat_lt (length front) place then false else is_end front (data_name_place m front at place)
+
+-- whether five numbers of 32 bits begin at a place and end with the RDATA
 abbrev pub ends_with_numbers : List ℕ → Option ℕ → Bool
-ends_with_numbers m None = false
-ends_with_numbers m (Some numbers) = numbers + 20 == length m
+ends_with_numbers front None = false
+ends_with_numbers front (Some numbers) = numbers + 20 == length front
 
-abbrev pub soa_behind : List ℕ → Option ℕ → Bool
-soa_behind m None = false
-soa_behind m (Some second) = ends_with_numbers m (name_place m second)
+-- whether the RDATA is two names and five numbers of 32 bits
+abbrev pub soa_behind : List ℕ → List ℕ → ℕ → Option ℕ → Bool
+soa_behind m front at None = false
+soa_behind m front at (Some second) = ends_with_numbers front (data_name_place m front at second)
 
-abbrev pub ends_with_soa : List ℕ → ℕ → Bool
-ends_with_soa m at = soa_behind m (name_place m at)
+abbrev pub is_soa : List ℕ → List ℕ → ℕ → Bool
+is_soa m front at = soa_behind m front at (data_name_place m front at at)

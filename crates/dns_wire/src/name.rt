@@ -1,8 +1,8 @@
 //! Names in messages, which may point back to others.
 
-ghost use Rattle.std.specs.Prelude.{◌≡◌, ◌≤◌, length, MatchResult, IfOk};
+ghost use Rattle.std.specs.Prelude.{◌≡◌, ◌≤◌, length, take, MatchResult, IfOk};
 ghost use Rattle.dns_name.specs.Labels.{IsName};
-ghost use Rattle.dns_wire.specs.Name.{next_at, NameAt, UnspelledName, name_read};
+ghost use Rattle.dns_wire.specs.Name.{next_at, NameAt, UnspelledIn, name_read_in, name_read};
 ghost use Rattle.dns_wire.specs.Reading.{Gives};
 
 use crate::fault::WireFault;
@@ -45,18 +45,29 @@ pub(crate) fn next_at(message: &[u8], at: usize) -> Next
     }
 }
 
-/// Follows a name from a place of a message on: its labels, and the place after it. It takes no memory.
-fn find_labels(message: &[u8], start: usize) -> Result<(NameBuilder, usize), WireFault>
-    requires { start ≤ length message.now }
-    ensures stands { MatchResult result (λ r. NameAt message.now start start r.1 r.0) (λ e. UnspelledName message.now start e) }
+/// Follows a name from a place of a message on: its labels, and the place after it. Its own octets end at the limit at
+/// the latest, or there is this fault. It takes no memory.
+fn find_labels(
+    message: &[u8],
+    limit: usize,
+    ending: WireFault,
+    start: usize,
+) -> Result<(NameBuilder, usize), WireFault>
+    requires within { start ≤ limit }
+    requires limit { limit ≤ length message.now }
+    ensures stands { MatchResult result (λ r. NameAt message.now (take limit message.now) start start r.1 r.0)
+        (λ e. UnspelledIn message.now (take limit message.now) ending start e) }
     ensures name { IfOk result (λ r. IsName r.0) }
 {
     let mut labels = NameBuilder::new();
     let mut at = start;
     let mut run = start;
+    let mut reach = limit;
+    let mut beyond = ending;
     let mut after = None;
     loop {
-        match next_at(message, at) {
+        let (front, _) = message.split_at(reach);
+        match next_at(front, at) {
             Next::Finish => {
                 // The builder ensures that its labels are a name.
                 let _room = labels.room();
@@ -66,10 +77,10 @@ fn find_labels(message: &[u8], start: usize) -> Result<(NameBuilder, usize), Wir
                 if n >= labels.room() {
                     return Err(WireFault::BadName { at: start });
                 }
-                if message.len() - at <= n {
-                    return Err(WireFault::Short);
+                if front.len() - at <= n {
+                    return Err(beyond);
                 }
-                labels.push(&message[at + 1..at + 1 + n]);
+                labels.push(&front[at + 1..at + 1 + n]);
                 at += n + 1;
             }
             Next::Pointer(to) => {
@@ -79,11 +90,29 @@ fn find_labels(message: &[u8], start: usize) -> Result<(NameBuilder, usize), Wir
                 after = Some(after.unwrap_or(at + 2));
                 at = to;
                 run = to;
+                reach = message.len();
+                beyond = WireFault::Short;
             }
             Next::Reserved => return Err(WireFault::BadName { at: start }),
-            Next::Cut => return Err(WireFault::Short),
+            Next::Cut => return Err(beyond),
         }
     }
+}
+
+/// The labels of the name at a place of a message, and the place after it. The name's own octets, those that a pointer
+/// ends, are in front of the limit, or there is this fault. It takes no memory.
+pub(crate) fn labels_in(
+    message: &[u8],
+    limit: usize,
+    ending: WireFault,
+    at: usize,
+) -> Result<(NameBuilder, usize), WireFault>
+    requires within { at ≤ limit }
+    requires limit { limit ≤ length message.now }
+    ensures exact { result ≡ name_read_in message.now (take limit message.now) ending at }
+    ensures within { IfOk result (λ r. r.1 ≤ limit) }
+{
+    find_labels(message, limit, ending, at)
 }
 
 /// The labels of the name at a place of a message, and the place after it. It takes no memory.
@@ -92,7 +121,7 @@ pub(crate) fn labels_at(message: &[u8], at: usize) -> Result<(NameBuilder, usize
     ensures exact { result ≡ name_read message.now at }
     ensures within { IfOk result (λ r. r.1 ≤ length message.now) }
 {
-    find_labels(message, at)
+    labels_in(message, message.len(), WireFault::Short, at)
 }
 
 /// The name at a place of a message, and the place after it.

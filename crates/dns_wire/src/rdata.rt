@@ -1,11 +1,12 @@
-//! RDATA in the form of its type. Each function here reads the front of a message that ends with the RDATA.
+//! RDATA in the form of its type. Each function here reads the front of a message that ends with the RDATA, or, for a
+//! name, the message and that end.
 
-ghost use Rattle.std.specs.Prelude.{◌≡◌, ◌<◌, ◌≤◌, ◌+◌, length, drop, IfOk, IfSome, option_map};
+ghost use Rattle.std.specs.Prelude.{◌≡◌, ◌<◌, ◌≤◌, ◌+◌, length, take, drop, IfOk, IfSome, option_map};
 ghost use Rattle.dns_wire.specs.Rdata.{form_in, first_string, data_name_read, ipv4_read, ipv6_read, one_read, mx_read, soa_read, txt_read, srv_read, data_read};
 ghost use Rattle.dns_wire.specs.Reading.{Gives};
 
 use crate::fault::WireFault;
-use crate::name::name_at;
+use crate::name::labels_in;
 use crate::number::{u16_at, u32_at};
 use dns_name::Name;
 use dns_text::{Data, Form, Items, Octets, form_of};
@@ -22,18 +23,22 @@ pub(crate) fn form_in(class: u16, kind: u16) -> Form
     }
 }
 
-/// A name that has to end with the RDATA at the latest.
+/// A name whose own octets have to end with the RDATA at the latest, which begins at a place.
 #[tactic(auto, unfolding(crate::specs::Rdata::data_name_read))]
-fn name_in(alloc: Global, front: &[u8], at: usize, place: usize) -> Result<(Name, usize), WireFault>
-    requires { place ≤ length front.now }
-    ensures exact { Gives result (data_name_read front.now at place) }
-    ensures within { IfOk result (λ r. r.1 ≤ length front.now) }
+fn name_in(
+    alloc: Global,
+    message: &[u8],
+    end: usize,
+    at: usize,
+    place: usize,
+) -> Result<(Name, usize), WireFault>
+    requires within { place ≤ end }
+    requires end { end ≤ length message.now }
+    ensures exact { Gives result (data_name_read message.now (take end message.now) at place) }
+    ensures within { IfOk result (λ r. r.1 ≤ end) }
 {
-    match name_at(alloc, front, place) {
-        Ok(found) => Ok(found),
-        Err(WireFault::Short) => Err(WireFault::BadData { at }),
-        Err(fault) => Err(fault),
-    }
+    let (labels, after) = labels_in(message, end, WireFault::BadData { at }, place)?;
+    Ok((labels.name(alloc)?, after))
 }
 
 fn ipv4_at(front: &[u8], at: usize) -> Result<Data, WireFault>
@@ -67,26 +72,30 @@ fn ipv6_at(front: &[u8], at: usize) -> Result<Data, WireFault>
     Ok(Data::Aaaa(address))
 }
 
-fn one_at(alloc: Global, front: &[u8], at: usize) -> Result<Data, WireFault>
-    requires { at ≤ length front.now }
-    ensures { Gives result (one_read front.now at) }
+fn one_at(alloc: Global, message: &[u8], end: usize, at: usize) -> Result<Data, WireFault>
+    requires within { at ≤ end }
+    requires end { end ≤ length message.now }
+    ensures { Gives result (one_read message.now (take end message.now) at) }
 {
-    let (name, after) = name_in(alloc, front, at, at)?;
+    let (front, _) = message.split_at(end);
+    let (name, after) = name_in(alloc, message, end, at, at)?;
     if after != front.len() {
         return Err(WireFault::BadData { at });
     }
     Ok(Data::One(name))
 }
 
-fn mx_at(alloc: Global, front: &[u8], at: usize) -> Result<Data, WireFault>
-    requires { at ≤ length front.now }
-    ensures { Gives result (mx_read front.now at) }
+fn mx_at(alloc: Global, message: &[u8], end: usize, at: usize) -> Result<Data, WireFault>
+    requires within { at ≤ end }
+    requires end { end ≤ length message.now }
+    ensures { Gives result (mx_read message.now (take end message.now) at) }
 {
+    let (front, _) = message.split_at(end);
     if front.len() < at + 2 {
         return Err(WireFault::BadData { at });
     }
     let preference = u16_at(front, at);
-    let (exchange, after) = name_in(alloc, front, at, at + 2)?;
+    let (exchange, after) = name_in(alloc, message, end, at, at + 2)?;
     if after != front.len() {
         return Err(WireFault::BadData { at });
     }
@@ -96,12 +105,14 @@ fn mx_at(alloc: Global, front: &[u8], at: usize) -> Result<Data, WireFault>
     })
 }
 
-fn soa_at(alloc: Global, front: &[u8], at: usize) -> Result<Data, WireFault>
-    requires { at ≤ length front.now }
-    ensures { Gives result (soa_read front.now at) }
+fn soa_at(alloc: Global, message: &[u8], end: usize, at: usize) -> Result<Data, WireFault>
+    requires within { at ≤ end }
+    requires end { end ≤ length message.now }
+    ensures { Gives result (soa_read message.now (take end message.now) at) }
 {
-    let (primary, second) = name_in(alloc, front, at, at)?;
-    let (mailbox, numbers) = name_in(alloc, front, at, second)?;
+    let (front, _) = message.split_at(end);
+    let (primary, second) = name_in(alloc, message, end, at, at)?;
+    let (mailbox, numbers) = name_in(alloc, message, end, at, second)?;
     if numbers + 20 != front.len() {
         return Err(WireFault::BadData { at });
     }
@@ -116,17 +127,19 @@ fn soa_at(alloc: Global, front: &[u8], at: usize) -> Result<Data, WireFault>
     })
 }
 
-fn srv_at(alloc: Global, front: &[u8], at: usize) -> Result<Data, WireFault>
-    requires { at ≤ length front.now }
-    ensures { Gives result (srv_read front.now at) }
+fn srv_at(alloc: Global, message: &[u8], end: usize, at: usize) -> Result<Data, WireFault>
+    requires within { at ≤ end }
+    requires end { end ≤ length message.now }
+    ensures { Gives result (srv_read message.now (take end message.now) at) }
 {
+    let (front, _) = message.split_at(end);
     if front.len() < at + 6 {
         return Err(WireFault::BadData { at });
     }
     let priority = u16_at(front, at);
     let weight = u16_at(front, at + 2);
     let port = u16_at(front, at + 4);
-    let (target, after) = name_in(alloc, front, at, at + 6)?;
+    let (target, after) = name_in(alloc, message, end, at, at + 6)?;
     if after != front.len() {
         return Err(WireFault::BadData { at });
     }
@@ -182,20 +195,28 @@ fn txt_at(alloc: Global, front: &[u8], at: usize) -> Result<Data, WireFault>
     Ok(Data::Txt(Items::new(strings)))
 }
 
-/// The data of a form that begins at a place and ends with the front.
+/// The data of a form that begins at a place of a message and has an end.
 #[tactic(auto, unfolding(crate::specs::Rdata::data_read))]
-pub(crate) fn data_at(alloc: Global, front: &[u8], at: usize, form: Form) -> Result<Data, WireFault>
-    requires { at ≤ length front.now }
-    ensures { Gives result (data_read front.now at form) }
+pub(crate) fn data_at(
+    alloc: Global,
+    message: &[u8],
+    end: usize,
+    at: usize,
+    form: Form,
+) -> Result<Data, WireFault>
+    requires within { at ≤ end }
+    requires end { end ≤ length message.now }
+    ensures { Gives result (data_read message.now (take end message.now) at form) }
 {
+    let (front, _) = message.split_at(end);
     match form {
         Form::A => ipv4_at(front, at),
         Form::Aaaa => ipv6_at(front, at),
-        Form::Name => one_at(alloc, front, at),
-        Form::Mx => mx_at(alloc, front, at),
-        Form::Soa => soa_at(alloc, front, at),
+        Form::Name => one_at(alloc, message, end, at),
+        Form::Mx => mx_at(alloc, message, end, at),
+        Form::Soa => soa_at(alloc, message, end, at),
         Form::Txt => txt_at(alloc, front, at),
-        Form::Srv => srv_at(alloc, front, at),
+        Form::Srv => srv_at(alloc, message, end, at),
         Form::Opaque => Ok(Data::Opaque(octets_from(alloc, front, at)?)),
     }
 }

@@ -43,8 +43,7 @@ fn record_at(
     if message.len() < end {
         return Err(WireFault::Short);
     }
-    let (front, _) = message.split_at(end);
-    let body = data_at(alloc, front, begin, form_in(class, kind))?;
+    let body = data_at(alloc, message, end, begin, form_in(class, kind))?;
     let item = Record {
         owner,
         kind,

@@ -221,6 +221,20 @@ fn names_in_data(rt: HostRuntime) -> Result<(), Fail> {
     Ok(())
 }
 
+/// Two records, of which the first names a server by a pointer into its own TTL, from where a label runs over the RDATA.
+const RUNNING_OVER: &[u8; 40] = b"\x12\x34\x80\0\0\0\0\x02\0\0\0\0\
+\0\0\x02\0\x01\0\0\0\x05\0\x02\xc0\x14\
+\0\0\x01\0\x01\0\0\0\x01\0\x04\xc0\0\x02\x01";
+
+#[test]
+fn name_over_the_end_of_data(rt: HostRuntime) -> Result<(), Fail> {
+    let message = decode(rt.alloc(), RUNNING_OVER)?;
+    let records = message.answer.as_slice();
+    assert_eq!(rt; records.len(), 2);
+    assert!(rt; is_some_of(names_in(&records[0].item.body).0, &[b"\0\x02\xc0\x14\0"]));
+    Ok(())
+}
+
 /// The numbers in data.
 fn numbers_in(body: &Data) -> [u32; 5] {
     match body {

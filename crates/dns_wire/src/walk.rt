@@ -1,13 +1,14 @@
 //! Messages walked without keeping what they say, and so without memory.
 
-ghost use Rattle.std.specs.Prelude.{◌≡◌, ◌≤◌, length, is_ok, IfSome};
+ghost use Rattle.std.specs.Prelude.{◌≡◌, ◌≤◌, length, take, is_ok, IfSome};
 ghost use Rattle.dns_wire.specs.Message.{records_read};
 ghost use Rattle.dns_wire.specs.Name.{name_read};
 ghost use Rattle.dns_wire.specs.Rdata.{data_read, txt_read};
 ghost use Rattle.dns_wire.specs.Record.{record_read};
-ghost use Rattle.dns_wire.specs.Walking.{place_after, name_place, records_place, sections_place, ends_with_name, ends_with_soa};
+ghost use Rattle.dns_wire.specs.Walking.{place_after, name_place, records_place, sections_place, data_name_place, ends_with_name, is_soa};
 
-use crate::name::labels_at;
+use crate::fault::WireFault;
+use crate::name::{labels_at, labels_in};
 use crate::number::u16_at;
 use crate::rdata::{form_in, split_string};
 use dns_text::Form;
@@ -24,29 +25,45 @@ fn name_end(message: &[u8], at: usize) -> Option<usize>
     }
 }
 
-/// Whether a name stands at a place and ends with the front.
-fn ends_with_name(front: &[u8], at: usize) -> bool
-    ensures { result ≡ ends_with_name front.now at }
+/// The place after a name whose own octets end with the RDATA at the latest, which begins at a place.
+#[tactic(auto, unfolding(crate::specs::Rdata::data_name_read))]
+fn data_name_end(message: &[u8], end: usize, at: usize, place: usize) -> Option<usize>
+    requires within { place ≤ end }
+    requires end { end ≤ length message.now }
+    ensures exact { result ≡ data_name_place message.now (take end message.now) at place }
+    ensures within { IfSome result (λ after. after ≤ end) }
 {
-    if front.len() < at {
+    match labels_in(message, end, WireFault::BadData { at }, place) {
+        Ok((_, after)) => Some(after),
+        Err(_) => None,
+    }
+}
+
+/// Whether a name stands at a place of RDATA and ends with it.
+fn ends_with_name(message: &[u8], end: usize, at: usize, place: usize) -> bool
+    requires { end ≤ length message.now }
+    ensures { result ≡ ends_with_name message.now (take end message.now) at place }
+{
+    if end < place {
         return false;
     }
-    match name_end(front, at) {
-        Some(after) => after == front.len(),
+    match data_name_end(message, end, at, place) {
+        Some(after) => after == end,
         None => false,
     }
 }
 
-/// Whether the front ends with the start of a zone of authority: two names and five numbers.
-fn is_soa(front: &[u8], at: usize) -> bool
-    requires { at ≤ length front.now }
-    ensures { result ≡ ends_with_soa front.now at }
+/// Whether RDATA is the start of a zone of authority: two names and five numbers.
+fn is_soa(message: &[u8], end: usize, at: usize) -> bool
+    requires within { at ≤ end }
+    requires end { end ≤ length message.now }
+    ensures { result ≡ is_soa message.now (take end message.now) at }
 {
-    let Some(second) = name_end(front, at) else {
+    let Some(second) = data_name_end(message, end, at, at) else {
         return false;
     };
-    match name_end(front, second) {
-        Some(numbers) => numbers + 20 == front.len(),
+    match data_name_end(message, end, at, second) {
+        Some(numbers) => numbers + 20 == end,
         None => false,
     }
 }
@@ -69,20 +86,22 @@ fn are_strings(front: &[u8], at: usize) -> bool
     true
 }
 
-/// Whether data of a form begins at a place and ends with the front.
+/// Whether data of a form begins at a place of a message and has an end.
 #[tactic(auto, unfolding(crate::specs::Rdata::data_read))]
-fn has_form(front: &[u8], at: usize, form: Form) -> bool
-    requires { at ≤ length front.now }
-    ensures { result ≡ is_ok (data_read front.now at form) }
+fn has_form(message: &[u8], end: usize, at: usize, form: Form) -> bool
+    requires within { at ≤ end }
+    requires end { end ≤ length message.now }
+    ensures { result ≡ is_ok (data_read message.now (take end message.now) at form) }
 {
+    let (front, _) = message.split_at(end);
     match form {
         Form::A => front.len() - at == 4,
         Form::Aaaa => front.len() - at == 16,
-        Form::Name => ends_with_name(front, at),
-        Form::Mx => ends_with_name(front, at + 2),
-        Form::Soa => is_soa(front, at),
+        Form::Name => ends_with_name(message, end, at, at),
+        Form::Mx => ends_with_name(message, end, at, at + 2),
+        Form::Soa => is_soa(message, end, at),
         Form::Txt => are_strings(front, at),
-        Form::Srv => ends_with_name(front, at + 6),
+        Form::Srv => ends_with_name(message, end, at, at + 6),
         Form::Opaque => true,
     }
 }
@@ -103,9 +122,8 @@ fn record_end(message: &[u8], at: usize) -> Option<usize>
     if message.len() < end {
         return None;
     }
-    let (front, _) = message.split_at(end);
     let form = form_in(u16_at(message, at + 2), u16_at(message, at));
-    if !has_form(front, begin, form) {
+    if !has_form(message, end, begin, form) {
         return None;
     }
     Some(end)

@@ -1,11 +1,12 @@
-use Rattle.std.proofs.Common.{◌≤◌, length, ◌+◌, ◌-◌, ◌*◌}
+use Rattle.std.proofs.Common.{◌≤◌, length, take, ◌+◌, ◌-◌, ◌*◌}
 use Rattle.dns_wire.proofs.Following.{Reads}
 use Rattle.dns_wire.proofs.name.find_labels.Given as goal
 
 abbrev pub invariant-loop-labels : goal.invariant-loop-labels
 invariant-loop-labels l = record {
-  reads : Reads l.message l.start l.labels l.at l.run l.after;
-  within : l.at ≤ length l.message;
+  reads : Reads l.message (take l.limit l.message) l.fn.ending l.start l.labels (take l.reach l.message) l.beyond l.at l.run l.after;
+  within : l.at ≤ l.reach;
+  reach : l.reach ≤ length l.message;
   behind : l.run ≤ l.at;
 }
 
