@@ -8,8 +8,8 @@ pub mod MessageLaws
 pub mod Ranges
 pub mod SectionLoops
 pub mod SectionLaws
-pub mod SizeLaws
 pub mod StringLaws
+pub mod WrittenSize
 pub mod WrittenName
 pub mod WrittenData
 pub mod WrittenHead

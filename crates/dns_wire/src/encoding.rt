@@ -1,6 +1,6 @@
 //! A message as octets.
 
-ghost use Rattle.std.specs.Prelude.{◌≡◌, ◌⊎◌, [], ◌∷◌, IfOk, IfErr, Err};
+ghost use Rattle.std.specs.Prelude.{◌≡◌, ◌≤◌, ◌⊎◌, length, [], ◌∷◌, IfOk, IfErr, Err};
 ghost use Rattle.dns_wire.specs.declared.encoding.EncodeFault.{EncodeFault};
 ghost use Rattle.dns_wire.specs.declared.encoding.EncodeFault.TheVariants.{TooLong, NoMemory};
 ghost use Rattle.dns_wire.specs.Encoding.{WrittenIsRead, RepliesAreRead};
@@ -61,6 +61,7 @@ pub fn encode(alloc: Global, message: &Message) -> Result<Vec<u8>, EncodeFault>
     requires { IsWellFormed message.now }
     ensures octets { IfOk result (λ out. out.items ≡ message_octets message.now) }
     ensures spelled { IfOk result (λ out. SpelledMessage out.items message.now) }
+    ensures short { IfOk result (λ out. length out.items ≤ 65535) }
     ensures fits { IfOk result (λ _. ¬ (IsTooLong message.now)) }
     ensures too_long { IsTooLong message.now → result ≡ Err TooLong }
     ensures fault { IfErr result (λ fault. (fault ≡ NoMemory) ⊎ IsTooLong message.now) }
@@ -96,6 +97,7 @@ pub fn encode_reply(alloc: Global, query: &Query, reply: &Message) -> Result<Vec
     requires question { reply.now.questions ≡ in_class_in query.now.question ∷ [] }
     ensures octets { IfOk result (λ out. out.items ≡ octets_with query.now.octets reply.now) }
     ensures spelled { IfOk result (λ out. SpelledMessage out.items reply.now) }
+    ensures short { IfOk result (λ out. length out.items ≤ 65535) }
     ensures fits { IfOk result (λ _. ¬ (IsTooLong reply.now)) }
     ensures too_long { IsTooLong reply.now → result ≡ Err TooLong }
     ensures fault { IfErr result (λ fault. (fault ≡ NoMemory) ⊎ IsTooLong reply.now) }

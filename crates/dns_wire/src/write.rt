@@ -105,7 +105,7 @@ fn push_behind_owner(out: &mut Vec<u8>, entry: &Classed<Record>) -> Result<(), A
     push_u16(out, entry.item.kind)?;
     push_u16(out, entry.class)?;
     push_u32(out, entry.item.ttl)?;
-    let len = data_len(&entry.item.body).unwrap_or(0);
+    let len = data_len(&entry.item.body).unwrap();
     push_u16(out, len as u16)?;
     push_data(out, &entry.item.body)
 }
