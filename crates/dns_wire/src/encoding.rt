@@ -41,11 +41,12 @@ impl<T: Drop> From<AllocFailed<T>> for EncodeFault {
     }
 }
 
-/// A message that isn't too long, in a buffer of this size.
+/// A message that isn't too long, in one buffer of its size.
 #[tactic(auto, unfolding(crate::specs::Writing::octets_with))]
 fn write_message(alloc: Global, message: &Message, size: usize) -> Result<Vec<u8>, AllocError>
     requires well_formed { IsWellFormed message.now }
     requires fits { ¬ (IsTooLong message.now) }
+    requires sized { size ≡ length (message_octets message.now) }
     ensures { IfOk result (λ out. out.items ≡ message_octets message.now) }
 {
     let mut out = Vec::with_capacity(alloc, size)?;
@@ -72,7 +73,7 @@ pub fn encode(alloc: Global, message: &Message) -> Result<Vec<u8>, EncodeFault>
     }
 }
 
-/// A reply that isn't too long, in a buffer of this size.
+/// A reply that isn't too long, in one buffer of its size.
 #[tactic(auto, unfolding(crate::specs::Writing::octets_with))]
 fn write_reply(
     alloc: Global,
@@ -82,6 +83,7 @@ fn write_reply(
 ) -> Result<Vec<u8>, AllocError>
     requires well_formed { IsWellFormed reply.now }
     requires fits { ¬ (IsTooLong reply.now) }
+    requires sized { size ≡ length (octets_with query.now.octets reply.now) }
     ensures { IfOk result (λ out. out.items ≡ octets_with query.now.octets reply.now) }
 {
     let mut out = Vec::with_capacity(alloc, size)?;

@@ -111,7 +111,7 @@ fn push_behind_owner(out: &mut Vec<u8>, entry: &Classed<Record>) -> Result<(), A
 }
 
 /// Records in a message of these questions.
-pub(crate) fn push_records(
+fn push_records(
     out: &mut Vec<u8>,
     questions: &[Classed<Question>],
     records: &[Classed<Record>],
