@@ -8,12 +8,12 @@ pub mod MessageLaws
 pub mod Ranges
 pub mod SectionLoops
 pub mod SectionLaws
-pub mod SizeLaws
 pub mod StringLaws
 pub mod WalkLaws
 pub mod PointerLaws
 pub mod AskingLaws
 pub mod VerdictLaws
+pub mod WrittenSize
 pub mod WrittenName
 pub mod WrittenData
 pub mod WrittenHead

@@ -13,7 +13,7 @@ use Rattle.dns_wire.specs.Replying.{fault_head, head_alone, cut_reply}
 use Rattle.dns_wire.specs.WellFormed.{AreOctets, IsHead}
 use Rattle.dns_wire.specs.Writing.{header_octets, octets_with, message_octets, IsTooLong, IsQuestionOctets}
 use Rattle.dns_wire.proofs.Ranges.{head_range}
-use Rattle.dns_wire.proofs.SizeLaws.{length-octets_with, as_long}
+use Rattle.dns_wire.proofs.WrittenSize.{length-octets_with, as_long}
 use Rattle.dns_wire.proofs.WrittenMessage.{message_written, reply_written}
 
 -- A short message without records, and with a question at most, isn't too long.

@@ -15,7 +15,7 @@ use Rattle.dns_wire.specs.Section.{no_items, one_more}
 use Rattle.dns_wire.specs.WellFormed.{IsQuestion, IsWellFormed}
 use Rattle.dns_wire.specs.Writing.{u16_octets, flags_of, header_octets, question_octets, records_octets, first_name, octets_with, message_octets, IsTooLong, in_class_in, IsQuestionOctets}
 use Rattle.dns_wire.proofs.MessageLaws.{spelled_once}
-use Rattle.dns_wire.proofs.SizeLaws.{Fits, all_fits, length-octets_with, length-question_octets, as_long}
+use Rattle.dns_wire.proofs.WrittenSize.{Fits, all_fits, length-octets_with, length-question_octets, as_long}
 use Rattle.dns_wire.proofs.WrittenName.{StandsAt, stands_first, stands_second}
 use Rattle.dns_wire.proofs.WrittenHead.{flags_small, flags_written}
 use Rattle.dns_wire.proofs.WrittenRecord.{cased_question, questions_written, FirstAt, no_question, first, later, records_written}

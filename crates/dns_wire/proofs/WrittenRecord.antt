@@ -17,7 +17,7 @@ use Rattle.dns_wire.specs.Record.{RecordAt, ttl_of}
 use Rattle.dns_wire.specs.Section.{no_items, one_more}
 use Rattle.dns_wire.specs.WellFormed.{IsQuestion, IsRecord}
 use Rattle.dns_wire.specs.Writing.{u16_octets, u32_octets, name_octets, question_octets, data_octets, owner_octets, behind_owner_octets, record_octets, records_octets}
-use Rattle.dns_wire.proofs.SizeLaws.{data_of_record}
+use Rattle.dns_wire.proofs.WrittenSize.{data_of_record}
 use Rattle.dns_wire.proofs.WrittenName.{StandsAt, stands_within, stands_first, stands_second, octet_at, lower_name, cased_name, whole_name}
 use Rattle.dns_wire.proofs.WrittenData.{EndsAt, u16_written, u16_behind, u32_behind, data_written}
 

@@ -6,6 +6,22 @@ use Rattle.dns_wire.specs.Message.{SpelledMessage}
 use Rattle.dns_wire.specs.WellFormed.{IsWellFormed}
 use Rattle.dns_wire.specs.Writing.{first_name, records_octets, message_octets, octets_with, IsTooLong, in_class_in, IsQuestionOctets}
 
+-- The octets spell this message, and no other.
+pub record SpellsOnly (octets : List ℕ) (v : Message) : Type 0 where
+  pub stands : SpelledMessage octets v
+  pub only : (w : Message) → SpelledMessage octets w → w ≡ v
+
+-- What a message is written as spells it alone.
+abbrev pub WrittenIsRead : Type 0
+WrittenIsRead = (v : Message) → IsWellFormed v → ¬ (IsTooLong v) → SpellsOnly (message_octets v) v
+
+-- And so does a reply, which repeats its question's octets.
+abbrev pub RepliesAreRead : Type 0
+RepliesAreRead = (q : Question) (octets : List ℕ) (v : Message) → IsQuestionOctets octets q → IsWellFormed v → v.questions ≡ in_class_in q ∷ []
+    → ¬ (IsTooLong v) → SpellsOnly (octets_with octets v) v
+
+-- ---- sizes, for contracts inside the crate
+
 -- so many octets, where a message may have as many
 abbrev pub within : ℕ → Option ℕ
 within n = if nat_lt 65535 n then None else Some n
@@ -28,17 +44,3 @@ has_long_section v =
 -- how many octets a message takes that isn't too long, where its header and questions take so many
 abbrev pub len_behind : ℕ → Message → Option ℕ
 len_behind before v = if has_long_section v then None else within (before + records_len v)
-
--- The octets spell this message, and no other.
-pub record SpellsOnly (octets : List ℕ) (v : Message) : Type 0 where
-  pub stands : SpelledMessage octets v
-  pub only : (w : Message) → SpelledMessage octets w → w ≡ v
-
--- What a message is written as spells it alone.
-abbrev pub WrittenIsRead : Type 0
-WrittenIsRead = (v : Message) → IsWellFormed v → ¬ (IsTooLong v) → SpellsOnly (message_octets v) v
-
--- And so does a reply, which repeats its question's octets.
-abbrev pub RepliesAreRead : Type 0
-RepliesAreRead = (q : Question) (octets : List ℕ) (v : Message) → IsQuestionOctets octets q → IsWellFormed v → v.questions ≡ in_class_in q ∷ []
-    → ¬ (IsTooLong v) → SpellsOnly (octets_with octets v) v

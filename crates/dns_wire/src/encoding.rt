@@ -1,6 +1,6 @@
 //! A message as octets.
 
-ghost use Rattle.std.specs.Prelude.{◌≡◌, ◌⊎◌, [], ◌∷◌, IfOk, IfErr, Err};
+ghost use Rattle.std.specs.Prelude.{◌≡◌, ◌≤◌, ◌⊎◌, length, [], ◌∷◌, IfOk, IfErr, Err};
 ghost use Rattle.dns_wire.specs.declared.encoding.EncodeFault.{EncodeFault};
 ghost use Rattle.dns_wire.specs.declared.encoding.EncodeFault.TheVariants.{TooLong, NoMemory};
 ghost use Rattle.dns_wire.specs.Encoding.{WrittenIsRead, RepliesAreRead};
@@ -41,11 +41,12 @@ impl<T: Drop> From<AllocFailed<T>> for EncodeFault {
     }
 }
 
-/// A message that isn't too long, in a buffer of this size.
+/// A message that isn't too long, in one buffer of its size.
 #[tactic(auto, unfolding(crate::specs::Writing::octets_with))]
 fn write_message(alloc: Global, message: &Message, size: usize) -> Result<Vec<u8>, AllocError>
     requires well_formed { IsWellFormed message.now }
     requires fits { ¬ (IsTooLong message.now) }
+    requires sized { size ≡ length (message_octets message.now) }
     ensures { IfOk result (λ out. out.items ≡ message_octets message.now) }
 {
     let mut out = Vec::with_capacity(alloc, size)?;
@@ -61,6 +62,7 @@ pub fn encode(alloc: Global, message: &Message) -> Result<Vec<u8>, EncodeFault>
     requires { IsWellFormed message.now }
     ensures octets { IfOk result (λ out. out.items ≡ message_octets message.now) }
     ensures spelled { IfOk result (λ out. SpelledMessage out.items message.now) }
+    ensures short { IfOk result (λ out. length out.items ≤ 65535) }
     ensures fits { IfOk result (λ _. ¬ (IsTooLong message.now)) }
     ensures too_long { IsTooLong message.now → result ≡ Err TooLong }
     ensures fault { IfErr result (λ fault. (fault ≡ NoMemory) ⊎ IsTooLong message.now) }
@@ -71,7 +73,7 @@ pub fn encode(alloc: Global, message: &Message) -> Result<Vec<u8>, EncodeFault>
     }
 }
 
-/// A reply that isn't too long, in a buffer of this size.
+/// A reply that isn't too long, in one buffer of its size.
 #[tactic(auto, unfolding(crate::specs::Writing::octets_with))]
 fn write_reply(
     alloc: Global,
@@ -81,6 +83,7 @@ fn write_reply(
 ) -> Result<Vec<u8>, AllocError>
     requires well_formed { IsWellFormed reply.now }
     requires fits { ¬ (IsTooLong reply.now) }
+    requires sized { size ≡ length (octets_with query.now.octets reply.now) }
     ensures { IfOk result (λ out. out.items ≡ octets_with query.now.octets reply.now) }
 {
     let mut out = Vec::with_capacity(alloc, size)?;
@@ -96,6 +99,7 @@ pub fn encode_reply(alloc: Global, query: &Query, reply: &Message) -> Result<Vec
     requires question { reply.now.questions ≡ in_class_in query.now.question ∷ [] }
     ensures octets { IfOk result (λ out. out.items ≡ octets_with query.now.octets reply.now) }
     ensures spelled { IfOk result (λ out. SpelledMessage out.items reply.now) }
+    ensures short { IfOk result (λ out. length out.items ≤ 65535) }
     ensures fits { IfOk result (λ _. ¬ (IsTooLong reply.now)) }
     ensures too_long { IsTooLong reply.now → result ≡ Err TooLong }
     ensures fault { IfErr result (λ fault. (fault ≡ NoMemory) ⊎ IsTooLong reply.now) }

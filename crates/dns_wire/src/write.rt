@@ -72,13 +72,13 @@ fn push_behind_owner(out: &mut Vec<u8>, entry: &Classed<Record>) -> Result<(), A
     push_u16(out, entry.item.kind)?;
     push_u16(out, entry.class)?;
     push_u32(out, entry.item.ttl)?;
-    let len = data_len(&entry.item.body).unwrap_or(0);
+    let len = data_len(&entry.item.body).unwrap();
     push_u16(out, len as u16)?;
     push_data(out, &entry.item.body)
 }
 
 /// Records in a message of these questions.
-pub(crate) fn push_records(
+fn push_records(
     out: &mut Vec<u8>,
     questions: &[Classed<Question>],
     records: &[Classed<Record>],

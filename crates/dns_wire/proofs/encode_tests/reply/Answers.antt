@@ -1,13 +1,10 @@
-use Rattle.std.proofs.Common.{◌≡◌, ◌++◌, ◌∷◌, [], ℕ, List, refl, sym, ap, subst, ◌∙◌, arith}
+use Rattle.std.proofs.Common.{◌≡◌, ◌++◌, ◌∷◌, [], List, refl, sym, ap, subst, ◌∙◌, arith}
 use Rattle.std.specs.List.{AllByRecursion}
 use Rattle.dns_name.specs.Labels.{Labels, IsName}
 use Rattle.dns_text.specs.declared.kind.Form.TheVariants.{A as FormA}
 use Rattle.dns_text.specs.declared.record.Data.TheVariants.{A}
-use Rattle.dns_text.specs.declared.record.Question.{Question}
-use Rattle.dns_text.specs.declared.record.Record.{Record}
 use Rattle.dns_text.specs.Kind.{form_of, by_number}
-use Rattle.dns_wire.specs.declared.message.Classed.{Classed}
-use Rattle.dns_wire.specs.WellFormed.{IsQuestion, IsRecord, IsWellFormed}
+use Rattle.dns_wire.specs.WellFormed.{IsQuestion, IsRecord}
 use Rattle.dns_wire.proofs.encode_tests.reply.Goals as goal
 
 only_one : {X : Type 0} (P : X → Type 0) (all items before : List X) (x : X) → all ≡ items → items ≡ before ++ x ∷ [] → before ≡ [] → P x → AllByRecursion P all

@@ -1,4 +1,4 @@
-use Rattle.dns_wire.proofs.SizeLaws.{sections_fit}
+use Rattle.dns_wire.proofs.WrittenSize.{sections_fit}
 use Rattle.dns_wire.proofs.encoding.write_reply.Goals as goal
 
 pub push_sections-requires-clause-short : goal.push_sections-requires-clause-short

@@ -2,7 +2,7 @@ use Rattle.std.proofs.Common.{ℕ, ◌+◌, Option, length, refl, sym, ap, subst
 use Rattle.std.specs.List.{flat_map}
 use Rattle.dns_wire.specs.Encoding.{within, len_behind}
 use Rattle.dns_wire.specs.Writing.{question_octets, message_octets}
-use Rattle.dns_wire.proofs.SizeLaws.{as_many, Measures, measured, front_is_long}
+use Rattle.dns_wire.proofs.WrittenSize.{as_many, Measures, measured, front_is_long}
 use Rattle.dns_wire.proofs.size.message_len.Goals as goal
 
 pub returns-in_err-questions_len : goal.returns-in_err-questions_len

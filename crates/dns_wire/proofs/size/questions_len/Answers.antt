@@ -1,7 +1,7 @@
 use Rattle.std.proofs.Common.{◌≡◌, length, get_or, sym, ap, ◌∙◌, arith}
 use Rattle.dns_wire.specs.Writing.{question_octets}
 use Rattle.std.proofs.lemmas.List.Folds.{length-flat_map-take}
-use Rattle.dns_wire.proofs.SizeLaws.{too_many, more_than_fit, length-question_octets}
+use Rattle.dns_wire.proofs.WrittenSize.{too_many, more_than_fit, length-question_octets}
 use Rattle.dns_wire.proofs.size.questions_len.Goals as goal
 
 pub returns-in_err-total : goal.returns-in_err-total

@@ -1,7 +1,7 @@
 use Rattle.std.proofs.Common.{◌≡◌, length, get_or, sym, ap, ◌∙◌, arith}
 use Rattle.dns_wire.specs.Writing.{record_octets, first_name}
 use Rattle.std.proofs.lemmas.List.Folds.{length-flat_map-take}
-use Rattle.dns_wire.proofs.SizeLaws.{too_many, more_than_fit, as_many}
+use Rattle.dns_wire.proofs.WrittenSize.{too_many, more_than_fit, as_many}
 use Rattle.dns_wire.proofs.size.records_len.Goals as goal
 
 pub returns-in_err-len : goal.returns-in_err-len

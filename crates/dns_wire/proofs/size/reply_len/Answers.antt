@@ -1,7 +1,7 @@
 use Rattle.std.proofs.Common.{ℕ, ◌+◌, Option, length, sym, ap, subst, ◌∙◌}
 use Rattle.dns_wire.specs.Encoding.{within, len_behind}
 use Rattle.dns_wire.specs.Writing.{octets_with}
-use Rattle.dns_wire.proofs.SizeLaws.{as_many, Measures, measured, front_is_long, as_long}
+use Rattle.dns_wire.proofs.WrittenSize.{as_many, Measures, measured, front_is_long, as_long}
 use Rattle.dns_wire.proofs.size.reply_len.Goals as goal
 
 pub returns-in_err-before : goal.returns-in_err-before

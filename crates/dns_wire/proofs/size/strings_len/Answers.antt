@@ -1,7 +1,7 @@
 use Rattle.std.proofs.Common.{length, sym, ap, ◌∙◌, arith}
 use Rattle.dns_name.specs.Labels.{with_length}
 use Rattle.std.proofs.lemmas.List.Folds.{length-flat_map-take}
-use Rattle.dns_wire.proofs.SizeLaws.{too_many, more_than_fit}
+use Rattle.dns_wire.proofs.WrittenSize.{too_many, more_than_fit}
 use Rattle.dns_wire.proofs.size.strings_len.Goals as goal
 
 pub returns-in_err-total : goal.returns-in_err-total

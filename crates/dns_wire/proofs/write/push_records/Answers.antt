@@ -3,7 +3,7 @@ use Rattle.dns_text.specs.declared.record.Record.{Record}
 use Rattle.dns_wire.specs.declared.message.Classed.{Classed}
 use Rattle.dns_wire.specs.Writing.{record_octets, first_name, data_octets}
 use Rattle.std.proofs.lemmas.List.Folds.{length-flat_map-take}
-use Rattle.dns_wire.proofs.SizeLaws.{data_of_record}
+use Rattle.dns_wire.proofs.WrittenSize.{data_of_record}
 use Rattle.dns_wire.proofs.write.push_records.Goals as goal
 
 pub push_behind_owner-requires-clause-short : goal.push_behind_owner-requires-clause-short
