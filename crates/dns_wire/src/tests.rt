@@ -69,6 +69,12 @@ fn ends(rt: HostRuntime) -> Result<(), Fail> {
             Some(WireFault::Short)
         );
     }
+    for end in 0..RESPONSE.len() {
+        assert_eq!(rt;
+            fault_in(rt.alloc(), &RESPONSE[..end])?,
+            Some(WireFault::Short)
+        );
+    }
     Ok(())
 }
 
