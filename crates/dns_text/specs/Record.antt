@@ -1,5 +1,5 @@
 -- Records as text: NAME [TTL] [IN] TYPE DATA.
-use Rattle.std.specs.Prelude.{◌≡◌, ℕ, ◌<◌, ◌^◌, Bool, false, ◌||◌, ◌&&◌, List, [], ◌∷◌, ◌++◌, Option, Some, None, Result, Ok, ◌==◌, if◌then◌else◌, unwrap_or, decimal}
+use Rattle.std.specs.Prelude.{ℕ, Bool, false, ◌||◌, ◌&&◌, List, [], ◌∷◌, ◌++◌, Option, Some, None, Result, Ok, ◌==◌, if◌then◌else◌, unwrap_or, decimal}
 use Rattle.dns_name.specs.Text.{text_of}
 use Rattle.dns_text.specs.declared.fault.TextFault.{TextFault}
 use Rattle.dns_text.specs.declared.fault.TextFault.TheVariants.{BadName, BadTtl, BadType, BadData}
@@ -7,9 +7,9 @@ use Rattle.dns_text.specs.declared.record.Record.{Record}
 use Rattle.dns_text.specs.Fault.{◌>>=◌, or_fault}
 use Rattle.dns_text.specs.Number.{is_digits, number_in}
 use Rattle.dns_text.specs.Word.{next_word}
-use Rattle.dns_text.specs.Kind.{type_in, type_text, is_excluded}
+use Rattle.dns_text.specs.Kind.{type_in, type_text}
 use Rattle.dns_text.specs.Field.{named}
-use Rattle.dns_text.specs.Data.{data_in, data_text, HasForm}
+use Rattle.dns_text.specs.Data.{data_in, data_text}
 
 abbrev pub ttl_of : List ℕ → Option (List ℕ × List ℕ) → Result (Option ℕ × List ℕ) TextFault
 ttl_of text None = Ok (None, text)
@@ -56,9 +56,3 @@ record_in text = do
 -- NAME TTL TYPE DATA
 abbrev pub record_text : Record → List ℕ
 record_text r = text_of r.owner ++ 32 ∷ decimal r.ttl ++ 32 ∷ type_text r.kind ++ 32 ∷ data_text r.body
-
--- a record that the grammar admits
-pub record IsTextual (r : Record) : Type 0 where
-  pub form : HasForm r.kind r.body
-  pub kind : is_excluded r.kind ≡ false
-  pub ttl : r.ttl < 2 ^ 31

@@ -34,8 +34,8 @@ fn read_four(a: u8, b: u8, c: u8, d: u8) -> Option<u16>
     Some(((a * 16 + b) * 16 + c) * 16 + d)
 }
 
-#[tactic(auto, unfolding(crate::specs::Ipv6::group_in))]
 /// The number of a group: one to four hexadecimal digits.
+#[tactic(auto, unfolding(crate::specs::Ipv6::group_in))]
 fn read_group(word: &[u8]) -> Option<u16>
     ensures { result ≡ group_in word.now }
 {

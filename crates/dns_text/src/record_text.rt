@@ -2,8 +2,9 @@
 
 ghost use Rattle.std.specs.Prelude.{◌≡◌, ◌++◌, ◌<◌, ◌≤◌, ◌^◌, option_map, IfOk, OnOk, Ok, false};
 ghost use Rattle.dns_text.specs.Fault.{Gives, result_map};
+ghost use Rattle.dns_text.specs.Kind.{is_excluded};
 ghost use Rattle.dns_text.specs.Data.{HasForm};
-ghost use Rattle.dns_text.specs.Record.{is_class, ttl_at, after_class, with_ttl, ttl_and_class, record_in, record_text, IsTextual};
+ghost use Rattle.dns_text.specs.Record.{is_class, ttl_at, after_class, with_ttl, ttl_and_class, record_in, record_text};
 
 use crate::data::{push_data, read_data};
 use crate::fault::TextFault;
@@ -47,8 +48,8 @@ fn skip_class(text: &[u8]) -> &[u8]
     }
 }
 
-#[tactic(auto, unfolding(crate::specs::Record::ttl_and_class))]
 /// The time to live of a record, and the text from its type on: both it and the class may be left out, and stand in either order.
+#[tactic(auto, unfolding(crate::specs::Record::ttl_and_class))]
 fn read_ttl_and_class(text: &[u8]) -> Result<(u32, &[u8]), TextFault>
     ensures { result_map (λ r. (r.0, r.1.now)) result ≡ ttl_and_class text.now }
 {
@@ -85,8 +86,9 @@ pub fn read_record(alloc: Global, text: &[u8]) -> Result<Record, TextFault>
 
 /// Writes a record behind what `out` holds, as `NAME TTL TYPE DATA`. Where memory runs out, a part of the text may stand there.
 pub fn push_record(r: &Record, out: &mut Vec<u8>) -> Result<(), NoMemory>
+    requires { HasForm r.now.kind r.now.body }
     ensures text { OnOk result (out.new.items ≡ out.old.items ++ record_text r.now) }
-    ensures again { OnOk result (IsTextual r.now → record_in (record_text r.now) ≡ Ok r.now) }
+    ensures again { OnOk result (is_excluded r.now.kind ≡ false → r.now.ttl < 2 ^ 31 → record_in (record_text r.now) ≡ Ok r.now) }
 {
     push_name(&r.owner, out)?;
     out.push(b' ')?;
@@ -99,8 +101,9 @@ pub fn push_record(r: &Record, out: &mut Vec<u8>) -> Result<(), NoMemory>
 
 /// The text of a record, as `push_record` writes it.
 pub fn write_record(alloc: Global, r: &Record) -> Result<Vec<u8>, NoMemory>
+    requires { HasForm r.now.kind r.now.body }
     ensures text { IfOk result (λ v. v.items ≡ record_text r.now) }
-    ensures again { IfOk result (λ v. IsTextual r.now → record_in v.items ≡ Ok r.now) }
+    ensures again { IfOk result (λ v. is_excluded r.now.kind ≡ false → r.now.ttl < 2 ^ 31 → record_in v.items ≡ Ok r.now) }
 {
     let mut out = Vec::new(alloc);
     push_record(r, &mut out)?;
