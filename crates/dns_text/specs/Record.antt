@@ -1,4 +1,4 @@
--- Records as text: NAME [TTL] [IN] TYPE DATA.
+-- Records as text: NAME [TTL] [IN] TYPE DATA. What is left of a text is its first word and the text after that, where it has a word.
 use Rattle.std.specs.Prelude.{ℕ, Bool, false, ◌||◌, ◌&&◌, List, [], ◌∷◌, ◌++◌, Option, Some, None, Result, Ok, ◌==◌, if◌then◌else◌, unwrap_or, decimal}
 use Rattle.dns_name.specs.Text.{text_of}
 use Rattle.dns_text.specs.declared.fault.TextFault.{TextFault}
@@ -11,13 +11,10 @@ use Rattle.dns_text.specs.Kind.{type_in, type_text}
 use Rattle.dns_text.specs.Field.{named}
 use Rattle.dns_text.specs.Data.{data_in, data_text}
 
-abbrev pub ttl_of : List ℕ → Option (List ℕ × List ℕ) → Result (Option ℕ × List ℕ) TextFault
-ttl_of text None = Ok (None, text)
-ttl_of text (Some first) = if is_digits first.0 then (or_fault BadTtl (number_in 2147483647 first.0) >>= λ n. Ok (Some n, first.1)) else Ok (None, text)
-
--- the time to live that stands first in a text, where its first word is of digits, and the text after it
-abbrev pub ttl_at : List ℕ → Result (Option ℕ × List ℕ) TextFault
-ttl_at text = ttl_of text (next_word text)
+-- the time to live that stands first, where the first word is of digits, and the first word behind it
+abbrev pub ttl_at : Option (List ℕ × List ℕ) → Result (Option ℕ × Option (List ℕ × List ℕ)) TextFault
+ttl_at None = Ok (None, None)
+ttl_at (Some first) = if is_digits first.0 then (or_fault BadTtl (number_in 2147483647 first.0) >>= λ n. Ok (Some n, next_word first.1)) else Ok (None, Some first)
 
 abbrev pub is_class : List ℕ → Bool
 is_class [] = false
@@ -25,30 +22,27 @@ is_class (a ∷ []) = false
 is_class (a ∷ b ∷ []) = (a == 73 || a == 105) && (b == 78 || b == 110)
 is_class (a ∷ b ∷ c ∷ word) = false
 
-abbrev pub class_of : List ℕ → Option (List ℕ × List ℕ) → List ℕ
-class_of text None = text
-class_of text (Some first) = if is_class first.0 then first.1 else text
-
--- the text behind the class IN, where that stands first
-abbrev pub after_class : List ℕ → List ℕ
-after_class text = class_of text (next_word text)
+-- the first word behind the class IN, where that stands first
+abbrev pub after_class : Option (List ℕ × List ℕ) → Option (List ℕ × List ℕ)
+after_class None = None
+after_class (Some first) = if is_class first.0 then next_word first.1 else Some first
 
 -- a time to live that stood before the class, or may stand behind it, or is an hour
-abbrev pub with_ttl : Option ℕ → List ℕ → Result (ℕ × List ℕ) TextFault
-with_ttl (Some ttl) text = Ok (ttl, text)
-with_ttl None text = ttl_at text >>= λ behind. Ok (unwrap_or behind.0 3600, behind.1)
+abbrev pub with_ttl : Option ℕ → Option (List ℕ × List ℕ) → Result (ℕ × Option (List ℕ × List ℕ)) TextFault
+with_ttl (Some ttl) first = Ok (ttl, first)
+with_ttl None first = ttl_at first >>= λ behind. Ok (unwrap_or behind.0 3600, behind.1)
 
--- [TTL] [IN] in either order: the time to live, and the text after both
-unfoldable pub ttl_and_class : List ℕ → Result (ℕ × List ℕ) TextFault
-ttl_and_class text = ttl_at text >>= λ before. with_ttl before.0 (after_class before.1)
+-- [TTL] [IN] in either order: the time to live, and the first word behind both
+unfoldable pub ttl_and_class : Option (List ℕ × List ℕ) → Result (ℕ × Option (List ℕ × List ℕ)) TextFault
+ttl_and_class first = ttl_at first >>= λ before. with_ttl before.0 (after_class before.1)
 
 -- the record of a text, or its first fault from the left
 unfoldable pub record_in : List ℕ → Result Record TextFault
 record_in text = do
   first ← or_fault BadName (next_word text)
   owner ← or_fault BadName (named first.0)
-  ttl ← ttl_and_class first.1
-  word ← or_fault BadType (next_word ttl.1)
+  ttl ← ttl_and_class (next_word first.1)
+  word ← or_fault BadType ttl.1
   kind ← or_fault BadType (type_in word.0)
   body ← or_fault BadData (data_in kind word.1)
   Ok (record { owner = owner; kind = kind; ttl = ttl.0; body = body })
