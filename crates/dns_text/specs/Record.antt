@@ -1,5 +1,6 @@
 -- Records as text: NAME [TTL] [IN] TYPE DATA. What is left of a text is its first word and the text after that, where it has a word.
-use Rattle.std.specs.Prelude.{ℕ, Bool, false, ◌||◌, ◌&&◌, List, [], ◌∷◌, ◌++◌, Option, Some, None, Result, Ok, ◌==◌, if◌then◌else◌, unwrap_or, decimal}
+use Rattle.std.specs.Prelude.{ℕ, Bool, false, ◌||◌, ◌&&◌, List, [], ◌∷◌, ◌++◌, Option, Some, None, Result, Ok, ◌==◌, if◌then◌else◌, option_map, unwrap_or, decimal}
+use Rattle.std.specs.Borrow.{Bor}
 use Rattle.dns_name.specs.Text.{text_of}
 use Rattle.dns_text.specs.declared.fault.TextFault.{TextFault}
 use Rattle.dns_text.specs.declared.fault.TextFault.TheVariants.{BadName, BadTtl, BadType, BadData}
@@ -10,6 +11,10 @@ use Rattle.dns_text.specs.Word.{next_word}
 use Rattle.dns_text.specs.Kind.{type_in, type_text}
 use Rattle.dns_text.specs.Field.{named}
 use Rattle.dns_text.specs.Data.{data_in, data_text}
+
+-- a first word and the text after it that are lent, as what they hold
+abbrev pub first_now : Option (Bor (List ℕ) × Bor (List ℕ)) → Option (List ℕ × List ℕ)
+first_now first = option_map (λ w. (w.0.now, w.1.now)) first
 
 -- the time to live that stands first, where the first word is of digits, and the first word behind it
 abbrev pub ttl_at : Option (List ℕ × List ℕ) → Result (Option ℕ × Option (List ℕ × List ℕ)) TextFault

@@ -4,7 +4,7 @@ ghost use Rattle.std.specs.Prelude.{◌≡◌, ◌++◌, ◌<◌, ◌≤◌, ◌
 ghost use Rattle.dns_text.specs.Fault.{Gives, result_map};
 ghost use Rattle.dns_text.specs.Kind.{is_excluded};
 ghost use Rattle.dns_text.specs.Data.{HasForm};
-ghost use Rattle.dns_text.specs.Record.{is_class, ttl_at, after_class, with_ttl, ttl_and_class, record_in, record_text};
+ghost use Rattle.dns_text.specs.Record.{first_now, is_class, ttl_at, after_class, with_ttl, ttl_and_class, record_in, record_text};
 
 use crate::data::{push_data, read_data};
 use crate::fault::TextFault;
@@ -27,7 +27,7 @@ type First<'a> = Option<(&'a [u8], &'a [u8])>;
 
 /// The time to live, where the first word is of digits, and the first word behind it.
 fn read_ttl(first: First<'_>) -> Result<(Option<u32>, First<'_>), TextFault>
-    ensures { result_map (λ r. (r.0, option_map (λ w. (w.0.now, w.1.now)) r.1)) result ≡ ttl_at (option_map (λ w. (w.0.now, w.1.now)) first.entry) }
+    ensures { result_map (λ r. (r.0, first_now r.1)) result ≡ ttl_at (first_now first.entry) }
 {
     let Some((word, rest)) = first else {
         return Ok((None, None));
@@ -41,7 +41,7 @@ fn read_ttl(first: First<'_>) -> Result<(Option<u32>, First<'_>), TextFault>
 
 /// The first word behind the class, where that stands first.
 fn skip_class(first: First<'_>) -> First<'_>
-    ensures { option_map (λ w. (w.0.now, w.1.now)) result ≡ after_class (option_map (λ w. (w.0.now, w.1.now)) first.entry) }
+    ensures { first_now result ≡ after_class (first_now first.entry) }
 {
     match first {
         Some(([b'I' | b'i', b'N' | b'n'], rest)) => next_word(rest),
@@ -52,7 +52,7 @@ fn skip_class(first: First<'_>) -> First<'_>
 /// The time to live of a record, and its type and the text after that: both it and the class may be left out, and stand in either order.
 #[tactic(auto, unfolding(crate::specs::Record::ttl_and_class))]
 fn read_ttl_and_class(first: First<'_>) -> Result<(u32, First<'_>), TextFault>
-    ensures { result_map (λ r. (r.0, option_map (λ w. (w.0.now, w.1.now)) r.1)) result ≡ ttl_and_class (option_map (λ w. (w.0.now, w.1.now)) first.entry) }
+    ensures { result_map (λ r. (r.0, first_now r.1)) result ≡ ttl_and_class (first_now first.entry) }
 {
     let (before, first) = read_ttl(first)?;
     let first = skip_class(first);
