@@ -6,7 +6,7 @@ use Rattle.dns_text.specs.declared.kind.Form.{Form}
 use Rattle.dns_text.specs.declared.kind.Form.TheVariants.{A as FormA, Aaaa as FormAaaa, Name as FormName, Mx as FormMx, Soa as FormSoa, Txt as FormTxt, Srv as FormSrv, Opaque as FormOpaque}
 use Rattle.dns_name.specs.Labels.{Labels, IsName}
 use Rattle.dns_name.specs.Text.{text_of}
-use Rattle.dns_text.specs.Kind.{form_of}
+use Rattle.dns_text.specs.Kind.{by_number, form_of}
 use Rattle.dns_text.specs.Data.{mx_in, soa_in, srv_in, data_as, data_in, data_text, HasForm}
 use Rattle.dns_text.specs.Ipv4.{ipv4_text}
 use Rattle.dns_text.specs.Ipv6.{ipv6_text}
@@ -113,3 +113,8 @@ data_as-blank FormTxt text = ap (option_map (λ strings. Txt strings)) (strings_
 
 pub data_in-blank : (kind : ℕ) (text : List ℕ) → data_in kind (32 ∷ text) ≡ data_in kind text
 data_in-blank kind text = data_as-blank (form_of kind) text
+
+-- an IPv4 address has the form of its type
+pub a_has_form : (octets : List ℕ) → length octets ≡ 4 → HasForm 1 (A octets)
+unfolding by_number
+a_has_form octets four = record { same = refl; sized = four }

@@ -90,7 +90,7 @@ unfolding hex
 hex_all p digits n fits = all-drop p (leading_zero_digits n) _
     (both _ _ (digits (n / 4096) (omega arith)) (both _ _ (digits (n / 256 % 16) (omega arith)) (both _ _ (digits (n / 16 % 16) (omega arith)) (both _ _ (digits (n % 16) (omega arith)) refl))))
 
-abbrev no_colon : ℕ → Bool
+abbrev pub no_colon : ℕ → Bool
 no_colon c = not (is_colon c)
 
 no_colon_digit : (d : ℕ) → d < 16 → no_colon (digit_char d) ≡ true
@@ -137,11 +137,11 @@ no_gap (s ∷ segments) h =
 
 -- ---- the groups of a text
 
-split_end : (word : List ℕ) → list_all no_colon word ≡ true → slice_split is_colon word ≡ word ∷ []
+pub split_end : (word : List ℕ) → list_all no_colon word ≡ true → slice_split is_colon word ≡ word ∷ []
 split_end [] e = refl
 split_end (c ∷ word) e = let parts = and_parts _ _ e in let other : is_colon c ≡ false = not-true _ parts.0 in rw other (ap (onto_first c) (split_end word parts.1))
 
-split_colon : (word text : List ℕ) → list_all no_colon word ≡ true → slice_split is_colon (word ++ 58 ∷ text) ≡ word ∷ slice_split is_colon text
+pub split_colon : (word text : List ℕ) → list_all no_colon word ≡ true → slice_split is_colon (word ++ 58 ∷ text) ≡ word ∷ slice_split is_colon text
 split_colon [] text e = refl
 split_colon (c ∷ word) text e = let parts = and_parts _ _ e in let other : is_colon c ≡ false = not-true _ parts.0 in rw other (ap (onto_first c) (split_colon word text parts.1))
 

@@ -4,6 +4,7 @@ pub mod WordLaws
 pub mod NameLaws
 pub mod Ipv4Laws
 pub mod Ipv6Laws
+pub mod Ipv6Head
 pub mod FieldLaws
 pub mod OpaqueLaws
 pub mod StringLaws

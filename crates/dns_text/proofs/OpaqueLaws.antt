@@ -1,14 +1,16 @@
 -- Octets that are written with a count are read back.
-use Rattle.std.proofs.Common.{◌≡◌, ℕ, suc, ◌/◌, ◌%◌, ◌<◌, Bool, true, false, List, [], ◌∷◌, ◌++◌, length, Option, Some, refl, sym, ap, ◌∙◌, arith, append_assoc, eq-eqb}
-use Rattle.std.specs.Prelude.{◌&&◌, decimal, slice_index}
+use Rattle.std.proofs.Common.{◌≡◌, ℕ, suc, ◌/◌, ◌%◌, ◌<◌, Bool, true, false, List, [], ◌∷◌, ◌++◌, length, Option, Some, None, Result, Ok, Err, refl, sym, ap, ◌∙◌, arith, append_assoc, eq-eqb, ne_eqb, ◌≢◌, ◌*◌}
+use Rattle.std.specs.Prelude.{◌&&◌, decimal, slice_index, IfSome}
 use Rattle.std.specs.List.{list_all}
 use Rattle.std.proofs.lemmas.Bool.{agree_below_at}
 use Rattle.std.proofs.lemmas.List.{append-nil}
-use Rattle.hex.specs.Hex.{lower_digits, encode_with, encode_lower}
-use Rattle.hex.proofs.HexLemmas.{length-encode_with, decode_of-encode_lower}
+use Rattle.hex.specs.declared.error.FromHexError.{FromHexError}
+use Rattle.hex.specs.Hex.{lower_digits, encode_with, encode_lower, decode_of}
+use Rattle.hex.proofs.HexLemmas.{length-encode_with, decode_of-encode_lower, decode_of-ok}
 use Rattle.dns_text.specs.declared.word.Within.TheVariants.{Plain}
 use Rattle.dns_text.specs.Word.{next_word, cut_word}
-use Rattle.dns_text.specs.Opaque.{or_nothing, word_or_nothing, octets_in, hex_part, opaque_text}
+use Rattle.dns_text.specs.Opaque.{or_nothing, word_or_nothing, ok_or_none, unhexed, counted, octets_in, hex_part, opaque_text}
+use Rattle.dns_text.specs.Steps.{◌>>=◌}
 use Rattle.dns_text.proofs.WordLaws.{scanned, IsWord, EndsWord, is_plain, plain_scanned, next_word-front}
 use Rattle.dns_text.proofs.FieldLaws.{number_at-decimal}
 
@@ -46,6 +48,35 @@ hex_read (b ∷ octets) fits =
 mark_is_word : IsWord (92 ∷ 35 ∷ [])
 unfolding scanned
 mark_is_word = record { some = omega arith; closed = refl }
+
+-- ---- the count of octets is half the count of digits
+
+apart : (count : ℕ) (digits : List ℕ) (r : Result (List ℕ) FromHexError) → decode_of digits ≡ r → length digits / 2 ≢ count → (ok_or_none r >>= counted count) ≡ None
+apart count digits (Ok octets) e other =
+    let long : length digits ≡ 2 * length octets = (decode_of-ok digits octets e).2 in
+    rw (ne_eqb (length octets) count (λ h. other (omega arith))) refl
+apart count digits (Err fault) e other = refl
+
+pub count_apart : (count : ℕ) (digits : List ℕ) → length digits / 2 ≢ count → (unhexed digits >>= counted count) ≡ None
+count_apart count digits other = apart count digits (decode_of digits) refl other
+
+same : (count : ℕ) (digits : List ℕ) (r : Result (List ℕ) FromHexError) → decode_of digits ≡ r → length digits / 2 ≡ count → (ok_or_none r >>= counted count) ≡ ok_or_none r
+same count digits (Ok octets) e half =
+    let long : length digits ≡ 2 * length octets = (decode_of-ok digits octets e).2 in
+    rw (eq-eqb (length octets) count (omega arith)) refl
+same count digits (Err fault) e half = refl
+
+pub count_same : (count : ℕ) (digits : List ℕ) → length digits / 2 ≡ count → (unhexed digits >>= counted count) ≡ unhexed digits
+count_same count digits half = same count digits (decode_of digits) refl half
+
+long_as : (count : ℕ) (digits : List ℕ) (r : Result (List ℕ) FromHexError) → decode_of digits ≡ r → length digits / 2 ≡ count → IfSome (ok_or_none r) (λ octets. length octets ≡ count)
+long_as count digits (Ok octets) e half =
+    let long : length digits ≡ 2 * length octets = (decode_of-ok digits octets e).2 in
+    omega arith
+long_as count digits (Err fault) e half = tt
+
+pub unhexed_long : (count : ℕ) (digits : List ℕ) → length digits / 2 ≡ count → IfSome (unhexed digits) (λ octets. length octets ≡ count)
+unhexed_long count digits half = long_as count digits (decode_of digits) refl half
 
 some_same : {X : Type 0} {x y : X} → Some x ≡ Some y → x ≡ y
 some_same e = cc

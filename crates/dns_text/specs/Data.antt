@@ -1,10 +1,12 @@
 -- The data of records as text.
 use Rattle.std.specs.Prelude.{◌≡◌, ℕ, ◌<◌, List, ◌∷◌, ◌++◌, length, Option, Some, option_map, decimal}
-use Rattle.std.specs.List.{AllByRecursion}
+use Rattle.std.specs.List.{AllByRecursion, AllByRecursion-prop}
+use Rattle.std.specs.Coded.{Coded-set, coded_ℕ, ×_prop, Unit-prop, le_prop}
 use Rattle.dns_name.specs.Labels.{Labels}
 use Rattle.dns_name.specs.Text.{text_of}
 use Rattle.dns_text.specs.declared.record.Data.{Data}
 use Rattle.dns_text.specs.declared.record.Data.TheVariants.{A, Aaaa, One, Mx, Soa, Txt, Srv, Opaque}
+use Rattle.dns_text.specs.contracts.kind.Form as form_type
 use Rattle.dns_text.specs.declared.kind.Form.{Form}
 use Rattle.dns_text.specs.declared.kind.Form.TheVariants.{A as FormA, Aaaa as FormAaaa, Name as FormName, Mx as FormMx, Soa as FormSoa, Txt as FormTxt, Srv as FormSrv, Opaque as FormOpaque}
 use Rattle.dns_text.specs.Field.{name_at, last_name, number_at, last_number}
@@ -113,3 +115,20 @@ pub record IsOfForm (form : Form) (body : Data) : Type 0 where
 -- Data has the form of its type.
 abbrev pub HasForm : ℕ → Data → Type 0
 HasForm kind body = IsOfForm (form_of kind) body
+
+-- in one way at most
+IsSized-prop : (body : Data) → IsProp (IsSized body)
+IsSized-prop (A octets) = Coded-set coded_ℕ (length octets) 4
+IsSized-prop (Aaaa octets) = Coded-set coded_ℕ (length octets) 16
+IsSized-prop (One name) = Unit-prop
+IsSized-prop (Mx preference exchange) = Unit-prop
+IsSized-prop (Soa primary mailbox serial refresh retry expire minimum) = Unit-prop
+IsSized-prop (Txt strings) = ×_prop le_prop (AllByRecursion-prop (λ octets. length octets < 256) (λ octets. le_prop) strings)
+IsSized-prop (Srv priority weight port target) = Unit-prop
+IsSized-prop (Opaque octets) = le_prop
+
+Form-set : IsSet Form
+Form-set = Coded-set (form_type.the_row).coded
+
+pub HasForm-prop : (kind : ℕ) (body : Data) → IsProp (HasForm kind body)
+HasForm-prop kind body = λ x y i. record { same = Form-set (form_of kind) (form_in body) x.same y.same i; sized = IsSized-prop body x.sized y.sized i }

@@ -31,13 +31,14 @@ group_in (a ∷ b ∷ c ∷ d ∷ e ∷ word) = None
 abbrev pub with_group : List ℕ → ℕ → Option (List ℕ)
 with_group octets group = if nat_lt 14 (length octets) then None else Some (octets ++ (group / 256) ∷ (group % 256) ∷ [])
 
+-- the octets of a group's word, behind others
+abbrev pub with_word : List ℕ → List ℕ → Option (List ℕ)
+with_word octets word = group_in word >>= with_group octets
+
 -- the octets of groups, behind those before
 unfoldable pub octets_after : List ℕ → List (List ℕ) → Option (List ℕ)
 octets_after before [] = Some before
-octets_after before (word ∷ words) = do
-  group ← group_in word
-  more ← with_group before group
-  octets_after more words
+octets_after before (word ∷ words) = with_word before word >>= λ octets. octets_after octets words
 
 abbrev pub is_colon : ℕ → Bool
 is_colon c = c == 58
@@ -53,6 +54,25 @@ cut_at_gap [] = None
 cut_at_gap (a ∷ []) = None
 cut_at_gap (a ∷ b ∷ text) = if a == 58 && b == 58 then Some ([], text) else option_map (with_first a) (cut_at_gap (b ∷ text))
 
+-- what stands behind a colon at the front of a text
+abbrev pub behind_colon : List ℕ → Option (List ℕ)
+behind_colon [] = None
+behind_colon (c ∷ text) = if c == 58 then Some text else None
+
+-- what stands behind a `::` at the front of a text
+abbrev pub behind_gap : List ℕ → Option (List ℕ)
+behind_gap [] = None
+behind_gap (a ∷ []) = None
+behind_gap (a ∷ b ∷ text) = if a == 58 && b == 58 then Some text else None
+
+-- the octets of groups, one or more, behind those before; with the text behind the first `::`, where the groups end at one
+abbrev pub by_gap : List ℕ → List ℕ → Option (List ℕ × List ℕ) → Option (List ℕ × Option (List ℕ))
+by_gap before text None = octets_after before (slice_split is_colon text) >>= λ octets. Some (octets, None)
+by_gap before text (Some parts) = octets_after before (slice_split is_colon parts.0) >>= λ octets. Some (octets, Some parts.1)
+
+abbrev pub head_after : List ℕ → List ℕ → Option (List ℕ × Option (List ℕ))
+head_after before text = by_gap before text (cut_at_gap text)
+
 -- `::` stands for one group of zero or more
 abbrev pub elided : List ℕ → List ℕ → Option (List ℕ)
 elided head tail = if nat_lt 14 (length head + length tail) then None else Some (head ++ replicate (16 - (length head + length tail)) 0 ++ tail)
@@ -60,12 +80,14 @@ elided head tail = if nat_lt 14 (length head + length tail) then None else Some 
 abbrev pub whole : List ℕ → Option (List ℕ)
 whole octets = if length octets == 16 then Some octets else None
 
+-- the address of groups before `::`, where it stands, and of what stands behind it
+abbrev pub finished : List ℕ → Option (List ℕ) → Option (List ℕ)
+finished head None = whole head
+finished head (Some back) = groups_in back >>= elided head
+
 abbrev pub around_gap : List ℕ → Option (List ℕ × List ℕ) → Option (List ℕ)
-around_gap text None = groups_in text >>= whole
-around_gap text (Some parts) = do
-  head ← groups_in parts.0
-  tail ← groups_in parts.1
-  elided head tail
+around_gap text None = groups_in text >>= λ head. finished head None
+around_gap text (Some parts) = groups_in parts.0 >>= λ head. finished head (Some parts.1)
 
 -- eight groups, or fewer around `::`
 unfoldable pub ipv6_in : List ℕ → Option (List ℕ)

@@ -29,6 +29,10 @@ marked word rest = if bytes_eq word (codes "\\#") then Some rest else None
 abbrev pub counted : ℕ → List ℕ → Option (List ℕ)
 counted count octets = if length octets == count then Some octets else None
 
+-- so many octets, by their digits
+abbrev pub counted_octets : ℕ → List ℕ → Option (List ℕ)
+counted_octets count digits = unhexed digits >>= counted count
+
 -- `\# N HEX`
 unfoldable pub octets_in : List ℕ → Option (List ℕ)
 octets_in text = do
@@ -36,8 +40,7 @@ octets_in text = do
   rest ← marked mark.0 mark.1
   count ← number_at 65535 rest
   digits ← word_or_nothing count.1
-  octets ← unhexed digits
-  counted count.0 octets
+  counted_octets count.0 digits
 
 abbrev pub hex_part : List ℕ → List ℕ
 hex_part [] = []

@@ -1,5 +1,6 @@
--- Records as text: NAME [TTL] [IN] TYPE DATA.
-use Rattle.std.specs.Prelude.{◌≡◌, ℕ, ◌<◌, ◌^◌, Bool, false, ◌||◌, ◌&&◌, List, [], ◌∷◌, ◌++◌, Option, Some, None, Result, Ok, ◌==◌, if◌then◌else◌, unwrap_or, decimal}
+-- Records as text: NAME [TTL] [IN] TYPE DATA. What is left of a text is its first word and the text after that, where it has a word.
+use Rattle.std.specs.Prelude.{ℕ, Bool, false, ◌||◌, ◌&&◌, List, [], ◌∷◌, ◌++◌, Option, Some, None, Result, Ok, ◌==◌, if◌then◌else◌, option_map, unwrap_or, decimal}
+use Rattle.std.specs.Borrow.{Bor}
 use Rattle.dns_name.specs.Text.{text_of}
 use Rattle.dns_text.specs.declared.fault.TextFault.{TextFault}
 use Rattle.dns_text.specs.declared.fault.TextFault.TheVariants.{BadName, BadTtl, BadType, BadData}
@@ -7,17 +8,18 @@ use Rattle.dns_text.specs.declared.record.Record.{Record}
 use Rattle.dns_text.specs.Fault.{◌>>=◌, or_fault}
 use Rattle.dns_text.specs.Number.{is_digits, number_in}
 use Rattle.dns_text.specs.Word.{next_word}
-use Rattle.dns_text.specs.Kind.{type_in, type_text, is_excluded}
+use Rattle.dns_text.specs.Kind.{type_in, type_text}
 use Rattle.dns_text.specs.Field.{named}
-use Rattle.dns_text.specs.Data.{data_in, data_text, HasForm}
+use Rattle.dns_text.specs.Data.{data_in, data_text}
 
-abbrev pub ttl_of : List ℕ → Option (List ℕ × List ℕ) → Result (Option ℕ × List ℕ) TextFault
-ttl_of text None = Ok (None, text)
-ttl_of text (Some first) = if is_digits first.0 then (or_fault BadTtl (number_in 2147483647 first.0) >>= λ n. Ok (Some n, first.1)) else Ok (None, text)
+-- a first word and the text after it that are lent, as what they hold
+abbrev pub first_now : Option (Bor (List ℕ) × Bor (List ℕ)) → Option (List ℕ × List ℕ)
+first_now first = option_map (λ w. (w.0.now, w.1.now)) first
 
--- the time to live that stands first in a text, where its first word is of digits, and the text after it
-abbrev pub ttl_at : List ℕ → Result (Option ℕ × List ℕ) TextFault
-ttl_at text = ttl_of text (next_word text)
+-- the time to live that stands first, where the first word is of digits, and the first word behind it
+abbrev pub ttl_at : Option (List ℕ × List ℕ) → Result (Option ℕ × Option (List ℕ × List ℕ)) TextFault
+ttl_at None = Ok (None, None)
+ttl_at (Some first) = if is_digits first.0 then (or_fault BadTtl (number_in 2147483647 first.0) >>= λ n. Ok (Some n, next_word first.1)) else Ok (None, Some first)
 
 abbrev pub is_class : List ℕ → Bool
 is_class [] = false
@@ -25,30 +27,27 @@ is_class (a ∷ []) = false
 is_class (a ∷ b ∷ []) = (a == 73 || a == 105) && (b == 78 || b == 110)
 is_class (a ∷ b ∷ c ∷ word) = false
 
-abbrev pub class_of : List ℕ → Option (List ℕ × List ℕ) → List ℕ
-class_of text None = text
-class_of text (Some first) = if is_class first.0 then first.1 else text
-
--- the text behind the class IN, where that stands first
-abbrev pub after_class : List ℕ → List ℕ
-after_class text = class_of text (next_word text)
+-- the first word behind the class IN, where that stands first
+abbrev pub after_class : Option (List ℕ × List ℕ) → Option (List ℕ × List ℕ)
+after_class None = None
+after_class (Some first) = if is_class first.0 then next_word first.1 else Some first
 
 -- a time to live that stood before the class, or may stand behind it, or is an hour
-abbrev pub with_ttl : Option ℕ → List ℕ → Result (ℕ × List ℕ) TextFault
-with_ttl (Some ttl) text = Ok (ttl, text)
-with_ttl None text = ttl_at text >>= λ behind. Ok (unwrap_or behind.0 3600, behind.1)
+abbrev pub with_ttl : Option ℕ → Option (List ℕ × List ℕ) → Result (ℕ × Option (List ℕ × List ℕ)) TextFault
+with_ttl (Some ttl) first = Ok (ttl, first)
+with_ttl None first = ttl_at first >>= λ behind. Ok (unwrap_or behind.0 3600, behind.1)
 
--- [TTL] [IN] in either order: the time to live, and the text after both
-unfoldable pub ttl_and_class : List ℕ → Result (ℕ × List ℕ) TextFault
-ttl_and_class text = ttl_at text >>= λ before. with_ttl before.0 (after_class before.1)
+-- [TTL] [IN] in either order: the time to live, and the first word behind both
+unfoldable pub ttl_and_class : Option (List ℕ × List ℕ) → Result (ℕ × Option (List ℕ × List ℕ)) TextFault
+ttl_and_class first = ttl_at first >>= λ before. with_ttl before.0 (after_class before.1)
 
 -- the record of a text, or its first fault from the left
 unfoldable pub record_in : List ℕ → Result Record TextFault
 record_in text = do
   first ← or_fault BadName (next_word text)
   owner ← or_fault BadName (named first.0)
-  ttl ← ttl_and_class first.1
-  word ← or_fault BadType (next_word ttl.1)
+  ttl ← ttl_and_class (next_word first.1)
+  word ← or_fault BadType ttl.1
   kind ← or_fault BadType (type_in word.0)
   body ← or_fault BadData (data_in kind word.1)
   Ok (record { owner = owner; kind = kind; ttl = ttl.0; body = body })
@@ -56,9 +55,3 @@ record_in text = do
 -- NAME TTL TYPE DATA
 abbrev pub record_text : Record → List ℕ
 record_text r = text_of r.owner ++ 32 ∷ decimal r.ttl ++ 32 ∷ type_text r.kind ++ 32 ∷ data_text r.body
-
--- a record that the grammar admits
-pub record IsTextual (r : Record) : Type 0 where
-  pub form : HasForm r.kind r.body
-  pub kind : is_excluded r.kind ≡ false
-  pub ttl : r.ttl < 2 ^ 31

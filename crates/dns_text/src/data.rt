@@ -77,8 +77,8 @@ fn read_srv(alloc: Global, text: &[u8]) -> Result<Data, TextFault>
     })
 }
 
-#[tactic(auto, unfolding(crate::specs::Data::data_as))]
 /// The data of this type that a whole text stands for. The faults are `BadData` and `NoMemory`.
+#[tactic(auto, unfolding(crate::specs::Data::data_as))]
 pub fn read_data(alloc: Global, kind: u16, text: &[u8]) -> Result<Data, TextFault>
     ensures value { Gives result (or_fault BadData (data_in kind text.now)) }
     ensures form { IfOk result (λ d. HasForm kind d) }

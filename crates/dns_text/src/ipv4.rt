@@ -15,8 +15,8 @@ fn read_octet(word: &[u8]) -> Option<u8>
     Some(n as u8)
 }
 
-#[tactic(auto, unfolding(crate::specs::Ipv4::ipv4_in))]
 /// The octets of an IPv4 address (RFC 1035, section 3.4.1).
+#[tactic(auto, unfolding(crate::specs::Ipv4::ipv4_in))]
 pub(crate) fn read_ipv4(text: &[u8]) -> Option<[u8; 4]>
     ensures { result ≡ ipv4_in text.now }
 {

@@ -5,7 +5,7 @@ ghost use Rattle.std.specs.Char.{digit_char};
 ghost use Rattle.std.specs.List.{slice_split};
 ghost use Rattle.std.specs.Net.Text.{hex, groups_text};
 ghost use Rattle.std.specs.Net.Addr.{segments_of};
-ghost use Rattle.dns_text.specs.Ipv6.{hex_in, four_in, group_in, with_group, octets_after, is_colon, groups_in, cut_at_gap, elided, ipv6_in, ipv6_text};
+ghost use Rattle.dns_text.specs.Ipv6.{hex_in, four_in, group_in, with_group, with_word, octets_after, is_colon, groups_in, behind_colon, behind_gap, head_after, elided, finished, ipv6_in, ipv6_text};
 
 use crate::word::cut_at;
 use arrayvec::ArrayVec;
@@ -34,8 +34,8 @@ fn read_four(a: u8, b: u8, c: u8, d: u8) -> Option<u16>
     Some(((a * 16 + b) * 16 + c) * 16 + d)
 }
 
-#[tactic(auto, unfolding(crate::specs::Ipv6::group_in))]
 /// The number of a group: one to four hexadecimal digits.
+#[tactic(auto, unfolding(crate::specs::Ipv6::group_in))]
 fn read_group(word: &[u8]) -> Option<u16>
     ensures { result ≡ group_in word.now }
 {
@@ -60,6 +60,13 @@ fn add_group(group: u16, octets: &mut Octets) -> Option<()>
     Some(())
 }
 
+/// Adds the octets of a group's word, where it is one and there is room for them.
+fn add_word(word: &[u8], octets: &mut Octets) -> Option<()>
+    ensures { option_map (λ _. octets.new.items) result ≡ with_word octets.old.items word.now }
+{
+    add_group(read_group(word)?, octets)
+}
+
 /// The first of some groups with colons between them, and the others; none where it is the only one.
 fn cut_at_colon(text: &[u8]) -> Option<(&[u8], &[u8])>
     ensures cut { MatchOption result (slice_split is_colon text.now ≡ text.now ∷ []) (λ r. slice_split is_colon text.now ≡ r.0.now ∷ slice_split is_colon r.1.now) }
@@ -76,10 +83,10 @@ fn read_some_groups(text: &[u8]) -> Option<Octets>
     let mut octets: Octets = ArrayVec::new();
     let mut rest = text;
     while let Some((word, after)) = cut_at_colon(rest) {
-        add_group(read_group(word)?, &mut octets)?;
+        add_word(word, &mut octets)?;
         rest = after;
     }
-    add_group(read_group(rest)?, &mut octets)?;
+    add_word(rest, &mut octets)?;
     Some(octets)
 }
 
@@ -94,16 +101,41 @@ fn read_groups(text: &[u8]) -> Option<Octets>
     }
 }
 
-/// What stands before the first `::`, and after it.
-fn cut_at_gap(text: &[u8]) -> Option<(&[u8], &[u8])>
-    ensures { option_map (λ r. (r.0.now, r.1.now)) result ≡ cut_at_gap text.now }
+/// What stands behind a colon at the front of a text.
+fn behind_colon(text: &[u8]) -> Option<&[u8]>
+    ensures { option_map (λ back. back.now) result ≡ behind_colon text.now }
 {
-    for i in 0..text.len() {
-        if let [b':', b':', rest @ ..] = &text[i..] {
-            return Some((&text[..i], rest));
-        }
+    match text {
+        [b':', back @ ..] => Some(back),
+        _ => None,
     }
-    None
+}
+
+/// What stands behind a `::` at the front of a text.
+fn behind_gap(text: &[u8]) -> Option<&[u8]>
+    ensures { option_map (λ back. back.now) result ≡ behind_gap text.now }
+{
+    match text {
+        [b':', b':', back @ ..] => Some(back),
+        _ => None,
+    }
+}
+
+/// The octets of groups, one or more, up to the first `::`, and the text behind it where there is one.
+fn read_head(text: &[u8]) -> Option<(Octets, Option<&[u8]>)>
+    ensures { option_map (λ r. (r.0.items, option_map (λ back. back.now) r.1)) result ≡ head_after [] text.now }
+{
+    let mut octets: Octets = ArrayVec::new();
+    let mut rest = text;
+    while let Some((word, after)) = cut_at(b':', rest) {
+        add_word(word, &mut octets)?;
+        if let Some(back) = behind_colon(after) {
+            return Some((octets, Some(back)));
+        }
+        rest = after;
+    }
+    add_word(rest, &mut octets)?;
+    Some((octets, None))
 }
 
 // A function of its own, so that no goal spells the zeros out.
@@ -127,17 +159,28 @@ fn elided(mut octets: Octets, tail: &[u8]) -> Option<[u8; 16]>
     octets.into_inner().ok()
 }
 
+/// The address of groups before `::`, where it stands, and of what stands behind it.
+fn finished(head: Octets, back: Option<&[u8]>) -> Option<[u8; 16]>
+    ensures { result ≡ finished head.items (option_map (λ back. back.now) back.entry) }
+{
+    match back {
+        None => head.into_inner().ok(),
+        Some(back) => {
+            let tail = read_groups(back)?;
+            elided(head, tail.as_slice())
+        }
+    }
+}
+
 /// The octets of an IPv6 address (RFC 4291, section 2.2, without its third form, which ends as an IPv4 address).
-#[tactic(auto, unfolding(crate::specs::Ipv6::ipv6_in))]
 pub(crate) fn read_ipv6(text: &[u8]) -> Option<[u8; 16]>
     ensures { result ≡ ipv6_in text.now }
 {
-    match cut_at_gap(text) {
-        None => read_groups(text)?.into_inner().ok(),
-        Some((front, back)) => {
-            let head = read_groups(front)?;
-            let tail = read_groups(back)?;
-            elided(head, tail.as_slice())
+    match behind_gap(text) {
+        Some(back) => finished(ArrayVec::new(), Some(back)),
+        None => {
+            let (head, back) = read_head(text)?;
+            finished(head, back)
         }
     }
 }

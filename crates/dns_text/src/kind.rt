@@ -116,8 +116,8 @@ fn by_number(kind: u16) -> Option<&'static Entry>
     None
 }
 
-#[tactic(auto, unfolding(crate::specs::Kind::by_name))]
 /// The entry of a name, without regard to case.
+#[tactic(auto, unfolding(crate::specs::Kind::by_name))]
 fn by_name(word: &[u8]) -> Option<&'static Entry>
     ensures { option_map (λ t. (t.now.number, t.now.name.now, t.now.form)) result ≡ by_name word.now types }
 {
@@ -162,8 +162,8 @@ pub fn is_excluded(kind: u16) -> bool
     matches!(kind, 3 | 4 | 7 | 8 | 9 | 14 | 41 | 251..=255)
 }
 
-#[tactic(auto, unfolding(crate::specs::Kind::type_in))]
 /// The type of a name or of a number as in `TYPE65280`, without regard to case. The only fault is `BadType`.
+#[tactic(auto, unfolding(crate::specs::Kind::type_in))]
 pub fn read_type(word: &[u8]) -> Result<u16, TextFault>
     ensures { result ≡ or_fault BadType (type_in word.now) }
 {

@@ -1,10 +1,10 @@
 //! Data of types without a form of their own, as a count and hexadecimal digits (RFC 3597, section 5).
 
-ghost use Rattle.std.specs.Prelude.{◌≡◌, ◌<◌, ◌++◌, option_map, ℕ, slice_index, length, IfOk, OnOk};
+ghost use Rattle.std.specs.Prelude.{◌≡◌, ◌<◌, ◌++◌, option_map, ℕ, slice_index, length, IfOk, IfSome, OnOk};
 ghost use Rattle.hex.specs.Hex.{lower_digits, encode_lower};
 ghost use Rattle.dns_text.specs.declared.fault.TextFault.TheVariants.{BadData};
 ghost use Rattle.dns_text.specs.Fault.{Gives, or_fault, result_map};
-ghost use Rattle.dns_text.specs.Opaque.{word_or_nothing, unhexed, octets_in, opaque_text};
+ghost use Rattle.dns_text.specs.Opaque.{word_or_nothing, unhexed, counted_octets, octets_in, opaque_text};
 
 use crate::fault::TextFault;
 use crate::field::next_number;
@@ -38,6 +38,17 @@ fn unhexed(alloc: Global, digits: &[u8]) -> Result<Option<Vec<u8>>, NoMemory>
     }
 }
 
+/// The octets that so many pairs of hexadecimal digits stand for. Digits of another count take no memory.
+fn counted_octets(alloc: Global, count: u64, digits: &[u8]) -> Result<Option<Vec<u8>>, NoMemory>
+    ensures value { IfOk result (λ o. option_map (λ v. v.items) o ≡ counted_octets count digits.now) }
+    ensures count { IfOk result (λ o. IfSome o (λ v. length v.items ≡ count)) }
+{
+    if digits.len() as u64 / 2 != count {
+        return Ok(None);
+    }
+    unhexed(alloc, digits)
+}
+
 /// The octets of a text `\# N HEX`.
 #[tactic(auto, unfolding(crate::specs::Opaque::octets_in))]
 pub(crate) fn read_octets(alloc: Global, text: &[u8]) -> Result<Vec<u8>, TextFault>
@@ -50,10 +61,7 @@ pub(crate) fn read_octets(alloc: Global, text: &[u8]) -> Result<Vec<u8>, TextFau
     }
     let (count, rest) = next_number(rest, 65535).ok_or(TextFault::BadData)?;
     let digits = word_or_nothing(rest).ok_or(TextFault::BadData)?;
-    let octets = unhexed(alloc, digits)?.ok_or(TextFault::BadData)?;
-    if octets.len() as u64 != count {
-        return Err(TextFault::BadData);
-    }
+    let octets = counted_octets(alloc, count, digits)?.ok_or(TextFault::BadData)?;
     Ok(octets)
 }
 

@@ -2,8 +2,9 @@
 
 ghost use Rattle.std.specs.Prelude.{◌≡◌, ◌++◌, ◌<◌, ◌≤◌, ◌^◌, option_map, IfOk, OnOk, Ok, false};
 ghost use Rattle.dns_text.specs.Fault.{Gives, result_map};
+ghost use Rattle.dns_text.specs.Kind.{is_excluded};
 ghost use Rattle.dns_text.specs.Data.{HasForm};
-ghost use Rattle.dns_text.specs.Record.{is_class, ttl_at, after_class, with_ttl, ttl_and_class, record_in, record_text, IsTextual};
+ghost use Rattle.dns_text.specs.Record.{first_now, is_class, ttl_at, after_class, with_ttl, ttl_and_class, record_in, record_text};
 
 use crate::data::{push_data, read_data};
 use crate::fault::TextFault;
@@ -21,44 +22,45 @@ const MOST_TTL: u64 = 2147483647;
 /// The time to live of a record without one.
 const DEFAULT_TTL: u32 = 3600;
 
-/// The time to live that stands first in a text, where its first word is of digits, and the text after it.
-fn read_ttl(text: &[u8]) -> Result<(Option<u32>, &[u8]), TextFault>
-    ensures { result_map (λ r. (r.0, r.1.now)) result ≡ ttl_at text.now }
+/// The first word of a text and the text after it, where there is a word.
+type First<'a> = Option<(&'a [u8], &'a [u8])>;
+
+/// The time to live, where the first word is of digits, and the first word behind it.
+fn read_ttl(first: First<'_>) -> Result<(Option<u32>, First<'_>), TextFault>
+    ensures { result_map (λ r. (r.0, first_now r.1)) result ≡ ttl_at (first_now first.entry) }
 {
-    match next_word(text) {
-        None => Ok((None, text)),
-        Some((word, rest)) => {
-            if !is_digits(word) {
-                return Ok((None, text));
-            }
-            let ttl = read_number(word, MOST_TTL).ok_or(TextFault::BadTtl)?;
-            Ok((Some(ttl as u32), rest))
-        }
+    let Some((word, rest)) = first else {
+        return Ok((None, None));
+    };
+    if !is_digits(word) {
+        return Ok((None, first));
+    }
+    let ttl = read_number(word, MOST_TTL).ok_or(TextFault::BadTtl)?;
+    Ok((Some(ttl as u32), next_word(rest)))
+}
+
+/// The first word behind the class, where that stands first.
+fn skip_class(first: First<'_>) -> First<'_>
+    ensures { first_now result ≡ after_class (first_now first.entry) }
+{
+    match first {
+        Some(([b'I' | b'i', b'N' | b'n'], rest)) => next_word(rest),
+        _ => first,
     }
 }
 
-/// The text behind the class, where that stands first.
-fn skip_class(text: &[u8]) -> &[u8]
-    ensures { result.now ≡ after_class text.now }
-{
-    match next_word(text) {
-        Some(([b'I' | b'i', b'N' | b'n'], rest)) => rest,
-        _ => text,
-    }
-}
-
+/// The time to live of a record, and its type and the text after that: both it and the class may be left out, and stand in either order.
 #[tactic(auto, unfolding(crate::specs::Record::ttl_and_class))]
-/// The time to live of a record, and the text from its type on: both it and the class may be left out, and stand in either order.
-fn read_ttl_and_class(text: &[u8]) -> Result<(u32, &[u8]), TextFault>
-    ensures { result_map (λ r. (r.0, r.1.now)) result ≡ ttl_and_class text.now }
+fn read_ttl_and_class(first: First<'_>) -> Result<(u32, First<'_>), TextFault>
+    ensures { result_map (λ r. (r.0, first_now r.1)) result ≡ ttl_and_class (first_now first.entry) }
 {
-    let (before, rest) = read_ttl(text)?;
-    let rest = skip_class(rest);
+    let (before, first) = read_ttl(first)?;
+    let first = skip_class(first);
     match before {
-        Some(ttl) => Ok((ttl, rest)),
+        Some(ttl) => Ok((ttl, first)),
         None => {
-            let (behind, rest) = read_ttl(rest)?;
-            Ok((behind.unwrap_or(DEFAULT_TTL), rest))
+            let (behind, first) = read_ttl(first)?;
+            Ok((behind.unwrap_or(DEFAULT_TTL), first))
         }
     }
 }
@@ -71,8 +73,8 @@ pub fn read_record(alloc: Global, text: &[u8]) -> Result<Record, TextFault>
 {
     let (word, rest) = next_word(text).ok_or(TextFault::BadName)?;
     let owner = read_name(alloc, word)?.ok_or(TextFault::BadName)?;
-    let (ttl, rest) = read_ttl_and_class(rest)?;
-    let (word, rest) = next_word(rest).ok_or(TextFault::BadType)?;
+    let (ttl, first) = read_ttl_and_class(next_word(rest))?;
+    let (word, rest) = first.ok_or(TextFault::BadType)?;
     let kind = read_type(word)?;
     let body = read_data(alloc, kind, rest)?;
     Ok(Record {
@@ -85,8 +87,9 @@ pub fn read_record(alloc: Global, text: &[u8]) -> Result<Record, TextFault>
 
 /// Writes a record behind what `out` holds, as `NAME TTL TYPE DATA`. Where memory runs out, a part of the text may stand there.
 pub fn push_record(r: &Record, out: &mut Vec<u8>) -> Result<(), NoMemory>
+    requires { HasForm r.now.kind r.now.body }
     ensures text { OnOk result (out.new.items ≡ out.old.items ++ record_text r.now) }
-    ensures again { OnOk result (IsTextual r.now → record_in (record_text r.now) ≡ Ok r.now) }
+    ensures again { OnOk result (is_excluded r.now.kind ≡ false → r.now.ttl < 2 ^ 31 → record_in (record_text r.now) ≡ Ok r.now) }
 {
     push_name(&r.owner, out)?;
     out.push(b' ')?;
@@ -99,8 +102,9 @@ pub fn push_record(r: &Record, out: &mut Vec<u8>) -> Result<(), NoMemory>
 
 /// The text of a record, as `push_record` writes it.
 pub fn write_record(alloc: Global, r: &Record) -> Result<Vec<u8>, NoMemory>
+    requires { HasForm r.now.kind r.now.body }
     ensures text { IfOk result (λ v. v.items ≡ record_text r.now) }
-    ensures again { IfOk result (λ v. IsTextual r.now → record_in v.items ≡ Ok r.now) }
+    ensures again { IfOk result (λ v. is_excluded r.now.kind ≡ false → r.now.ttl < 2 ^ 31 → record_in v.items ≡ Ok r.now) }
 {
     let mut out = Vec::new(alloc);
     push_record(r, &mut out)?;

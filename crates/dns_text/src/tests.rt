@@ -137,3 +137,109 @@ fn faults_of_types_and_data(rt: HostRuntime) {
         Some(TextFault::BadData)
     );
 }
+
+/// A record with data of each form, and how it is written.
+const RECORDS: [(&[u8], &[u8]); 13] = [
+    (b"a AAAA ::", b"a. 3600 AAAA 0:0:0:0:0:0:0:0"),
+    (b"a AAAA 2001:db8::1", b"a. 3600 AAAA 2001:db8:0:0:0:0:0:1"),
+    (b"a AAAA 1:2:3:4:5:6:7::", b"a. 3600 AAAA 1:2:3:4:5:6:7:0"),
+    (
+        b"a AAAA ABCD:0ef:0:0:0:0:0:00f0",
+        b"a. 3600 AAAA abcd:ef:0:0:0:0:0:f0",
+    ),
+    (
+        b"WWW.Test IN TXT \"a b\" c",
+        b"www.test. 3600 TXT \"a b\" \"c\"",
+    ),
+    (
+        b"a TXT \"\" \\065\\\"\\032 \"q\\\"\\\\\"",
+        b"a. 3600 TXT \"\" \"A\\\" \" \"q\\\"\\\\\"",
+    ),
+    (b"a MX 010 B.test", b"a. 3600 MX 10 b.test."),
+    (b"a NS b", b"a. 3600 NS b."),
+    (
+        b"a SOA p. m. 1 2 3 4 4294967295",
+        b"a. 3600 SOA p. m. 1 2 3 4 4294967295",
+    ),
+    (b"a SRV 1 2 65535 .", b"a. 3600 SRV 1 2 65535 ."),
+    (b"a TYPE35 \\# 2 ABcd", b"a. 3600 NAPTR \\# 2 abcd"),
+    (b"a dname \\# 0", b"a. 3600 DNAME \\# 0"),
+    (b"a TYPE65280 \\# 1 00", b"a. 3600 TYPE65280 \\# 1 00"),
+];
+
+#[test]
+fn each_form_again(rt: HostRuntime) -> Result<(), Fail> {
+    for (text, written) in RECORDS {
+        assert_eq!(rt; again(rt.alloc(), text)?.as_slice(), written);
+        assert_eq!(rt; again(rt.alloc(), written)?.as_slice(), written);
+    }
+    Ok(())
+}
+
+/// Records whose data are not of their type's form.
+const BAD_DATA: [&[u8]; 23] = [
+    b"a AAAA 1::2::3",
+    b"a AAAA 1:2:3:4:5:6:7:8::",
+    b"a AAAA ::1.2.3.4",
+    b"a AAAA 12345::",
+    b"a AAAA :::",
+    b"a AAAA 1:2:3:4:5:6:7",
+    b"a A \\# 4 c0000201",
+    b"a TYPE99 \\# 2 00",
+    b"a TYPE99 \\# 1 0",
+    b"a TYPE99 \\# 0 00",
+    b"a TYPE99 00",
+    b"a TXT",
+    b"a TXT \"a",
+    b"a TXT a\"b\"",
+    b"a TXT \"a\"b",
+    b"a TXT \\256",
+    b"a TXT \"\\ \"",
+    b"a MX 65536 b",
+    b"a MX 1",
+    b"a SRV 1 2 3",
+    b"a SOA p m 1 2 3 4 4294967296",
+    b"a NS a..b",
+    b"a NS b c",
+];
+
+#[test]
+fn bad_data(rt: HostRuntime) {
+    for text in BAD_DATA {
+        assert_eq!(rt; fault(rt.alloc(), text), Some(TextFault::BadData));
+    }
+}
+
+/// A server's address, and how it is written.
+const ADDRESSES: [(&[u8], &[u8]); 3] = [
+    (b"127.0.0.2", b"127.0.0.2@53"),
+    (b"::1@0053", b"0:0:0:0:0:0:0:1@53"),
+    (b"1.2.3.4@65535", b"1.2.3.4@65535"),
+];
+
+const BAD_ADDRESSES: [&[u8]; 7] = [
+    b"::1@0",
+    b"1.2.3@53",
+    b"",
+    b"1.2.3.4@",
+    b"1.2.3.4@65536",
+    b"@53",
+    b"::1@5@3",
+];
+
+/// An address's text read, and written again.
+fn addr_again(alloc: Global, text: &[u8]) -> Result<Vec<u8>, TextFault> {
+    Ok(write_addr(alloc, &read_addr(text)?)?)
+}
+
+#[test]
+fn addresses(rt: HostRuntime) -> Result<(), Fail> {
+    for (text, written) in ADDRESSES {
+        assert_eq!(rt; addr_again(rt.alloc(), text)?.as_slice(), written);
+        assert_eq!(rt; addr_again(rt.alloc(), written)?.as_slice(), written);
+    }
+    for text in BAD_ADDRESSES {
+        assert!(rt; read_addr(text) == Err(TextFault::BadData));
+    }
+    Ok(())
+}

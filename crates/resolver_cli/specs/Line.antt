@@ -1,12 +1,13 @@
 -- What a line says: its first word is a command, and the words after it are the command's.
 use Rattle.std.specs.Prelude.{ℕ, ◌-◌, ◌≤◌, ◌^◌, Bool, true, false, nat_lt, ◌==◌, Option, Some, None, Result, Ok, Err, is_ok, List, [], ◌∷◌, length, codes, if◌then◌else◌}
+use Rattle.std.specs.List.{AllByRecursion}
 use Rattle.std.specs.Str.{bytes_eq}
 use Rattle.dns_text.specs.declared.record.Question.{Question}
 use Rattle.dns_text.specs.declared.record.Data.{Data}
 use Rattle.dns_text.specs.Word.{next_word}
 use Rattle.dns_text.specs.Number.{number_in}
 use Rattle.dns_text.specs.Kind.{type_in}
-use Rattle.dns_text.specs.Data.{data_in}
+use Rattle.dns_text.specs.Data.{data_in, HasForm}
 use Rattle.dns_text.specs.Field.{named}
 use Rattle.dns_text.specs.Steps.{◌>>=◌ as ◌>>=?◌}
 use Rattle.ranked.specs.declared.rank.Rank.{Rank}
@@ -153,7 +154,7 @@ word_names (Some first) = names_in first.0 first.1
 abbrev pub takes_memory : List ℕ → Bool
 takes_memory line = if nat_lt 1024 (length line) then false else word_names (next_word line)
 
--- An admission lives for a second at least and has a datum.
+-- An admission lives for a second at least and has a datum, and each has the form of its type.
 abbrev pub IsSound : Line → Type 0
-IsSound (Admit admission) = (1 ≤ admission.ttl) × (1 ≤ length admission.body)
+IsSound (Admit admission) = (1 ≤ admission.ttl) × (1 ≤ length admission.body) × AllByRecursion (HasForm admission.kind) admission.body
 IsSound _ = Unit {0}

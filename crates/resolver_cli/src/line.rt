@@ -1,8 +1,9 @@
 //! What a line says.
 
 ghost use Rattle.std.specs.Prelude.{◌≡◌, ◌≤◌, ◌<◌, Ok, IsTrue, IfOk, IfErr, IfSome, IsErrOf, is_ok, length};
+ghost use Rattle.std.specs.List.{AllByRecursion};
 ghost use Rattle.dns_text.specs.Word.{next_word};
-ghost use Rattle.dns_text.specs.Data.{data_in};
+ghost use Rattle.dns_text.specs.Data.{data_in, HasForm};
 ghost use Rattle.dns_text.specs.Field.{named};
 ghost use Rattle.dns_text.specs.Kind.{type_in};
 ghost use Rattle.resolver_cli.specs.declared.line.LineFault.TheVariants.{Missing, BadName, BadType, BadData, NoMemory};
@@ -25,7 +26,7 @@ pub struct Admission {
     /// In seconds, from 1 to 2147483647.
     pub ttl: u32,
     pub kind: u16,
-    /// One at least.
+    /// One at least, each in the form of `kind`.
     pub body: Items<Data>,
 }
 
@@ -213,7 +214,8 @@ fn read_ttl(word: &[u8]) -> Option<u32>
 }
 
 fn read_datum(alloc: Global, kind: u16, text: &[u8]) -> Result<Data, LineFault>
-    ensures { Gives result (or_fault BadData (data_in kind text.now)) }
+    ensures value { Gives result (or_fault BadData (data_in kind text.now)) }
+    ensures form { IfOk result (λ datum. HasForm kind datum) }
 {
     match read_data(alloc, kind, text) {
         Ok(datum) => Ok(datum),
@@ -226,6 +228,7 @@ fn read_datum(alloc: Global, kind: u16, text: &[u8]) -> Result<Data, LineFault>
 fn read_set(alloc: Global, kind: u16, text: &[u8]) -> Result<Items<Data>, LineFault>
     ensures value { Gives result (or_fault BadData (data_of kind (pieces text.now))) }
     ensures some { IfOk result (λ items. 1 ≤ length items) }
+    ensures formed { IfOk result (λ items. AllByRecursion (HasForm kind) items) }
 {
     let mut data = Vec::new(alloc);
     let mut rest = text;
@@ -241,7 +244,7 @@ fn read_set(alloc: Global, kind: u16, text: &[u8]) -> Result<Items<Data>, LineFa
 #[tactic(auto, unfolding(crate::specs::Line::admission_of))]
 fn read_admission(alloc: Global, words: AdmitWords<'_>) -> Result<Admission, LineFault>
     ensures value { Gives result (admission_of (words_now words.entry)) }
-    ensures sound { IfOk result (λ a. (1 ≤ a.ttl) × (1 ≤ length a.body)) }
+    ensures sound { IfOk result (λ a. (1 ≤ a.ttl) × (1 ≤ length a.body) × AllByRecursion (HasForm a.kind) a.body) }
 {
     let rank = read_rank(words.rank).ok_or(LineFault::BadData)?;
     let owner = read_name(alloc, words.name)?;
@@ -261,7 +264,7 @@ fn read_admission(alloc: Global, words: AdmitWords<'_>) -> Result<Admission, Lin
 #[tactic(auto, unfolding(crate::specs::Line::admission_in))]
 fn read_admit(alloc: Global, text: &[u8]) -> Result<Admission, LineFault>
     ensures value { Gives result (admission_in text.now) }
-    ensures sound { IfOk result (λ a. (1 ≤ a.ttl) × (1 ≤ length a.body)) }
+    ensures sound { IfOk result (λ a. (1 ≤ a.ttl) × (1 ≤ length a.body) × AllByRecursion (HasForm a.kind) a.body) }
     ensures no_memory { IsErrOf result NoMemory → IsTrue (is_ok (admit_words text.now)) }
 {
     let words = admit_words(text)?;

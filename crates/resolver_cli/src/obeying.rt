@@ -1,6 +1,8 @@
 //! A line is obeyed.
 
 ghost use Rattle.std.specs.Prelude.{◌≡◌, ◌≤◌, ◌++◌, List, [], ◌∷◌, Ok, IfOk, length};
+ghost use Rattle.std.specs.List.{AllByRecursion};
+ghost use Rattle.dns_text.specs.Data.{HasForm};
 ghost use Rattle.undo_book.specs.declared.event.Event.{Event};
 ghost use Rattle.undo_book.specs.Answers.{Answers, history_after};
 ghost use Rattle.resolver_cli.specs.declared.line.Line.TheVariants.{Admit};
@@ -37,6 +39,7 @@ fn ask<B: Book>(alloc: Global, book: &mut B, event: Event) -> Text
 fn find_of(alloc: Global, admission: Admission) -> Result<SharedFind, AllocError>
     requires lives { 1 ≤ admission.ttl }
     requires some { 1 ≤ length admission.body }
+    requires formed { AllByRecursion (HasForm admission.kind) admission.body }
     ensures { IfOk result (λ find. IsFindOf admission find) }
 {
     let Admission {
@@ -54,6 +57,7 @@ fn find_of(alloc: Global, admission: Admission) -> Result<SharedFind, AllocError
 fn admit<B: Book>(alloc: Global, book: &mut B, moment: u64, admission: Admission) -> Text
     requires lives { 1 ≤ admission.ttl }
     requires some { 1 ≤ length admission.body }
+    requires formed { AllByRecursion (HasForm admission.kind) admission.body }
     ensures does { (place : Place) → B.stands_for book.old place.history → place.moment ≡ moment → (next : Place)
         × Does (B.settings book.old) place (Ok (Admit admission)) (octets_in result) next
         × B.stands_for book.new next.history × (next.moment ≡ place.moment) }
