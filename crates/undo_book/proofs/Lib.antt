@@ -1,3 +1,4 @@
+mod LogLength
 mod Replying
 mod Taken
 mod UndoLaw
