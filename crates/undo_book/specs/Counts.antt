@@ -1,6 +1,6 @@
--- The log of a history has each of its events once.
-use Rattle.std.specs.Prelude.{◌≡◌, ℕ, ◌+◌, ◌≤◌, List, [], ◌∷◌, ◌++◌, length, count_by, fold}
-use Rattle.std.proofs.Common.{arith, ap, cond, max, ◌∙◌, length-append}
+-- The log of a history has each of its admissions once.
+use Rattle.std.specs.Prelude.{◌≡◌, ℕ, ◌+◌, ◌≤◌, List, [], ◌∷◌, ◌++◌, count_by, fold}
+use Rattle.std.proofs.Common.{arith, ap, cond, max, ◌∙◌}
 use Rattle.std.proofs.lemmas.List.Sums.{sum_by-append}
 use Rattle.undo_book.specs.declared.event.Event.{Event}
 use Rattle.undo_book.specs.declared.event.Entry.{Entry}
@@ -10,15 +10,6 @@ use Rattle.undo_book.specs.History.{Past, past_of, followed_by, ticket_for}
 -- how many of the entries are admissions
 abbrev pub admissions_in : List Entry → ℕ
 admissions_in log = count_by (λ entry. is_admission entry.event) log
-
-length_after : (bound : ℕ) (past : Past) (events : List Event) → length (fold (followed_by bound) past events).log ≡ length past.log + length events
-length_after bound past [] = omega arith
-length_after bound past (e ∷ events) =
-    let next = followed_by bound past e in
-    omega (arith, length_after bound next events, length-append {A = Entry})
-
-pub length_of_log : (bound : ℕ) (past : Past) (history : List Event) → past ≡ past_of bound history → length past.log ≡ length history
-length_of_log bound past history is = omega (arith, ap (λ (p : Past). length p.log) is, length_after bound (past_of bound []) history)
 
 count_push : (log : List Entry) (x : Entry) → admissions_in (log ++ x ∷ []) ≡ admissions_in log + cond (is_admission x.event) 1 0
 count_push log x = sum_by-append (λ (entry : Entry). cond (is_admission entry.event) 1 0) log (x ∷ []) ∙ ap (λ n. admissions_in log + n) (omega arith)

@@ -5,6 +5,7 @@ pub mod Cells
 pub mod Reply
 pub mod Answers
 pub mod Refusal
+pub mod Redo
 pub mod Counts
 pub mod Plain
 pub mod PlainBook

@@ -24,7 +24,7 @@ impl Command {
     ghost use Rattle.undo_book.specs.Event.{covers};
 
     /// Whether it empties the cell of the question of this name and type.
-    pub fn covers(&self, owner: &Name, kind: u16) -> bool
+    pub(crate) fn covers(&self, owner: &Name, kind: u16) -> bool
         ensures { result ≡ covers self.now (record { owner = owner.now; kind = kind }) }
     {
         match self {
@@ -65,7 +65,7 @@ impl Event {
     }
 
     /// Whether it is an admission.
-    pub fn is_admission(&self) -> bool
+    pub(crate) fn is_admission(&self) -> bool
         ensures { result ≡ is_admission self.now }
     {
         matches!(self, Event::Admit { .. })
@@ -148,7 +148,7 @@ impl Reply {
     ghost use Rattle.undo_book.specs.Reply.{ticket_taken};
 
     /// The ticket that a command took, where this is the reply to one.
-    pub fn ticket_taken(&self) -> Option<u64>
+    pub(crate) fn ticket_taken(&self) -> Option<u64>
         ensures { result ≡ ticket_taken self.now }
     {
         match self {

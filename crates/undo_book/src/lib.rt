@@ -11,7 +11,10 @@ mod plain; // the book that keeps its history and replays it
 
 pub use book::{Book, StepFault};
 pub use event::{Ask, Command, Entry, Event, Look, Reason, Reply, Seen, Settings};
-pub use laws::{clock_is_greatest, flush_forgets, refusal_changes_only_the_clock, undo_takes_back};
+pub use laws::{
+    clock_is_greatest, flush_forgets, redo_puts_back, refusal_changes_only_the_clock,
+    undo_takes_back,
+};
 pub use plain::{MakeFault, PlainBook};
 pub use runs::run;
 
