@@ -1,9 +1,9 @@
--- What `==` calls equal is one value.
-use Rattle.std.proofs.Common.{◌≡◌, ℕ, Bool, true, List, refl, ap, ◌∙◌}
+-- What `==` calls equal is one value, and each value is equal to itself.
+use Rattle.std.proofs.Common.{◌≡◌, ℕ, Bool, true, ◌&&◌, eqb, eq-eqb, List, refl, ap, ◌∙◌}
 use Rattle.std.proofs.lemmas.Bool.{and_parts, false≢true, eqb-true}
 use Rattle.std.proofs.lemmas.Slice.Eq.{bytes_eq-Decides, slice_eq-Decides}
 use Rattle.dns_name.specs.Labels.{Labels}
-use Rattle.dns_name.specs.Order.{name_eq_exact}
+use Rattle.dns_name.specs.Order.{name_eq_exact, name_eq_itself}
 use Rattle.dns_text.specs.declared.record.Data.{Data}
 use Rattle.dns_text.specs.declared.record.Data.TheVariants.{A, Aaaa, One, Mx, Soa, Txt, Srv, Opaque}
 use Rattle.dns_text.specs.declared.record.Question.{Question}
@@ -91,3 +91,25 @@ question_eq_exact a b e =
     let with_owner : Labels → Question = λ owner. record a { owner = owner } in
     let with_kind : ℕ → Question = λ kind. record b { kind = kind } in
     ap with_owner (name_eq_exact a.owner b.owner parts.0) ∙ ap with_kind (eqb-true a.kind b.kind parts.1)
+
+-- ---- each value is equal to itself
+
+both : (a b : Bool) → a ≡ true → b ≡ true → (a && b) ≡ true
+both a b h k = rw (h, k) refl
+
+same : (n : ℕ) → eqb n n ≡ true
+same n = eq-eqb n n refl
+
+pub data_eq_itself : (a : Data) → data_eq a a ≡ true
+data_eq_itself (A octets) = (bytes_eq-Decides octets octets).1 refl
+data_eq_itself (Aaaa octets) = (bytes_eq-Decides octets octets).1 refl
+data_eq_itself (One name) = name_eq_itself name
+data_eq_itself (Mx preference exchange) = both _ _ (same preference) (name_eq_itself exchange)
+data_eq_itself (Soa primary mailbox serial refresh retry expire minimum) =
+    both _ _ (name_eq_itself primary) (both _ _ (name_eq_itself mailbox) (both _ _ (same serial) (both _ _ (same refresh) (both _ _ (same retry) (both _ _ (same expire) (same minimum))))))
+data_eq_itself (Txt strings) = (slice_eq-Decides bytes_eq-Decides strings strings _ refl).1 refl
+data_eq_itself (Srv priority weight port target) = both _ _ (same priority) (both _ _ (same weight) (both _ _ (same port) (name_eq_itself target)))
+data_eq_itself (Opaque octets) = (bytes_eq-Decides octets octets).1 refl
+
+pub question_eq_itself : (a : Question) → question_eq a a ≡ true
+question_eq_itself a = both _ _ (name_eq_itself a.owner) (same a.kind)

@@ -19,12 +19,14 @@ impl Model for Octets {
 }
 
 impl Octets {
+    /// These octets, as a field holds them.
     pub fn new(octets: Vec<u8>) -> Octets
         ensures { result ≡ octets.items }
     {
         Octets { octets }
     }
 
+    /// The octets, the first first.
     pub fn as_slice(&self) -> &[u8]
         ensures { result.now ≡ self.now }
     {
@@ -62,18 +64,21 @@ impl<T> Model for Items<T> {
 }
 
 impl<T> Items<T> {
+    /// This list, as a field holds it.
     pub fn new(items: Vec<T>) -> Items<T>
         ensures { result ≡ items.items }
     {
         Items { items }
     }
 
+    /// The items, the first first.
     pub fn as_slice(&self) -> &[T]
         ensures { result.now ≡ self.now }
     {
         &self.items
     }
 
+    /// The list, taken out without memory.
     pub fn into_vec(self) -> Vec<T>
         ensures { result.items ≡ self }
     {

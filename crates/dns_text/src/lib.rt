@@ -1,4 +1,9 @@
 //! Questions and records of the domain name system, as values and as text.
+//!
+//! `record` has the types, over the lists of `items`, and `fault` what keeps a text from being one. `word` and `number`
+//! read what texts are made of, `field` names and numbers in them. `kind` is the table of types; `ipv4`, `ipv6`, `string`
+//! and `opaque` read and write data of their forms, `data` that of every form, and `record_text` whole records. `addr` is
+//! the address of a server.
 #![tactic(auto)]
 
 mod addr;

@@ -61,8 +61,10 @@ pub struct Record {
     pub body: Data,
 }
 
-/// What `==` calls equal is one value.
+/// What `==` calls equal is one value, and each value is equal to itself.
 pub fn equality_law()
     ensures data_exact { (a b : Data) → ⟦<Data as PartialEq>⟧.eq a b ≡ true → a ≡ b }
     ensures questions_exact { (a b : Question) → ⟦<Question as PartialEq>⟧.eq a b ≡ true → a ≡ b }
+    ensures data_itself { (a : Data) → ⟦<Data as PartialEq>⟧.eq a a ≡ true }
+    ensures question_itself { (a : Question) → ⟦<Question as PartialEq>⟧.eq a a ≡ true }
 {}

@@ -5,6 +5,7 @@ ghost use Rattle.dns_wire.specs.Asking.{HasPointer, IsStandardQuery, IsMalformed
 ghost use Rattle.dns_wire.specs.Number.{u16_at};
 
 use crate::header::head_in;
+use crate::message::CLASS_IN;
 use crate::name::{Next, labels_at, next_at};
 use crate::number::u16_at;
 use crate::query::{Asked, Query};
@@ -102,7 +103,7 @@ pub fn read_question(alloc: Global, octets: &[u8]) -> Result<Asked, NoMemory>
     let Some((labels, at)) = one_question(octets) else {
         return Ok(Asked::Fault(FORMAT_ERROR));
     };
-    if u16_at(octets, at + 2) != 1 || is_excluded(u16_at(octets, at)) {
+    if u16_at(octets, at + 2) != CLASS_IN || is_excluded(u16_at(octets, at)) {
         return Ok(Asked::Fault(NOT_IMPLEMENTED));
     }
     Ok(Asked::Good(query_of(alloc, octets, &labels, at)?))

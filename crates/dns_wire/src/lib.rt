@@ -28,7 +28,7 @@ mod write_data;
 pub use asking::{one_verdict, read_question};
 pub use encoding::{EncodeFault, encode, encode_reply, written_is_read};
 pub use fault::WireFault;
-pub use message::{Classed, Head, Message};
+pub use message::{CLASS_IN, Classed, Head, Message};
 pub use query::{Asked, Query};
 pub use read::{decode, one_meaning};
 pub use reply::{cut_for_udp, fault_reply};

@@ -25,6 +25,9 @@ pub struct Head {
     pub rcode: u8,
 }
 
+/// The class of the Internet, IN (RFC 1035, section 3.2.4).
+pub const CLASS_IN: u16 = 1;
+
 /// A question or a record with its class (RFC 1035, section 3.2.4).
 #[derive(Debug, Drop, PartialEq)]
 pub struct Classed<T> {

@@ -6,6 +6,7 @@ ghost use Rattle.dns_wire.specs.Rdata.{form_in, first_string, data_name_read, ip
 ghost use Rattle.dns_wire.specs.Reading.{Gives};
 
 use crate::fault::WireFault;
+use crate::message::CLASS_IN;
 use crate::name::labels_in;
 use crate::number::{u16_at, u32_at};
 use dns_name::Name;
@@ -16,7 +17,7 @@ use std::alloc::{AllocError, Global};
 pub(crate) fn form_in(class: u16, kind: u16) -> Form
     ensures { result ≡ form_in class kind }
 {
-    if class == 1 {
+    if class == CLASS_IN {
         form_of(kind)
     } else {
         Form::Opaque

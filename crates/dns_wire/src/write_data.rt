@@ -44,6 +44,24 @@ fn push_strings(out: &mut Vec<u8>, strings: &[Octets]) -> Result<(), AllocError>
     Ok(())
 }
 
+/// What follows the names of the start of a zone of authority.
+fn push_soa_numbers(
+    out: &mut Vec<u8>,
+    serial: u32,
+    refresh: u32,
+    retry: u32,
+    expire: u32,
+    minimum: u32,
+) -> Result<(), AllocError>
+    ensures { OnOk result (out.new.items ≡ out.old.items ++ (u32_octets serial ++ u32_octets refresh ++ u32_octets retry ++ u32_octets expire ++ u32_octets minimum)) }
+{
+    push_u32(out, serial)?;
+    push_u32(out, refresh)?;
+    push_u32(out, retry)?;
+    push_u32(out, expire)?;
+    push_u32(out, minimum)
+}
+
 /// RDATA.
 #[tactic(auto, unfolding(crate::specs::Writing::data_octets))]
 pub(crate) fn push_data(out: &mut Vec<u8>, body: &Data) -> Result<(), AllocError>
@@ -72,11 +90,7 @@ pub(crate) fn push_data(out: &mut Vec<u8>, body: &Data) -> Result<(), AllocError
         } => {
             push_name(out, primary)?;
             push_name(out, mailbox)?;
-            push_u32(out, *serial)?;
-            push_u32(out, *refresh)?;
-            push_u32(out, *retry)?;
-            push_u32(out, *expire)?;
-            push_u32(out, *minimum)
+            push_soa_numbers(out, *serial, *refresh, *retry, *expire, *minimum)
         }
         Data::Txt(strings) => push_strings(out, strings.as_slice()),
         Data::Srv {
