@@ -44,22 +44,22 @@ fn push_strings(out: &mut Vec<u8>, strings: &[Octets]) -> Result<(), AllocError>
     Ok(())
 }
 
-/// What follows the names of the start of a zone of authority.
-fn push_soa_numbers(
+/// The start of a zone of authority.
+fn push_soa(
     out: &mut Vec<u8>,
+    names: (&Name, &Name),
     serial: u32,
-    refresh: u32,
-    retry: u32,
-    expire: u32,
-    minimum: u32,
+    times: (u32, u32, u32, u32),
 ) -> Result<(), AllocError>
-    ensures { OnOk result (out.new.items ≡ out.old.items ++ (u32_octets serial ++ u32_octets refresh ++ u32_octets retry ++ u32_octets expire ++ u32_octets minimum)) }
+    ensures { OnOk result (out.new.items ≡ out.old.items ++ (name_octets names.entry.0.now ++ name_octets names.entry.1.now ++ u32_octets serial ++ u32_octets times.0 ++ u32_octets times.1 ++ u32_octets times.2 ++ u32_octets times.3)) }
 {
+    push_name(out, names.0)?;
+    push_name(out, names.1)?;
     push_u32(out, serial)?;
-    push_u32(out, refresh)?;
-    push_u32(out, retry)?;
-    push_u32(out, expire)?;
-    push_u32(out, minimum)
+    push_u32(out, times.0)?;
+    push_u32(out, times.1)?;
+    push_u32(out, times.2)?;
+    push_u32(out, times.3)
 }
 
 /// RDATA.
@@ -88,9 +88,8 @@ pub(crate) fn push_data(out: &mut Vec<u8>, body: &Data) -> Result<(), AllocError
             expire,
             minimum,
         } => {
-            push_name(out, primary)?;
-            push_name(out, mailbox)?;
-            push_soa_numbers(out, *serial, *refresh, *retry, *expire, *minimum)
+            let times = (*refresh, *retry, *expire, *minimum);
+            push_soa(out, (primary, mailbox), *serial, times)
         }
         Data::Txt(strings) => push_strings(out, strings.as_slice()),
         Data::Srv {

@@ -2,7 +2,7 @@ use Rattle.std.proofs.Common.{sym, ap, ◌∙◌}
 use Rattle.dns_wire.specs.Asking.{no_header, reply, other_opcode, malformed, unanswerable, good, IsGood}
 use Rattle.dns_text.specs.Kind.{is_excluded}
 use Rattle.dns_wire.proofs.AskingLaws.{asks_question, if_err, true_differs}
-use Rattle.dns_wire.proofs.asking.read_question.Goals.{then-u16_at-ne1-via-then-u16_at-ne1, then-u16_at-ne1-via-else-u16_at-ne1+then-is_excluded}
+use Rattle.dns_wire.proofs.asking.read_question.Goals.{then-u16_at-ne-CLASS_IN-via-then-u16_at-ne-CLASS_IN, then-u16_at-ne-CLASS_IN-via-else-u16_at-ne-CLASS_IN+then-is_excluded}
 use Rattle.dns_wire.proofs.asking.read_question.Goals as goal
 
 pub returns-then-octets-lt12-clause-asked : goal.returns-then-octets-lt12-clause-asked
@@ -20,13 +20,13 @@ returns-in_default-clause-asked c =
     let is = c.head_in-head.ensures in
     malformed (record { header = c.if-octets-lt12.false; request = rw is at c.if-head.false; standard = rw is at c.if-head-ne0.false }) c.in_default.ensures
 
-pub returns-then-u16_at-ne1-clause-asked : goal.returns-then-u16_at-ne1-clause-asked
-returns-then-u16_at-ne1-clause-asked c =
+pub returns-then-u16_at-ne-CLASS_IN-clause-asked : goal.returns-then-u16_at-ne-CLASS_IN-clause-asked
+returns-then-u16_at-ne-CLASS_IN-clause-asked c =
     let is = c.head_in-head.ensures in
     unanswerable (record { header = c.if-octets-lt12.false; request = rw is at c.if-head.false; standard = rw is at c.if-head-ne0.false })
-    (asks_question c.in-Some.ensures) (elim c.then-u16_at-ne1.branch [
-      | then-u16_at-ne1-via-then-u16_at-ne1 w ↦ λ h. w.if-u16_at-ne1.true (c.u16_at.ensures ∙ h.class)
-      | then-u16_at-ne1-via-else-u16_at-ne1+then-is_excluded w ↦ λ h. true_differs (w.if-is_excluded.ensures ∙ ap (λ k. is_excluded k) w.u16_at-else-u16_at-ne1.ensures ∙ h.kind)
+    (asks_question c.in-Some.ensures) (elim c.then-u16_at-ne-CLASS_IN.branch [
+      | then-u16_at-ne-CLASS_IN-via-then-u16_at-ne-CLASS_IN w ↦ λ h. w.if-u16_at-ne-CLASS_IN.true (c.u16_at.ensures ∙ h.class)
+      | then-u16_at-ne-CLASS_IN-via-else-u16_at-ne-CLASS_IN+then-is_excluded w ↦ λ h. true_differs (w.if-is_excluded.ensures ∙ ap (λ k. is_excluded k) w.u16_at-else-u16_at-ne-CLASS_IN.ensures ∙ h.kind)
     ])
 
 pub returns-in_err-query_of-clause-memory : goal.returns-in_err-query_of-clause-memory
@@ -37,7 +37,7 @@ returns-in_err-query_of-clause-memory c =
       q = _;
       after = _;
       question = asks_question c.in-Some.ensures;
-      answerable = record { class = sym c.u16_at.ensures ∙ c.if-u16_at-ne1.false; kind = ap (λ k. is_excluded k) (sym c.u16_at-else-u16_at-ne1.ensures) ∙ sym c.is_excluded.ensures ∙ c.if-is_excluded.false };
+      answerable = record { class = sym c.u16_at.ensures ∙ c.if-u16_at-ne-CLASS_IN.false; kind = ap (λ k. is_excluded k) (sym c.u16_at-else-u16_at-ne-CLASS_IN.ensures) ∙ sym c.is_excluded.ensures ∙ c.if-is_excluded.false };
     } in
     if_err _ asks
 
@@ -45,4 +45,4 @@ pub returns-clause-asked : goal.returns-clause-asked
 returns-clause-asked c =
     let is = c.head_in-head.ensures in
     good (record { header = c.if-octets-lt12.false; request = rw is at c.if-head.false; standard = rw is at c.if-head-ne0.false })
-    (asks_question c.in-Some.ensures) (record { class = sym c.u16_at.ensures ∙ c.if-u16_at-ne1.false; kind = ap (λ k. is_excluded k) (sym c.u16_at-else-u16_at-ne1.ensures) ∙ sym c.is_excluded.ensures ∙ c.if-is_excluded.false }) c.in_ok-query_of.ensures
+    (asks_question c.in-Some.ensures) (record { class = sym c.u16_at.ensures ∙ c.if-u16_at-ne-CLASS_IN.false; kind = ap (λ k. is_excluded k) (sym c.u16_at-else-u16_at-ne-CLASS_IN.ensures) ∙ sym c.is_excluded.ensures ∙ c.if-is_excluded.false }) c.in_ok-query_of.ensures
