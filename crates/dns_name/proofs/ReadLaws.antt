@@ -15,7 +15,7 @@ use Rattle.dns_name.specs.declared.fault.NameFault.TheVariants.{BadEscape, NoMem
 use Rattle.dns_name.specs.Labels.{Labels, IsName, spelled}
 use Rattle.dns_name.specs.Making.{Gives}
 use Rattle.dns_name.specs.Octets.{no_labels, pushed, lower_label}
-use Rattle.dns_name.specs.Text.{decimal, IsOctetText, itself, quoted, numbered, EachPair, IsLabelText, IsNameText, ReadsWhatStands, decimal_at, escape_at, atom_at, stepped, ended, HasRoom, ◌>>=◌, or_fault, read, name_in}
+use Rattle.dns_name.specs.Text.{decimal, IsOctetText, itself, quoted, numbered, EachPair, IsLabelText, IsNameText, ReadsWhatStands, decimal_in, escape_in, octet_of, atom_at, stepped, ended, HasRoom, ◌>>=◌, or_fault, read, name_in}
 use Rattle.dns_name.proofs.MakingLaws.{memory_alone}
 use Rattle.dns_name.proofs.TextLaws.{graphic_from, digit_from, digit_apart, IsLastDot, what_stands_is_read}
 
@@ -29,7 +29,7 @@ abbrev pub IsFound : List ℕ → Option (Atom × ℕ) → Type 0
 IsFound text None = Unit {0}
 IsFound text (Some found) = IsAtomText (take found.1 text) found.0 × (0 < found.1)
 
-found_number : (x : ℕ) (text : List ℕ) → IsAsciiDigit x → IsFound (92 ∷ x ∷ text) (decimal_at x text)
+found_number : (x : ℕ) (text : List ℕ) → IsAsciiDigit x → IsFound (92 ∷ x ∷ text) (octet_of (decimal_in x text))
 found_number x [] dx = tt
 found_number x (y ∷ []) dx = tt
 found_number x (y ∷ z ∷ text) dx =
@@ -44,7 +44,7 @@ found_number x (y ∷ z ∷ text) dx =
       ]
     ]
 
-found_escape : (text : List ℕ) → IsFound (92 ∷ text) (escape_at text)
+found_escape : (text : List ℕ) → IsFound (92 ∷ text) (octet_of (escape_in text))
 found_escape [] = tt
 found_escape (x ∷ text) =
     elim (cases_Bool (is_ascii_digit x)) [

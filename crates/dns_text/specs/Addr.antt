@@ -1,10 +1,10 @@
 -- Addresses of servers as text: ip@port, or ip for port 53.
-use Rattle.std.specs.Prelude.{◌≡◌, ℕ, true, not, List, ◌∷◌, ◌++◌, Option, Some, None, option_map, ◌==◌, if◌then◌else◌, decimal}
+use Rattle.std.specs.Prelude.{◌≡◌, ℕ, true, not, List, ◌∷◌, ◌++◌, Option, Some, None, option_map, ◌==◌, decimal}
 use Rattle.std.specs.List.{list_all}
 use Rattle.dns_text.specs.declared.addr.Ip.{Ip}
 use Rattle.dns_text.specs.declared.addr.Ip.TheVariants.{V4, V6}
 use Rattle.dns_text.specs.declared.addr.Addr.{Addr}
-use Rattle.dns_text.specs.Number.{number_in}
+use Rattle.dns_text.specs.Number.{number_in, unless_zero}
 use Rattle.dns_text.specs.Word.{cut_at}
 use Rattle.dns_text.specs.Ipv4.{ipv4_in, ipv4_text}
 use Rattle.dns_text.specs.Ipv6.{ipv6_in, ipv6_text}
@@ -16,9 +16,6 @@ v4_or_v6 word None = option_map V6 (ipv6_in word)
 
 abbrev pub ip_in : List ℕ → Option Ip
 ip_in word = v4_or_v6 word (ipv4_in word)
-
-abbrev pub unless_zero : ℕ → Option ℕ
-unless_zero n = if n == 0 then None else Some n
 
 abbrev pub port_in : List ℕ → Option ℕ
 port_in word = number_in 65535 word >>= unless_zero

@@ -16,6 +16,10 @@ no_more_than most n = if nat_lt most n then None else Some n
 unfoldable pub number_in : ℕ → List ℕ → Option ℕ
 number_in most word = if is_digits word then no_more_than most (digits_value 10 word) else None
 
+-- a number that isn't 0
+abbrev pub unless_zero : ℕ → Option ℕ
+unless_zero n = if n == 0 then None else Some n
+
 -- the number that digits stand for behind those of n, octet by octet
 unfoldable pub digits_in : ℕ → ℕ → List ℕ → Option ℕ
 digits_in most n [] = Some n

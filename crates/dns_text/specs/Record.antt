@@ -16,10 +16,14 @@ use Rattle.dns_text.specs.Data.{data_in, data_text}
 abbrev pub first_now : Option (Bor (List ℕ) × Bor (List ℕ)) → Option (List ℕ × List ℕ)
 first_now first = option_map (λ w. (w.0.now, w.1.now)) first
 
+-- the greatest time to live, in seconds (RFC 2181, section 8)
+abbrev pub most_ttl : ℕ
+most_ttl = 2147483647
+
 -- the time to live that stands first, where the first word is of digits, and the first word behind it
 abbrev pub ttl_at : Option (List ℕ × List ℕ) → Result (Option ℕ × Option (List ℕ × List ℕ)) TextFault
 ttl_at None = Ok (None, None)
-ttl_at (Some first) = if is_digits first.0 then (or_fault BadTtl (number_in 2147483647 first.0) >>= λ n. Ok (Some n, next_word first.1)) else Ok (None, Some first)
+ttl_at (Some first) = if is_digits first.0 then (or_fault BadTtl (number_in most_ttl first.0) >>= λ n. Ok (Some n, next_word first.1)) else Ok (None, Some first)
 
 abbrev pub is_class : List ℕ → Bool
 is_class [] = false

@@ -1,24 +1,11 @@
 -- Strings of TXT data: words, in quotes or not, with escapes.
 use Rattle.std.specs.Prelude.{ℕ, zero, suc, ◌+◌, ◌-◌, ◌/◌, ◌%◌, ◌<◌, ◌||◌, ◌&&◌, List, [], ◌∷◌, ◌++◌, length, Option, Some, None, nat_lt, ◌==◌, if◌then◌else◌, option_map}
 use Rattle.std.specs.List.{flat_map, AllByRecursion}
-use Rattle.std.specs.Char.{is_ascii_digit, is_ascii_graphic}
-use Rattle.dns_name.specs.Text.{decimal}
+use Rattle.dns_name.specs.Text.{escape_in}
 use Rattle.dns_text.specs.Word.{next_word}
 use Rattle.dns_text.specs.Steps.{◌>>=◌}
 
 -- ---- reading
-
--- three digits, of which this is the first
-abbrev pub decimal_in : ℕ → List ℕ → Option (ℕ × ℕ)
-decimal_in x [] = None
-decimal_in x (y ∷ []) = None
-decimal_in x (y ∷ z ∷ text) =
-    if is_ascii_digit y then (if is_ascii_digit z then (if nat_lt (decimal x y z) 256 then Some (decimal x y z, 4) else None) else None) else None
-
--- the octet that a backslash before the text stands for, and how many octets of text it takes with the backslash
-abbrev pub escape_in : List ℕ → Option (ℕ × ℕ)
-escape_in [] = None
-escape_in (x ∷ text) = if is_ascii_digit x then decimal_in x text else if is_ascii_graphic x then Some (x, 2) else None
 
 -- the octet at the front of a text, which is no bare quote
 abbrev pub octet_at : List ℕ → Option (ℕ × ℕ)

@@ -28,7 +28,7 @@ pub use items::{Items, Octets};
 pub use kind::{Form, form_of, is_excluded, push_type, read_type, write_type};
 pub use number::read_number;
 pub use record::{Data, Question, Record, equality_law};
-pub use record_text::{push_record, read_record, write_record};
+pub use record_text::{MOST_TTL, push_record, read_record, write_record};
 pub use std::alloc::AllocError as NoMemory;
 pub use word::next_word;
 

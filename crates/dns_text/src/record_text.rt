@@ -16,8 +16,8 @@ use crate::word::next_word;
 use dns_name::NoMemory;
 use std::alloc::Global;
 
-/// The greatest time to live (RFC 2181, section 8).
-const MOST_TTL: u64 = 2147483647;
+/// The greatest time to live, in seconds (RFC 2181, section 8).
+pub const MOST_TTL: u64 = 2147483647;
 
 /// The time to live of a record without one.
 const DEFAULT_TTL: u32 = 3600;

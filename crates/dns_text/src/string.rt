@@ -4,45 +4,14 @@ ghost use Rattle.std.specs.Prelude.{◌≡◌, ◌<◌, ◌≤◌, ◌+◌, ◌+
 ghost use Rattle.std.specs.List.{flat_map, AllByRecursion};
 ghost use Rattle.dns_text.specs.declared.fault.TextFault.TheVariants.{BadData};
 ghost use Rattle.dns_text.specs.Fault.{Gives, or_fault, result_map};
-ghost use Rattle.dns_text.specs.String.{escape_in, octet_at, octets_after, before_last_quote, unquoted, string_in, strings_after, strings_in, quoted_octet, quoted, strings_text, AreOctets};
+ghost use Rattle.dns_text.specs.String.{octet_at, octets_after, before_last_quote, unquoted, string_in, strings_after, strings_in, quoted_octet, quoted, strings_text, AreOctets};
 
 use crate::fault::TextFault;
 use crate::items::{Items, Octets};
 use crate::word::next_word;
 use arrayvec::ArrayVec;
-use dns_name::NoMemory;
+use dns_name::{NoMemory, read_escape};
 use std::alloc::Global;
-
-/// The octet that a backslash before this text stands for, and how many octets of text it takes with the backslash.
-fn next_escape(text: &[u8]) -> Option<(u8, usize)>
-    ensures value { result ≡ escape_in text.now }
-    ensures within { IfSome result (λ a. (0 < a.1) × (a.1 ≤ length text.now + 1)) }
-{
-    let x = *text.first()?;
-    if !x.is_ascii_digit() {
-        return if x.is_ascii_graphic() {
-            Some((x, 2))
-        } else {
-            None
-        };
-    }
-    match text {
-        [_, y, z, ..] => {
-            if !y.is_ascii_digit() || !z.is_ascii_digit() {
-                return None;
-            }
-            let value = u16::from(x - b'0') * 100
-                + u16::from(*y - b'0') * 10
-                + u16::from(*z - b'0');
-            if value < 256 {
-                Some((value as u8, 4))
-            } else {
-                None
-            }
-        }
-        _ => None,
-    }
-}
 
 /// The octet at the front of a text, escaped or not, and how many octets of text it takes; none at a bare quote.
 fn next_octet(text: &[u8]) -> Option<(u8, usize)>
@@ -52,7 +21,7 @@ fn next_octet(text: &[u8]) -> Option<(u8, usize)>
     match text {
         [] => None,
         [b'"', ..] => None,
-        [b'\\', rest @ ..] => next_escape(rest),
+        [b'\\', rest @ ..] => read_escape(rest),
         [c, ..] => Some((*c, 1)),
     }
 }

@@ -19,7 +19,7 @@ use Rattle.dns_wire.specs.Number.{u16_at}
 use Rattle.dns_wire.specs.Question.{QuestionAt}
 use Rattle.dns_wire.specs.Section.{SectionAt, no_items, one_more}
 use Rattle.dns_wire.specs.Walking.{place_after, records_place, sections_place}
-use Rattle.dns_wire.specs.WellFormed.{AreOctets}
+use Rattle.dns_text.specs.String.{AreOctets}
 use Rattle.dns_wire.specs.Writing.{IsQuestionOctets}
 use Rattle.dns_wire.proofs.MessageLaws.{questions_within, records_stand, records_within, records_match}
 use Rattle.dns_wire.proofs.NameLaws.{name_read-match, name_read-spelled}

@@ -23,7 +23,8 @@ use Rattle.dns_wire.specs.Question.{QuestionAt}
 use Rattle.dns_wire.specs.Rdata.{DataAt, ipv4, ipv6, one_name, mail, start, one_or_more, service, unknown}
 use Rattle.dns_wire.specs.Record.{ttl_of, data_begin, RecordAt}
 use Rattle.dns_wire.specs.Section.{no_items, one_more}
-use Rattle.dns_wire.specs.WellFormed.{IsHead, IsQuestion, AreOctets, IsData, IsRecord, IsWellFormed}
+use Rattle.dns_text.specs.String.{AreOctets}
+use Rattle.dns_wire.specs.WellFormed.{IsHead, IsQuestion, IsData, IsRecord, IsWellFormed}
 
 -- ---- parts of octets
 

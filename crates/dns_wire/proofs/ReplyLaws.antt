@@ -10,7 +10,8 @@ use Rattle.dns_wire.specs.declared.message.Message.{Message}
 use Rattle.dns_wire.specs.Header.{head_in}
 use Rattle.dns_wire.specs.Message.{SpelledMessage}
 use Rattle.dns_wire.specs.Replying.{fault_head, head_alone, cut_reply}
-use Rattle.dns_wire.specs.WellFormed.{AreOctets, IsHead}
+use Rattle.dns_text.specs.String.{AreOctets}
+use Rattle.dns_wire.specs.WellFormed.{IsHead}
 use Rattle.dns_wire.specs.Writing.{header_octets, octets_with, message_octets, IsTooLong, IsQuestionOctets}
 use Rattle.dns_wire.proofs.Ranges.{head_range}
 use Rattle.dns_wire.proofs.WrittenSize.{length-octets_with, as_long}

@@ -1,5 +1,5 @@
 -- Messages whose fields are in range (RFC 1035, sections 2.3.4, 3.3 and 4.1; RFC 2181, section 8).
-use Rattle.std.specs.Prelude.{ℕ, ◌<◌, ◌^◌, List}
+use Rattle.std.specs.Prelude.{◌<◌, ◌^◌}
 use Rattle.std.specs.List.{AllByRecursion}
 use Rattle.dns_name.specs.Labels.{IsName}
 use Rattle.dns_text.specs.declared.record.Data.{Data}
@@ -7,6 +7,7 @@ use Rattle.dns_text.specs.declared.record.Data.TheVariants.{A, Aaaa, One, Mx, So
 use Rattle.dns_text.specs.declared.record.Question.{Question}
 use Rattle.dns_text.specs.declared.record.Record.{Record}
 use Rattle.dns_text.specs.Data.{IsOfForm}
+use Rattle.dns_text.specs.String.{AreOctets}
 use Rattle.dns_wire.specs.declared.message.Classed.{Classed}
 use Rattle.dns_wire.specs.declared.message.Head.{Head}
 use Rattle.dns_wire.specs.declared.message.Message.{Message}
@@ -22,9 +23,6 @@ pub record IsQuestion (q : Classed Question) : Type 0 where
   pub owner : IsName q.item.owner
   pub kind : q.item.kind < 2 ^ 16
   pub class : q.class < 2 ^ 16
-
-abbrev pub AreOctets : List ℕ → Type 0
-AreOctets octets = AllByRecursion (λ b. b < 256) octets
 
 -- The fields of data are in range.
 abbrev pub IsData : Data → Type 0

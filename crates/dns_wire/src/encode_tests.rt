@@ -2,7 +2,8 @@ ghost use Rattle.std.specs.Prelude.{◌≡◌, ◌<◌, [], ◌∷◌, length, I
 ghost use Rattle.std.specs.List.{AllByRecursion};
 ghost use Rattle.dns_name.specs.Labels.{IsName};
 ghost use Rattle.dns_text.specs.Data.{HasForm};
-ghost use Rattle.dns_wire.specs.WellFormed.{AreOctets, IsData, IsRecord, IsWellFormed};
+ghost use Rattle.dns_text.specs.String.{AreOctets};
+ghost use Rattle.dns_wire.specs.WellFormed.{IsData, IsRecord, IsWellFormed};
 ghost use Rattle.dns_wire.specs.Writing.{in_class_in};
 
 use super::*;

@@ -5,7 +5,8 @@ use Rattle.std.specs.Str.{bytes_eq}
 use Rattle.dns_text.specs.declared.record.Question.{Question}
 use Rattle.dns_text.specs.declared.record.Data.{Data}
 use Rattle.dns_text.specs.Word.{next_word}
-use Rattle.dns_text.specs.Number.{number_in}
+use Rattle.dns_text.specs.Number.{number_in, unless_zero}
+use Rattle.dns_text.specs.Record.{most_ttl}
 use Rattle.dns_text.specs.Kind.{type_in}
 use Rattle.dns_text.specs.Data.{data_in, HasForm}
 use Rattle.dns_text.specs.Field.{named}
@@ -93,12 +94,9 @@ admit_words text = do
 abbrev pub rank_in : List ℕ → Option Rank
 rank_in word = number_in 4 word >>=? rank_at
 
-abbrev pub unless_zero : ℕ → Option ℕ
-unless_zero n = if n == 0 then None else Some n
-
 -- from 1 to 2^31 - 1 seconds (RFC 2181, section 8)
 abbrev pub ttl_in : List ℕ → Option ℕ
-ttl_in word = number_in 2147483647 word >>=? unless_zero
+ttl_in word = number_in most_ttl word >>=? unless_zero
 
 -- the data of each piece
 unfoldable pub data_of : ℕ → List (List ℕ) → Option (List Data)

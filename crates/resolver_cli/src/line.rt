@@ -13,7 +13,9 @@ ghost use Rattle.resolver_cli.specs.Line.{is_silent, word_in, ends, at_in, quest
 
 use crate::bar::cut_at_bar;
 use dns_name::{Name, NameFault};
-use dns_text::{Data, Items, Question, TextFault, next_word, read_data, read_number, read_type};
+use dns_text::{
+    Data, Items, MOST_TTL, Question, TextFault, next_word, read_data, read_number, read_type,
+};
 use ranked::Rank;
 use std::alloc::{AllocError, AllocFailed, Global};
 use thiserror::Error;
@@ -93,9 +95,6 @@ impl<T: Drop> From<AllocFailed<T>> for LineFault {
 
 /// A line has no more octets than this.
 const MAX_LINE: usize = 1024;
-
-/// The greatest time to live (RFC 2181, section 8).
-const MAX_TTL: u64 = 2_147_483_647;
 
 /// Whether a line is empty or a comment.
 pub fn is_silent(line: &[u8]) -> bool
@@ -209,7 +208,7 @@ fn read_ttl(word: &[u8]) -> Option<u32>
     ensures value { result ≡ ttl_in word.now }
     ensures some { IfSome result (λ ttl. 1 ≤ ttl) }
 {
-    let ttl = read_number(word, MAX_TTL)?;
+    let ttl = read_number(word, MOST_TTL)?;
     if ttl == 0 { None } else { Some(ttl as u32) }
 }
 

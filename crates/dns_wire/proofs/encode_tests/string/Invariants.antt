@@ -1,5 +1,5 @@
 use Rattle.std.proofs.Common.{◌≡◌, length}
-use Rattle.dns_wire.specs.WellFormed.{AreOctets}
+use Rattle.dns_text.specs.String.{AreOctets}
 use Rattle.dns_wire.proofs.encode_tests.string.Given as goal
 
 abbrev pub invariant-loop : goal.invariant-loop

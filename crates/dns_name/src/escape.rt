@@ -1,0 +1,36 @@
+//! Escapes in text, of names and of other words.
+
+ghost use Rattle.std.specs.Prelude.{◌≡◌, ◌+◌, ◌<◌, ◌≤◌, length, IfSome};
+ghost use Rattle.dns_name.specs.Text.{escape_in};
+
+/// The octet that a backslash before this text stands for, and how many octets of text it takes with the backslash: three
+/// digits are its number, any other printable octet is itself (RFC 1035, section 5.1).
+pub fn read_escape(text: &[u8]) -> Option<(u8, usize)>
+    ensures value { result ≡ escape_in text.now }
+    ensures within { IfSome result (λ a. (0 < a.1) × (a.1 ≤ length text.now + 1)) }
+{
+    let x = *text.first()?;
+    if !x.is_ascii_digit() {
+        return if x.is_ascii_graphic() {
+            Some((x, 2))
+        } else {
+            None
+        };
+    }
+    match text {
+        [_, y, z, ..] => {
+            if !y.is_ascii_digit() || !z.is_ascii_digit() {
+                return None;
+            }
+            let value = u16::from(x - b'0') * 100
+                + u16::from(*y - b'0') * 10
+                + u16::from(*z - b'0');
+            if value < 256 {
+                Some((value as u8, 4))
+            } else {
+                None
+            }
+        }
+        _ => None,
+    }
+}
