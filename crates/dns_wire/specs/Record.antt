@@ -7,6 +7,7 @@ use Rattle.dns_text.specs.declared.kind.Form.{Form}
 use Rattle.dns_wire.specs.declared.fault.WireFault.{WireFault}
 use Rattle.dns_wire.specs.declared.fault.WireFault.TheVariants.{Short}
 use Rattle.dns_wire.specs.declared.message.Classed.{Classed}
+use Rattle.dns_wire.specs.declared.record.Frame.{Frame}
 use Rattle.dns_wire.specs.Name.{SpelledName, UnspelledName, name_read}
 use Rattle.dns_wire.specs.Number.{u16_at, u32_at}
 use Rattle.dns_wire.specs.Rdata.{form_in, DataAt, DataFails, data_read}
@@ -52,11 +53,15 @@ abbrev pub record_with : List ℕ → Labels × ℕ → Data → Result (Classed
 record_with m owner body =
     Ok (record { item = record { owner = owner.0; kind = u16_at m owner.1; ttl = ttl_of (u32_at m (owner.1 + 4)); body = body }; class = u16_at m (owner.1 + 2) }, data_end m owner.1)
 
+-- where the RDATA is, and its form
+abbrev pub frame_read : List ℕ → ℕ → Result Frame WireFault
+frame_read m fixed =
+    if nat_lt (length m) (data_begin fixed) then Err Short else
+    if nat_lt (length m) (data_end m fixed) then Err Short else
+    Ok (record { begin = data_begin fixed; end = data_end m fixed; form = form_at m fixed })
+
 abbrev pub record_behind : List ℕ → Labels × ℕ → Result (Classed Record × ℕ) WireFault
-record_behind m owner =
-    if nat_lt (length m) (data_begin owner.1) then Err Short else
-    if nat_lt (length m) (data_end m owner.1) then Err Short else
-    (data_read m (take (data_end m owner.1) m) (data_begin owner.1) (form_at m owner.1) >>= record_with m owner)
+record_behind m owner = frame_read m owner.1 >>= λ frame. data_read m (take frame.end m) frame.begin frame.form >>= record_with m owner
 
 unfoldable pub record_read : List ℕ → ℕ → Result (Classed Record × ℕ) WireFault
 record_read m at = name_read m at >>= record_behind m

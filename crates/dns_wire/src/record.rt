@@ -1,16 +1,16 @@
 //! Records.
 
-ghost use Rattle.std.specs.Prelude.{◌≡◌, ◌≤◌, length, IfOk};
+ghost use Rattle.std.specs.Prelude.{◌≡◌, ◌≤◌, ◌+◌, length, IfOk};
 ghost use Rattle.dns_wire.specs.Message.{records_read};
 ghost use Rattle.dns_wire.specs.Reading.{Gives};
-ghost use Rattle.dns_wire.specs.Record.{record_read, ttl_of};
+ghost use Rattle.dns_wire.specs.Record.{frame_read, record_read, ttl_of};
 
 use crate::fault::WireFault;
 use crate::message::Classed;
 use crate::name::name_at;
 use crate::number::{u16_at, u32_at};
 use crate::rdata::{data_at, form_in};
-use dns_text::{Items, Record};
+use dns_text::{Form, Items, Record};
 use std::alloc::Global;
 
 /// A time to live, of which one with its top bit set is none.
@@ -18,6 +18,33 @@ fn ttl_of(ttl: u32) -> u32
     ensures { result ≡ ttl_of ttl }
 {
     if ttl < 0x8000_0000 { ttl } else { 0 }
+}
+
+/// Where the RDATA of a record is in its message, and its form.
+#[derive(Clone, Copy)]
+pub(crate) struct Frame {
+    pub begin: usize,
+    pub end: usize,
+    pub form: Form,
+}
+
+/// The frame of the RDATA of a record whose fields of fixed length begin at a place.
+pub(crate) fn frame_at(message: &[u8], at: usize) -> Result<Frame, WireFault>
+    requires { at ≤ length message.now }
+    ensures exact { result ≡ frame_read message.now at }
+    ensures begin { IfOk result (λ frame. (frame.begin ≡ at + 10) × (frame.begin ≤ frame.end)) }
+    ensures within { IfOk result (λ frame. frame.end ≤ length message.now) }
+{
+    let begin = at + 10;
+    if message.len() < begin {
+        return Err(WireFault::Short);
+    }
+    let end = begin + u16_at(message, at + 8) as usize;
+    if message.len() < end {
+        return Err(WireFault::Short);
+    }
+    let form = form_in(u16_at(message, at + 2), u16_at(message, at));
+    Ok(Frame { begin, end, form })
 }
 
 /// A record with its class, and the place after it.
@@ -32,25 +59,16 @@ fn record_at(
     ensures within { IfOk result (λ r. r.1 ≤ length message.now) }
 {
     let (owner, at) = name_at(alloc, message, at)?;
-    let begin = at + 10;
-    if message.len() < begin {
-        return Err(WireFault::Short);
-    }
-    let kind = u16_at(message, at);
-    let class = u16_at(message, at + 2);
-    let ttl = ttl_of(u32_at(message, at + 4));
-    let end = begin + u16_at(message, at + 8) as usize;
-    if message.len() < end {
-        return Err(WireFault::Short);
-    }
-    let body = data_at(alloc, message, end, begin, form_in(class, kind))?;
+    let frame = frame_at(message, at)?;
+    let body = data_at(alloc, message, frame.end, frame.begin, frame.form)?;
     let item = Record {
         owner,
-        kind,
-        ttl,
+        kind: u16_at(message, at),
+        ttl: ttl_of(u32_at(message, at + 4)),
         body,
     };
-    Ok((Classed { item, class }, end))
+    let class = u16_at(message, at + 2);
+    Ok((Classed { item, class }, frame.end))
 }
 
 /// So many records, and the place after them.

@@ -10,7 +10,8 @@ ghost use Rattle.dns_wire.specs.Walking.{place_after, name_place, records_place,
 use crate::fault::WireFault;
 use crate::name::{labels_at, labels_in};
 use crate::number::u16_at;
-use crate::rdata::{form_in, split_string};
+use crate::rdata::split_string;
+use crate::record::frame_at;
 use dns_text::Form;
 
 /// The place after a name, where one stands.
@@ -114,19 +115,13 @@ fn record_end(message: &[u8], at: usize) -> Option<usize>
     ensures within { IfSome result (λ after. after ≤ length message.now) }
 {
     let at = name_end(message, at)?;
-    let begin = at + 10;
-    if message.len() < begin {
+    let Ok(frame) = frame_at(message, at) else {
+        return None;
+    };
+    if !has_form(message, frame.end, frame.begin, frame.form) {
         return None;
     }
-    let end = begin + u16_at(message, at + 8) as usize;
-    if message.len() < end {
-        return None;
-    }
-    let form = form_in(u16_at(message, at + 2), u16_at(message, at));
-    if !has_form(message, end, begin, form) {
-        return None;
-    }
-    Some(end)
+    Some(frame.end)
 }
 
 /// The place after so many records, where they stand.
