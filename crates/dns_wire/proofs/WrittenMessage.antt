@@ -1,5 +1,5 @@
 -- What a message is written as spells it, and no other.
-use Rattle.std.proofs.Common.{◌≡◌, ℕ, ◌+◌, ◌-◌, ◌≤◌, List, [], ◌∷◌, ◌++◌, length, take, refl, sym, ap, subst, ◌∙◌, arith, length-append}
+use Rattle.std.proofs.Common.{◌≡◌, ℕ, ◌+◌, ◌-◌, ◌≤◌, List, [], ◌∷◌, ◌++◌, length, take, refl, sym, ap, subst, ◌∙◌, append_assoc, arith, length-append}
 use Rattle.std.specs.List.{flat_map, AllByRecursion}
 use Rattle.std.proofs.lemmas.List.{append-nil, take-append-drop}
 use Rattle.std.proofs.lemmas.Nat.{from_be_bytes-to_be_bytes_2}
@@ -45,9 +45,14 @@ header_written questions v fits short = record {
 
 -- ---- the sections
 
+in_turn : (a b c d : List ℕ) → a ++ (b ++ c ++ d) ≡ a ++ b ++ c ++ d
+in_turn a b c d = simp append_assoc
+
 sections_at : (questions : List ℕ) (v : Message) → StandsAt (octets_with questions v) 12 (questions ++ records_octets (first_name v.questions) v.answer ++ records_octets (first_name v.questions) v.authority ++ records_octets (first_name v.questions) v.additional)
 unfolding octets_with header_octets
-sections_at questions v = ([], sym (append-nil _))
+sections_at questions v =
+    let parts = in_turn questions (records_octets (first_name v.questions) v.answer) (records_octets (first_name v.questions) v.authority) (records_octets (first_name v.questions) v.additional) in
+    ([], parts ∙ sym (append-nil _))
 
 questions_at : (questions : List ℕ) (v : Message) → StandsAt (octets_with questions v) 12 questions
 questions_at questions v =

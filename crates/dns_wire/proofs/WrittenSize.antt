@@ -72,7 +72,7 @@ length-octets_with questions v =
     let answer = records_octets (first_name v.questions) v.answer in
     let authority = records_octets (first_name v.questions) v.authority in
     let additional = records_octets (first_name v.questions) v.additional in
-    omega (arith, length-append questions (answer ++ authority ++ additional), length-append (questions ++ answer ++ authority) additional, length-append (questions ++ answer) authority, length-append questions answer)
+    omega (arith, length-append questions (answer ++ authority ++ additional), length-append (answer ++ authority) additional, length-append answer authority)
 
 long_section : (v : Message) → Decides (has_long_section v) ((65535 < length v.questions) ⊎ ((65535 < length v.answer) ⊎ ((65535 < length v.authority) ⊎ (65535 < length v.additional))))
 long_section v =

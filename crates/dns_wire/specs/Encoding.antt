@@ -1,5 +1,5 @@
 -- What encoding answers, and that what is written is read back.
-use Rattle.std.specs.Prelude.{◌≡◌, ℕ, ◌+◌, Bool, ◌||◌, List, [], ◌∷◌, ◌++◌, length, Option, Some, None, nat_lt, if◌then◌else◌}
+use Rattle.std.specs.Prelude.{◌≡◌, ℕ, ◌+◌, Bool, ◌||◌, List, [], ◌∷◌, length, Option, Some, None, nat_lt, if◌then◌else◌}
 use Rattle.dns_text.specs.declared.record.Question.{Question}
 use Rattle.dns_wire.specs.declared.message.Message.{Message}
 use Rattle.dns_wire.specs.Message.{SpelledMessage}
@@ -25,11 +25,6 @@ RepliesAreRead = (q : Question) (octets : List ℕ) (v : Message) → IsQuestion
 -- so many octets, where a message may have as many
 abbrev pub within : ℕ → Option ℕ
 within n = if nat_lt 65535 n then None else Some n
-
--- the records of a message
-abbrev pub sections_octets : Message → List ℕ
-sections_octets v =
-    records_octets (first_name v.questions) v.answer ++ records_octets (first_name v.questions) v.authority ++ records_octets (first_name v.questions) v.additional
 
 -- how many octets the records of a message take
 abbrev pub records_len : Message → ℕ

@@ -77,11 +77,15 @@ abbrev pub first_name : List (Classed Question) → Option Labels
 first_name [] = None
 first_name (q ∷ questions) = Some q.item.owner
 
+-- the records of a message
+abbrev pub sections_octets : Message → List ℕ
+sections_octets v =
+    records_octets (first_name v.questions) v.answer ++ records_octets (first_name v.questions) v.authority ++ records_octets (first_name v.questions) v.additional
+
 -- a message whose questions take these octets
 unfoldable pub octets_with : List ℕ → Message → List ℕ
 octets_with questions v =
-    header_octets v.head (length v.questions) (length v.answer) (length v.authority) (length v.additional) ++ questions
-    ++ records_octets (first_name v.questions) v.answer ++ records_octets (first_name v.questions) v.authority ++ records_octets (first_name v.questions) v.additional
+    header_octets v.head (length v.questions) (length v.answer) (length v.authority) (length v.additional) ++ questions ++ sections_octets v
 
 -- a message
 abbrev pub message_octets : Message → List ℕ

@@ -3,9 +3,9 @@
 ghost use Rattle.std.specs.Prelude.{◌≡◌, ◌++◌, ◌≤◌, ◌<◌, length, OnOk};
 ghost use Rattle.std.specs.List.{flat_map, AllByRecursion};
 ghost use Rattle.dns_text.specs.Data.{IsSized};
-ghost use Rattle.dns_wire.specs.Encoding.{records_len, sections_octets};
+ghost use Rattle.dns_wire.specs.Encoding.{records_len};
 ghost use Rattle.dns_wire.specs.WellFormed.{IsHead, IsRecord, IsWellFormed};
-ghost use Rattle.dns_wire.specs.Writing.{header_octets, owner_octets, question_octets, behind_owner_octets, record_octets, records_octets, first_name, data_octets, IsTooLong};
+ghost use Rattle.dns_wire.specs.Writing.{header_octets, owner_octets, question_octets, behind_owner_octets, record_octets, records_octets, first_name, data_octets, IsTooLong, sections_octets};
 
 use crate::header::header_of;
 use crate::message::{Classed, Message};
