@@ -41,7 +41,7 @@ pub record AsksQuestion (m : List ℕ) (q : Classed Question) (after : ℕ) : Ty
   pub question : QuestionAt m 12 q after
   pub whole : ¬ (HasPointer m 12)
 
--- The labels of that question's name, and the place after them.
+-- The same of its name, for contracts inside the crate: the labels, and the place after them.
 pub record AsksName (m : List ℕ) (labels : Labels) (at : ℕ) : Type 0 where
   pub one : question_count m ≡ 1
   pub message : Message

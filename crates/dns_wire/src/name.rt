@@ -20,7 +20,7 @@ pub enum Next {
     Pointer(usize),
     /// An octet that begins nothing.
     Reserved,
-    /// The end of the message.
+    /// The end of what may be read.
     Cut,
 }
 
