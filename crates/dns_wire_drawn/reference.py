@@ -124,11 +124,41 @@ class Reader:
         return [("long", number) for number in self.numbers(f">{count}I")]
 
 
-# What a part of a question or record says, as numbers, and how it is written: (kind, value).
+# What a part of a question or record says, as numbers, as text and as octets: (kind, value).
 
 def said(part):
     kind, value = part
     return [value] if kind in ("short", "long") else list(value) + [256]
+
+
+def escaped(octet, specials, plain):
+    """An octet in text (RFC 1035, section 5.1): a special one behind a backslash, one that is not plain by its number."""
+    if octet in specials:
+        return b"\\" + bytes([octet])
+    return bytes([octet]) if octet in plain else b"\\%03d" % octet
+
+
+def name_text(value):
+    text = b""
+    while value:
+        label, value = value[1:value[0] + 1], value[value[0] + 1:]
+        text += b"".join(escaped(octet, b'."\\;()', range(33, 127)) for octet in label) + b"."
+    return text or b"."
+
+
+def part_text(part):
+    kind, value = part
+    if kind in ("short", "long"):
+        return b"%d" % value
+    if kind == "name":
+        return name_text(value)
+    if kind == "string":
+        return b'"' + b"".join(escaped(octet, b'"\\', range(32, 127)) for octet in value) + b'"'
+    if kind == "address" and len(value) == 4:
+        return b".".join(b"%d" % octet for octet in value)
+    if kind == "address":
+        return b":".join(b"%x" % group for group in struct.unpack(">8H", value))
+    return b"\\# %d %s" % (len(value), value.hex().encode()) if value else b"\\# 0"
 
 
 def written(part):
@@ -145,7 +175,7 @@ def written(part):
 def form_of(reader, kind):
     """The parts of data of a type in class IN, or None for a type without a form."""
     if kind in (1, 28):
-        return [("octets", reader.take(4 if kind == 1 else 16))]
+        return [("address", reader.take(4 if kind == 1 else 16))]
     if kind in (2, 5, 12):
         return [reader.name()]
     if kind == 15:
@@ -206,8 +236,11 @@ def numbers_of(message):
     identifier, flags, counts, questions, records = message
     numbers = [identifier, flags >> 15] + [flags >> bit & 1 for bit in (10, 9, 8, 7)]
     numbers += [flags >> 11 & 15, flags >> 4 & 7, flags & 15]
-    for parts in questions + [[owner] + fixed + body for owner, fixed, body in records]:
+    for parts in questions:
         for part in parts:
+            numbers += said(part)
+    for owner, fixed, body in records:
+        for part in [owner] + fixed + [("text", b" ".join(map(part_text, body)))]:
             numbers += said(part)
     return numbers
 

@@ -1,5 +1,5 @@
 -- The fault that is told of a text is the first from the left.
-use Rattle.std.proofs.Common.{◌≡◌, ◌≢◌, ◌⊎◌, ℕ, zero, suc, ◌+◌, ◌-◌, ◌<◌, true, false, List, [], ◌∷◌, ◌++◌, length, map, take, drop, Option, Some, None, Result, Ok, Err, refl, sym, ap, subst, ◌∙◌, append_assoc, arith, length-append, eq-eqb, inl, inr}
+use Rattle.std.proofs.Common.{◌≡◌, ◌≢◌, ℕ, zero, suc, ◌+◌, ◌-◌, ◌<◌, ◌≤◌, true, false, List, [], ◌∷◌, ◌++◌, length, map, take, drop, Option, Some, None, Result, Ok, Err, refl, sym, ap, subst, ◌∙◌, append_assoc, arith, length-append, eq-eqb, inl, inr}
 use Rattle.std.proofs.lemmas.Bool.{eqb-true, ne_eqb, lt-ltb, cases_Bool, false_from_ne_true}
 use Rattle.std.proofs.lemmas.Bool.Decides.{nat_tests}
 use Rattle.std.proofs.lemmas.List.{append-nil, take-append-drop, nil_from_length}
@@ -14,11 +14,15 @@ use Rattle.dns_name.specs.declared.text.Atom.{Atom}
 use Rattle.dns_name.specs.declared.text.Atom.TheVariants.{Dot, Octet}
 use Rattle.dns_name.specs.declared.fault.NameFault.{NameFault}
 use Rattle.dns_name.specs.declared.fault.NameFault.TheVariants.{EmptyLabel, LongLabel, LongName, BadEscape, NoMemory}
-use Rattle.dns_name.specs.Labels.{Labels, IsLabel, spelled, with_length}
+use Rattle.dns_name.specs.declared.limits.TheConstants.{MAX_LABEL_OCTETS, MAX_NAME_OCTETS}
+use Rattle.dns_name.specs.Labels.{Labels, IsLabel, spelled, with_length, wire_len, wire_len_with}
 use Rattle.dns_name.specs.Octets.{spelled-append}
-use Rattle.dns_name.specs.Making.{Gives, Fails}
-use Rattle.dns_name.specs.Text.{IsOctetText, EachPair, IsLabelText, IsFront, BeginsWithOctet, BeginsWithDot, IsFaultAt, IsFirstFault, TellsTheFirstFault, HasRoom, atom_at, stepped, ended, ◌>>=◌, or_fault, read, name_in}
-use Rattle.dns_name.proofs.TextLaws.{atom_of_piece, length_piece, read_pieces, read_label_dot, read_fault, read_bad, read_end}
+use Rattle.dns_name.specs.Making.{Gives}
+use Rattle.dns_name.specs.Results.{or_fault}
+use Rattle.dns_name.specs.ResultLaws.{bound_err, or_fault-ok, or_fault-err}
+use Rattle.dns_name.specs.Reading.{TellsTheFirstFault, atom_at, after_atom, labels_at_end, read, name_in}
+use Rattle.dns_name.specs.Text.{IsOctetText, EachPair, IsLabelText, IsFront, BeginsWithOctet, BeginsWithDot, IsFaultAt, IsFirstFault, HasRoom}
+use Rattle.dns_name.specs.TextLaws.{atom_of_piece, length_piece, read_pieces, read_label_dot, read_fault, read_bad, read_end}
 use Rattle.dns_name.proofs.ReadLaws.{IsAtomText, IsFound, found_atom, IsNext, stepped_ok, Progress, next_progress, nothing_read, skip_first}
 
 pairs-append : {X Y : Type 0} (R : X → Y → Type 0) (xs : List X) (ys : List Y) (us : List X) (vs : List Y) → EachPair R xs ys → EachPair R us vs → EachPair R (xs ++ us) (ys ++ vs)
@@ -73,7 +77,7 @@ front_next front before part piece (Octet b) next stands done f p =
 
 -- ---- what a step that failed says
 
-step_fault : (before : Labels) (part piece rest : List ℕ) (atom : Atom) (fault : NameFault) → length part < 64 → IsAtomText piece atom → stepped before part atom ≡ Err fault → IsFaultAt before part (piece ++ rest) fault
+step_fault : (before : Labels) (part piece rest : List ℕ) (atom : Atom) (fault : NameFault) → length part ≤ MAX_LABEL_OCTETS → IsAtomText piece atom → after_atom before part atom ≡ Err fault → IsFaultAt before part (piece ++ rest) fault
 step_fault before part piece rest Dot fault few stands e =
     elim (cases_Bool (length part == 0)) [
       | inl none ↦
@@ -84,12 +88,12 @@ step_fault before part piece rest Dot fault few stands e =
     ]
 step_fault before part piece rest (Octet b) fault few stands e =
     let octet : BeginsWithOctet (piece ++ rest) = record { piece = piece; rest = rest; octet = b; parts = refl; written = stands } in
-    elim (cases_Bool (length part == 63)) [
+    elim (cases_Bool (length part == MAX_LABEL_OCTETS)) [
       | inl full ↦
           let bad = rw full at e in
           let is : LongLabel ≡ fault = cc in
-          subst (IsFaultAt before part (piece ++ rest)) is (eqb-true (length part) 63 full, octet)
-      | inr short ↦ elim (cases_Bool (nat_lt 252 (length (spelled before) + length part))) [
+          subst (IsFaultAt before part (piece ++ rest)) is (eqb-true (length part) MAX_LABEL_OCTETS full, octet)
+      | inr short ↦ elim (cases_Bool (nat_lt MAX_NAME_OCTETS (wire_len_with before (length part + 1)))) [
         | inl long ↦
             let bad = rw (short, long) at e in
             let is : LongName ≡ fault = cc in
@@ -105,18 +109,10 @@ nothing_stands before part c rest e = (
   λ o. let both : None ≡ Some (Octet o.octet, length o.piece) = sym e ∙ ap atom_at o.parts ∙ atom_of_piece o.piece o.octet o.rest o.written in cc,
 )
 
-end_fault : (before : Labels) (part : List ℕ) (fault : NameFault) → ended before part ≡ Err fault → IsFaultAt before part [] fault
+end_fault : (before : Labels) (part : List ℕ) (fault : NameFault) → labels_at_end before part ≡ Err fault → IsFaultAt before part [] fault
 end_fault [] [] fault e = let is : EmptyLabel ≡ fault = cc in subst (IsFaultAt [] [] []) is (refl, inr (refl, refl))
 end_fault (l ∷ before) [] fault e = absurd cc
 end_fault before (b ∷ part) fault e = absurd cc
-
-bound_err : {A B : Type 0} (r : Result A NameFault) (f : A → Result B NameFault) (fault : NameFault) → r >>= f ≡ Err fault → (r ≡ Err fault) ⊎ ((x : A) × ((r ≡ Ok x) × (f x ≡ Err fault)))
-bound_err (Ok x) f fault e = inr (x, (refl, e))
-bound_err (Err told) f fault e = inl (let same : told ≡ fault = cc in ap (λ (x : NameFault). Err x) same)
-
-or_fault_err : {A : Type 0} (o : Option A) (told fault : NameFault) → or_fault told o ≡ Err fault → (o ≡ None) × (told ≡ fault)
-or_fault_err None told fault e = (refl, cc)
-or_fault_err (Some x) told fault e = absurd cc
 
 -- ---- the scan
 
@@ -138,14 +134,14 @@ stops text front before part (suc skip) (c ∷ rest) fault parts good p e = stop
 stops text front before part zero (c ∷ rest) fault parts good p e =
     elim (bound_err (or_fault BadEscape (atom_at (c ∷ rest))) _ fault e) [
       | inl bad ↦
-          let none = or_fault_err (atom_at (c ∷ rest)) BadEscape fault bad in
+          let none = or_fault-err BadEscape (atom_at (c ∷ rest)) fault bad in
           record { front = front; rest = c ∷ rest; before = before; part = part; parts = parts; good = good; bad = subst (IsFaultAt before part (c ∷ rest)) none.1 (nothing_stands before part c rest none.0) }
       | inr one ↦
           let piece : List ℕ = take one.0.1 (c ∷ rest) in
           let after : List ℕ = drop one.0.1 (c ∷ rest) in
           let whole : piece ++ after ≡ c ∷ rest = take-append-drop one.0.1 (c ∷ rest) in
-          let found : IsFound (c ∷ rest) (Some one.0) = subst (IsFound (c ∷ rest)) (or_fault_ok (atom_at (c ∷ rest)) one.0 one.1.0) (found_atom (c ∷ rest)) in
-          elim (bound_err (stepped before part one.0.0) _ fault one.1.1) [
+          let found : IsFound (c ∷ rest) (Some one.0) = subst (IsFound (c ∷ rest)) (or_fault-ok BadEscape (atom_at (c ∷ rest)) one.0 one.1.0) (found_atom (c ∷ rest)) in
+          elim (bound_err (after_atom before part one.0.0) _ fault one.1.1) [
             | inl bad ↦ record { front = front; rest = c ∷ rest; before = before; part = part; parts = parts; good = good; bad = subst (λ (x : List ℕ). IsFaultAt before part x fault) whole (step_fault before part piece after one.0.0 fault p.few found.0 bad) }
             | inr two ↦
                 let done = stepped_ok before part one.0.0 two.0 two.1.0 in
@@ -154,10 +150,6 @@ stops text front before part zero (c ∷ rest) fault parts good p e =
                 stops text (front ++ piece) two.0.0 two.0.1 (one.0.1 - 1) rest fault further (front_next front before part piece one.0.0 two.0 found.0 done good next) next two.1.1
           ]
     ]
-  where
-    or_fault_ok : {A : Type 0} (o : Option A) (x : A) → or_fault BadEscape o ≡ Ok x → o ≡ Some x
-    or_fault_ok None x e = absurd cc
-    or_fault_ok (Some z) x e = let same : z ≡ x = cc in ap Some same
 
 nothing_before : IsFront [] [] []
 nothing_before = record { texts = []; pieces = []; joined = refl; labels = tt; octets = tt; name = nothing_read.name; few = nothing_read.few; room = nothing_read.room }
@@ -184,7 +176,7 @@ first_fault text fault e =
 
 -- ---- where a fault is the first, it is told
 
-read_dotted : (before : Labels) (texts : List (List ℕ)) (labels : Labels) (rest : List ℕ) → EachPair IsLabelText texts labels → AllByRecursion IsLabel labels → length (spelled (before ++ labels)) < 255 → read before [] 0 (flat_map (λ t. t ++ 46 ∷ []) texts ++ rest) ≡ read (before ++ labels) [] 0 rest
+read_dotted : (before : Labels) (texts : List (List ℕ)) (labels : Labels) (rest : List ℕ) → EachPair IsLabelText texts labels → AllByRecursion IsLabel labels → wire_len (before ++ labels) ≤ MAX_NAME_OCTETS → read before [] 0 (flat_map (λ t. t ++ 46 ∷ []) texts ++ rest) ≡ read (before ++ labels) [] 0 rest
 read_dotted before [] [] rest each labels short = ap (λ (x : Labels). read x [] 0 rest) (sym (append-nil before))
 read_dotted before [] (label ∷ more) rest each labels short = absurd each
 read_dotted before (text ∷ texts) [] rest each labels short = absurd each
@@ -197,7 +189,7 @@ read_dotted before (text ∷ texts) (label ∷ more) rest each labels short =
     ∙ read_dotted (before ++ label ∷ []) texts more rest each.1 labels.1 (omega (arith, short, ap (λ (x : Labels). length (spelled x)) whole))
     ∙ ap (λ (x : Labels). read x [] 0 rest) whole
 
-read_part : (before : Labels) (pieces : List (List ℕ)) (part rest : List ℕ) → EachPair IsOctetText pieces part → length part < 64 → HasRoom before part → read before [] 0 (concat pieces ++ rest) ≡ read before part 0 rest
+read_part : (before : Labels) (pieces : List (List ℕ)) (part rest : List ℕ) → EachPair IsOctetText pieces part → length part ≤ MAX_LABEL_OCTETS → HasRoom before part → read before [] 0 (concat pieces ++ rest) ≡ read before part 0 rest
 read_part before [] [] rest each few room = refl
 read_part before [] (b ∷ part) rest each few room = absurd each
 read_part before (piece ∷ pieces) [] rest each few room = absurd each
@@ -211,13 +203,13 @@ read_front front rest before part f =
     ∙ read_dotted [] f.texts before (concat f.pieces ++ rest) f.labels f.name.each f.name.short
     ∙ read_part before f.pieces part rest f.octets f.few f.room
 
-stepped_long : (before : Labels) (part : List ℕ) (b : ℕ) → length part ≡ 63 → stepped before part (Octet b) ≡ Err LongLabel
-stepped_long before part b full = rw (eq-eqb (length part) 63 full) refl
+stepped_long : (before : Labels) (part : List ℕ) (b : ℕ) → length part ≡ MAX_LABEL_OCTETS → after_atom before part (Octet b) ≡ Err LongLabel
+stepped_long before part b full = rw (eq-eqb (length part) MAX_LABEL_OCTETS full) refl
 
-stepped_past : (before : Labels) (part : List ℕ) (b : ℕ) → length part < 63 → 252 < length (spelled before) + length part → stepped before part (Octet b) ≡ Err LongName
-stepped_past before part b few past = rw (ne_eqb (length part) 63 (λ e. omega arith), lt-ltb 252 (length (spelled before) + length part) past) refl
+stepped_past : (before : Labels) (part : List ℕ) (b : ℕ) → length part < MAX_LABEL_OCTETS → MAX_NAME_OCTETS < wire_len_with before (length part + 1) → after_atom before part (Octet b) ≡ Err LongName
+stepped_past before part b few past = rw (ne_eqb (length part) MAX_LABEL_OCTETS (λ e. omega arith), lt-ltb MAX_NAME_OCTETS (wire_len_with before (length part + 1)) past) refl
 
-octet_fault : (before : Labels) (part rest : List ℕ) (fault : NameFault) (o : BeginsWithOctet rest) → stepped before part (Octet o.octet) ≡ Err fault → read before part 0 rest ≡ Err fault
+octet_fault : (before : Labels) (part rest : List ℕ) (fault : NameFault) (o : BeginsWithOctet rest) → after_atom before part (Octet o.octet) ≡ Err fault → read before part 0 rest ≡ Err fault
 octet_fault before part rest fault o e =
     read_fault before part rest (Octet o.octet) (length o.piece) fault
     (omega (arith, ap length o.parts, length-append o.piece o.rest, length_piece o.piece o.octet o.written))
@@ -256,13 +248,6 @@ told_where_first text fault h =
 pub tells_the_first_fault : TellsTheFirstFault
 tells_the_first_fault text fault = (first_fault text fault, told_where_first text fault)
 
-told_first : (text : List ℕ) (fault : NameFault) → Fails fault (name_in text) → (fault ≢ NoMemory) → IsFirstFault text fault
-told_first text NoMemory h other = absurd (other refl)
-told_first text EmptyLabel h other = first_fault text EmptyLabel h
-told_first text LongLabel h other = first_fault text LongLabel h
-told_first text LongName h other = first_fault text LongName h
-told_first text BadEscape h other = first_fault text BadEscape h
-
 pub gives_first_fault : (r : Result Labels NameFault) (text : List ℕ) → Gives r (name_in text) → IfErr r (λ e. e ≢ NoMemory → IsFirstFault text e)
 gives_first_fault (Ok n) text h = tt
-gives_first_fault (Err e) text h = told_first text e h
+gives_first_fault (Err e) text h = λ other. first_fault text e (h other)

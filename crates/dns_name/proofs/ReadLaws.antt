@@ -1,5 +1,5 @@
 -- Names as text: only what stands for a name is read as it.
-use Rattle.std.proofs.Common.{◌≡◌, ◌≢◌, ◌⊎◌, ℕ, zero, suc, ◌+◌, ◌-◌, ◌<◌, List, [], ◌∷◌, ◌++◌, length, map, take, drop, get_or, Option, Some, None, Result, Ok, Err, refl, sym, ap, subst, ◌∙◌, append_assoc, arith, length-append, inl, inr}
+use Rattle.std.proofs.Common.{◌≡◌, ◌≢◌, ◌⊎◌, ℕ, zero, suc, ◌+◌, ◌-◌, ◌<◌, ◌≤◌, List, [], ◌∷◌, ◌++◌, length, map, take, drop, get_or, Option, Some, None, Result, Ok, Err, refl, sym, ap, subst, ◌∙◌, append_assoc, arith, length-append, inl, inr}
 use Rattle.std.proofs.lemmas.Bool.{eqb-true, ltb-true, cases_Bool}
 use Rattle.std.proofs.lemmas.List.{append-nil, length-map, take-append-drop}
 use Rattle.std.proofs.lemmas.Bool.Decides.{nat_tests}
@@ -12,12 +12,17 @@ use Rattle.dns_name.specs.declared.text.Atom.{Atom}
 use Rattle.dns_name.specs.declared.text.Atom.TheVariants.{Dot, Octet}
 use Rattle.dns_name.specs.declared.fault.NameFault.{NameFault}
 use Rattle.dns_name.specs.declared.fault.NameFault.TheVariants.{BadEscape, NoMemory}
-use Rattle.dns_name.specs.Labels.{Labels, IsName, spelled}
+use Rattle.dns_name.specs.declared.limits.TheConstants.{MAX_LABEL_OCTETS, MAX_NAME_OCTETS}
+use Rattle.dns_name.specs.Labels.{Labels, IsName, wire_len_with}
 use Rattle.dns_name.specs.Making.{Gives}
-use Rattle.dns_name.specs.Octets.{no_labels, pushed, lower_label}
-use Rattle.dns_name.specs.Text.{decimal, IsOctetText, itself, quoted, numbered, EachPair, IsLabelText, IsNameText, ReadsWhatStands, decimal_in, escape_in, octet_of, atom_at, stepped, ended, HasRoom, ◌>>=◌, or_fault, read, name_in}
+use Rattle.dns_name.specs.Octets.{lower_label}
+use Rattle.dns_name.proofs.OctetLaws.{no_labels, stands_push}
+use Rattle.dns_name.specs.Results.{or_fault}
+use Rattle.dns_name.specs.ResultLaws.{bound_ok, or_fault-ok}
+use Rattle.dns_name.specs.Reading.{ReadsWhatStands, decimal_in, escape_in, octet_of, atom_at, after_atom, labels_at_end, read, name_in}
+use Rattle.dns_name.specs.Text.{decimal, IsOctetText, itself, quoted, numbered, EachPair, IsLabelText, IsNameText, HasRoom}
 use Rattle.dns_name.proofs.MakingLaws.{memory_alone}
-use Rattle.dns_name.proofs.TextLaws.{graphic_from, digit_from, digit_apart, IsLastDot, what_stands_is_read}
+use Rattle.dns_name.specs.TextLaws.{graphic_from, digit_from, digit_apart, IsLastDot, what_stands_is_read}
 
 -- what an atom is written as
 abbrev pub IsAtomText : List ℕ → Atom → Type 0
@@ -72,18 +77,18 @@ found_atom (c ∷ text) =
 -- what a step that did not fail did
 abbrev pub IsNext : Labels → List ℕ → Atom → Labels × List ℕ → Type 0
 IsNext before part Dot next = (0 < length part) × (next ≡ (before ++ map to_ascii_lowercase part ∷ [], []))
-IsNext before part (Octet b) next = (length part ≢ 63) × (length (spelled before) + length part < 253) × (next ≡ (before, part ++ b ∷ []))
+IsNext before part (Octet b) next = (length part ≢ MAX_LABEL_OCTETS) × (wire_len_with before (length part + 1) ≤ MAX_NAME_OCTETS) × (next ≡ (before, part ++ b ∷ []))
 
-pub stepped_ok : (before : Labels) (part : List ℕ) (atom : Atom) (next : Labels × List ℕ) → stepped before part atom ≡ Ok next → IsNext before part atom next
+pub stepped_ok : (before : Labels) (part : List ℕ) (atom : Atom) (next : Labels × List ℕ) → after_atom before part atom ≡ Ok next → IsNext before part atom next
 stepped_ok before part Dot next e =
     elim (cases_Bool (length part == 0)) [
       | inl none ↦ absurd (let bad = rw none at e in cc)
       | inr some ↦ let good = rw some at e in (grind (arith, nat_tests), cc)
     ]
 stepped_ok before part (Octet b) next e =
-    elim (cases_Bool (length part == 63)) [
+    elim (cases_Bool (length part == MAX_LABEL_OCTETS)) [
       | inl full ↦ absurd (let bad = rw full at e in cc)
-      | inr few ↦ elim (cases_Bool (nat_lt 252 (length (spelled before) + length part))) [
+      | inr few ↦ elim (cases_Bool (nat_lt MAX_NAME_OCTETS (wire_len_with before (length part + 1)))) [
         | inl long ↦ absurd (let bad = rw (few, long) at e in cc)
         | inr short ↦ let good = rw (few, short) at e in (λ full. grind (arith, nat_tests), grind (arith, nat_tests), cc)
       ]
@@ -93,7 +98,7 @@ stepped_ok before part (Octet b) next e =
 pub record Progress (before : Labels) (part : List ℕ) : Type 0 where
   pub name : IsName before
   pub octets : (i : ℕ) → get_or part i 0 < 256
-  pub few : length part < 64
+  pub few : length part ≤ MAX_LABEL_OCTETS
   pub room : HasRoom before part
 
 one_more_octet : (part : List ℕ) (b : ℕ) → ((i : ℕ) → get_or part i 0 < 256) → b < 256 → (i : ℕ) → get_or (part ++ b ∷ []) i 0 < 256
@@ -109,13 +114,13 @@ octet_small text b (numbered x y z dx dy dz is small e) = small
 
 one_more_label : (before : Labels) (part : List ℕ) → Progress before part → 0 < length part → IsName (before ++ map to_ascii_lowercase part ∷ [])
 one_more_label before part p some =
-    (pushed _ before (map to_ascii_lowercase part) (record { octets_are = refl; name = p.name }) (lower_label part p.octets some p.few) (omega (arith, p.room some, length-map part to_ascii_lowercase))).name
+    (stands_push _ before (map to_ascii_lowercase part) (record { octets_are = refl; name = p.name }) (lower_label part p.octets some p.few) (omega (arith, p.room some, length-map part to_ascii_lowercase))).name
 
 pub next_progress : (before : Labels) (part text : List ℕ) (atom : Atom) (next : Labels × List ℕ) → IsAtomText text atom → IsNext before part atom next → Progress before part → Progress next.0 next.1
 next_progress before part text Dot next stands done p =
     rw done.1 (record { name = one_more_label before part p done.0; octets = λ i. omega arith; few = omega arith; room = λ some. absurd (omega arith) })
 next_progress before part text (Octet b) next stands done p =
-    let few : length part < 63 = omega (arith, p.few, done.0) in
+    let few : length part < MAX_LABEL_OCTETS = omega (arith, p.few, done.0) in
     rw done.2 (record {
       name = p.name;
       octets = one_more_octet part b p.octets (octet_small text b stands);
@@ -215,7 +220,7 @@ record IsReadAs (before : Labels) (part text : List ℕ) (labels : Labels) : Typ
   whole : labels ≡ before ++ tail
   rest : IsRest part text tail
 
-read_as_end : (before : Labels) (part : List ℕ) (labels : Labels) → Progress before part → ended before part ≡ Ok labels → IsReadAs before part [] labels
+read_as_end : (before : Labels) (part : List ℕ) (labels : Labels) → Progress before part → labels_at_end before part ≡ Ok labels → IsReadAs before part [] labels
 read_as_end [] [] labels p e = absurd cc
 read_as_end (label ∷ before) [] labels p e =
     let same : label ∷ before ≡ labels = cc in
@@ -244,15 +249,6 @@ read_as_atom before part piece text (Octet b) next labels stands done r =
       rest = octet_rest part piece b text r.tail stands (subst (λ (x : List ℕ). IsRest x text r.tail) second r.rest);
     }
 
--- what a step that did not fail handed on
-bound_ok : {A B : Type 0} (r : Result A NameFault) (f : A → Result B NameFault) (y : B) → r >>= f ≡ Ok y → (x : A) × ((r ≡ Ok x) × (f x ≡ Ok y))
-bound_ok (Ok x) f y e = (x, (refl, e))
-bound_ok (Err fault) f y e = absurd cc
-
-or_fault_ok : {A : Type 0} (fault : NameFault) (o : Option A) (x : A) → or_fault fault o ≡ Ok x → o ≡ Some x
-or_fault_ok fault None x e = absurd cc
-or_fault_ok fault (Some z) x e = let same : z ≡ x = cc in ap Some same
-
 pub skip_first : (c k : ℕ) (text : List ℕ) → 0 < k → drop (k - 1) text ≡ drop k (c ∷ text)
 skip_first c zero text some = absurd (omega arith)
 skip_first c (suc k) text some = let one : suc k - 1 ≡ k = omega arith in rw one refl
@@ -264,8 +260,8 @@ read_as before part (suc skip) [] labels p e = read_as_end before part labels p 
 read_as before part (suc skip) (c ∷ text) labels p e = read_as before part skip text labels p e
 read_as before part zero (c ∷ text) labels p e =
     let one = bound_ok (or_fault BadEscape (atom_at (c ∷ text))) _ labels e in
-    let two = bound_ok (stepped before part one.0.0) _ labels one.1.1 in
-    let found : IsFound (c ∷ text) (Some one.0) = subst (IsFound (c ∷ text)) (or_fault_ok BadEscape (atom_at (c ∷ text)) one.0 one.1.0) (found_atom (c ∷ text)) in
+    let two = bound_ok (after_atom before part one.0.0) _ labels one.1.1 in
+    let found : IsFound (c ∷ text) (Some one.0) = subst (IsFound (c ∷ text)) (or_fault-ok BadEscape (atom_at (c ∷ text)) one.0 one.1.0) (found_atom (c ∷ text)) in
     let done = stepped_ok before part one.0.0 two.0 two.1.0 in
     let more = read_as two.0.0 two.0.1 (one.0.1 - 1) text labels (next_progress before part (take one.0.1 (c ∷ text)) one.0.0 two.0 found.0 done p) two.1.1 in
     let here = read_as_atom before part (take one.0.1 (c ∷ text)) (drop one.0.1 (c ∷ text)) one.0.0 two.0 labels found.0 done (rw (← skip_first c one.0.1 text found.1) more) in

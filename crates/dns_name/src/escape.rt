@@ -1,7 +1,7 @@
 //! Escapes in text, of names and of other words.
 
 ghost use Rattle.std.specs.Prelude.{◌≡◌, ◌+◌, ◌<◌, ◌≤◌, length, IfSome};
-ghost use Rattle.dns_name.specs.Text.{escape_in};
+ghost use Rattle.dns_name.specs.Reading.{escape_in};
 
 /// The octet that a backslash before this text stands for, and how many octets of text it takes with the backslash: three
 /// digits are its number, any other printable octet is itself (RFC 1035, section 5.1).

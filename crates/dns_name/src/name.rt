@@ -2,15 +2,15 @@
 
 ghost use Rattle.std.specs.Prelude.{◌≡◌, ◌↔◌, ◌++◌, IsTrue, IfOk, IfErr, OnOk, MatchOption, List, ℕ, ◌+◌, [], length, map};
 ghost use Rattle.std.specs.Iterator.{YieldsFirstBy, item_count};
-ghost use Rattle.dns_name.specs.Labels.{IsAtOrBelow, octets_of, spelled, IsName, IsOctets, labels_in, labels_of, parent_of};
-ghost use Rattle.dns_name.specs.Making.{Gives, name_after, lowered};
-ghost use Rattle.dns_name.specs.Building.{IsComing, starts_from};
-ghost use Rattle.dns_name.specs.Octets.{Begins, Ends, IsOver};
+ghost use Rattle.dns_name.specs.Labels.{IsAtOrBelow, octets_of, spelled, wire_len, IsName, IsOctets, labels_in, labels_of, parent_of};
+ghost use Rattle.dns_name.specs.Making.{Gives, name_after, lowercase_labels};
+ghost use Rattle.dns_name.specs.Building.{IsComing, starts_from, Begins, Ends, IsOver};
 ghost use Rattle.dns_name.specs.Order.{labels_cmp, ZoneIsFirst, SubtreeIsContiguous};
 
 use crate::NoMemory;
 use crate::builder::NameBuilder;
 use crate::fault::NameFault;
+use crate::limits::MAX_LABELS;
 use arrayvec::ArrayVec;
 use std::alloc::Global;
 use std::cmp::Ordering;
@@ -18,7 +18,7 @@ use std::hash::{Hash, Hasher};
 use std::marker::Model;
 
 /// A domain name (RFC 1034 section 3.1): its labels in lower case, the leftmost first. The root has
-/// none. Each has 1 to 63 octets, and the name at most 255 in a message.
+/// none. Each has 1 to `MAX_LABEL_OCTETS` octets, and the name at most `MAX_NAME_OCTETS` in a message.
 ///
 /// Two names are equal where their labels are. They are ordered by labels from the root, each label
 /// compared as octets, so a zone comes right before the names below it.
@@ -54,8 +54,8 @@ impl Name {
     /// Each label is judged as a whole, from the left: `EmptyLabel`, `LongLabel`, then `LongName`.
     pub fn from_labels(alloc: Global, labels: &[&[u8]]) -> Result<Name, NameFault>
         ensures exact { Gives result (name_after [] (map (λ l. l.now) labels.now)) }
-        ensures value { IfOk result (λ n. n ≡ lowered (map (λ l. l.now) labels.now)) }
-        ensures only { IfErr result (λ e. IsName (lowered (map (λ l. l.now) labels.now)) → e ≡ NameFault.NoMemory) }
+        ensures value { IfOk result (λ n. n ≡ lowercase_labels (map (λ l. l.now) labels.now)) }
+        ensures only { IfErr result (λ e. IsName (lowercase_labels (map (λ l. l.now) labels.now)) → e ≡ NameFault.NoMemory) }
     {
         build(alloc, labels)
     }
@@ -95,14 +95,16 @@ impl Name {
     /// The labels from the root, each behind its length.
     pub(crate) fn octets(&self) -> &[u8]
         ensures value { result.now ≡ octets_of self.now }
+        ensures spelled { IsOctets result.now }
+        ensures labels { labels_of result.now ≡ self.now }
         ensures name { IsName self.now }
     {
         &self.octets
     }
 
-    /// How many octets the name takes in a message, with the zero octet that ends it: 1 to 255 (RFC 1035 section 3.1).
+    /// How many octets the name takes in a message, with the zero octet that ends it: 1 to `MAX_NAME_OCTETS` (RFC 1035 section 3.1).
     pub fn wire_len(&self) -> usize
-        ensures len { result ≡ length (spelled self.now) + 1 }
+        ensures len { result ≡ wire_len self.now }
         ensures name { IsName self.now }
     {
         self.octets().len() + 1
@@ -114,11 +116,7 @@ impl Name {
     pub fn push_spelled(&self, out: &mut Vec<u8>) -> Result<(), NoMemory>
         ensures { OnOk result (out.new.items ≡ out.old.items ++ spelled self.now) }
     {
-        for label in self.labels() {
-            out.push(label.len() as u8)?;
-            out.extend_from_slice(label)?;
-        }
-        Ok(())
+        push_labels(&self.octets, out)
     }
 
     /// Whether the labels of this name end with those of `zone`. It takes no memory.
@@ -134,7 +132,7 @@ impl Name {
 pub struct Labels<'a> {
     octets: &'a [u8],
     // Where each label begins, the one next to the root first. A label takes two octets or more.
-    starts: ArrayVec<u8, 127>,
+    starts: ArrayVec<u8, MAX_LABELS>,
 }
 
 impl<'a> Model for Labels<'a> {
@@ -175,7 +173,7 @@ fn build(alloc: Global, labels: &[&[u8]]) -> Result<Name, NameFault>
 }
 
 /// The first label of a run of octets, and the octets after it.
-fn split_label(octets: &[u8]) -> Option<(&[u8], &[u8])>
+pub(crate) fn split_label(octets: &[u8]) -> Option<(&[u8], &[u8])>
     requires { IsOctets octets.now }
     ensures { MatchOption result (labels_in octets.now ≡ []) (λ r. Begins octets.now r.0.now r.1.now) }
 {
@@ -183,8 +181,20 @@ fn split_label(octets: &[u8]) -> Option<(&[u8], &[u8])>
     Some(rest.split_at(*n as usize))
 }
 
+/// Writes the labels that a run of octets spells, the last one first, each behind its length.
+fn push_labels(octets: &[u8], out: &mut Vec<u8>) -> Result<(), NoMemory>
+    requires { IsOctets octets.now }
+    ensures { OnOk result (out.new.items ≡ out.old.items ++ spelled (labels_of octets.now)) }
+{
+    let Some((label, rest)) = split_label(octets) else {
+        return Ok(());
+    };
+    push_labels(rest, out)?;
+    out.extend_from_slice(&octets[..label.len() + 1])
+}
+
 /// Where each label of a run of octets begins.
-fn label_starts(octets: &[u8]) -> ArrayVec<u8, 127>
+fn label_starts(octets: &[u8]) -> ArrayVec<u8, MAX_LABELS>
     requires { IsOctets octets.now }
     ensures { result.items ≡ starts_from 0 (labels_in octets.now) }
 {
@@ -200,7 +210,10 @@ fn label_starts(octets: &[u8]) -> ArrayVec<u8, 127>
 }
 
 /// The last label of a run of octets, whose start it takes away, and the octets before it.
-fn pop_label<'a>(octets: &'a [u8], starts: &mut ArrayVec<u8, 127>) -> Option<(&'a [u8], &'a [u8])>
+fn pop_label<'a>(
+    octets: &'a [u8],
+    starts: &mut ArrayVec<u8, MAX_LABELS>,
+) -> Option<(&'a [u8], &'a [u8])>
     requires { IsComing octets.now starts.old.items }
     ensures { MatchOption result (IsOver octets.now starts.new.items) (λ r. Ends octets.now r.0.now r.1.now starts.new.items) }
 {

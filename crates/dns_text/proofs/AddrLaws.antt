@@ -1,6 +1,6 @@
 -- Addresses that are written are read back.
 use Rattle.std.proofs.Common.{◌≡◌, ℕ, ◌<◌, Bool, true, false, List, [], ◌∷◌, ◌++◌, length, get_or, Some, None, refl, ◌∙◌, arith, ne_eqb}
-use Rattle.std.specs.Prelude.{◌==◌, ◌&&◌, not, decimal, slice_index}
+use Rattle.std.specs.Prelude.{◌==◌, not, decimal, slice_index}
 use Rattle.std.specs.Char.{is_ascii_digit, digit_char}
 use Rattle.std.specs.Str.{all_ascii_digits}
 use Rattle.std.specs.List.{list_all}
@@ -9,10 +9,11 @@ use Rattle.std.specs.Net.Addr.{segments_of}
 use Rattle.std.proofs.lemmas.Bool.{and_parts, not-true, agree_below_at}
 use Rattle.std.proofs.lemmas.Bool.Decides.{nat_tests}
 use Rattle.std.proofs.lemmas.List.Folds.{list_all-append}
+use Rattle.std.specs.Cmp.Derive.{both_true}
 use Rattle.dns_text.specs.declared.addr.Ip.TheVariants.{V4, V6}
 use Rattle.dns_text.specs.declared.addr.Addr.{Addr}
 use Rattle.dns_text.specs.Word.{cut_at}
-use Rattle.dns_text.specs.Ipv4.{ipv4_in, dotted, ipv4_text}
+use Rattle.dns_text.specs.Ipv4.{ipv4_in, dotted_text, ipv4_text}
 use Rattle.dns_text.specs.Ipv6.{ipv6_text}
 use Rattle.dns_text.specs.Addr.{addr_in, ip_text, addr_text, IpReads}
 use Rattle.dns_text.proofs.NumberLaws.{digits-decimal, number_in-decimal}
@@ -37,36 +38,32 @@ cut_nowhere octet (c ∷ word) e =
     let here : (c == octet) ≡ false = not-true _ parts.0 in
     rw here (rw (cut_nowhere octet word parts.1) refl)
 
-both : (a b : Bool) → a ≡ true → b ≡ true → (a && b) ≡ true
-both true b e h = h
-both false b e h = absurd cc
-
 joined : (p : ℕ → Bool) (a b : List ℕ) → list_all p a ≡ true → list_all p b ≡ true → list_all p (a ++ b) ≡ true
-joined p a b e h = list_all-append p a b ∙ both _ _ e h
+joined p a b e h = list_all-append p a b ∙ both_true e h
 
 digit_other : (c : ℕ) → is_ascii_digit c ≡ true → other 64 c ≡ true
 digit_other c e = grind (arith, nat_tests)
 
 digits_other : (word : List ℕ) → all_ascii_digits word ≡ true → list_all (other 64) word ≡ true
 digits_other [] e = refl
-digits_other (c ∷ word) e = let parts = and_parts _ _ e in both _ _ (digit_other c parts.0) (digits_other word parts.1)
+digits_other (c ∷ word) e = let parts = and_parts _ _ e in both_true (digit_other c parts.0) (digits_other word parts.1)
 
 decimal_other : (n : ℕ) → n < 256 → list_all (other 64) (decimal n) ≡ true
 decimal_other n small = digits_other (decimal n) (digits-decimal n (omega arith))
 
-dotted_other : (n : ℕ) → n < 256 → list_all (other 64) (dotted n) ≡ true
+dotted_other : (n : ℕ) → n < 256 → list_all (other 64) (dotted_text n) ≡ true
 dotted_other n small = joined (other 64) (decimal n) (46 ∷ []) (decimal_other n small) refl
 
 ipv4_other : (octets : List ℕ) → ((i : ℕ) → get_or octets i 0 < 256) → list_all (other 64) (ipv4_text octets) ≡ true
 ipv4_other octets fits =
     let a = slice_index octets 0 in let b = slice_index octets 1 in let c = slice_index octets 2 in let d = slice_index octets 3 in
-    joined (other 64) (dotted a ++ dotted b ++ dotted c) (decimal d)
-    (joined (other 64) (dotted a ++ dotted b) (dotted c) (joined (other 64) (dotted a) (dotted b) (dotted_other a (fits 0)) (dotted_other b (fits 1))) (dotted_other c (fits 2)))
+    joined (other 64) (dotted_text a ++ dotted_text b ++ dotted_text c) (decimal d)
+    (joined (other 64) (dotted_text a ++ dotted_text b) (dotted_text c) (joined (other 64) (dotted_text a) (dotted_text b) (dotted_other a (fits 0)) (dotted_other b (fits 1))) (dotted_other c (fits 2)))
     (decimal_other d (fits 3))
 
 more_other : (p : ℕ → Bool) → ((d : ℕ) → d < 16 → p (digit_char d) ≡ true) → p 58 ≡ true → (segments : List ℕ) → AllGroups segments → list_all p (more_text segments) ≡ true
 more_other p digits colon [] h = refl
-more_other p digits colon (s ∷ segments) h = both _ _ colon (joined p (hex s) (more_text segments) (hex_all p digits s h.0) (more_other p digits colon segments h.1))
+more_other p digits colon (s ∷ segments) h = both_true colon (joined p (hex s) (more_text segments) (hex_all p digits s h.0) (more_other p digits colon segments h.1))
 
 groups_other : (p : ℕ → Bool) → ((d : ℕ) → d < 16 → p (digit_char d) ≡ true) → p 58 ≡ true → (segments : List ℕ) → AllGroups segments → list_all p (groups_text segments) ≡ true
 groups_other p digits colon [] h = refl

@@ -4,17 +4,17 @@ use Rattle.std.specs.Prelude.{◌==◌, ◌&&◌, option_map, if◌then◌else�
 use Rattle.std.specs.List.{slice_split, list_all}
 use Rattle.std.proofs.lemmas.Bool.{cases_Bool, and_parts, not-true}
 use Rattle.dns_text.specs.Word.{cut_at, with_first}
-use Rattle.dns_text.specs.Steps.{◌>>=◌}
-use Rattle.dns_text.specs.Ipv6.{group_in, with_word, octets_after, is_colon, groups_in, cut_at_gap, by_gap, head_after, behind_colon, behind_gap, finished, around_gap, ipv6_in}
+use Rattle.dns_name.specs.Options.{◌>>=◌}
+use Rattle.dns_text.specs.Ipv6.{group_in, with_word, octets_after, is_colon, groups_in, cut_at_gap, by_gap, head_after, behind_colon, behind_gap, address_of, around_gap, ipv6_in}
 use Rattle.dns_text.proofs.Ipv6Laws.{split_end, split_colon, no_colon}
 
 -- ---- what a cut at a colon says of `::`
 
-abbrev onto_parts : List ℕ → Option (List ℕ × List ℕ) → Option (List ℕ × List ℕ)
+abbrev pub onto_parts : List ℕ → Option (List ℕ × List ℕ) → Option (List ℕ × List ℕ)
 onto_parts word None = None
 onto_parts word (Some parts) = Some (word ++ 58 ∷ parts.0, parts.1)
 
-abbrev gap_behind : List ℕ → List ℕ → Option (List ℕ × List ℕ)
+abbrev pub gap_behind : List ℕ → List ℕ → Option (List ℕ × List ℕ)
 gap_behind word [] = None
 gap_behind word (c ∷ after) = if c == 58 then Some (word, after) else onto_parts word (cut_at_gap (c ∷ after))
 
@@ -43,7 +43,7 @@ gap_first (d ∷ after) = elim (cases_Bool (d == 58)) [
 gap_step : (c d : ℕ) (text : List ℕ) → is_colon c ≡ false → cut_at_gap (c ∷ d ∷ text) ≡ option_map (with_first c) (cut_at_gap (d ∷ text))
 gap_step c d text e = rw e refl
 
-gap_word : (word after : List ℕ) → list_all no_colon word ≡ true → cut_at_gap (word ++ 58 ∷ after) ≡ gap_behind word after
+pub gap_word : (word after : List ℕ) → list_all no_colon word ≡ true → cut_at_gap (word ++ 58 ∷ after) ≡ gap_behind word after
 gap_word [] after e = gap_first after
 gap_word (c ∷ []) after e =
     let parts = and_parts _ _ e in
@@ -52,7 +52,7 @@ gap_word (c ∷ d ∷ word) after e =
     let parts = and_parts _ _ e in
     gap_step c d (word ++ 58 ∷ after) (not-true _ parts.0) ∙ ap (option_map (with_first c)) (gap_word (d ∷ word) after parts.1) ∙ gap_more c (d ∷ word) after
 
-no_gap_in : (word : List ℕ) → list_all no_colon word ≡ true → cut_at_gap word ≡ None
+pub no_gap_in : (word : List ℕ) → list_all no_colon word ≡ true → cut_at_gap word ≡ None
 no_gap_in [] e = refl
 no_gap_in (c ∷ []) e = refl
 no_gap_in (c ∷ d ∷ word) e =
@@ -155,10 +155,10 @@ ends_last before text octets given cut is good = ap (λ (o : Option (List ℕ)).
 
 -- ---- a whole address
 
-abbrev finished_as : List ℕ × Option (List ℕ) → Option (List ℕ)
-finished_as r = finished r.0 r.1
+abbrev address_of_parts : List ℕ × Option (List ℕ) → Option (List ℕ)
+address_of_parts r = address_of r.0 r.1
 
-pub front_gap : (text back : List ℕ) → Some back ≡ behind_gap text → ipv6_in text ≡ finished [] (Some back)
+pub front_gap : (text back : List ℕ) → Some back ≡ behind_gap text → ipv6_in text ≡ address_of [] (Some back)
 unfolding ipv6_in groups_in
 front_gap [] back e = cc
 front_gap (a ∷ []) back e = cc
@@ -166,16 +166,16 @@ front_gap (a ∷ b ∷ text) back e = elim (cases_Bool (a == 58 && b == 58)) [
   | inl gap ↦
       let here : Some back ≡ Some text = e ∙ rw gap refl in
       let same : back ≡ text = cc in
-      rw gap (ap (λ (x : List ℕ). finished [] (Some x)) (sym same))
+      rw gap (ap (λ (x : List ℕ). address_of [] (Some x)) (sym same))
   | inr other ↦ let none : Some back ≡ None = e ∙ rw other refl in cc
 ]
 
-by_front : (a : ℕ) (text : List ℕ) (o : Option (List ℕ × List ℕ)) → around_gap (a ∷ text) (option_map (with_first a) o) ≡ (by_gap [] (a ∷ text) (option_map (with_first a) o) >>= finished_as)
+by_front : (a : ℕ) (text : List ℕ) (o : Option (List ℕ × List ℕ)) → around_gap (a ∷ text) (option_map (with_first a) o) ≡ (by_gap [] (a ∷ text) (option_map (with_first a) o) >>= address_of_parts)
 unfolding groups_in
-by_front a text None = sym (then_then (octets_after [] (slice_split is_colon (a ∷ text))) ended finished_as)
-by_front a text (Some parts) = sym (then_then (octets_after [] (slice_split is_colon (a ∷ parts.0))) (cut_off parts.1) finished_as)
+by_front a text None = sym (then_then (octets_after [] (slice_split is_colon (a ∷ text))) ended address_of_parts)
+by_front a text (Some parts) = sym (then_then (octets_after [] (slice_split is_colon (a ∷ parts.0))) (cut_off parts.1) address_of_parts)
 
-by_head : (text : List ℕ) → None ≡ behind_gap text → ipv6_in text ≡ (head_after [] text >>= finished_as)
+by_head : (text : List ℕ) → None ≡ behind_gap text → ipv6_in text ≡ (head_after [] text >>= address_of_parts)
 unfolding ipv6_in groups_in group_in octets_after
 by_head [] e = refl
 by_head (a ∷ []) e = by_front a [] None
@@ -185,7 +185,7 @@ by_head (a ∷ b ∷ text) e = elim (cases_Bool (a == 58 && b == 58)) [
 ]
 
 pub no_head : (text : List ℕ) → None ≡ behind_gap text → None ≡ head_after [] text → None ≡ ipv6_in text
-no_head text none e = ap (λ (o : Option (List ℕ × Option (List ℕ))). o >>= finished_as) e ∙ sym (by_head text none)
+no_head text none e = ap (λ (o : Option (List ℕ × Option (List ℕ))). o >>= address_of_parts) e ∙ sym (by_head text none)
 
-pub head_and : (text head : List ℕ) (back : Option (List ℕ)) → None ≡ behind_gap text → Some (head, back) ≡ head_after [] text → finished head back ≡ ipv6_in text
-head_and text head back none e = ap (λ (o : Option (List ℕ × Option (List ℕ))). o >>= finished_as) e ∙ sym (by_head text none)
+pub head_and : (text head : List ℕ) (back : Option (List ℕ)) → None ≡ behind_gap text → Some (head, back) ≡ head_after [] text → address_of head back ≡ ipv6_in text
+head_and text head back none e = ap (λ (o : Option (List ℕ × Option (List ℕ))). o >>= address_of_parts) e ∙ sym (by_head text none)

@@ -1,6 +1,6 @@
 -- IPv6 addresses that are written are read back.
 use Rattle.std.proofs.Common.{zero, suc, map, le-ltb, lt-ltb, le-leb, eq-eqb, length-drop, ◌≡◌, ℕ, ◌+◌, ◌*◌, ◌/◌, ◌%◌, ◌<◌, ◌≤◌, Bool, true, false, List, [], ◌∷◌, ◌++◌, length, get_or, drop, Option, Some, None, refl, sym, ap, ◌∙◌, arith, append_assoc, length-append, inl, inr, flat_map}
-use Rattle.std.specs.Prelude.{◌==◌, ◌&&◌, not, slice_index, option_map, MatchOption}
+use Rattle.std.specs.Prelude.{◌==◌, not, slice_index, option_map, MatchOption}
 use Rattle.std.specs.Borrow.{Bor}
 use Rattle.std.specs.Char.{digit_value, digit_char}
 use Rattle.std.specs.Net.Text.{hex, leading_zero_digits, groups_text}
@@ -9,9 +9,10 @@ use Rattle.std.specs.List.{slice_split, onto_first, list_all, AllByRecursion}
 use Rattle.std.proofs.lemmas.Bool.{cases_Bool, cases_lt, lt-leb, and_parts, not-true, agree_below_at}
 use Rattle.std.proofs.lemmas.Bool.Decides.{nat_tests}
 use Rattle.std.proofs.lemmas.List.{append-nil}
+use Rattle.std.specs.Cmp.Derive.{both_true}
 use Rattle.dns_text.specs.Word.{cut_at, with_first}
 use Rattle.dns_text.specs.declared.word.Within.TheVariants.{Plain}
-use Rattle.dns_text.specs.Ipv6.{hex_in, four_in, group_in, octets_after, is_colon, groups_in, cut_at_gap, whole, ipv6_in, ipv6_text}
+use Rattle.dns_text.specs.Ipv6.{hex_in, four_in, group_in, octets_after, is_colon, groups_in, cut_at_gap, whole_address, ipv6_in, ipv6_text}
 use Rattle.dns_text.proofs.WordLaws.{scanned, IsWord, is_plain, plain_scanned, joined_scanned}
 
 -- the pieces between colons, by the first colon
@@ -80,15 +81,11 @@ all-drop p zero xs e = e
 all-drop p (suc k) [] e = e
 all-drop p (suc k) (x ∷ xs) e = all-drop p k xs (and_parts _ _ e).1
 
-both : (a b : Bool) → a ≡ true → b ≡ true → (a && b) ≡ true
-both true b e h = h
-both false b e h = absurd cc
-
 -- what holds of the sixteen digits holds of a group's text
 pub hex_all : (p : ℕ → Bool) → ((d : ℕ) → d < 16 → p (digit_char d) ≡ true) → (n : ℕ) → n < 65536 → list_all p (hex n) ≡ true
 unfolding hex
 hex_all p digits n fits = all-drop p (leading_zero_digits n) _
-    (both _ _ (digits (n / 4096) (omega arith)) (both _ _ (digits (n / 256 % 16) (omega arith)) (both _ _ (digits (n / 16 % 16) (omega arith)) (both _ _ (digits (n % 16) (omega arith)) refl))))
+    (both_true (digits (n / 4096) (omega arith)) (both_true (digits (n / 256 % 16) (omega arith)) (both_true (digits (n / 16 % 16) (omega arith)) (both_true (digits (n % 16) (omega arith)) refl))))
 
 abbrev pub no_colon : ℕ → Bool
 no_colon c = not (is_colon c)
@@ -198,7 +195,7 @@ more_scanned [] h = nothing_scanned
 more_scanned (s ∷ segments) h =
     joined_scanned (58 ∷ []) (hex s ++ more_text segments) colon_scanned (joined_scanned (hex s) (more_text segments) (plain_scanned (hex s) (hex_all is_plain plain_digit s h.0)) (more_scanned segments h.1))
 
-whole_read : (octets : List ℕ) → length octets ≡ 16 → whole octets ≡ Some octets
+whole_read : (octets : List ℕ) → length octets ≡ 16 → whole_address octets ≡ Some octets
 whole_read octets e = rw (eq-eqb (length octets) 16 e) refl
 
 by_segments : (segs octets : List ℕ) → octets_of segs ≡ octets → length segs ≡ 8 → AllGroups segs → length octets ≡ 16 → (ipv6_in (groups_text segs) ≡ Some octets) × IsWord (groups_text segs)

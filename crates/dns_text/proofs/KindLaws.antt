@@ -5,15 +5,13 @@ use Rattle.std.specs.Str.{str_eq_ignore_ascii_case}
 use Rattle.std.specs.List.{list_all}
 use Rattle.std.proofs.lemmas.Bool.{cases_Bool, and_parts, eqb-true, not-true}
 use borrow.Author.Tests.{ltb-true}
+use Rattle.dns_name.specs.ResultLaws.{some_same}
 use Rattle.dns_text.specs.declared.word.Within.{Within}
 use Rattle.dns_text.specs.declared.word.Within.TheVariants.{Plain, Quotes, Escape, QuotedEscape}
-use Rattle.dns_text.specs.Kind.{Entry, types, by_number, by_name, numbered, number_or, is_excluded, name_or_number, type_in, type_text}
+use Rattle.dns_text.specs.Kind.{Entry, types, by_number, by_name, type_number, number_or, is_excluded, name_or_number, type_in, type_text}
 use Rattle.dns_text.specs.Record.{is_class}
 use Rattle.dns_text.proofs.NumberLaws.{digits-decimal, short_number_in-decimal}
 use Rattle.dns_text.proofs.WordLaws.{scanned, IsWord, joined_scanned, digits_scanned}
-
-some_same : {A : Type 0} {x y : A} → Some x ≡ Some y → x ≡ y
-some_same e = cc
 
 -- a table's entry that has another name
 pub by_name_other : {X : Type 0} (f : X → Entry) (word : List ℕ) (items : List X) (i : ℕ) (d : X) → i < length items → str_eq_ignore_ascii_case (f (get_or items i d)).1 word ≡ false → by_name word (map f (drop (i + 1) items)) ≡ by_name word (map f (drop i items))
@@ -68,7 +66,7 @@ type_by_name digits = refl
 -- what a type is written as
 pub record ReadsBack (kind : ℕ) (word : List ℕ) : Type 0 where
   pub is_word : IsWord word
-  pub value : number_or (numbered word) (by_name word types) ≡ Some kind
+  pub value : number_or (type_number word) (by_name word types) ≡ Some kind
 
 type_scanned : scanned Plain (84 ∷ 89 ∷ 80 ∷ 69 ∷ []) ≡ Some Plain
 unfolding scanned
@@ -81,7 +79,7 @@ back t kind same h =
     let more = and_parts _ _ parts.1 in
     record {
       is_word = record { some = ltb-true 0 (length t.1) more.1; closed = closed_word (scanned Plain t.1) more.0 };
-      value = named_entry (by_name t.1 types) t.0 (numbered t.1) parts.0 ∙ ap (λ (k : ℕ). let o : Option ℕ = Some k in o) same;
+      value = named_entry (by_name t.1 types) t.0 (type_number t.1) parts.0 ∙ ap (λ (k : ℕ). let o : Option ℕ = Some k in o) same;
     }
 
 text_reads_back : (kind : ℕ) (o : Option Entry) → kind < 65536 → by_number kind types ≡ o → ReadsBack kind (name_or_number kind o)

@@ -1,3 +1,4 @@
+pub mod OptionLaws
 pub mod NumberLaws
 pub mod KindLaws
 pub mod WordLaws
@@ -5,9 +6,16 @@ pub mod NameLaws
 pub mod Ipv4Laws
 pub mod Ipv6Laws
 pub mod Ipv6Head
+pub mod Ipv6Reading
 pub mod FieldLaws
 pub mod OpaqueLaws
 pub mod StringLaws
 pub mod DataLaws
 pub mod RecordLaws
 pub mod AddrLaws
+pub mod EqualLaws
+pub mod StringReading
+pub mod FieldReading
+pub mod DataReading
+pub mod RecordReading
+pub mod Ipv4Reading

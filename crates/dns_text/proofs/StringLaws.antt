@@ -1,5 +1,5 @@
 -- Strings that are written in quotes are read back.
-use Rattle.std.proofs.Common.{◌≡◌, ℕ, zero, suc, ◌+◌, ◌-◌, ◌/◌, ◌%◌, ◌<◌, ◌≤◌, Bool, true, false, List, [], ◌∷◌, ◌++◌, length, get_or, drop, Option, Some, None, refl, sym, ap, ◌∙◌, arith, append_assoc, length-append, inl, inr, le-ltb, lt-ltb, eqb, eq-eqb, ne_eqb, ◌≢◌}
+use Rattle.std.proofs.Common.{◌≡◌, ℕ, zero, suc, ◌+◌, ◌-◌, ◌/◌, ◌%◌, ◌<◌, ◌≤◌, Bool, true, false, List, [], ◌∷◌, ◌++◌, length, drop, Option, Some, None, refl, sym, ap, ◌∙◌, arith, append_assoc, length-append, inl, inr, le-ltb, lt-ltb, eqb, eq-eqb, ne_eqb, ◌≢◌}
 use Rattle.std.specs.Prelude.{◌==◌, ◌&&◌, ◌||◌, ◌⊎◌, not, nat_lt, if◌then◌else◌}
 use Rattle.std.specs.List.{flat_map, AllByRecursion}
 use Rattle.std.specs.Char.{is_ascii_digit, is_ascii_graphic}
@@ -10,13 +10,13 @@ use Rattle.dns_name.specs.Text.{decimal}
 use Rattle.dns_text.specs.declared.word.Within.{Within}
 use Rattle.dns_text.specs.declared.word.Within.TheVariants.{Plain, Quotes, Escape, QuotedEscape}
 use Rattle.dns_text.specs.Word.{next_word}
-use Rattle.dns_text.specs.Steps.{◌>>=◌}
-use Rattle.dns_text.specs.String.{octet_at, octets_after, before_last_quote, string_in, then_string, strings_after, some_strings, strings_in, quoted_octet, quoted, strings_text}
+use Rattle.dns_name.specs.Options.{◌>>=◌}
+use Rattle.dns_text.specs.String.{octet_at, octets_after, before_last_quote, string_in, then_string, strings_after, some_strings, strings_in, quoted_octet, quoted_text, strings_text}
 use Rattle.dns_text.proofs.WordLaws.{scanned, IsWord, EndsWord, scanned-append, next_word-front, rest_length, next_less}
 
 -- ---- one octet after another
 
-octets-skip : (before : List ℕ) (skip : ℕ) (text : List ℕ) → octets_after before skip text ≡ octets_after before 0 (drop skip text)
+pub octets-skip : (before : List ℕ) (skip : ℕ) (text : List ℕ) → octets_after before skip text ≡ octets_after before 0 (drop skip text)
 unfolding octets_after
 octets-skip before zero text = refl
 octets-skip before (suc skip) [] = refl
@@ -27,12 +27,12 @@ unfolding octets_after
 octets_step before [] b k some more here room = absurd (omega arith)
 octets_step before (c ∷ text) b zero some more here room = absurd (omega arith)
 octets_step before (c ∷ text) b (suc k) some more here room =
-    rw here (rw (le-ltb 254 (length before) (omega arith)) (let one : suc k - 1 ≡ k = omega arith in rw one (octets-skip (before ++ b ∷ []) k text)))
+    rw here (rw (lt-ltb (length before) 255 (omega arith)) (let one : suc k - 1 ≡ k = omega arith in rw one (octets-skip (before ++ b ∷ []) k text)))
 
 pub octets_full : (before text : List ℕ) (b k : ℕ) → 0 < length text → octet_at text ≡ Some (b, k) → 255 ≤ length before → octets_after before 0 text ≡ None
 unfolding octets_after
 octets_full before [] b k some here full = absurd (omega arith)
-octets_full before (c ∷ text) b k some here full = rw here (rw (lt-ltb 254 (length before) (omega arith)) refl)
+octets_full before (c ∷ text) b k some here full = rw here (rw (le-ltb (length before) 255 (omega arith)) refl)
 
 pub octets_bad : (before text : List ℕ) → 0 < length text → octet_at text ≡ None → octets_after before 0 text ≡ None
 unfolding octets_after
@@ -62,14 +62,6 @@ pub other_ends : (text front : List ℕ) (c : ℕ) → text ≡ front ++ c ∷ [
 other_ends text front c e other = ap before_last_quote e ∙ last_quote front c ∙ rw (ne_eqb c 34 other) refl
 
 -- ---- one string after another
-
-pub all_push : {X : Type 0} (P : X → Type 0) (xs : List X) (y : X) → AllByRecursion P xs → P y → AllByRecursion P (xs ++ y ∷ [])
-all_push P [] y h one = (one, tt)
-all_push P (x ∷ xs) y h one = (h.0, all_push P xs y h.1 one)
-
-pub all_octets : (octets : List ℕ) → ((i : ℕ) → get_or octets i 0 < 256) → AllByRecursion (λ b. b < 256) octets
-all_octets [] fits = tt
-all_octets (b ∷ octets) fits = (fits 0, all_octets octets (λ i. fits (suc i)))
 
 pub strings_end : (before : List (List ℕ)) (n : ℕ) (text : List ℕ) → next_word text ≡ None → strings_after before n text ≡ Some before
 unfolding strings_after
@@ -164,7 +156,7 @@ pub record IsString (octets : List ℕ) : Type 0 where
   pub each : AllByRecursion (λ b. b < 256) octets
   pub few : length octets < 256
 
-string_again : (octets : List ℕ) → IsString octets → string_in (quoted octets) ≡ Some octets
+string_again : (octets : List ℕ) → IsString octets → string_in (quoted_text octets) ≡ Some octets
 unfolding string_in
 string_again octets h = rw (last_quote (flat_map quoted_octet octets) 34) (octets_read [] octets h.each (omega (arith, h.few)))
 
@@ -197,12 +189,12 @@ inside_scanned (b ∷ octets) each =
     ap (scanned Quotes) (append_assoc (quoted_octet b) (flat_map quoted_octet octets) (34 ∷ []))
     ∙ scanned-append (quoted_octet b) Quotes (flat_map quoted_octet octets ++ 34 ∷ []) Quotes (octet_scanned b each.0) ∙ inside_scanned octets each.1
 
-quoted_is_word : (octets : List ℕ) → IsString octets → IsWord (quoted octets)
+quoted_is_word : (octets : List ℕ) → IsString octets → IsWord (quoted_text octets)
 unfolding scanned
 quoted_is_word octets h = record { some = omega arith; closed = inside_scanned octets h.each }
 
 abbrev more_strings : List (List ℕ) → List ℕ
-more_strings strings = flat_map (λ s. 32 ∷ quoted s) strings
+more_strings strings = flat_map (λ s. 32 ∷ quoted_text s) strings
 
 more_ends : (strings : List (List ℕ)) → EndsWord (more_strings strings)
 more_ends [] = tt
@@ -214,13 +206,13 @@ strings_read before [] zero each few = ap (λ (x : List (List ℕ)). let o : Opt
 strings_read before [] (suc n) each few = ap (λ (x : List (List ℕ)). let o : Option (List (List ℕ)) = Some x in o) (sym (append-nil before))
 strings_read before (s ∷ strings) zero each few = absurd (omega arith)
 strings_read before (s ∷ strings) (suc n) each few =
-    let first : next_word (32 ∷ (quoted s ++ more_strings strings)) ≡ Some (quoted s, more_strings strings) = next_word-front (quoted s) (more_strings strings) (quoted_is_word s each.0) (more_ends strings) in
+    let first : next_word (32 ∷ (quoted_text s ++ more_strings strings)) ≡ Some (quoted_text s, more_strings strings) = next_word-front (quoted_text s) (more_strings strings) (quoted_is_word s each.0) (more_ends strings) in
     ap (then_string before (λ strings rest. strings_after strings n rest)) first ∙ rw (string_again s each.0)
     (strings_read (before ++ s ∷ []) strings n each.1 (omega arith) ∙ ap (λ (x : List (List ℕ)). let o : Option (List (List ℕ)) = Some x in o) (append_assoc before (s ∷ []) strings))
 
 more_long : (strings : List (List ℕ)) → length strings ≤ length (more_strings strings)
 more_long [] = omega arith
-more_long (s ∷ strings) = omega (arith, more_long strings, length-append (32 ∷ quoted s) (more_strings strings))
+more_long (s ∷ strings) = omega (arith, more_long strings, length-append (32 ∷ quoted_text s) (more_strings strings))
 
 -- a blank before the first word changes nothing
 strings_blank : (before : List (List ℕ)) (n : ℕ) (text : List ℕ) → strings_after before (suc n) (32 ∷ text) ≡ strings_after before (suc n) text
@@ -231,10 +223,10 @@ pub strings_again : (strings : List (List ℕ)) → 0 < length strings → AllBy
 unfolding strings_in
 strings_again [] some each = absurd (omega arith)
 strings_again (s ∷ strings) some each =
-    let text : List ℕ = quoted s ++ more_strings strings in
+    let text : List ℕ = quoted_text s ++ more_strings strings in
     let n : ℕ = length (flat_map quoted_octet s ++ 34 ∷ [] ++ more_strings strings) in
-    let long : length text ≡ suc n = omega (arith, length-append (quoted s) (more_strings strings), ap length (append_assoc (flat_map quoted_octet s) (34 ∷ []) (more_strings strings)), length-append (flat_map quoted_octet s) (34 ∷ []), length-append (flat_map quoted_octet s) (34 ∷ [] ++ more_strings strings)) in
-    let read : strings_after [] (suc n) text ≡ Some (s ∷ strings) = sym (strings_blank [] n text) ∙ strings_read [] (s ∷ strings) (suc n) each (omega (arith, more_long strings, length-append (quoted s) (more_strings strings))) in
+    let long : length text ≡ suc n = omega (arith, length-append (quoted_text s) (more_strings strings), ap length (append_assoc (flat_map quoted_octet s) (34 ∷ []) (more_strings strings)), length-append (flat_map quoted_octet s) (34 ∷ []), length-append (flat_map quoted_octet s) (34 ∷ [] ++ more_strings strings)) in
+    let read : strings_after [] (suc n) text ≡ Some (s ∷ strings) = sym (strings_blank [] n text) ∙ strings_read [] (s ∷ strings) (suc n) each (omega (arith, more_long strings, length-append (quoted_text s) (more_strings strings))) in
     let whole : strings_after [] (length text) text ≡ Some (s ∷ strings) = ap (λ (k : ℕ). strings_after [] k text) long ∙ read in
     rw whole refl
 

@@ -4,11 +4,12 @@ use Rattle.std.specs.List.{list_all}
 use Rattle.dns_text.specs.declared.addr.Ip.{Ip}
 use Rattle.dns_text.specs.declared.addr.Ip.TheVariants.{V4, V6}
 use Rattle.dns_text.specs.declared.addr.Addr.{Addr}
+use Rattle.dns_text.specs.declared.number.TheConstants.{MOST_16}
 use Rattle.dns_text.specs.Number.{number_in, unless_zero}
 use Rattle.dns_text.specs.Word.{cut_at}
 use Rattle.dns_text.specs.Ipv4.{ipv4_in, ipv4_text}
 use Rattle.dns_text.specs.Ipv6.{ipv6_in, ipv6_text}
-use Rattle.dns_text.specs.Steps.{◌>>=◌}
+use Rattle.dns_name.specs.Options.{◌>>=◌}
 
 abbrev pub v4_or_v6 : List ℕ → Option (List ℕ) → Option Ip
 v4_or_v6 word (Some octets) = Some (V4 octets)
@@ -18,7 +19,7 @@ abbrev pub ip_in : List ℕ → Option Ip
 ip_in word = v4_or_v6 word (ipv4_in word)
 
 abbrev pub port_in : List ℕ → Option ℕ
-port_in word = number_in 65535 word >>= unless_zero
+port_in word = number_in MOST_16 word >>= unless_zero
 
 abbrev pub addr_of : List ℕ → ℕ → Option Addr
 addr_of word port = option_map (λ ip. record { ip = ip; port = port }) (ip_in word)

@@ -2,10 +2,10 @@
 use Rattle.std.specs.Prelude.{ℕ, List, Option, Some, None, option_map, Result, Ok, Err}
 use Rattle.dns_name.specs.declared.fault.NameFault.{NameFault}
 use Rattle.dns_name.specs.Labels.{Labels}
-use Rattle.dns_name.specs.Text.{name_in}
+use Rattle.dns_name.specs.Reading.{name_in}
 use Rattle.dns_text.specs.Number.{number_in}
 use Rattle.dns_text.specs.Word.{next_word, only_word}
-use Rattle.dns_text.specs.Steps.{◌>>=◌}
+use Rattle.dns_name.specs.Options.{◌>>=◌}
 
 abbrev pub name_or_none : Result Labels NameFault → Option Labels
 name_or_none (Ok name) = Some name

@@ -1,11 +1,53 @@
--- IPv6 addresses as text: groups of hexadecimal digits with colons between them.
-use Rattle.std.specs.Prelude.{ℕ, ◌+◌, ◌-◌, ◌*◌, ◌/◌, ◌%◌, Bool, ◌&&◌, List, [], ◌∷◌, ◌++◌, length, replicate, Option, Some, None, nat_lt, ◌==◌, if◌then◌else◌, option_map}
-use Rattle.std.specs.List.{slice_split}
+-- IPv6 addresses as text (RFC 4291, section 2.2, without its third form, which ends as an IPv4 address): what a text
+-- stands for, how it is read, and how an address is written.
+use Rattle.std.specs.Prelude.{◌≡◌, ◌⊎◌, ◌↔◌, ℕ, ◌+◌, ◌-◌, ◌*◌, ◌/◌, ◌%◌, ◌<◌, ◌≤◌, Bool, ◌&&◌, List, [], ◌∷◌, ◌++◌, length, replicate, Option, Some, None, nat_lt, ◌==◌, if◌then◌else◌, option_map}
+use Rattle.std.specs.List.{slice_split, join_with_byte}
 use Rattle.std.specs.Char.{digit_value}
+use Rattle.std.specs.Str.Parse.{IsNumeral, digits_value}
 use Rattle.std.specs.Net.Text.{groups_text}
-use Rattle.std.specs.Net.Addr.{segments_of}
+use Rattle.std.specs.Net.Addr.{segments_of, octets_of}
+use Rattle.dns_name.specs.Text.{EachPair}
 use Rattle.dns_text.specs.Word.{with_first}
-use Rattle.dns_text.specs.Steps.{◌>>=◌}
+use Rattle.dns_name.specs.Options.{◌>>=◌}
+
+-- ---- what a text stands for
+
+-- A group is written as one to four hexadecimal digits.
+pub record IsGroupText (digits : List ℕ) (group : ℕ) : Type 0 where
+  pub numeral : IsNumeral 16 digits
+  pub few : length digits ≤ 4
+  pub value : group ≡ digits_value 16 digits
+
+-- Groups are written with a colon (58) between each two.
+pub record AreGroups (text : List ℕ) (groups : List ℕ) : Type 0 where
+  pub texts : List (List ℕ)
+  pub joined : text ≡ join_with_byte 58 texts
+  pub each : EachPair IsGroupText texts groups
+
+-- eight groups of 16 bits, the high octet of each first
+pub record IsEightGroups (text octets : List ℕ) : Type 0 where
+  pub groups : List ℕ
+  pub written : AreGroups text groups
+  pub eight : length groups ≡ 8
+  pub value : octets ≡ octets_of groups
+
+-- some groups, `::`, and some groups, fewer than eight together: the gap stands for the groups of zero that are missing
+pub record IsGapped (text octets : List ℕ) : Type 0 where
+  pub front : List ℕ
+  pub back : List ℕ
+  pub before : List ℕ
+  pub after : List ℕ
+  pub parts : text ≡ front ++ 58 ∷ 58 ∷ back
+  pub written_before : AreGroups front before
+  pub written_after : AreGroups back after
+  pub fewer : length before + length after < 8
+  pub value : octets ≡ octets_of (before ++ replicate (8 - (length before + length after)) 0 ++ after)
+
+-- The text stands for the address of these octets.
+abbrev pub IsIpv6Text : List ℕ → List ℕ → Type 0
+IsIpv6Text text octets = IsEightGroups text octets ⊎ IsGapped text octets
+
+-- ---- reading
 
 abbrev pub hex_in : ℕ → Option ℕ
 hex_in c = if nat_lt (digit_value c) 16 then Some (digit_value c) else None
@@ -74,24 +116,30 @@ abbrev pub head_after : List ℕ → List ℕ → Option (List ℕ × Option (Li
 head_after before text = by_gap before text (cut_at_gap text)
 
 -- `::` stands for one group of zero or more
-abbrev pub elided : List ℕ → List ℕ → Option (List ℕ)
-elided head tail = if nat_lt 14 (length head + length tail) then None else Some (head ++ replicate (16 - (length head + length tail)) 0 ++ tail)
+abbrev pub with_zeros : List ℕ → List ℕ → Option (List ℕ)
+with_zeros head tail = if nat_lt 14 (length head + length tail) then None else Some (head ++ replicate (16 - (length head + length tail)) 0 ++ tail)
 
-abbrev pub whole : List ℕ → Option (List ℕ)
-whole octets = if length octets == 16 then Some octets else None
+abbrev pub whole_address : List ℕ → Option (List ℕ)
+whole_address octets = if length octets == 16 then Some octets else None
 
 -- the address of groups before `::`, where it stands, and of what stands behind it
-abbrev pub finished : List ℕ → Option (List ℕ) → Option (List ℕ)
-finished head None = whole head
-finished head (Some back) = groups_in back >>= elided head
+abbrev pub address_of : List ℕ → Option (List ℕ) → Option (List ℕ)
+address_of head None = whole_address head
+address_of head (Some back) = groups_in back >>= with_zeros head
 
 abbrev pub around_gap : List ℕ → Option (List ℕ × List ℕ) → Option (List ℕ)
-around_gap text None = groups_in text >>= λ head. finished head None
-around_gap text (Some parts) = groups_in parts.0 >>= λ head. finished head (Some parts.1)
+around_gap text None = groups_in text >>= λ head. address_of head None
+around_gap text (Some parts) = groups_in parts.0 >>= λ head. address_of head (Some parts.1)
 
 -- eight groups, or fewer around `::`
 unfoldable pub ipv6_in : List ℕ → Option (List ℕ)
 ipv6_in text = around_gap text (cut_at_gap text)
+
+-- An address is read from a text exactly where the text stands for it.
+abbrev pub ReadsIpv6 : Type 0
+ReadsIpv6 = (text octets : List ℕ) → (ipv6_in text ≡ Some octets) ↔ IsIpv6Text text octets
+
+-- ---- writing
 
 -- eight groups
 abbrev pub ipv6_text : List ℕ → List ℕ

@@ -1,10 +1,12 @@
 -- The types of records: their numbers, their names and the forms of their data.
-use Rattle.std.specs.Prelude.{ℕ, Bool, ◌||◌, ◌&&◌, List, [], ◌∷◌, ◌++◌, Option, Some, None, ◌==◌, nat_lt, if◌then◌else◌, codes, decimal}
+use Rattle.std.specs.Prelude.{ℕ, Bool, ◌||◌, ◌&&◌, List, [], ◌∷◌, ◌++◌, Option, Some, None, ◌==◌, nat_le, if◌then◌else◌, codes, decimal}
 use Rattle.std.specs.Str.{str_eq_ignore_ascii_case}
 use Rattle.dns_text.specs.declared.kind.Form.{Form}
 use Rattle.dns_text.specs.declared.kind.Form.TheVariants.{A, Aaaa, Name, Mx, Soa, Txt, Srv, Opaque}
+use Rattle.dns_text.specs.declared.number.TheConstants.{MOST_16}
+use Rattle.dns_text.specs.declared.types.TheConstants as number
 use Rattle.dns_text.specs.Number.{short_number_in}
-use Rattle.dns_text.specs.Steps.{◌>>=◌}
+use Rattle.dns_name.specs.Options.{◌>>=◌}
 
 -- number, name and form
 abbrev pub Entry : Type 0
@@ -13,8 +15,8 @@ Entry = ℕ × List ℕ × Form
 -- the types that have a name
 abbrev pub types : List Entry
 types =
-    (1, codes "A", A) ∷ (2, codes "NS", Name) ∷ (5, codes "CNAME", Name) ∷ (6, codes "SOA", Soa) ∷ (12, codes "PTR", Name) ∷ (15, codes "MX", Mx)
-    ∷ (16, codes "TXT", Txt) ∷ (28, codes "AAAA", Aaaa) ∷ (33, codes "SRV", Srv) ∷ (35, codes "NAPTR", Opaque) ∷ (39, codes "DNAME", Opaque) ∷ []
+    (number.A, codes "A", A) ∷ (number.NS, codes "NS", Name) ∷ (number.CNAME, codes "CNAME", Name) ∷ (number.SOA, codes "SOA", Soa) ∷ (number.PTR, codes "PTR", Name) ∷ (number.MX, codes "MX", Mx)
+    ∷ (number.TXT, codes "TXT", Txt) ∷ (number.AAAA, codes "AAAA", Aaaa) ∷ (number.SRV, codes "SRV", Srv) ∷ (number.NAPTR, codes "NAPTR", Opaque) ∷ (number.DNAME, codes "DNAME", Opaque) ∷ []
 
 unfoldable pub by_number : ℕ → List Entry → Option Entry
 by_number kind [] = None
@@ -34,16 +36,17 @@ abbrev pub form_of : ℕ → Form
 form_of kind = form_or_opaque (by_number kind types)
 
 -- the number n of `TYPEn`
-abbrev pub numbered : List ℕ → Option ℕ
-numbered [] = None
-numbered (t ∷ []) = None
-numbered (t ∷ y ∷ []) = None
-numbered (t ∷ y ∷ p ∷ []) = None
-numbered (t ∷ y ∷ p ∷ e ∷ digits) = if str_eq_ignore_ascii_case (codes "TYPE") (t ∷ y ∷ p ∷ e ∷ []) then short_number_in 65535 digits else None
+abbrev pub type_number : List ℕ → Option ℕ
+type_number [] = None
+type_number (t ∷ []) = None
+type_number (t ∷ y ∷ []) = None
+type_number (t ∷ y ∷ p ∷ []) = None
+type_number (t ∷ y ∷ p ∷ e ∷ digits) = if str_eq_ignore_ascii_case (codes "TYPE") (t ∷ y ∷ p ∷ e ∷ []) then short_number_in MOST_16 digits else None
 
 -- types that no record has: obsolete ones of mail, those of questions alone, and OPT
 abbrev pub is_excluded : ℕ → Bool
-is_excluded n = n == 3 || n == 4 || n == 7 || n == 8 || n == 9 || n == 14 || n == 41 || (nat_lt 250 n && nat_lt n 256)
+is_excluded n =
+    n == number.MD || n == number.MF || n == number.MB || n == number.MG || n == number.MR || n == number.MINFO || n == number.OPT || (nat_le number.IXFR n && nat_le n number.ANY)
 
 abbrev pub number_or : Option ℕ → Option Entry → Option ℕ
 number_or other None = other
@@ -54,7 +57,7 @@ unless_excluded kind = if is_excluded kind then None else Some kind
 
 -- the type that a word names
 unfoldable pub type_in : List ℕ → Option ℕ
-type_in word = number_or (numbered word) (by_name word types) >>= unless_excluded
+type_in word = number_or (type_number word) (by_name word types) >>= unless_excluded
 
 abbrev pub name_or_number : ℕ → Option Entry → List ℕ
 name_or_number kind None = codes "TYPE" ++ decimal kind

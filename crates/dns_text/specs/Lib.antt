@@ -1,4 +1,3 @@
-pub mod Steps
 pub mod Fault
 pub mod Number
 pub mod Word
@@ -12,3 +11,4 @@ pub mod Addr
 pub mod Data
 pub mod Equal
 pub mod Record
+pub mod Laws

@@ -1,11 +1,39 @@
--- Data of types without a form of their own: a mark, a count of octets and the octets as hexadecimal digits.
-use Rattle.std.specs.Prelude.{ℕ, List, [], ◌∷◌, ◌++◌, length, Option, Some, None, Result, Ok, Err, ◌==◌, if◌then◌else◌, codes, decimal}
+-- Data of types without a form of their own (RFC 3597, section 5): what a text stands for, how it is read, and how octets are written.
+use Rattle.std.specs.Prelude.{◌≡◌, ℕ, List, [], ◌∷◌, ◌++◌, length, Option, Some, None, Result, Ok, Err, ◌==◌, if◌then◌else◌, codes, decimal}
 use Rattle.std.specs.Str.{bytes_eq}
 use Rattle.hex.specs.declared.error.FromHexError.{FromHexError}
 use Rattle.hex.specs.Hex.{decode_of, encode_lower}
-use Rattle.dns_text.specs.Word.{next_word, unless_more}
+use Rattle.dns_text.specs.declared.number.TheConstants.{MOST_16}
+use Rattle.dns_text.specs.Number.{IsNumberText}
+use Rattle.dns_text.specs.Word.{AreWords, next_word, unless_more}
 use Rattle.dns_text.specs.Field.{number_at}
-use Rattle.dns_text.specs.Steps.{◌>>=◌}
+use Rattle.dns_name.specs.Options.{◌>>=◌}
+
+-- ---- what a text stands for
+
+abbrev pub ok_or_none : Result (List ℕ) FromHexError → Option (List ℕ)
+ok_or_none (Ok octets) = Some octets
+ok_or_none (Err fault) = None
+
+-- the octets that pairs of hexadecimal digits stand for, in small letters or capitals
+abbrev pub octets_of_hex : List ℕ → Option (List ℕ)
+octets_of_hex digits = ok_or_none (decode_of digits)
+
+-- one word of hexadecimal digits, or none where there are no octets
+abbrev pub AreHexWords : List (List ℕ) → List ℕ → Type 0
+AreHexWords [] octets = octets ≡ []
+AreHexWords (digits ∷ []) octets = octets_of_hex digits ≡ Some octets
+AreHexWords (digits ∷ more ∷ words) octets = ⊥
+
+-- The mark `\#`, how many octets there are, and the octets as hexadecimal digits.
+pub record IsOpaqueText (text octets : List ℕ) : Type 0 where
+  pub count : List ℕ
+  pub digits : List (List ℕ)
+  pub parts : AreWords text (codes "\\#" ∷ count ∷ digits)
+  pub number : IsNumberText MOST_16 count (length octets)
+  pub hex : AreHexWords digits octets
+
+-- ---- reading
 
 abbrev pub or_nothing : Option (List ℕ × List ℕ) → Option (List ℕ)
 or_nothing None = Some []
@@ -15,32 +43,26 @@ or_nothing (Some first) = unless_more first.0 (next_word first.1)
 abbrev pub word_or_nothing : List ℕ → Option (List ℕ)
 word_or_nothing text = or_nothing (next_word text)
 
-abbrev pub ok_or_none : Result (List ℕ) FromHexError → Option (List ℕ)
-ok_or_none (Ok octets) = Some octets
-ok_or_none (Err fault) = None
+abbrev pub behind_mark : List ℕ → List ℕ → Option (List ℕ)
+behind_mark word rest = if bytes_eq word (codes "\\#") then Some rest else None
 
--- the octets that pairs of hexadecimal digits stand for, in small letters or capitals
-abbrev pub unhexed : List ℕ → Option (List ℕ)
-unhexed digits = ok_or_none (decode_of digits)
-
-abbrev pub marked : List ℕ → List ℕ → Option (List ℕ)
-marked word rest = if bytes_eq word (codes "\\#") then Some rest else None
-
-abbrev pub counted : ℕ → List ℕ → Option (List ℕ)
-counted count octets = if length octets == count then Some octets else None
+abbrev pub as_many_as : ℕ → List ℕ → Option (List ℕ)
+as_many_as count octets = if length octets == count then Some octets else None
 
 -- so many octets, by their digits
 abbrev pub counted_octets : ℕ → List ℕ → Option (List ℕ)
-counted_octets count digits = unhexed digits >>= counted count
+counted_octets count digits = octets_of_hex digits >>= as_many_as count
 
 -- `\# N HEX`
 unfoldable pub octets_in : List ℕ → Option (List ℕ)
 octets_in text = do
   mark ← next_word text
-  rest ← marked mark.0 mark.1
-  count ← number_at 65535 rest
+  rest ← behind_mark mark.0 mark.1
+  count ← number_at MOST_16 rest
   digits ← word_or_nothing count.1
   counted_octets count.0 digits
+
+-- ---- writing
 
 abbrev pub hex_part : List ℕ → List ℕ
 hex_part [] = []

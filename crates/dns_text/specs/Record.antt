@@ -1,35 +1,58 @@
--- Records as text: NAME [TTL] [IN] TYPE DATA. What is left of a text is its first word and the text after that, where it has a word.
-use Rattle.std.specs.Prelude.{ℕ, Bool, false, ◌||◌, ◌&&◌, List, [], ◌∷◌, ◌++◌, Option, Some, None, Result, Ok, ◌==◌, if◌then◌else◌, option_map, unwrap_or, decimal}
+-- Records as text, NAME [TTL] [IN] TYPE DATA (RFC 1035, section 5.1): what a text stands for, how it is read with its first
+-- fault, and how a record is written.
+use Rattle.std.specs.Prelude.{◌≡◌, ◌↔◌, ℕ, Bool, true, false, ◌||◌, ◌&&◌, List, [], ◌∷◌, ◌++◌, Option, Some, None, Result, Ok, ◌==◌, if◌then◌else◌, option_map, unwrap_or, decimal}
 use Rattle.std.specs.Borrow.{Bor}
-use Rattle.dns_name.specs.Text.{text_of}
+use Rattle.dns_name.specs.Text.{IsNameText, text_of}
 use Rattle.dns_text.specs.declared.fault.TextFault.{TextFault}
 use Rattle.dns_text.specs.declared.fault.TextFault.TheVariants.{BadName, BadTtl, BadType, BadData}
 use Rattle.dns_text.specs.declared.record.Record.{Record}
-use Rattle.dns_text.specs.Fault.{◌>>=◌, or_fault}
-use Rattle.dns_text.specs.Number.{is_digits, number_in}
-use Rattle.dns_text.specs.Word.{next_word}
+use Rattle.dns_text.specs.declared.ttl.TheConstants.{MOST_TTL}
+use Rattle.dns_name.specs.Results.{◌>>=◌, or_fault}
+use Rattle.dns_text.specs.Number.{IsNumberText, is_digits, number_in}
+use Rattle.dns_text.specs.Word.{BeginsWithWords, next_word}
 use Rattle.dns_text.specs.Kind.{type_in, type_text}
 use Rattle.dns_text.specs.Field.{named}
-use Rattle.dns_text.specs.Data.{data_in, data_text}
+use Rattle.dns_text.specs.Data.{IsDataText, data_in, data_text}
 
--- a first word and the text after it that are lent, as what they hold
-abbrev pub first_now : Option (Bor (List ℕ) × Bor (List ℕ)) → Option (List ℕ × List ℕ)
-first_now first = option_map (λ w. (w.0.now, w.1.now)) first
+-- ---- what a text stands for
 
--- the greatest time to live, in seconds (RFC 2181, section 8)
-abbrev pub most_ttl : ℕ
-most_ttl = 2147483647
-
--- the time to live that stands first, where the first word is of digits, and the first word behind it
-abbrev pub ttl_at : Option (List ℕ × List ℕ) → Result (Option ℕ × Option (List ℕ × List ℕ)) TextFault
-ttl_at None = Ok (None, None)
-ttl_at (Some first) = if is_digits first.0 then (or_fault BadTtl (number_in most_ttl first.0) >>= λ n. Ok (Some n, next_word first.1)) else Ok (None, Some first)
-
+-- the word IN, without regard to case
 abbrev pub is_class : List ℕ → Bool
 is_class [] = false
 is_class (a ∷ []) = false
 is_class (a ∷ b ∷ []) = (a == 73 || a == 105) && (b == 78 || b == 110)
 is_class (a ∷ b ∷ c ∷ word) = false
+
+-- [TTL] [IN]: each may be left out, and they stand in either order. Without a TTL it is an hour.
+pub data AreTtlAndClass : List (List ℕ) → ℕ → Type 0 where
+  neither : AreTtlAndClass [] 3600
+  ttl_alone : {word : List ℕ} {n : ℕ} → IsNumberText MOST_TTL word n → AreTtlAndClass (word ∷ []) n
+  class_alone : {word : List ℕ} → is_class word ≡ true → AreTtlAndClass (word ∷ []) 3600
+  ttl_first : {first second : List ℕ} {n : ℕ} → IsNumberText MOST_TTL first n → is_class second ≡ true → AreTtlAndClass (first ∷ second ∷ []) n
+  class_first : {first second : List ℕ} {n : ℕ} → is_class first ≡ true → IsNumberText MOST_TTL second n → AreTtlAndClass (first ∷ second ∷ []) n
+
+-- The text stands for this record.
+pub record IsRecordText (text : List ℕ) (r : Record) : Type 0 where
+  pub name : List ℕ
+  pub middle : List (List ℕ)
+  pub type : List ℕ
+  pub rest : List ℕ
+  pub parts : BeginsWithWords text (name ∷ middle ++ type ∷ []) rest
+  pub owner : IsNameText name r.owner
+  pub ttl_and_class : AreTtlAndClass middle r.ttl
+  pub kind : type_in type ≡ Some r.kind
+  pub body : IsDataText r.kind rest r.body
+
+-- ---- reading: what is left of a text is its first word and the text after that, where it has a word
+
+-- a first word and the text after it that are lent, as what they hold
+abbrev pub first_now : Option (Bor (List ℕ) × Bor (List ℕ)) → Option (List ℕ × List ℕ)
+first_now first = option_map (λ w. (w.0.now, w.1.now)) first
+
+-- the time to live that stands first, where the first word is of digits, and the first word behind it
+abbrev pub ttl_at : Option (List ℕ × List ℕ) → Result (Option ℕ × Option (List ℕ × List ℕ)) TextFault
+ttl_at None = Ok (None, None)
+ttl_at (Some first) = if is_digits first.0 then (or_fault BadTtl (number_in MOST_TTL first.0) >>= λ n. Ok (Some n, next_word first.1)) else Ok (None, Some first)
 
 -- the first word behind the class IN, where that stands first
 abbrev pub after_class : Option (List ℕ × List ℕ) → Option (List ℕ × List ℕ)
@@ -55,6 +78,12 @@ record_in text = do
   kind ← or_fault BadType (type_in word.0)
   body ← or_fault BadData (data_in kind word.1)
   Ok (record { owner = owner; kind = kind; ttl = ttl.0; body = body })
+
+-- A record is read from a text exactly where the text stands for it.
+abbrev pub ReadsRecords : Type 0
+ReadsRecords = (text : List ℕ) (r : Record) → (record_in text ≡ Ok r) ↔ IsRecordText text r
+
+-- ---- writing
 
 -- NAME TTL TYPE DATA
 abbrev pub record_text : Record → List ℕ

@@ -1,8 +1,8 @@
 -- Words of a line: they stand between spaces and tabs, and inside double quotes a blank belongs to the word.
-use Rattle.std.specs.Prelude.{ℕ, Bool, ◌||◌, List, [], ◌∷◌, Option, Some, None, ◌==◌, if◌then◌else◌, option_map}
+use Rattle.std.specs.Prelude.{◌≡◌, ℕ, Bool, ◌||◌, List, [], ◌∷◌, Option, Some, None, ◌==◌, if◌then◌else◌, option_map}
 use Rattle.dns_text.specs.declared.word.Within.{Within}
 use Rattle.dns_text.specs.declared.word.Within.TheVariants.{Plain, Quotes, Escape, QuotedEscape}
-use Rattle.dns_text.specs.Steps.{◌>>=◌}
+use Rattle.dns_name.specs.Options.{◌>>=◌}
 
 -- a space or a tab
 abbrev pub is_blank : ℕ → Bool
@@ -39,6 +39,16 @@ word_at (c ∷ text) = Some (cut_word Plain (c ∷ text))
 -- the first word of a text, and the text after it
 abbrev pub next_word : List ℕ → Option (List ℕ × List ℕ)
 next_word text = word_at (skip_blanks text)
+
+-- The words of a text are these, the first first.
+abbrev pub AreWords : List ℕ → List (List ℕ) → Type 0
+AreWords text [] = next_word text ≡ None
+AreWords text (word ∷ words) = (rest : List ℕ) × (next_word text ≡ Some (word, rest)) × AreWords rest words
+
+-- The first words of a text are these, and the rest stands behind them.
+abbrev pub BeginsWithWords : List ℕ → List (List ℕ) → List ℕ → Type 0
+BeginsWithWords text [] rest = text ≡ rest
+BeginsWithWords text (word ∷ words) rest = (after : List ℕ) × (next_word text ≡ Some (word, after)) × BeginsWithWords after words rest
 
 abbrev pub unless_more : List ℕ → Option (List ℕ × List ℕ) → Option (List ℕ)
 unless_more word None = Some word

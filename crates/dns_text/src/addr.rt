@@ -2,13 +2,13 @@
 
 ghost use Rattle.std.specs.Prelude.{◌≡◌, ◌<◌, ◌++◌, IfOk, OnOk, Some};
 ghost use Rattle.dns_text.specs.declared.fault.TextFault.TheVariants.{BadData};
-ghost use Rattle.dns_text.specs.Fault.{or_fault};
+ghost use Rattle.dns_name.specs.Results.{or_fault};
 ghost use Rattle.dns_text.specs.Addr.{ip_in, port_in, addr_in, ip_text, addr_text, IpReads};
 
 use crate::fault::TextFault;
 use crate::ipv4::{push_ipv4, read_ipv4};
 use crate::ipv6::{push_ipv6, read_ipv6};
-use crate::number::{push_number, read_number};
+use crate::number::{MOST_16, push_number, read_number};
 use crate::word::cut_at;
 use dns_name::NoMemory;
 use std::alloc::Global;
@@ -39,7 +39,7 @@ fn read_ip(word: &[u8]) -> Option<Ip>
 fn read_port(word: &[u8]) -> Option<u16>
     ensures { result ≡ port_in word.now }
 {
-    match read_number(word, 65535)? {
+    match read_number(word, MOST_16)? {
         0 => None,
         port => Some(port as u16),
     }

@@ -1,11 +1,13 @@
 //! The data of records as text, each type in its form.
 
-ghost use Rattle.std.specs.Prelude.{◌≡◌, ◌<◌, ◌^◌, ◌++◌, slice_index, ℕ, length, option_map, IfOk, OnOk, Some};
+ghost use Rattle.std.specs.Prelude.{◌≡◌, ◌<◌, ◌^◌, ◌++◌, slice_index, ℕ, length, option_map, IfOk, OnOk, Some, Ok};
 ghost use Rattle.dns_name.specs.Labels.{IsName};
-ghost use Rattle.dns_text.specs.Fault.{Gives, or_fault};
+ghost use Rattle.dns_name.specs.Results.{or_fault};
+ghost use Rattle.dns_text.specs.Fault.{Gives};
 ghost use Rattle.dns_text.specs.declared.fault.TextFault.TheVariants.{BadData};
+ghost use Rattle.dns_text.specs.declared.record.Data.{Data};
 ghost use Rattle.dns_text.specs.Kind.{form_of};
-ghost use Rattle.dns_text.specs.Data.{mx_in, soa_in, srv_in, blank_number, names_text, soa_numbers_text, mx_text, srv_text, data_in, data_text, IsOfForm, HasForm};
+ghost use Rattle.dns_text.specs.Data.{mx_in, soa_in, srv_in, blank_number, names_text, soa_numbers_text, mx_text, srv_text, data_in, data_text, IsDataText, IsOfForm, HasForm};
 
 use crate::fault::TextFault;
 use crate::field::{last_name, last_number, next_name, next_number, push_name};
@@ -13,7 +15,8 @@ use crate::ipv4::{push_ipv4, read_ipv4};
 use crate::ipv6::{push_ipv6, read_ipv6};
 use crate::items::Octets;
 use crate::kind::{Form, form_of};
-use crate::number::push_number;
+use crate::laws::text_law;
+use crate::number::{MOST_16, MOST_32, push_number};
 use crate::opaque::{push_octets, read_octets};
 use crate::record::Data;
 use crate::string::{push_strings, read_strings};
@@ -27,7 +30,7 @@ fn read_mx(alloc: Global, text: &[u8]) -> Result<Data, TextFault>
     ensures value { Gives result (or_fault BadData (mx_in text.now)) }
     ensures form { IfOk result (λ d. IsOfForm Form.Mx d) }
 {
-    let (preference, rest) = next_number(text, 65535).ok_or(TextFault::BadData)?;
+    let (preference, rest) = next_number(text, MOST_16).ok_or(TextFault::BadData)?;
     let exchange = last_name(alloc, rest)?.ok_or(TextFault::BadData)?;
     Ok(Data::Mx {
         preference: preference as u16,
@@ -43,11 +46,11 @@ fn read_soa(alloc: Global, text: &[u8]) -> Result<Data, TextFault>
 {
     let (primary, rest) = next_name(alloc, text)?.ok_or(TextFault::BadData)?;
     let (mailbox, rest) = next_name(alloc, rest)?.ok_or(TextFault::BadData)?;
-    let (serial, rest) = next_number(rest, 4294967295).ok_or(TextFault::BadData)?;
-    let (refresh, rest) = next_number(rest, 4294967295).ok_or(TextFault::BadData)?;
-    let (retry, rest) = next_number(rest, 4294967295).ok_or(TextFault::BadData)?;
-    let (expire, rest) = next_number(rest, 4294967295).ok_or(TextFault::BadData)?;
-    let minimum = last_number(rest, 4294967295).ok_or(TextFault::BadData)?;
+    let (serial, rest) = next_number(rest, MOST_32).ok_or(TextFault::BadData)?;
+    let (refresh, rest) = next_number(rest, MOST_32).ok_or(TextFault::BadData)?;
+    let (retry, rest) = next_number(rest, MOST_32).ok_or(TextFault::BadData)?;
+    let (expire, rest) = next_number(rest, MOST_32).ok_or(TextFault::BadData)?;
+    let minimum = last_number(rest, MOST_32).ok_or(TextFault::BadData)?;
     Ok(Data::Soa {
         primary,
         mailbox,
@@ -65,9 +68,9 @@ fn read_srv(alloc: Global, text: &[u8]) -> Result<Data, TextFault>
     ensures value { Gives result (or_fault BadData (srv_in text.now)) }
     ensures form { IfOk result (λ d. IsOfForm Form.Srv d) }
 {
-    let (priority, rest) = next_number(text, 65535).ok_or(TextFault::BadData)?;
-    let (weight, rest) = next_number(rest, 65535).ok_or(TextFault::BadData)?;
-    let (port, rest) = next_number(rest, 65535).ok_or(TextFault::BadData)?;
+    let (priority, rest) = next_number(text, MOST_16).ok_or(TextFault::BadData)?;
+    let (weight, rest) = next_number(rest, MOST_16).ok_or(TextFault::BadData)?;
+    let (port, rest) = next_number(rest, MOST_16).ok_or(TextFault::BadData)?;
     let target = last_name(alloc, rest)?.ok_or(TextFault::BadData)?;
     Ok(Data::Srv {
         priority: priority as u16,
@@ -77,9 +80,9 @@ fn read_srv(alloc: Global, text: &[u8]) -> Result<Data, TextFault>
     })
 }
 
-/// The data of this type that a whole text stands for. The faults are `BadData` and `NoMemory`.
+/// The data of this type, in its form.
 #[tactic(auto, unfolding(crate::specs::Data::data_as))]
-pub fn read_data(alloc: Global, kind: u16, text: &[u8]) -> Result<Data, TextFault>
+fn parse_data(alloc: Global, kind: u16, text: &[u8]) -> Result<Data, TextFault>
     ensures value { Gives result (or_fault BadData (data_in kind text.now)) }
     ensures form { IfOk result (λ d. HasForm kind d) }
 {
@@ -108,6 +111,17 @@ pub fn read_data(alloc: Global, kind: u16, text: &[u8]) -> Result<Data, TextFaul
             Ok(Data::Txt(strings))
         }
     }
+}
+
+/// The data of this type that a whole text stands for. The faults are `BadData` and `NoMemory`.
+pub fn read_data(alloc: Global, kind: u16, text: &[u8]) -> Result<Data, TextFault>
+    ensures value { Gives result (or_fault BadData (data_in kind text.now)) }
+    ensures stands { IfOk result (IsDataText kind text.now) }
+    ensures every { (body : Data) → IsDataText kind text.now body → Gives result (Ok body) }
+    ensures form { IfOk result (λ d. HasForm kind d) }
+{
+    text_law();
+    parse_data(alloc, kind, text)
 }
 
 /// Writes a number behind a blank.

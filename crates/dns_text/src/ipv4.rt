@@ -1,7 +1,7 @@
 //! IPv4 addresses as text.
 
 ghost use Rattle.std.specs.Prelude.{length, ◌≡◌, ◌<◌, ◌++◌, ℕ, slice_index, OnOk};
-ghost use Rattle.dns_text.specs.Ipv4.{octet_in, ipv4_in, dotted, ipv4_text};
+ghost use Rattle.dns_text.specs.Ipv4.{octet_in, ipv4_in, dotted_text, ipv4_text};
 
 use crate::number::{push_number, read_short_number};
 use crate::word::cut_at;
@@ -33,7 +33,7 @@ pub(crate) fn read_ipv4(text: &[u8]) -> Option<[u8; 4]>
 
 /// Writes a number and the dot after it.
 fn push_dotted(n: u8, out: &mut Vec<u8>) -> Result<(), NoMemory>
-    ensures { OnOk result (out.new.items ≡ out.old.items ++ dotted n) }
+    ensures { OnOk result (out.new.items ≡ out.old.items ++ dotted_text n) }
 {
     push_number(u64::from(n), out)?;
     out.push(b'.')?;

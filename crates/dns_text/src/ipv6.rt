@@ -1,11 +1,11 @@
 //! IPv6 addresses as text.
 
-ghost use Rattle.std.specs.Prelude.{◌≡◌, ◌<◌, ◌≤◌, ◌++◌, ◌+◌, ◌*◌, ℕ, option_map, length, replicate, slice_index, MatchOption, IfSome, OnOk, [], ◌∷◌};
+ghost use Rattle.std.specs.Prelude.{◌≡◌, ◌<◌, ◌≤◌, ◌++◌, ◌+◌, ◌*◌, ℕ, option_map, length, replicate, slice_index, MatchOption, IfSome, OnOk, List, Some, [], ◌∷◌};
 ghost use Rattle.std.specs.Char.{digit_char};
 ghost use Rattle.std.specs.List.{slice_split};
 ghost use Rattle.std.specs.Net.Text.{hex, groups_text};
 ghost use Rattle.std.specs.Net.Addr.{segments_of};
-ghost use Rattle.dns_text.specs.Ipv6.{hex_in, four_in, group_in, with_group, with_word, octets_after, is_colon, groups_in, behind_colon, behind_gap, head_after, elided, finished, ipv6_in, ipv6_text};
+ghost use Rattle.dns_text.specs.Ipv6.{hex_in, four_in, group_in, with_group, with_word, octets_after, is_colon, groups_in, behind_colon, behind_gap, head_after, with_zeros, address_of, ipv6_in, IsIpv6Text, ipv6_text};
 
 use crate::word::cut_at;
 use arrayvec::ArrayVec;
@@ -147,8 +147,8 @@ fn zeros(n: usize) -> &'static [u8]
 }
 
 /// The address of these octets around `::`, which stands for one group of zero or more.
-fn elided(mut octets: Octets, tail: &[u8]) -> Option<[u8; 16]>
-    ensures { result ≡ elided octets.items tail.now }
+fn fill_gap(mut octets: Octets, tail: &[u8]) -> Option<[u8; 16]>
+    ensures { result ≡ with_zeros octets.items tail.now }
 {
     let known = octets.len() + tail.len();
     if known > 14 {
@@ -160,29 +160,38 @@ fn elided(mut octets: Octets, tail: &[u8]) -> Option<[u8; 16]>
 }
 
 /// The address of groups before `::`, where it stands, and of what stands behind it.
-fn finished(head: Octets, back: Option<&[u8]>) -> Option<[u8; 16]>
-    ensures { result ≡ finished head.items (option_map (λ back. back.now) back.entry) }
+fn address_of(head: Octets, back: Option<&[u8]>) -> Option<[u8; 16]>
+    ensures { result ≡ address_of head.items (option_map (λ back. back.now) back.entry) }
 {
     match back {
         None => head.into_inner().ok(),
         Some(back) => {
             let tail = read_groups(back)?;
-            elided(head, tail.as_slice())
+            fill_gap(head, tail.as_slice())
+        }
+    }
+}
+
+/// The octets of an address.
+fn parse_ipv6(text: &[u8]) -> Option<[u8; 16]>
+    ensures { result ≡ ipv6_in text.now }
+{
+    match behind_gap(text) {
+        Some(back) => address_of(ArrayVec::new(), Some(back)),
+        None => {
+            let (head, back) = read_head(text)?;
+            address_of(head, back)
         }
     }
 }
 
 /// The octets of an IPv6 address (RFC 4291, section 2.2, without its third form, which ends as an IPv4 address).
 pub(crate) fn read_ipv6(text: &[u8]) -> Option<[u8; 16]>
-    ensures { result ≡ ipv6_in text.now }
+    ensures exact { result ≡ ipv6_in text.now }
+    ensures stands { IfSome result (IsIpv6Text text.now) }
+    ensures every { (octets : List ℕ) → IsIpv6Text text.now octets → result ≡ Some octets }
 {
-    match behind_gap(text) {
-        Some(back) => finished(ArrayVec::new(), Some(back)),
-        None => {
-            let (head, back) = read_head(text)?;
-            finished(head, back)
-        }
-    }
+    parse_ipv6(text)
 }
 
 /// A hexadecimal digit, a small letter from ten on.

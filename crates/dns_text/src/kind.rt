@@ -2,12 +2,13 @@
 
 ghost use Rattle.std.specs.Prelude.{map, ◌≡◌, ◌++◌, ◌<◌, option_map, IfOk, IfSome, OnOk, Some, false};
 ghost use Rattle.std.specs.Str.{str_eq_ignore_ascii_case};
-ghost use Rattle.dns_text.specs.Kind.{types, by_number, by_name, numbered, is_excluded, form_of, type_in, type_text};
-ghost use Rattle.dns_text.specs.Fault.{or_fault};
+ghost use Rattle.dns_text.specs.Kind.{types, by_number, by_name, type_number, is_excluded, form_of, type_in, type_text};
+ghost use Rattle.dns_name.specs.Results.{or_fault};
 ghost use Rattle.dns_text.specs.declared.fault.TextFault.TheVariants.{BadType};
 
 use crate::fault::TextFault;
-use crate::number::{push_number, read_short_number};
+use crate::number::{MOST_16, push_number, read_short_number};
+use crate::types;
 use std::alloc::{AllocError, Global};
 
 /// How the data of a type is laid out.
@@ -32,57 +33,57 @@ struct Entry {
 
 static TYPES: [Entry; 11] = [
     Entry {
-        number: 1,
+        number: types::A,
         name: b"A",
         form: Form::A,
     },
     Entry {
-        number: 2,
+        number: types::NS,
         name: b"NS",
         form: Form::Name,
     },
     Entry {
-        number: 5,
+        number: types::CNAME,
         name: b"CNAME",
         form: Form::Name,
     },
     Entry {
-        number: 6,
+        number: types::SOA,
         name: b"SOA",
         form: Form::Soa,
     },
     Entry {
-        number: 12,
+        number: types::PTR,
         name: b"PTR",
         form: Form::Name,
     },
     Entry {
-        number: 15,
+        number: types::MX,
         name: b"MX",
         form: Form::Mx,
     },
     Entry {
-        number: 16,
+        number: types::TXT,
         name: b"TXT",
         form: Form::Txt,
     },
     Entry {
-        number: 28,
+        number: types::AAAA,
         name: b"AAAA",
         form: Form::Aaaa,
     },
     Entry {
-        number: 33,
+        number: types::SRV,
         name: b"SRV",
         form: Form::Srv,
     },
     Entry {
-        number: 35,
+        number: types::NAPTR,
         name: b"NAPTR",
         form: Form::Opaque,
     },
     Entry {
-        number: 39,
+        number: types::DNAME,
         name: b"DNAME",
         form: Form::Opaque,
     },
@@ -140,15 +141,15 @@ pub fn form_of(kind: u16) -> Form
 }
 
 /// The number of a type that is given as `TYPEn` (RFC 3597, section 5).
-fn numbered(word: &[u8]) -> Option<u16>
-    ensures { result ≡ numbered word.now }
+fn type_number(word: &[u8]) -> Option<u16>
+    ensures { result ≡ type_number word.now }
 {
     match word {
         [t, y, p, e, digits @ ..] => {
             if !b"TYPE".eq_ignore_ascii_case(&[*t, *y, *p, *e]) {
                 return None;
             }
-            let n = read_short_number(digits, 65535)?;
+            let n = read_short_number(digits, MOST_16)?;
             Some(n as u16)
         }
         _ => None,
@@ -159,7 +160,17 @@ fn numbered(word: &[u8]) -> Option<u16>
 pub fn is_excluded(kind: u16) -> bool
     ensures { result ≡ is_excluded kind }
 {
-    matches!(kind, 3 | 4 | 7 | 8 | 9 | 14 | 41 | 251..=255)
+    matches!(
+        kind,
+        types::MD
+            | types::MF
+            | types::MB
+            | types::MG
+            | types::MR
+            | types::MINFO
+            | types::OPT
+            | types::IXFR..=types::ANY
+    )
 }
 
 /// The type of a name or of a number as in `TYPE65280`, without regard to case. The only fault is `BadType`.
@@ -169,7 +180,7 @@ pub fn read_type(word: &[u8]) -> Result<u16, TextFault>
 {
     let kind = match by_name(word) {
         Some(t) => t.number,
-        None => numbered(word).ok_or(TextFault::BadType)?,
+        None => type_number(word).ok_or(TextFault::BadType)?,
     };
     if is_excluded(kind) {
         return Err(TextFault::BadType);

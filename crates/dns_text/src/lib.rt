@@ -1,36 +1,52 @@
 //! Questions and records of the domain name system, as values and as text.
-//!
-//! `record` has the types, over the lists of `items`, and `fault` what keeps a text from being one. `word` and `number`
-//! read what texts are made of, `field` names and numbers in them. `kind` is the table of types; `ipv4`, `ipv6`, `string`
-//! and `opaque` read and write data of their forms, `data` that of every form, and `record_text` whole records. `addr` is
-//! the address of a server.
 #![tactic(auto)]
 
-mod addr;
-mod data;
+// In the order in which to read them.
+
+// Questions, data and records.
+mod record;
+// Times to live, which a record's type keeps in range.
+mod ttl;
+// Lists in fields.
+mod items;
+// Values with several owners.
+mod shared;
+// The types that code names, by number.
+pub mod types;
+// The table of types: number, name and form of data.
+mod kind;
+// Why a text could not be read.
 mod fault;
+// What texts are made of: words, and numbers of digits.
+mod number;
+mod word;
+// Names and numbers, each a word of data.
 mod field;
+// Data of each form that is not names and numbers alone.
 mod ipv4;
 mod ipv6;
-mod items;
-mod kind;
-mod number;
 mod opaque;
-mod record;
-mod record_text;
 mod string;
-mod word;
+// Data of every form.
+mod data;
+// Whole records.
+mod record_text;
+// Addresses of servers.
+mod addr;
+// What is read from a text is what it stands for.
+mod laws;
 
 pub use addr::{Addr, Ip, push_addr, read_addr, write_addr};
 pub use data::{push_data, read_data};
 pub use fault::TextFault;
 pub use items::{Items, Octets};
 pub use kind::{Form, form_of, is_excluded, push_type, read_type, write_type};
+pub use laws::{one_meaning, text_law};
 pub use number::read_number;
 pub use record::{Data, Question, Record, equality_law};
-pub use record_text::{MOST_TTL, push_record, read_record, write_record};
+pub use record_text::{push_record, read_record, write_record};
+pub use shared::Shared;
 pub use std::alloc::AllocError as NoMemory;
+pub use string::MOST_STRING;
+pub use ttl::{MOST_TTL, Ttl};
 pub use word::next_word;
-
-#[cfg(test)]
-mod tests;

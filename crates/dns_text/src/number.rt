@@ -7,6 +7,12 @@ ghost use Rattle.dns_text.specs.Number.{number_in, short_number_in, is_digits, d
 use itoa::Buffer;
 use std::alloc::AllocError;
 
+/// The greatest number of 16 bits.
+pub(crate) const MOST_16: u64 = 65535;
+
+/// The greatest number of 32 bits.
+pub(crate) const MOST_32: u64 = 4294967295;
+
 /// Whether each octet of a word is a digit.
 fn all_digits(word: &[u8]) -> bool
     ensures { result ≡ all_ascii_digits word.now }

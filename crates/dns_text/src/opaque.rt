@@ -3,12 +3,13 @@
 ghost use Rattle.std.specs.Prelude.{◌≡◌, ◌<◌, ◌++◌, option_map, ℕ, slice_index, length, IfOk, IfSome, OnOk};
 ghost use Rattle.hex.specs.Hex.{lower_digits, encode_lower};
 ghost use Rattle.dns_text.specs.declared.fault.TextFault.TheVariants.{BadData};
-ghost use Rattle.dns_text.specs.Fault.{Gives, or_fault, result_map};
-ghost use Rattle.dns_text.specs.Opaque.{word_or_nothing, unhexed, counted_octets, octets_in, opaque_text};
+ghost use Rattle.dns_name.specs.Results.{or_fault, result_map};
+ghost use Rattle.dns_text.specs.Fault.{Gives};
+ghost use Rattle.dns_text.specs.Opaque.{word_or_nothing, octets_of_hex, counted_octets, octets_in, opaque_text};
 
 use crate::fault::TextFault;
 use crate::field::next_number;
-use crate::number::push_number;
+use crate::number::{MOST_16, push_number};
 use crate::word::next_word;
 use dns_name::NoMemory;
 use hex::FromHexError;
@@ -28,8 +29,8 @@ fn word_or_nothing(text: &[u8]) -> Option<&[u8]>
 }
 
 /// The octets that pairs of hexadecimal digits stand for.
-fn unhexed(alloc: Global, digits: &[u8]) -> Result<Option<Vec<u8>>, NoMemory>
-    ensures { IfOk result (λ o. option_map (λ v. v.items) o ≡ unhexed digits.now) }
+fn decode_hex(alloc: Global, digits: &[u8]) -> Result<Option<Vec<u8>>, NoMemory>
+    ensures { IfOk result (λ o. option_map (λ v. v.items) o ≡ octets_of_hex digits.now) }
 {
     match hex::decode(alloc, digits) {
         Ok(octets) => Ok(Some(octets)),
@@ -46,7 +47,7 @@ fn counted_octets(alloc: Global, count: u64, digits: &[u8]) -> Result<Option<Vec
     if digits.len() as u64 / 2 != count {
         return Ok(None);
     }
-    unhexed(alloc, digits)
+    decode_hex(alloc, digits)
 }
 
 /// The octets of a text `\# N HEX`.
@@ -59,7 +60,7 @@ pub(crate) fn read_octets(alloc: Global, text: &[u8]) -> Result<Vec<u8>, TextFau
     if mark != b"\\#".as_slice() {
         return Err(TextFault::BadData);
     }
-    let (count, rest) = next_number(rest, 65535).ok_or(TextFault::BadData)?;
+    let (count, rest) = next_number(rest, MOST_16).ok_or(TextFault::BadData)?;
     let digits = word_or_nothing(rest).ok_or(TextFault::BadData)?;
     let octets = counted_octets(alloc, count, digits)?.ok_or(TextFault::BadData)?;
     Ok(octets)

@@ -5,6 +5,7 @@ ghost use Rattle.dns_text.specs.declared.record.Data.{Data};
 ghost use Rattle.dns_text.specs.declared.record.Question.{Question};
 
 use crate::items::{Items, Octets};
+use crate::ttl::Ttl;
 use dns_name::Name;
 
 /// A name and a type (RFC 1035, section 4.1.2).
@@ -56,8 +57,7 @@ pub enum Data {
 pub struct Record {
     pub owner: Name,
     pub kind: u16,
-    /// In seconds.
-    pub ttl: u32,
+    pub ttl: Ttl,
     pub body: Data,
 }
 

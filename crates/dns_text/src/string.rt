@@ -3,8 +3,9 @@
 ghost use Rattle.std.specs.Prelude.{◌≡◌, ◌<◌, ◌≤◌, ◌+◌, ◌++◌, [], List, ℕ, option_map, length, IfOk, IfSome, OnOk, MatchOption, None};
 ghost use Rattle.std.specs.List.{flat_map, AllByRecursion};
 ghost use Rattle.dns_text.specs.declared.fault.TextFault.TheVariants.{BadData};
-ghost use Rattle.dns_text.specs.Fault.{Gives, or_fault, result_map};
-ghost use Rattle.dns_text.specs.String.{octet_at, octets_after, before_last_quote, unquoted, string_in, strings_after, strings_in, quoted_octet, quoted, strings_text, AreOctets};
+ghost use Rattle.dns_name.specs.Results.{or_fault, result_map};
+ghost use Rattle.dns_text.specs.Fault.{Gives};
+ghost use Rattle.dns_text.specs.String.{octet_at, octets_after, before_last_quote, inside_quotes, string_in, strings_after, strings_in, quoted_octet, quoted_text, strings_text, AreOctets};
 
 use crate::fault::TextFault;
 use crate::items::{Items, Octets};
@@ -12,6 +13,9 @@ use crate::word::next_word;
 use arrayvec::ArrayVec;
 use dns_name::{NoMemory, read_escape};
 use std::alloc::Global;
+
+/// The most octets of a string, whose length a message tells in one (RFC 1035, section 3.3).
+pub const MOST_STRING: usize = 255;
 
 /// The octet at the front of a text, escaped or not, and how many octets of text it takes; none at a bare quote.
 fn next_octet(text: &[u8]) -> Option<(u8, usize)>
@@ -27,12 +31,12 @@ fn next_octet(text: &[u8]) -> Option<(u8, usize)>
 }
 
 /// Reads one octet more of a string, of which there are at most 255, and answers the text after it.
-fn take_octet<'a>(text: &'a [u8], octets: &mut ArrayVec<u8, 255>) -> Option<&'a [u8]>
+fn take_octet<'a>(text: &'a [u8], octets: &mut ArrayVec<u8, MOST_STRING>) -> Option<&'a [u8]>
     requires { 0 < length text.now }
     ensures { MatchOption result (octets_after octets.old.items 0 text.now ≡ None) (λ rest. (octets_after octets.old.items 0 text.now ≡ octets_after octets.new.items 0 rest.now) × (length rest.now < length text.now)) }
 {
     let (octet, taken) = next_octet(text)?;
-    if octets.len() >= 255 {
+    if octets.len() >= MOST_STRING {
         return None;
     }
     octets.push(octet);
@@ -40,10 +44,10 @@ fn take_octet<'a>(text: &'a [u8], octets: &mut ArrayVec<u8, 255>) -> Option<&'a 
 }
 
 /// The octets of a string.
-fn read_string_octets(text: &[u8]) -> Option<ArrayVec<u8, 255>>
+fn read_string_octets(text: &[u8]) -> Option<ArrayVec<u8, MOST_STRING>>
     ensures { option_map (λ v. v.items) result ≡ octets_after [] 0 text.now }
 {
-    let mut octets: ArrayVec<u8, 255> = ArrayVec::new();
+    let mut octets: ArrayVec<u8, MOST_STRING> = ArrayVec::new();
     let mut rest = text;
     while !rest.is_empty() {
         rest = take_octet(rest, &mut octets)?;
@@ -52,8 +56,8 @@ fn read_string_octets(text: &[u8]) -> Option<ArrayVec<u8, 255>>
 }
 
 /// What stands in the quotes round a word, or the word itself where it begins with none.
-fn unquoted(word: &[u8]) -> Option<&[u8]>
-    ensures { option_map (λ r. r.now) result ≡ unquoted word.now }
+fn inside_quotes(word: &[u8]) -> Option<&[u8]>
+    ensures { option_map (λ r. r.now) result ≡ inside_quotes word.now }
 {
     match word {
         [b'"', rest @ ..] => before_last_quote(rest),
@@ -75,7 +79,7 @@ fn read_string(alloc: Global, word: &[u8]) -> Result<Option<Octets>, NoMemory>
     ensures value { IfOk result (λ s. s ≡ string_in word.now) }
     ensures few { IfOk result (λ s. IfSome s (λ octets. length octets < 256)) }
 {
-    let Some(inside) = unquoted(word) else {
+    let Some(inside) = inside_quotes(word) else {
         return Ok(None);
     };
     match read_string_octets(inside) {
@@ -127,7 +131,7 @@ fn push_quoted_octet(b: u8, out: &mut Vec<u8>) -> Result<(), NoMemory>
 
 /// Writes a string in quotes.
 fn push_quoted(octets: &[u8], out: &mut Vec<u8>) -> Result<(), NoMemory>
-    ensures text { OnOk result (out.new.items ≡ out.old.items ++ quoted octets.now) }
+    ensures text { OnOk result (out.new.items ≡ out.old.items ++ quoted_text octets.now) }
     ensures octets { AreOctets octets.now }
 {
     out.push(b'"')?;

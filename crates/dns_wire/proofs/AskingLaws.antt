@@ -1,5 +1,5 @@
 -- Octets that are a message of one question, by their parts.
-use Rattle.std.proofs.Common.{◌≡◌, ℕ, ◌+◌, ◌-◌, ◌^◌, ◌<◌, ◌≤◌, List, [], ◌∷◌, ◌++◌, length, take, drop, Option, Some, None, Result, Ok, Err, refl, sym, ap, ◌∙◌, arith, length-append}
+use Rattle.std.proofs.Common.{◌≡◌, ℕ, ◌+◌, ◌-◌, ◌^◌, ◌<◌, ◌≤◌, List, [], ◌∷◌, ◌++◌, length, take, drop, Option, Some, None, Result, Ok, Err, refl, sym, ap, ◌∙◌, ◌⊎◌, inl, inr, arith, length-append}
 use Rattle.std.specs.Prelude.{true, false, IfErr}
 use Rattle.std.specs.Int.{w16, to_be_bytes}
 use Rattle.std.proofs.Math.Seq.{take-add}
@@ -11,20 +11,22 @@ use Rattle.dns_text.specs.declared.record.Record.{Record}
 use Rattle.dns_wire.specs.declared.fault.WireFault.{WireFault}
 use Rattle.dns_wire.specs.declared.message.Classed.{Classed}
 use Rattle.dns_wire.specs.declared.message.Message.{Message}
-use Rattle.dns_wire.specs.Asking.{HasPointer, IsMalformed, no_message, AsksName, AsksQuestion, question_with}
-use Rattle.dns_wire.specs.Header.{head_in, question_count, answer_count, authority_count, additional_count}
-use Rattle.dns_wire.specs.Message.{RecordsAt, SpelledMessage, records_read}
-use Rattle.dns_wire.specs.Name.{SpelledName, name_read}
-use Rattle.dns_wire.specs.Number.{u16_at}
-use Rattle.dns_wire.specs.Question.{QuestionAt}
-use Rattle.dns_wire.specs.Section.{SectionAt, no_items, one_more}
-use Rattle.dns_wire.specs.Walking.{place_after, records_place, sections_place}
+use Rattle.dns_wire.specs.Server.Asking.{HasPointer, IsMalformed, no_message, pointer, AsksName, AsksQuestion, question_with}
+use Rattle.dns_wire.specs.Read.Header.{head_in, question_count, answer_count, authority_count, additional_count}
+use Rattle.dns_wire.specs.Read.Message.{RecordsAt, SpelledMessage, records_read}
+use Rattle.dns_wire.specs.Read.Name.{SpelledName, UnspelledName, name_read}
+use Rattle.dns_wire.specs.Read.Number.{u16_at}
+use Rattle.dns_wire.specs.Read.Question.{QuestionAt}
+use Rattle.dns_wire.specs.Read.Section.{SectionAt, no_items, one_more}
+use Rattle.dns_wire.specs.Server.Walking.{records_place, sections_place}
+use Rattle.dns_wire.specs.Read.Name.{place_after}
 use Rattle.dns_text.specs.String.{AreOctets}
-use Rattle.dns_wire.specs.Writing.{IsQuestionOctets}
+use Rattle.dns_wire.specs.Write.Question.{IsQuestionOctets}
 use Rattle.dns_wire.proofs.MessageLaws.{questions_within, records_stand, records_within, records_match}
-use Rattle.dns_wire.proofs.NameLaws.{name_read-match, name_read-spelled}
+use Rattle.dns_wire.proofs.NameLaws.{name_read-match, name_read-spelled, name_read-unspelled}
 use Rattle.dns_wire.proofs.PointerLaws.{name_whole}
-use Rattle.dns_wire.proofs.Ranges.{octets_drop, octets_take, octet_of, u16_range}
+use Rattle.dns_name.specs.ListLaws.{all-take, all-drop, octet_of}
+use Rattle.dns_wire.proofs.Ranges.{u16_range}
 use Rattle.dns_wire.proofs.WalkLaws.{read_by}
 
 -- What walking a message of one question comes to: its name, and the end behind all records.
@@ -71,6 +73,20 @@ other_place o at other e not h = not (let f : Some other ≡ Some at = sym e ∙
 
 pub malformed_name : {m : List ℕ} {fault : WireFault} → question_count m ≡ 1 → Err fault ≡ name_read m 12 → IsMalformed m
 malformed_name {m} {fault} one e = malformed_by one (λ labels at p. no_place (place_after (name_read m 12)) at (ap (λ r. place_after r) (sym e)) (ap (λ r. place_after r) p.name))
+
+-- A name that doesn't stand, or has a pointer, is malformed.
+pub malformed_whole : {m : List ℕ} → 12 ≤ length m → question_count m ≡ 1 → ((fault : WireFault) × UnspelledName m 12 fault) ⊎ HasPointer m 12 → IsMalformed m
+malformed_whole {m} header one (inl h) = malformed_name one (sym (name_read-unspelled m 12 h.0 header h.1))
+malformed_whole header one (inr h) = pointer h
+
+pub name_told : {m : List ℕ} {labels : Labels} {at : ℕ} → 12 ≤ length m → SpelledName m 12 at labels → Ok (labels, at) ≡ name_read m 12
+name_told {m} {labels} {at} header h = sym (name_read-spelled m 12 at labels header h)
+
+pub same_name : {m : List ℕ} {labels owner : Labels} {at after : ℕ} → 12 ≤ length m → SpelledName m 12 at labels → name_read m 12 ≡ Ok (owner, after) → owner ≡ labels
+same_name {m} {labels} {owner} {at} {after} header h read =
+    let e : Ok (owner, after) ≡ Ok (labels, at) = sym read ∙ sym (name_told header h) in
+    let p : (owner, after) ≡ (labels, at) = cc in
+    ap (λ (x : Labels × ℕ). x.0) p
 
 same_place : (m : List ℕ) {labels more : Labels} {at place : ℕ} → Ok (labels, at) ≡ name_read m 12 → name_read m 12 ≡ Ok (more, place) → at ≡ place
 same_place m {labels} {more} {at} {place} e h = let f : Some at ≡ Some place = ap (λ r. place_after r) (e ∙ h) in cc
@@ -161,7 +177,7 @@ question_stands {m} {labels} {at} octets h class =
     let size : length name ≡ at - 12 = omega (arith, length-take (at - 12) (drop 12 m), length-drop 12 m) in
     let four : length fixed ≡ 4 = omega (arith, length-take 4 (drop at m), length-drop at m) in
     let all : length (name ++ fixed) - 4 ≡ length name = omega (arith, length-append name fixed) in
-    let range = λ (i : ℕ). octet_of (take 2 (drop i m)) (octets_take 2 (drop i m) (octets_drop i m octets)) in
+    let range = λ (i : ℕ). octet_of (take 2 (drop i m)) (all-take (λ b. b < 256) 2 (drop i m) (all-drop (λ b. b < 256) i m octets)) in
     let two = λ (i : ℕ) (room : i + 2 ≤ length m). (let e : length (take 2 (drop i m)) ≡ 2 = omega (arith, length-take 2 (drop i m), length-drop i m) in e) in
     let kind : to_be_bytes w16 (u16_at m at) ≡ take 2 (drop at m) = be_bytes_2 (take 2 (drop at m)) (u16_at m at) (two at (omega arith)) (range at) refl in
     let of_in : to_be_bytes w16 1 ≡ take 2 (drop (at + 2) m) = be_bytes_2 (take 2 (drop (at + 2) m)) 1 (two (at + 2) (omega arith)) (range (at + 2)) (sym class) in

@@ -3,12 +3,15 @@ use Rattle.std.proofs.Common.{◌≡◌, ℕ, ◌+◌, ◌<◌, ◌≤◌, List,
 use Rattle.std.specs.Prelude.{unwrap_or}
 use Rattle.std.specs.Char.{to_ascii_lowercase}
 use Rattle.std.proofs.lemmas.List.{append-nil, length-map, length-take, length-drop}
+use Rattle.dns_name.specs.declared.limits.TheConstants.{MAX_NAME_OCTETS}
 use Rattle.dns_name.specs.Labels.{Labels, spelled}
 use Rattle.dns_name.specs.Octets.{length-spelled_push}
-use Rattle.dns_wire.specs.declared.name.Next.TheVariants.{Finish, Label, Pointer}
+use Rattle.dns_wire.specs.declared.read.place.Next.TheVariants.{Finish, Label, Pointer}
 use Rattle.dns_wire.specs.declared.fault.WireFault.{WireFault}
 use Rattle.dns_wire.specs.declared.fault.WireFault.TheVariants.{Short}
-use Rattle.dns_wire.specs.Name.{next_at, label_at, NameAt, finish, label, pointer, NameFails, after_label, after_pointer}
+use Rattle.dns_wire.specs.Read.Chains.{Leads, there, back}
+use Rattle.dns_wire.specs.Read.Place.{next_at, label_at}
+use Rattle.dns_wire.specs.Read.Name.{NameAt, finish, label, pointer, NameFails, after_label, after_pointer}
 
 -- What is found after the labels so far completes the name that began at start, in a front with this ending.
 pub record Reads (m first : List ℕ) (ending : WireFault) (start : ℕ) (labels : Labels) (front : List ℕ) (beyond : WireFault) (at run : ℕ) (after : Option ℕ) : Type 0 where
@@ -24,7 +27,7 @@ reads_finish {m} {first} {start = start} {labels = labels} {at = at} {after = af
     let is : labels ++ [] ≡ name = append-nil labels ∙ sym is_name in
     rw is_end (subst (NameAt m first start start (unwrap_or after (at + 1))) is found)
 
-pub reads_label : {m first : List ℕ} {ending : WireFault} {start : ℕ} {labels : Labels} {front : List ℕ} {beyond : WireFault} {at run : ℕ} {after : Option ℕ} → Reads m first ending start labels front beyond at run after → (n : ℕ) → next_at front at ≡ Label n → length (spelled labels) + n < 254 → at + 1 + n ≤ length front → (one : List ℕ) → one ≡ label_at front at n → Reads m first ending start (labels ++ one ∷ []) front beyond (at + (n + 1)) run after
+pub reads_label : {m first : List ℕ} {ending : WireFault} {start : ℕ} {labels : Labels} {front : List ℕ} {beyond : WireFault} {at run : ℕ} {after : Option ℕ} → Reads m first ending start labels front beyond at run after → (n : ℕ) → next_at front at ≡ Label n → length (spelled labels) + n + 2 ≤ MAX_NAME_OCTETS → at + 1 + n ≤ length front → (one : List ℕ) → one ≡ label_at front at n → Reads m first ending start (labels ++ one ∷ []) front beyond (at + (n + 1)) run after
 reads_label {m} {first} {start = start} {labels = labels} {front = front} {at = at} {after = after} h n here room within one is =
     let next : at + (n + 1) ≡ at + 1 + n = omega arith in
     let long : length one ≡ n = omega (arith, ap length is, length-map (take n (drop (at + 1) front)) to_ascii_lowercase, length-take n (drop (at + 1) front), length-drop (at + 1) front, within) in
@@ -39,3 +42,17 @@ reads_pointer {at = at} h to here before =
       name = λ rest end found. h.name rest (at + 2) (pointer here before refl found);
       fault = λ fault found. h.fault fault (after_pointer here before found);
     }
+
+-- Pointers that lead on from behind one are followed by one step.
+pub reads_leads : {m first : List ℕ} {ending : WireFault} {start : ℕ} {labels : Labels} {to end after : ℕ} → Leads m to end → Reads m first ending start labels m Short to to (Some after) → Reads m first ending start labels m Short end end (Some after)
+reads_leads (there is) h = rw is h
+reads_leads (back {to = next} here before rest) h = reads_leads rest (reads_pointer h next here before)
+
+pub leads_back : {m : List ℕ} {at end : ℕ} → Leads m at end → end ≤ at
+leads_back (there is) = omega arith
+leads_back (back here before rest) = omega (arith, leads_back rest)
+
+-- what a front ends with behind a pointer, or before one
+abbrev pub ending_of : WireFault → Option ℕ → WireFault
+ending_of ending None = ending
+ending_of ending (Some after) = Short

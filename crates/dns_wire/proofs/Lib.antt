@@ -1,4 +1,4 @@
-pub mod Binds
+pub mod EachLaws
 pub mod Following
 pub mod NameLaws
 pub mod QuestionLaws

@@ -8,12 +8,13 @@ use Rattle.dns_wire.specs.declared.fault.WireFault.{WireFault}
 use Rattle.dns_wire.specs.declared.fault.WireFault.TheVariants.{Short, BadName, BadPointer, BadData, Trailing, NoMemory}
 use Rattle.dns_wire.specs.declared.message.Classed.{Classed}
 use Rattle.dns_wire.specs.declared.message.Message.{Message}
-use Rattle.dns_wire.specs.Decoding.{IsUnspelled, HasTrailing, UnlessMemory}
-use Rattle.dns_wire.specs.Header.{head_in, question_count, answer_count, authority_count, additional_count}
-use Rattle.dns_wire.specs.Message.{QuestionsAt, RecordsAt, QuestionsFail, RecordsFail, MessageAt, SpelledMessage, MessageFails, short_header, bad_questions, bad_answer, bad_authority, bad_additional, trailing, questions_read, records_read, sections_read, whole, message_read}
-use Rattle.dns_wire.specs.Question.{QuestionAt, QuestionFails, question_read}
-use Rattle.dns_wire.specs.Reading.{◌>>=◌, Gives}
-use Rattle.dns_wire.specs.Record.{RecordAt, RecordFails, record_read}
+use Rattle.dns_wire.specs.Read.Decoding.{IsUnspelled, HasTrailing, UnlessMemory}
+use Rattle.dns_wire.specs.Read.Header.{head_in, question_count, answer_count, authority_count, additional_count}
+use Rattle.dns_wire.specs.Read.Message.{QuestionsAt, RecordsAt, QuestionsFail, RecordsFail, MessageAt, SpelledMessage, MessageFails, short_header, bad_questions, bad_answer, bad_authority, bad_additional, trailing, questions_read, records_read, sections_read, whole, message_read}
+use Rattle.dns_wire.specs.Read.Question.{QuestionAt, QuestionFails, question_read}
+use Rattle.dns_name.specs.Results.{◌>>=◌}
+use Rattle.dns_wire.specs.Fault.{Gives}
+use Rattle.dns_wire.specs.Read.Record.{RecordAt, RecordFails, record_read}
 use Rattle.dns_wire.proofs.QuestionLaws.{question_read-stands, question_read-fails, question_read-match}
 use Rattle.dns_wire.proofs.RecordLaws.{record_read-stands, record_read-fails, record_read-match}
 use Rattle.dns_wire.proofs.SectionLaws.{IsReader, section_within, section_read-stands, section_read-fails, section_read-match}
@@ -158,11 +159,11 @@ fault_found : (m : List ℕ) (fault : WireFault) → message_read m ≡ Err faul
 fault_found m fault e = rw e at (message_read-match m)
 
 told : {m : List ℕ} (fault : WireFault) → Gives {A = Message} (Err fault) (message_read m) → UnlessMemory fault (MessageFails m fault)
-told {m} Short e = inr (fault_found m Short e)
-told {m} (BadName at) e = inr (fault_found m (BadName at) e)
-told {m} (BadPointer at) e = inr (fault_found m (BadPointer at) e)
-told {m} (BadData at) e = inr (fault_found m (BadData at) e)
-told {m} Trailing e = inr (fault_found m Trailing e)
+told {m} Short e = inr (fault_found m Short (e (λ is. cc)))
+told {m} (BadName at) e = inr (fault_found m (BadName at) (e (λ is. cc)))
+told {m} (BadPointer at) e = inr (fault_found m (BadPointer at) (e (λ is. cc)))
+told {m} (BadData at) e = inr (fault_found m (BadData at) (e (λ is. cc)))
+told {m} Trailing e = inr (fault_found m Trailing (e (λ is. cc)))
 told NoMemory e = inl refl
 
 pub spelled_or_fails : (m : List ℕ) → ((v : Message) × SpelledMessage m v) ⊎ ((fault : WireFault) × MessageFails m fault)

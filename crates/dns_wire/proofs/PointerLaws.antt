@@ -7,11 +7,12 @@ use Rattle.std.proofs.lemmas.Bool.{cases_Bool, eqb-true, lt-ltb, ltb-true}
 use Rattle.std.proofs.lemmas.List.{drop-drop, length-map, length-take, length-drop, map-append}
 use Rattle.std.proofs.lemmas.Option.{slice_get_within, get_or_from_slice_get}
 use Rattle.dns_name.specs.Labels.{Labels, spelled, with_length}
-use Rattle.dns_wire.specs.declared.name.Next.{Next}
-use Rattle.dns_wire.specs.declared.name.Next.TheVariants.{Finish, Label, Pointer, Reserved}
-use Rattle.dns_wire.specs.Asking.{HasPointer, here, behind_label}
-use Rattle.dns_wire.specs.Name.{next_at, next_by, pointer_by, label_at, NameAt, finish, label, pointer}
-use Rattle.dns_wire.specs.Writing.{name_octets}
+use Rattle.dns_wire.specs.declared.read.place.Next.{Next}
+use Rattle.dns_wire.specs.declared.read.place.Next.TheVariants.{Finish, Label, Pointer, Reserved}
+use Rattle.dns_wire.specs.Server.Asking.{HasPointer, here, behind_label}
+use Rattle.dns_wire.specs.Read.Place.{next_at, next_by, pointer_by, label_at}
+use Rattle.dns_wire.specs.Read.Name.{NameAt, finish, label, pointer}
+use Rattle.dns_wire.specs.Write.Name.{name_octets}
 
 -- ---- what the octet at a place is, by what stands there
 
@@ -74,6 +75,10 @@ pointer_behind m at n e (behind_label {n = k} h rest) =
 pub no_pointer : (m : List ℕ) (at : ℕ) (next : Next) → next_at m at ≡ next → ((n : ℕ) → ¬ (next ≡ Label n)) → ((to : ℕ) → ¬ (next ≡ Pointer to)) → ¬ (HasPointer m at)
 no_pointer m at next e not_label not_pointer (here {to = to} h) = not_pointer to (sym e ∙ h)
 no_pointer m at next e not_label not_pointer (behind_label {n = n} h rest) = not_label n (sym e ∙ h)
+
+-- where a name ends, no pointer stands
+pub ends_whole : (m : List ℕ) (at : ℕ) → next_at m at ≡ Finish → ¬ (HasPointer m at)
+ends_whole m at e h = no_pointer m at Finish e (λ n is. (cc)) (λ to is. (cc)) h
 
 -- ---- names without a pointer
 

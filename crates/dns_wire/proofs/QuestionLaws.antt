@@ -6,9 +6,9 @@ use Rattle.dns_name.specs.Labels.{Labels}
 use Rattle.dns_text.specs.declared.record.Question.{Question}
 use Rattle.dns_wire.specs.declared.fault.WireFault.{WireFault}
 use Rattle.dns_wire.specs.declared.message.Classed.{Classed}
-use Rattle.dns_wire.specs.Name.{SpelledName, UnspelledName, name_read}
-use Rattle.dns_wire.specs.Question.{QuestionAt, QuestionFails, bad_owner, short, question_behind, question_read}
-use Rattle.dns_wire.specs.Reading.{◌>>=◌}
+use Rattle.dns_wire.specs.Read.Name.{SpelledName, UnspelledName, name_read}
+use Rattle.dns_wire.specs.Read.Question.{QuestionAt, QuestionFails, bad_owner, short, question_behind, question_read}
+use Rattle.dns_name.specs.Results.{◌>>=◌}
 use Rattle.dns_wire.proofs.NameLaws.{name_read-match, name_read-spelled, name_read-unspelled}
 
 -- what stands is read

@@ -9,12 +9,12 @@ use Rattle.dns_text.specs.declared.kind.Form.{Form}
 use Rattle.dns_text.specs.declared.kind.Form.TheVariants.{A as FormA, Aaaa as FormAaaa, Name as FormName, Mx as FormMx, Soa as FormSoa, Txt as FormTxt, Srv as FormSrv, Opaque as FormOpaque}
 use Rattle.dns_wire.specs.declared.fault.WireFault.{WireFault}
 use Rattle.dns_wire.specs.declared.fault.WireFault.TheVariants.{BadData}
-use Rattle.dns_wire.specs.Name.{SpelledIn, UnspelledIn, name_read_in}
-use Rattle.dns_wire.specs.Number.{u16_at, u32_at}
-use Rattle.dns_wire.specs.Rdata.{DataAt, ipv4, ipv6, one_name, mail, start, one_or_more, service, unknown, NamePlace, only, host, first_name, second_name, target, BadNameIn, DataFails, bad_name, formless, data_name_read, ending, one_read, mx_read, soa_read, srv_read, ipv4_read, ipv6_read, strings_after, txt_by, data_read}
-use Rattle.dns_wire.specs.Reading.{◌>>=◌}
+use Rattle.dns_wire.specs.Read.Name.{SpelledIn, UnspelledIn, name_read_in}
+use Rattle.dns_wire.specs.Read.Number.{u16_at, u32_at}
+use Rattle.dns_wire.specs.Read.Rdata.{DataAt, ipv4, ipv6, one_name, mail, start, one_or_more, service, unknown, NamePlace, only, host, first_name, second_name, target, BadNameIn, DataFails, bad_name, formless, data_name_read, ending, one_read, mx_read, soa_read, srv_read, ipv4_read, ipv6_read, strings_after, txt_by, data_read}
+use Rattle.dns_name.specs.Results.{◌>>=◌}
 use Rattle.dns_wire.proofs.NameLaws.{name_read_in-match, name_read_in-spelled, name_read_in-unspelled, spelled_within}
-use Rattle.dns_wire.proofs.Binds.{match_weaker}
+use Rattle.dns_name.specs.ResultLaws.{match_weaker}
 use Rattle.dns_wire.proofs.StringLaws.{strings_spelled, strings_found}
 
 -- ---- what stands is read

@@ -8,10 +8,10 @@ use Rattle.dns_text.specs.declared.record.Data.{Data}
 use Rattle.dns_text.specs.declared.record.Record.{Record}
 use Rattle.dns_wire.specs.declared.fault.WireFault.{WireFault}
 use Rattle.dns_wire.specs.declared.message.Classed.{Classed}
-use Rattle.dns_wire.specs.Name.{SpelledName, UnspelledName, name_read}
-use Rattle.dns_wire.specs.Rdata.{DataAt, DataFails}
-use Rattle.dns_wire.specs.Reading.{◌>>=◌}
-use Rattle.dns_wire.specs.Record.{data_begin, data_end, form_at, RecordAt, RecordFails, bad_owner, short, short_data, bad_data, record_with, record_behind, record_read}
+use Rattle.dns_wire.specs.Read.Name.{SpelledName, UnspelledName, name_read}
+use Rattle.dns_wire.specs.Read.Rdata.{DataAt, DataFails}
+use Rattle.dns_name.specs.Results.{◌>>=◌}
+use Rattle.dns_wire.specs.Read.Record.{data_begin, data_end, form_at, RecordAt, RecordFails, bad_owner, short, short_data, bad_data, record_with, record_behind, record_read}
 use Rattle.dns_wire.proofs.NameLaws.{name_read-match, name_read-spelled, name_read-unspelled}
 use Rattle.dns_wire.proofs.RdataLaws.{data_read-stands, data_read-fails, data_read-match}
 

@@ -1,5 +1,5 @@
 -- Replies of a header alone, or of a header and a question, spell what they are to say.
-use Rattle.std.proofs.Common.{◌≡◌, ℕ, ◌+◌, ◌-◌, ◌<◌, ◌≤◌, List, [], ◌∷◌, length, take, refl, ap, inl, inr, arith, length-append}
+use Rattle.std.proofs.Common.{◌≡◌, ℕ, ◌+◌, ◌-◌, ◌≤◌, List, [], ◌∷◌, length, take, refl, ap, inl, inr, arith, length-append}
 use Rattle.std.specs.Prelude.{true}
 use Rattle.std.specs.Char.{to_ascii_lowercase}
 use Rattle.std.proofs.lemmas.List.{length-map, length-take, length-drop}
@@ -7,13 +7,12 @@ use Rattle.dns_name.specs.Labels.{IsName, spelled}
 use Rattle.dns_text.specs.declared.record.Question.{Question}
 use Rattle.dns_wire.specs.declared.message.Head.{Head}
 use Rattle.dns_wire.specs.declared.message.Message.{Message}
-use Rattle.dns_wire.specs.Header.{head_in}
-use Rattle.dns_wire.specs.Message.{SpelledMessage}
-use Rattle.dns_wire.specs.Replying.{fault_head, head_alone, cut_reply}
-use Rattle.dns_text.specs.String.{AreOctets}
+use Rattle.dns_wire.specs.Read.Message.{SpelledMessage}
+use Rattle.dns_wire.specs.Server.Replying.{head_alone, cut_reply}
 use Rattle.dns_wire.specs.WellFormed.{IsHead}
-use Rattle.dns_wire.specs.Writing.{header_octets, octets_with, message_octets, IsTooLong, IsQuestionOctets}
-use Rattle.dns_wire.proofs.Ranges.{head_range}
+use Rattle.dns_wire.specs.Write.Header.{header_octets}
+use Rattle.dns_wire.specs.Write.Question.{IsQuestionOctets}
+use Rattle.dns_wire.specs.Write.Message.{octets_with, message_octets, IsTooLong}
 use Rattle.dns_wire.proofs.WrittenSize.{length-octets_with, as_long}
 use Rattle.dns_wire.proofs.WrittenMessage.{message_written, reply_written}
 
@@ -30,14 +29,6 @@ unfolding octets_with header_octets
 head_spelled h fits =
     message_written (head_alone h) (record { head = fits; questions = tt; answer = tt; authority = tt; additional = tt })
     (not_long (head_alone h) (omega (arith, length-octets_with [] (head_alone h))) (omega arith) refl refl refl)
-
-pub fault_fits : (m : List ℕ) (rcode : ℕ) → AreOctets m → rcode < 16 → IsHead (fault_head (head_in m) rcode)
-fault_fits m rcode octets small =
-    let h = head_range m octets in
-    record { id = h.id; opcode = h.opcode; z = omega arith; rcode = omega (arith, small) }
-
-pub cut_fits : (m : List ℕ) → AreOctets m → IsHead (record (head_in m) { tc = true })
-cut_fits m octets = let h = head_range m octets in record { id = h.id; opcode = h.opcode; z = h.z; rcode = h.rcode }
 
 -- how many octets a question takes
 pub length-question : {q : Question} {octets : List ℕ} → IsQuestionOctets octets q → length octets ≡ length (spelled q.owner) + 5

@@ -3,8 +3,8 @@ use Rattle.std.proofs.Common.{◌≡◌, ℕ, zero, suc, ◌≤◌, List, [], �
 use Rattle.std.specs.Prelude.{MatchResult}
 use Rattle.std.proofs.lemmas.List.{append-nil}
 use Rattle.dns_wire.specs.declared.fault.WireFault.{WireFault}
-use Rattle.dns_wire.specs.Reading.{◌>>=◌}
-use Rattle.dns_wire.specs.Section.{SectionAt, no_items, one_more, SectionFails, here, later, section_after, section_read}
+use Rattle.dns_name.specs.Results.{◌>>=◌}
+use Rattle.dns_wire.specs.Read.Section.{SectionAt, no_items, one_more, SectionFails, here, later, section_after, section_read}
 
 -- A reader of an item that keeps to the octets: it gives what stands, and the first fault where nothing does.
 pub record IsReader {A : Type 0} (end : ℕ) (item_at : ℕ → A → ℕ → Type 0) (item_fails : ℕ → WireFault → Type 0) (read : ℕ → Result (A × ℕ) WireFault) : Type 0 where

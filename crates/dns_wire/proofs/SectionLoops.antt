@@ -1,9 +1,10 @@
 -- A loop that reads so many of one kind.
-use Rattle.std.proofs.Common.{◌≡◌, ℕ, suc, ◌+◌, ◌-◌, ◌<◌, ◌≤◌, List, [], ◌∷◌, ◌++◌, Result, Ok, refl, subst, arith}
+use Rattle.std.proofs.Common.{◌≡◌, ℕ, suc, ◌+◌, ◌-◌, ◌<◌, ◌≤◌, List, [], ◌∷◌, ◌++◌, Result, Ok, Err, refl, subst, arith}
 use Rattle.dns_wire.specs.declared.fault.WireFault.{WireFault}
-use Rattle.dns_wire.specs.Reading.{Fails}
-use Rattle.dns_wire.specs.Section.{section_after}
-use Rattle.dns_wire.proofs.Binds.{fails_then}
+use Rattle.dns_wire.specs.declared.fault.WireFault.TheVariants.{NoMemory}
+use Rattle.dns_wire.specs.Fault.{Gives}
+use Rattle.dns_name.specs.ResultLaws.{gives_then}
+use Rattle.dns_wire.specs.Read.Section.{section_after}
 
 module _ {A : Type 0} (read : ℕ → Result (A × ℕ) WireFault) (before : List A) (count i at : ℕ) where
   -- what the record of a definition makes of one that was read
@@ -13,11 +14,11 @@ module _ {A : Type 0} (read : ℕ → Result (A × ℕ) WireFault) (before : Lis
       let k : count - i ≡ suc (count - (i + 1)) = omega arith in
       rw (k, here) refl
 
-  pub section_fails : (fault : WireFault) (all : Result (List A × ℕ) WireFault) → i < count → Fails fault (read at) → section_after read before (count - i) at ≡ all → Fails fault all
+  pub section_fails : (fault : WireFault) (all : Result (List A × ℕ) WireFault) → i < count → Gives {A = A × ℕ} (Err fault) (read at) → section_after read before (count - i) at ≡ all → Gives {A = List A × ℕ} (Err fault) all
   unfolding section_after
   section_fails fault all less here told =
       let k : count - i ≡ suc (count - (i + 1)) = omega arith in
-      subst (Fails fault) told (rw k (fails_then fault (read at) _ here))
+      subst (λ (said : Result (List A × ℕ) WireFault). Gives {A = List A × ℕ} (Err fault) said) told (rw k (gives_then NoMemory fault (read at) _ here))
 
   pub section_done : count ≤ i → section_after read before (count - i) at ≡ Ok (before, at)
   unfolding section_after

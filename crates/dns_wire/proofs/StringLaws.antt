@@ -6,7 +6,7 @@ use Rattle.std.proofs.lemmas.List.{append-nil, length-take, take-append-drop, ta
 use Rattle.dns_name.specs.Labels.{with_length}
 use Rattle.dns_text.specs.declared.record.Data.TheVariants.{Txt}
 use Rattle.dns_wire.specs.declared.fault.WireFault.TheVariants.{BadData}
-use Rattle.dns_wire.specs.Rdata.{first_string, strings_by, strings_after, txt_by}
+use Rattle.dns_wire.specs.Read.Rdata.{first_string, strings_by, strings_after, txt_by}
 
 -- what is read on with has fewer octets
 first_string-shorter : (octets : List ℕ) (x : List ℕ × List ℕ) → first_string octets ≡ Some x → length x.1 < length octets

@@ -3,8 +3,8 @@ use Rattle.std.proofs.Common.{◌≡◌, ℕ, ◌<◌, ◌≤◌, List, length, 
 use Rattle.std.specs.Prelude.{Bool, true, false}
 use Rattle.dns_text.specs.declared.record.Question.{Question}
 use Rattle.dns_wire.specs.declared.message.Classed.{Classed}
-use Rattle.dns_wire.specs.declared.query.Asked.{Asked}
-use Rattle.dns_wire.specs.Asking.{IsMalformed, other_count, no_message, pointer, AsksQuestion, IsAnswerable, AsksFor, no_header, reply, other_opcode, malformed, unanswerable, good, SameAsked}
+use Rattle.dns_wire.specs.declared.server.query.Asked.{Asked}
+use Rattle.dns_wire.specs.Server.Asking.{IsMalformed, other_count, no_message, pointer, AsksQuestion, IsAnswerable, AsksFor, no_header, reply, other_opcode, malformed, unanswerable, good, SameAsked}
 use Rattle.dns_wire.proofs.AskingLaws.{true_differs}
 use Rattle.dns_wire.proofs.QuestionLaws.{question_read-stands}
 

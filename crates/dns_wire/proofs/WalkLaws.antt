@@ -5,12 +5,13 @@ use Rattle.dns_name.specs.Labels.{Labels}
 use Rattle.dns_text.specs.declared.record.Data.{Data}
 use Rattle.dns_text.specs.declared.record.Data.TheVariants.{One, Mx, Soa, Srv}
 use Rattle.dns_wire.specs.declared.fault.WireFault.{WireFault}
-use Rattle.dns_wire.specs.Number.{u16_at, u32_at}
-use Rattle.dns_wire.specs.Rdata.{data_name_read, ending, one_read, mx_read, soa_read, srv_read}
-use Rattle.dns_wire.specs.Reading.{◌>>=◌}
-use Rattle.dns_wire.specs.Section.{section_after}
+use Rattle.dns_wire.specs.Read.Number.{u16_at, u32_at}
+use Rattle.dns_wire.specs.Read.Rdata.{data_name_read, ending, one_read, mx_read, soa_read, srv_read}
+use Rattle.dns_name.specs.Results.{◌>>=◌}
+use Rattle.dns_wire.specs.Read.Section.{section_after}
 use Rattle.dns_wire.proofs.SectionLoops.{section_more, section_done}
-use Rattle.dns_wire.specs.Walking.{place_after, is_end, ends_with_name, ends_with_numbers, soa_behind, is_soa}
+use Rattle.dns_wire.specs.Server.Walking.{is_end, ends_with_name, ends_with_numbers, soa_behind, is_soa}
+use Rattle.dns_wire.specs.Read.Name.{place_after}
 
 -- ---- data
 

@@ -8,11 +8,13 @@ use Rattle.dns_text.specs.Data.{IsOfForm}
 use Rattle.dns_text.specs.declared.kind.Form.{Form}
 use Rattle.dns_text.specs.declared.record.Data.{Data}
 use Rattle.dns_text.specs.declared.record.Data.TheVariants.{A, Aaaa, One, Mx, Soa, Txt, Srv, Opaque}
-use Rattle.dns_wire.specs.Name.{SpelledIn}
-use Rattle.dns_wire.specs.Number.{u16_at, u32_at}
-use Rattle.dns_wire.specs.Rdata.{DataAt, ipv4, ipv6, one_name, mail, start, one_or_more, service, unknown}
+use Rattle.dns_wire.specs.Read.Name.{SpelledIn}
+use Rattle.dns_wire.specs.Read.Number.{u16_at, u32_at}
+use Rattle.dns_wire.specs.Read.Rdata.{DataAt, ipv4, ipv6, one_name, mail, start, one_or_more, service, unknown}
 use Rattle.dns_wire.specs.WellFormed.{IsData}
-use Rattle.dns_wire.specs.Writing.{u16_octets, u32_octets, name_octets, data_octets}
+use Rattle.dns_wire.specs.Write.Number.{u16_octets, u32_octets}
+use Rattle.dns_wire.specs.Write.Name.{name_octets}
+use Rattle.dns_wire.specs.Write.Rdata.{data_octets}
 use Rattle.dns_wire.proofs.WrittenName.{StandsAt, stands_first, stands_second, whole_name}
 
 pub u16_written : (m : List ℕ) (at n : ℕ) → n < 2 ^ 16 → StandsAt m at (u16_octets n) → n ≡ u16_at m at

@@ -1,9 +1,9 @@
 -- A header that is written is read back.
 use Rattle.std.proofs.Common.{◌≡◌, ◌/◌, ◌%◌, ◌^◌, ◌<◌, Bool, true, false, eqb, refl, arith}
 use Rattle.dns_wire.specs.declared.message.Head.{Head}
-use Rattle.dns_wire.specs.Header.{head_of}
+use Rattle.dns_wire.specs.Read.Header.{head_of}
 use Rattle.dns_wire.specs.WellFormed.{IsHead}
-use Rattle.dns_wire.specs.Writing.{bit, flags_of}
+use Rattle.dns_wire.specs.Write.Header.{bit, flags_of}
 
 bit_small : (b : Bool) → bit b < 2
 bit_small true = omega arith

@@ -3,17 +3,22 @@ use Rattle.std.proofs.Common.{◌≡◌, ℕ, ◌+◌, ◌-◌, ◌≤◌, List,
 use Rattle.std.specs.List.{flat_map, AllByRecursion}
 use Rattle.std.proofs.lemmas.List.{append-nil, take-append-drop}
 use Rattle.std.proofs.lemmas.Nat.{from_be_bytes-to_be_bytes_2}
+use Rattle.dns_name.specs.Labels.{IsName}
 use Rattle.dns_text.specs.declared.record.Question.{Question}
 use Rattle.dns_wire.specs.declared.message.Classed.{Classed}
 use Rattle.dns_wire.specs.declared.message.Message.{Message}
 use Rattle.std.specs.Int.{w16, from_be_bytes}
-use Rattle.dns_wire.specs.Encoding.{SpellsOnly}
-use Rattle.dns_wire.specs.Header.{head_of}
-use Rattle.dns_wire.specs.Message.{QuestionsAt, RecordsAt, SpelledMessage}
-use Rattle.dns_wire.specs.Number.{u16_at}
-use Rattle.dns_wire.specs.Section.{no_items, one_more}
-use Rattle.dns_wire.specs.WellFormed.{IsQuestion, IsWellFormed}
-use Rattle.dns_wire.specs.Writing.{u16_octets, flags_of, header_octets, question_octets, records_octets, first_name, octets_with, message_octets, IsTooLong, in_class_in, IsQuestionOctets}
+use Rattle.dns_wire.specs.Write.Encoding.{SpellsOnly}
+use Rattle.dns_wire.specs.Read.Header.{head_of}
+use Rattle.dns_wire.specs.Read.Message.{QuestionsAt, RecordsAt, SpelledMessage}
+use Rattle.dns_wire.specs.Read.Number.{u16_at}
+use Rattle.dns_wire.specs.Read.Section.{no_items, one_more}
+use Rattle.dns_wire.specs.WellFormed.{IsHead, IsQuestion, AreRecords, IsWellFormed}
+use Rattle.dns_wire.specs.Write.Number.{u16_octets}
+use Rattle.dns_wire.specs.Write.Header.{flags_of, header_octets}
+use Rattle.dns_wire.specs.Write.Question.{question_octets, first_name, in_class_in, IsQuestionOctets}
+use Rattle.dns_wire.specs.Write.Record.{records_octets}
+use Rattle.dns_wire.specs.Write.Message.{octets_with, message_octets, IsTooLong}
 use Rattle.dns_wire.proofs.MessageLaws.{spelled_once}
 use Rattle.dns_wire.proofs.WrittenSize.{Fits, all_fits, length-octets_with, length-question_octets, as_long}
 use Rattle.dns_wire.proofs.WrittenName.{StandsAt, stands_first, stands_second}
@@ -113,6 +118,16 @@ message_written v fits short =
     let questions : List ℕ = flat_map question_octets v.questions in
     let stands = questions_written (message_octets v) 12 v.questions fits.questions (questions_at questions v) in
     behind_questions questions v fits (all_fits v short) refl (many_octets v.questions) stands
+
+-- A reply to a good query has its question in range.
+pub reply_fits : {q : Question} {octets : List ℕ} (v : Message) → IsQuestionOctets octets q → IsName q.owner → v.questions ≡ in_class_in q ∷ [] → IsHead v.head → AreRecords v → IsWellFormed v
+reply_fits {q} v is name one head records = record {
+  head = head;
+  questions = rw one (record { owner = name; kind = is.kind; class = omega arith }, tt);
+  answer = records.answer;
+  authority = records.authority;
+  additional = records.additional;
+}
 
 pub reply_written : (q : Question) (octets : List ℕ) (v : Message) → IsQuestionOctets octets q → IsWellFormed v → v.questions ≡ in_class_in q ∷ [] → ¬ (IsTooLong v) → SpelledMessage (octets_with octets v) v
 reply_written q octets v is fits one short =

@@ -8,9 +8,10 @@ use Rattle.std.proofs.lemmas.List.{length-map, length-drop, take-map, drop-map, 
 use Rattle.std.proofs.lemmas.Option.{slice_get-get_or}
 use Rattle.std.proofs.lemmas.Str.Ascii.{lowercase_is}
 use Rattle.dns_name.specs.Labels.{Labels, IsLowerOctet, IsLabel, IsName, spelled, with_length}
-use Rattle.dns_wire.specs.declared.name.Next.TheVariants.{Finish, Label}
-use Rattle.dns_wire.specs.Name.{next_at, label_at, NameAt, finish, label, SpelledIn}
-use Rattle.dns_wire.specs.Writing.{name_octets}
+use Rattle.dns_wire.specs.declared.read.place.Next.TheVariants.{Finish, Label}
+use Rattle.dns_wire.specs.Read.Place.{next_at, label_at}
+use Rattle.dns_wire.specs.Read.Name.{NameAt, finish, label, SpelledIn}
+use Rattle.dns_wire.specs.Write.Name.{name_octets}
 
 -- ---- octets at a place
 
@@ -100,11 +101,11 @@ name_written message m at run (l ∷ ls) (b ∷ written) each is h =
     let rest = name_written message m (at + 1 + n) run ls (drop n written) each.1 tail next in
     let after : at + 1 + n + length (drop n written) ≡ at + length (b ∷ written) = omega (arith, length-drop n written) in
     subst (λ (x : List ℕ). NameAt message m at run (at + length (b ∷ written)) (x ∷ ls)) label_is
-    (label (label_here m at n written each.0.no_less each.0.no_more here) (omega arith) (subst (λ (e : ℕ). NameAt message m (at + 1 + n) run e ls) after rest))
+    (label (label_here m at n written each.0.no_less (omega (arith, each.0.no_more)) here) (omega arith) (subst (λ (e : ℕ). NameAt message m (at + 1 + n) run e ls) after rest))
 
 -- a name whose octets are these in lower case
 pub cased_name : (message m : List ℕ) (at : ℕ) (labels : Labels) (written : List ℕ) → IsName labels → map to_ascii_lowercase written ≡ name_octets labels → StandsAt m at written → SpelledIn message m at (at + length written) labels
-cased_name message m at labels written name is h = record { stands = name_written message m at at labels written name.each is h; short = name.short }
+cased_name message m at labels written name is h = record { stands = name_written message m at at labels written name.each is h; short = omega (arith, name.short) }
 
 pub whole_name : (message m : List ℕ) (at : ℕ) (labels : Labels) → IsName labels → StandsAt m at (name_octets labels) → SpelledIn message m at (at + length (name_octets labels)) labels
 whole_name message m at labels name h = cased_name message m at labels (name_octets labels) name (lower_name labels name.each) h

@@ -9,14 +9,19 @@ use Rattle.dns_name.specs.Order.{name_eq, name_eq_exact}
 use Rattle.dns_text.specs.declared.record.Question.{Question}
 use Rattle.dns_text.specs.declared.record.Record.{Record}
 use Rattle.dns_wire.specs.declared.message.Classed.{Classed}
-use Rattle.dns_wire.specs.declared.name.Next.TheVariants.{Pointer}
-use Rattle.dns_wire.specs.Message.{QuestionsAt, RecordsAt}
-use Rattle.dns_wire.specs.Name.{next_at, NameAt, pointer, SpelledName}
-use Rattle.dns_wire.specs.Question.{QuestionAt}
-use Rattle.dns_wire.specs.Record.{RecordAt, ttl_of}
-use Rattle.dns_wire.specs.Section.{no_items, one_more}
+use Rattle.dns_wire.specs.declared.read.place.Next.TheVariants.{Pointer}
+use Rattle.dns_wire.specs.Read.Message.{QuestionsAt, RecordsAt}
+use Rattle.dns_wire.specs.Read.Place.{next_at}
+use Rattle.dns_wire.specs.Read.Name.{NameAt, pointer, SpelledName}
+use Rattle.dns_wire.specs.Read.Question.{QuestionAt}
+use Rattle.dns_wire.specs.Read.Record.{RecordAt, ttl_of}
+use Rattle.dns_wire.specs.Read.Section.{no_items, one_more}
 use Rattle.dns_wire.specs.WellFormed.{IsQuestion, IsRecord}
-use Rattle.dns_wire.specs.Writing.{u16_octets, u32_octets, name_octets, question_octets, data_octets, owner_octets, behind_owner_octets, record_octets, records_octets}
+use Rattle.dns_wire.specs.Write.Number.{u16_octets, u32_octets}
+use Rattle.dns_wire.specs.Write.Name.{name_octets, owner_octets}
+use Rattle.dns_wire.specs.Write.Question.{question_octets}
+use Rattle.dns_wire.specs.Write.Rdata.{data_octets}
+use Rattle.dns_wire.specs.Write.Record.{behind_owner_octets, record_octets, records_octets}
 use Rattle.dns_wire.proofs.WrittenSize.{data_of_record}
 use Rattle.dns_wire.proofs.WrittenName.{StandsAt, stands_within, stands_first, stands_second, octet_at, lower_name, cased_name, whole_name}
 use Rattle.dns_wire.proofs.WrittenData.{EndsAt, u16_written, u16_behind, u32_behind, data_written}
@@ -74,7 +79,7 @@ owner_written m at (Some name) owner fits (first {end = end} behind stands) h =
       | inl same ↦
           let is : owner_octets (Some name) owner ≡ 192 ∷ 12 ∷ [] = rw same refl in
           let there : NameAt m m 12 12 end owner = subst (λ (n : Labels). NameAt m m 12 12 end n) (name_eq_exact name owner same) stands in
-          rw is (record { stands = pointer (pointer_here m at (subst (StandsAt m at) is h)) behind refl there; short = fits.short })
+          rw is (record { stands = pointer (pointer_here m at (subst (StandsAt m at) is h)) behind refl there; short = omega (arith, fits.short) })
       | inr other ↦
           let is : owner_octets (Some name) owner ≡ name_octets owner = rw other refl in
           rw is (whole_name m m at owner fits (subst (StandsAt m at) is h))

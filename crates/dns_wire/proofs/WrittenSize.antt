@@ -1,19 +1,26 @@
 -- How many octets there are, where a message may have as many.
-use Rattle.std.proofs.Common.{◌≡◌, ℕ, ◌+◌, ◌-◌, ◌<◌, ◌≤◌, ltb, List, [], ◌∷◌, ◌++◌, length, take, Option, Some, None, refl, sym, ap, ◌∙◌, inl, inr, arith, length-append}
-use Rattle.std.specs.List.{flat_map}
+use Rattle.std.proofs.Common.{◌≡◌, ℕ, ◌+◌, ◌-◌, ◌<◌, ◌≤◌, ltb, List, [], ◌∷◌, ◌++◌, length, take, Option, Some, None, refl, sym, ap, subst, ◌∙◌, inl, inr, arith, length-append}
+use Rattle.std.specs.List.{flat_map, slice_get}
 use Rattle.std.specs.Bool.{Decides}
 use Rattle.std.specs.Char.{to_ascii_lowercase}
-use Rattle.std.specs.Prelude.{◌⊎◌, MatchOption}
+use Rattle.std.specs.Prelude.{◌⊎◌, IfSome, MatchOption}
 use Rattle.std.proofs.lemmas.Bool.{cases_Bool, lt-ltb, ltb-true, ltb-false}
 use Rattle.std.proofs.lemmas.Bool.Decides.{Decides-or, Decides-ltb, not_from_Decides}
 use Rattle.std.proofs.lemmas.List.{length-map, length-take, length-drop}
 use Rattle.dns_name.specs.Labels.{Labels, spelled}
+use Rattle.dns_name.specs.Order.{name_eq, name_eq_exact}
 use Rattle.dns_text.specs.declared.record.Question.{Question}
 use Rattle.dns_text.specs.declared.record.Record.{Record}
 use Rattle.dns_wire.specs.declared.message.Classed.{Classed}
 use Rattle.dns_wire.specs.declared.message.Message.{Message}
-use Rattle.dns_wire.specs.Encoding.{within, records_len, has_long_section, len_behind}
-use Rattle.dns_wire.specs.Writing.{u16_octets, u32_octets, question_octets, in_class_in, IsQuestionOctets, data_octets, owner_octets, behind_owner_octets, record_octets, records_octets, first_name, header_octets, octets_with, message_octets, IsTooLong}
+use Rattle.dns_wire.specs.Write.Size.{within, records_len_with, records_len, has_long_section, IsRoom}
+use Rattle.dns_wire.specs.Write.Number.{u16_octets, u32_octets}
+use Rattle.dns_wire.specs.Write.Header.{header_octets}
+use Rattle.dns_wire.specs.Write.Name.{name_octets, owner_octets}
+use Rattle.dns_wire.specs.Write.Question.{question_octets, in_class_in, IsQuestionOctets, first_name}
+use Rattle.dns_wire.specs.Write.Rdata.{data_octets}
+use Rattle.dns_wire.specs.Write.Record.{behind_owner_octets, record_octets, records_octets}
+use Rattle.dns_wire.specs.Write.Message.{octets_with, message_octets, IsTooLong}
 
 pub too_many : {n : ℕ} → 65535 < n → None ≡ within n
 too_many {n} h = rw (lt-ltb 65535 n h) refl
@@ -78,26 +85,62 @@ long_section : (v : Message) → Decides (has_long_section v) ((65535 < length v
 long_section v =
     Decides-or _ _ (Decides-ltb 65535 (length v.questions)) (Decides-or _ _ (Decides-ltb 65535 (length v.answer)) (Decides-or _ _ (Decides-ltb 65535 (length v.authority)) (Decides-ltb 65535 (length v.additional))))
 
--- So many octets there are, or the message is too long.
-abbrev pub Measures : List ℕ → Message → Option ℕ → Type 0
-Measures octets v found = MatchOption found (IsTooLong v) (λ n. (n ≡ length octets) × ¬ (IsTooLong v))
+-- So many octets have room, or the message is too long.
+abbrev pub HaveRoom : List ℕ → Message → Option ℕ → Type 0
+HaveRoom octets v found = MatchOption found (IsTooLong v) (λ n. (length octets ≤ n) × ¬ (IsTooLong v))
 
-pub measured : (questions : List ℕ) (v : Message) → length (octets_with questions v) ≡ length (message_octets v) → Measures (octets_with questions v) v (len_behind (12 + length questions) v)
-measured questions v same =
-    let all = length-octets_with questions v in
-    elim (cases_Bool (has_long_section v)) [
-      | inl long ↦ rw long (inr ((long_section v).0 long))
-      | inr short ↦ elim (cases_Bool (ltb 65535 (12 + length questions + records_len v))) [
-        | inl over ↦ rw (short, over) (inl (let more = ltb-true 65535 (12 + length questions + records_len v) over in omega arith))
-        | inr fits ↦ rw (short, fits) (
-          sym all,
-          λ h. elim h [
-            | inl over ↦ let few = ltb-false 65535 (12 + length questions + records_len v) fits in omega arith
-            | inr long ↦ not_from_Decides (has_long_section v) (long_section v) short long
-          ],
-        )
-      ]
+pub measured : (questions : List ℕ) (v : Message) → length (octets_with questions v) ≡ length (message_octets v) → (found : Option ℕ) → IsRoom (12 + length questions) v found → HaveRoom (octets_with questions v) v found
+measured questions v same None (inl long) = inr ((long_section v).0 long)
+measured questions v same None (inr over) = let all = length-octets_with questions v in inl (omega arith)
+measured questions v same (Some room) (short, enough, few) =
+    let all = length-octets_with questions v in (
+      omega arith,
+      λ h. elim h [
+        | inl over ↦ omega arith
+        | inr long ↦ not_from_Decides (has_long_section v) (long_section v) short long
+      ],
+    )
+
+-- ---- owners whole
+
+-- A pointer to a name that isn't the root is no longer than the name.
+owner_no_longer : (first owner : Labels) → 0 < length (spelled first) → length (owner_octets (Some first) owner) ≤ length (name_octets owner)
+owner_no_longer first owner h =
+    let whole = length-append (spelled owner) (0 ∷ []) in
+    elim (cases_Bool (name_eq first owner)) [
+      | inl same ↦ rw same (let is = ap (λ (n : Labels). length (spelled n)) (name_eq_exact first owner same) in omega arith)
+      | inr other ↦ rw other (omega arith)
     ]
+
+records_no_longer : (first : Labels) → 0 < length (spelled first) → (records : List (Classed Record)) → length (records_octets (Some first) records) ≤ length (records_octets None records)
+records_no_longer first h [] = omega arith
+records_no_longer first h (r ∷ records) =
+    let owner = owner_no_longer first r.item.owner h in
+    let rest = records_no_longer first h records in
+    let behind = behind_owner_octets r in
+    omega (arith, length-append (record_octets (Some first) r) (records_octets (Some first) records), length-append (record_octets None r) (records_octets None records), length-append (owner_octets (Some first) r.item.owner) behind, length-append (name_octets r.item.owner) behind)
+
+whole_no_less : (first : Labels) (v : Message) → 0 < length (spelled first) → records_len_with (Some first) v ≤ records_len_with None v
+whole_no_less first v h =
+    omega (arith, records_no_longer first h v.answer, records_no_longer first h v.authority, records_no_longer first h v.additional)
+
+first_is : (questions : List (Classed Question)) (q : Classed Question) → Some q ≡ slice_get questions 0 → first_name questions ≡ Some q.item.owner
+first_is [] q e = absurd cc
+first_is (one ∷ rest) q e = let same : one ≡ q = cc in ap (λ (x : Classed Question). Some x.item.owner) same
+
+no_first : (questions : List (Classed Question)) → None ≡ slice_get questions 0 → first_name questions ≡ None
+no_first [] e = refl
+no_first (one ∷ rest) e = absurd cc
+
+pub none_less : (v : Message) → None ≡ slice_get v.questions 0 → records_len v ≤ records_len_with None v
+none_less v e = subst (λ (first : Option Labels). records_len_with first v ≤ records_len_with None v) (sym (no_first v.questions e)) (omega arith)
+
+pub some_less : (v : Message) (q : Classed Question) → Some q ≡ slice_get v.questions 0 → 2 ≤ length (spelled q.item.owner) + 1 → records_len v ≤ records_len_with None v
+some_less v q e h = subst (λ (first : Option Labels). records_len_with first v ≤ records_len_with None v) (sym (first_is v.questions q e)) (whole_no_less q.item.owner v (omega arith))
+
+pub whole_bound : (before : ℕ) (v : Message) (found : Option ℕ) → found ≡ within (before + records_len_with None v) → records_len v ≤ records_len_with None v → IfSome found (λ n. (before + records_len v ≤ n) × (n ≤ 65535))
+whole_bound before v None is less = tt
+whole_bound before v (Some n) is less = let same = as_many (sym is) in (omega (arith, same.0), omega (arith, same.0, same.1))
 
 -- Too many octets in front are too many in all.
 pub front_is_long : (questions : List ℕ) (v : Message) → length (octets_with questions v) ≡ length (message_octets v) → within (12 + length questions) ≡ None → IsTooLong v

@@ -11,7 +11,7 @@ use Rattle.dns_text.specs.String.{AreOctets}
 use Rattle.dns_wire.specs.declared.message.Classed.{Classed}
 use Rattle.dns_wire.specs.declared.message.Head.{Head}
 use Rattle.dns_wire.specs.declared.message.Message.{Message}
-use Rattle.dns_wire.specs.Rdata.{form_in}
+use Rattle.dns_wire.specs.Read.Rdata.{form_in}
 
 pub record IsHead (h : Head) : Type 0 where
   pub id : h.id < 2 ^ 16
@@ -35,14 +35,23 @@ IsData (Txt strings) = AllByRecursion AreOctets strings
 IsData (Srv priority weight port target) = (priority < 2 ^ 16) × (weight < 2 ^ 16) × (port < 2 ^ 16) × IsName target
 IsData (Opaque octets) = AreOctets octets
 
+-- The data has the form of its class and type.
+abbrev pub HasItsForm : Classed Record → Type 0
+HasItsForm r = IsOfForm (form_in r.class r.item.kind) r.item.body
+
 pub record IsRecord (r : Classed Record) : Type 0 where
   pub owner : IsName r.item.owner
   pub kind : r.item.kind < 2 ^ 16
   pub class : r.class < 2 ^ 16
   pub ttl : r.item.ttl < 2 ^ 31
-  -- The data has the form of its class and type.
-  pub form : IsOfForm (form_in r.class r.item.kind) r.item.body
+  pub form : HasItsForm r
   pub data_fits : IsData r.item.body
+
+-- The records of each section.
+pub record AreRecords (v : Message) : Type 0 where
+  pub answer : AllByRecursion IsRecord v.answer
+  pub authority : AllByRecursion IsRecord v.authority
+  pub additional : AllByRecursion IsRecord v.additional
 
 -- Each field is in its range, each TTL is below 2^31, and all data has the form of its class and type.
 pub record IsWellFormed (v : Message) : Type 0 where
@@ -51,3 +60,9 @@ pub record IsWellFormed (v : Message) : Type 0 where
   pub answer : AllByRecursion IsRecord v.answer
   pub authority : AllByRecursion IsRecord v.authority
   pub additional : AllByRecursion IsRecord v.additional
+
+-- All data has the form of its class and type. The types of the fields ensure all else that a message has to be.
+pub record HasForms (v : Message) : Type 0 where
+  pub answer : AllByRecursion HasItsForm v.answer
+  pub authority : AllByRecursion HasItsForm v.authority
+  pub additional : AllByRecursion HasItsForm v.additional

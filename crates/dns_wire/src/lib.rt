@@ -1,41 +1,30 @@
 //! Messages of the domain name system (RFC 1035, section 4): read from octets, written as octets, and taken as queries.
-//!
-//! `message` has the types. `header`, `name`, `question`, `rdata` and `record` read the parts of a message, over
-//! `number`, and `read` reads the whole; `fault` says what keeps octets from being a message. `write_data` and `write`
-//! write the parts, `size` says how many octets they take, and `encoding` writes the whole. `query` has what came to a
-//! server, `walk` goes over a message without memory, `asking` says what it asks for, and `reply` has the replies that
-//! take no memory.
 #![tactic(auto)]
 
-mod asking;
-mod encoding;
-mod fault;
-mod header;
-mod message;
-mod name;
-mod number;
-mod query;
-mod question;
-mod rdata;
-mod read;
-mod record;
-mod reply;
-mod size;
-mod walk;
-mod write;
-mod write_data;
+// In the order in which to read them. Each file stands beside a file of specs/ of its name.
 
-pub use asking::{one_verdict, read_question};
-pub use encoding::{EncodeFault, encode, encode_reply, written_is_read};
+// What the fields of a header say: what came of a query, the kind of a query, and bits that are reserved.
+mod opcode;
+mod rcode;
+mod reserved;
+// What a message says.
+mod message;
+// Why octets are no message.
+mod fault;
+// What is read.
+mod read;
+// What is written.
+mod write;
+// What a server is asked and replies.
+mod server;
+
 pub use fault::WireFault;
 pub use message::{CLASS_IN, Classed, Head, Message};
-pub use query::{Asked, Query};
-pub use read::{decode, one_meaning};
-pub use reply::{cut_for_udp, fault_reply};
-
-#[cfg(test)]
-mod encode_tests;
-#[cfg(test)]
-mod query_tests;
-#[cfg(test)]
-mod tests;
+pub use opcode::Opcode;
+pub use rcode::Rcode;
+pub use read::decoding::{decode, one_meaning};
+pub use reserved::Reserved;
+pub use server::asking::{one_verdict, read_question};
+pub use server::query::{Asked, Query};
+pub use server::replying::{cut_for_udp, fault_reply};
+pub use write::encoding::{EncodeFault, encode, encode_reply, written_is_read};

@@ -1,5 +1,8 @@
 //! What a message says.
 
+use crate::opcode::Opcode;
+use crate::rcode::Rcode;
+use crate::reserved::Reserved;
 use dns_text::{Items, Question, Record};
 
 /// The header of a message without its counts (RFC 1035, section 4.1.1).
@@ -9,8 +12,7 @@ pub struct Head {
     pub id: u16,
     /// Whether it is a response.
     pub qr: bool,
-    /// 4 bits.
-    pub opcode: u8,
+    pub opcode: Opcode,
     /// Whether the answer is authoritative.
     pub aa: bool,
     /// Whether the message was truncated.
@@ -19,10 +21,9 @@ pub struct Head {
     pub rd: bool,
     /// Whether recursion is available.
     pub ra: bool,
-    /// 3 bits, reserved.
-    pub z: u8,
-    /// 4 bits.
-    pub rcode: u8,
+    /// Reserved.
+    pub z: Reserved,
+    pub rcode: Rcode,
 }
 
 /// The class of the Internet, IN (RFC 1035, section 3.2.4).

@@ -1,6 +1,6 @@
 //! Decodes 100,000 drawn octet strings of at most 600 octets, half of them good messages with a few octets changed,
 //! writes each message again and reads what was written, and takes each string as a query. Prints how each kind of
-//! answer came out, and what the messages say and are written as, taken into a number each. The wanted numbers are
+//! answer came out, and what the messages say (data as text) and are written as, taken into a number each. The wanted numbers are
 //! those of reference.py, which was written apart from the crate, over the same draws.
 #![tactic(auto)]
 

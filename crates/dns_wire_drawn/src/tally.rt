@@ -1,10 +1,10 @@
 //! How many answers of each kind there were.
 
-ghost use Rattle.dns_wire.specs.WellFormed.{IsWellFormed};
+ghost use Rattle.dns_wire.specs.WellFormed.{HasForms};
 
 use crate::draws::drawn;
 use crate::values::Values;
-use dns_wire::{Asked, EncodeFault, Message, WireFault, decode, encode, read_question};
+use dns_wire::{Asked, EncodeFault, Message, Rcode, WireFault, decode, encode, read_question};
 use rand_pcg::Pcg32;
 use std::alloc::{AllocError, Global};
 
@@ -91,7 +91,7 @@ impl Tally {
 
     /// Writes a message, and reads what was written.
     fn take_again(&mut self, alloc: Global, message: &Message) -> Result<(), AllocError>
-        requires { IsWellFormed message.now }
+        requires { HasForms message.now }
     {
         let octets = match encode(alloc, message) {
             Ok(octets) => octets,
@@ -116,7 +116,7 @@ impl Tally {
     fn take_asked(&mut self, alloc: Global, octets: &[u8]) -> Result<(), AllocError> {
         match read_question(alloc, octets)? {
             Asked::Drop => self.no_replies = self.no_replies.wrapping_add(1),
-            Asked::Fault(1) => self.malformed = self.malformed.wrapping_add(1),
+            Asked::Fault(Rcode::FORMAT_ERROR) => self.malformed = self.malformed.wrapping_add(1),
             Asked::Fault(_) => self.not_implemented = self.not_implemented.wrapping_add(1),
             Asked::Good(_) => self.queries = self.queries.wrapping_add(1),
         }
@@ -129,7 +129,7 @@ impl Tally {
             Ok(message) => {
                 self.messages = self.messages.wrapping_add(1);
                 self.items = self.items.wrapping_add(items_in(&message));
-                self.values.take_message(&message);
+                self.values.take_message(alloc, &message)?;
                 self.take_again(alloc, &message)
             }
             Err(fault) => self.take_fault(fault),

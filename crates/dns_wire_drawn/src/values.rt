@@ -1,8 +1,9 @@
 //! A number that all that messages say goes into.
 
 use dns_name::Name;
-use dns_text::{Data, Question, Record};
+use dns_text::{Data, Question, Record, push_data};
 use dns_wire::{Classed, Message};
+use std::alloc::{AllocError, Global};
 
 #[derive(Clone, Copy)]
 pub struct Values {
@@ -43,71 +44,27 @@ impl Values {
         self.take(u32::from(question.class));
     }
 
-    fn take_times(&mut self, serial: u32, refresh: u32, retry: u32, expire: u32, minimum: u32) {
-        self.take(serial);
-        self.take(refresh);
-        self.take(retry);
-        self.take(expire);
-        self.take(minimum);
+    /// Data as its text.
+    fn take_data(&mut self, alloc: Global, body: &Data) -> Result<(), AllocError> {
+        let mut text = Vec::new(alloc);
+        push_data(body, &mut text)?;
+        self.take_octets(&text);
+        Ok(())
     }
 
-    fn take_service(&mut self, priority: u16, weight: u16, port: u16) {
-        self.take(u32::from(priority));
-        self.take(u32::from(weight));
-        self.take(u32::from(port));
-    }
-
-    fn take_data(&mut self, body: &Data) {
-        match body {
-            Data::A(octets) => self.take_octets(octets),
-            Data::Aaaa(octets) => self.take_octets(octets),
-            Data::One(name) => self.take_name(name),
-            Data::Mx {
-                preference,
-                exchange,
-            } => {
-                self.take(u32::from(*preference));
-                self.take_name(exchange);
-            }
-            Data::Soa {
-                primary,
-                mailbox,
-                serial,
-                refresh,
-                retry,
-                expire,
-                minimum,
-            } => {
-                self.take_name(primary);
-                self.take_name(mailbox);
-                self.take_times(*serial, *refresh, *retry, *expire, *minimum);
-            }
-            Data::Txt(strings) => {
-                for string in strings.as_slice() {
-                    self.take_octets(string.as_slice());
-                }
-            }
-            Data::Srv {
-                priority,
-                weight,
-                port,
-                target,
-            } => {
-                self.take_service(*priority, *weight, *port);
-                self.take_name(target);
-            }
-            Data::Opaque(octets) => self.take_octets(octets.as_slice()),
-        }
-    }
-
-    fn take_records(&mut self, records: &[Classed<Record>]) {
+    fn take_records(
+        &mut self,
+        alloc: Global,
+        records: &[Classed<Record>],
+    ) -> Result<(), AllocError> {
         for record in records {
             self.take_name(&record.item.owner);
             self.take(u32::from(record.item.kind));
             self.take(u32::from(record.class));
-            self.take(record.item.ttl);
-            self.take_data(&record.item.body);
+            self.take(record.item.ttl.seconds());
+            self.take_data(alloc, &record.item.body)?;
         }
+        Ok(())
     }
 
     fn take_head(&mut self, message: &Message) {
@@ -116,19 +73,19 @@ impl Values {
         for flag in [head.qr, head.aa, head.tc, head.rd, head.ra] {
             self.take(u32::from(flag));
         }
-        self.take(u32::from(head.opcode));
-        self.take(u32::from(head.z));
-        self.take(u32::from(head.rcode));
+        self.take(u32::from(head.opcode.number()));
+        self.take(u32::from(head.z.number()));
+        self.take(u32::from(head.rcode.number()));
     }
 
-    /// Takes in all that a message says.
-    pub fn take_message(&mut self, message: &Message) {
+    /// Takes in all that a message says. Where memory runs out, a front of it is taken in.
+    pub fn take_message(&mut self, alloc: Global, message: &Message) -> Result<(), AllocError> {
         self.take_head(message);
         for question in message.questions.as_slice() {
             self.take_question(question);
         }
-        self.take_records(message.answer.as_slice());
-        self.take_records(message.authority.as_slice());
-        self.take_records(message.additional.as_slice());
+        self.take_records(alloc, message.answer.as_slice())?;
+        self.take_records(alloc, message.authority.as_slice())?;
+        self.take_records(alloc, message.additional.as_slice())
     }
 }

@@ -1,9 +1,1 @@
-pub mod Fault
-pub mod Split
-pub mod Streams
-pub mod Bar
-pub mod Line
-pub mod Text
-pub mod Transcript
-pub mod Told
 pub mod Args

@@ -4,11 +4,12 @@ ghost use Rattle.std.specs.Prelude.{◌≡◌, ◌↔◌, IsSome, IfOk, IfErr, I
 ghost use Rattle.undo_book.specs.Event.{AreSettings};
 ghost use Rattle.resolver_cli.specs.Args.{IsInRange, HasStatus};
 
-use crate::text::Text;
 use clap::error::ErrorKind;
 use clap::{Arg, ArgAction, ArgMatches, Command, Error, value_parser};
+use command_text::{Channel, help_text};
 use std::alloc::{AllocError, Global};
-use undo_book::Settings;
+use streams::Text;
+use undo_book::{MOST_CELLS, MOST_COMMANDS, Settings};
 
 /// What the program is to do.
 #[derive(Debug, Drop)]
@@ -75,31 +76,43 @@ fn number<'a>(alloc: Global, name: &'a str, default: &'a str, help: &'a str) -> 
         .default_value(default)
 }
 
-fn script_command<'a>(alloc: Global) -> Result<Command<'a>, AllocError> {
+/// The command `script`, whose help ends with these lines.
+fn script_command<'a>(alloc: Global, lines: &'a str) -> Result<Command<'a>, AllocError> {
     let journal = number(
         alloc,
         "journal",
         "64",
         "How many commands can be undone, 1 to 256",
     )
-    .value_parser(value_parser!(u16).range(1..=256));
+    .value_parser(value_parser!(u16).range(1..=MOST_COMMANDS as i64));
     let cells = number(
         alloc,
         "cells",
         "100000",
         "How many cells there may be, 1 to 1000000",
     )
-    .value_parser(value_parser!(u32).range(1..=1_000_000));
+    .value_parser(value_parser!(u32).range(1..=MOST_CELLS as i64));
     Command::new(alloc, "script")
         .about("Obeys the lines of standard input and writes a reply to each")
+        .after_help(lines)
         .arg(journal)?
         .arg(cells)
 }
 
-fn command<'a>(alloc: Global) -> Result<Command<'a>, AllocError> {
+/// The program is called `resolver`, whatever its file is called.
+fn command<'a>(alloc: Global, lines: &'a str) -> Result<Command<'a>, AllocError> {
     Command::new(alloc, "resolver")
+        .bin_name("resolver")?
         .subcommand_required(true)
-        .subcommand(script_command(alloc)?)
+        .subcommand(script_command(alloc, lines)?)
+}
+
+/// The lines of a script, as help shows them.
+fn lines_help(alloc: Global) -> Result<String, AllocError> {
+    let mut text = String::from_str(alloc, "Lines:\n")?;
+    let lines = help_text(alloc, Channel::Script)?;
+    text.push_str(lines.as_str())?;
+    Ok(text)
 }
 
 /// The settings of these numbers, if each is in its range.
@@ -107,13 +120,17 @@ fn settings_of(journal: u16, cells: u32) -> Option<Settings>
     ensures some { IsSome result ↔ AreSettings (record { journal = journal; cells = cells }) }
     ensures value { IfSome result (λ settings. settings ≡ record { journal = journal; cells = cells }) }
 {
-    if journal < 1 || journal > 256 || cells < 1 || cells > 1_000_000 {
-        return None;
-    }
-    Some(Settings {
+    let settings = Settings {
         journal: journal as usize,
         cells: cells as usize,
-    })
+    };
+    let has_journal = settings.journal >= 1 && settings.journal <= MOST_COMMANDS;
+    let has_cells = settings.cells >= 1 && settings.cells <= MOST_CELLS;
+    if has_journal && has_cells {
+        Some(settings)
+    } else {
+        None
+    }
 }
 
 /// The settings that were given. `clap` has tested the ranges and told which number is wrong, but states them of a top command alone.
@@ -137,7 +154,10 @@ pub fn read_args(alloc: Global, words: &[&str]) -> Result<Mode, CliFault>
     ensures mode { IfOk result (λ mode. IsInRange mode) }
     ensures fault { IfErr result (λ fault. HasStatus fault) }
 {
-    let Ok(command) = command(alloc) else {
+    let Ok(lines) = lines_help(alloc) else {
+        return Err(CliFault::no_memory());
+    };
+    let Ok(command) = command(alloc, lines.as_str()) else {
         return Err(CliFault::no_memory());
     };
     match command.try_get_matches_from(words) {

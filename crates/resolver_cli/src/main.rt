@@ -2,30 +2,21 @@
 #![tactic(auto)]
 
 mod args; // what the program is to do
-mod line; // what a line says
-mod bar; // the data of a set, between bars
-mod text; // what is told
-mod obeying; // a line is obeyed
-mod source; // what a script is read from
-mod sink; // what replies are written to
-mod script; // lines in, a transcript out
-mod laws; // what the lines of an input are
 
 ghost use Rattle.std.specs.Prelude.{IfOk};
 ghost use Rattle.undo_book.specs.Event.{AreSettings};
 ghost use Rattle.resolver_cli.specs.Args.{IsInRange};
 
 use args::{CliFault, Mode, read_args};
-use script::{ScriptFault, run_script};
-use sink::CountedWriter;
-use source::CountedReader;
+use command_text::run_script;
 use std::alloc::{AllocError, Global};
 use std::io::{ErrorKind, Write};
 use std::process::ExitCode;
 use std::{env, io};
+use streams::{CountedReader, CountedWriter, ScriptFault};
 use undo_book::{PlainBook, Settings};
 
-fn lent(alloc: Global, words: &[String]) -> Result<Vec<&str>, AllocError> {
+fn texts_of(alloc: Global, words: &[String]) -> Result<Vec<&str>, AllocError> {
     let mut texts = Vec::new(alloc);
     for word in words {
         texts.push(word.as_str())?;
@@ -36,7 +27,7 @@ fn lent(alloc: Global, words: &[String]) -> Result<Vec<&str>, AllocError> {
 fn mode_of(alloc: Global, words: &[String]) -> Result<Mode, CliFault>
     ensures { IfOk result (λ mode. IsInRange mode) }
 {
-    match lent(alloc, words) {
+    match texts_of(alloc, words) {
         Ok(texts) => read_args(alloc, texts.as_slice()),
         Err(_) => Err(CliFault::no_memory()),
     }
@@ -86,6 +77,3 @@ fn main(rt: HostRuntime) -> ExitCode {
         Err(fault) => exit_with(&rt, fault.status, fault.text.as_slice()),
     }
 }
-
-#[cfg(test)]
-mod tests;

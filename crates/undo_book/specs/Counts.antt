@@ -1,4 +1,4 @@
--- The log of a history has each of its admissions once.
+-- The log of a history has each of its admissions once. The lemmas stand here since the plain book names the last, as its proof of `stores_few`.
 use Rattle.std.specs.Prelude.{◌≡◌, ℕ, ◌+◌, ◌≤◌, List, [], ◌∷◌, ◌++◌, count_by, fold}
 use Rattle.std.proofs.Common.{arith, ap, cond, max, ◌∙◌}
 use Rattle.std.proofs.lemmas.List.Sums.{sum_by-append}
@@ -11,7 +11,7 @@ use Rattle.undo_book.specs.History.{Past, past_of, followed_by, ticket_for}
 abbrev pub admissions_in : List Entry → ℕ
 admissions_in log = count_by (λ entry. is_admission entry.event) log
 
-count_push : (log : List Entry) (x : Entry) → admissions_in (log ++ x ∷ []) ≡ admissions_in log + cond (is_admission x.event) 1 0
+pub count_push : (log : List Entry) (x : Entry) → admissions_in (log ++ x ∷ []) ≡ admissions_in log + cond (is_admission x.event) 1 0
 count_push log x = sum_by-append (λ (entry : Entry). cond (is_admission entry.event) 1 0) log (x ∷ []) ∙ ap (λ n. admissions_in log + n) (omega arith)
 
 admissions_after : (bound : ℕ) (past : Past) (events : List Event)

@@ -1,11 +1,16 @@
 pub mod Event
 pub mod Marks
+pub mod Tickets
+pub mod Changes
 pub mod History
 pub mod Cells
 pub mod Reply
 pub mod Answers
+pub mod Runs
 pub mod Refusal
 pub mod Redo
 pub mod Counts
 pub mod Plain
+pub mod Replayed
+pub mod PlainPast
 pub mod PlainBook

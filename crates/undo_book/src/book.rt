@@ -4,23 +4,24 @@ ghost use Rattle.std.specs.Prelude.{◌≡◌, ◌≤◌, ℕ, List, count_by, I
 ghost use Rattle.undo_book.specs.declared.event.Event.{Event};
 ghost use Rattle.undo_book.specs.declared.event.Settings.{Settings};
 ghost use Rattle.undo_book.specs.Event.{is_admission};
-ghost use Rattle.undo_book.specs.History.{past_of};
+ghost use Rattle.undo_book.specs.History.{past_of, tables_of};
 ghost use Rattle.undo_book.specs.Reply.{seen_of, look_seen};
 ghost use Rattle.undo_book.specs.Answers.{Answers, history_after};
 
 use crate::event::{Ask, Event, Look, Reply, Seen, Settings};
 use dns_name::NoMemory;
 use dns_text::Question;
+use local_zone::ZoneTable;
 use std::alloc::{AllocError, AllocFailed};
 use thiserror::Error;
 
 /// Why an event is not taken. Then nothing has changed, the greatest moment included.
 #[derive(Clone, Copy, Debug, PartialEq, Eq, Error)]
 pub enum StepFault {
-    /// The moment is 2^40 or more.
+    /// The moment is `MOMENT_END` or later.
     #[error("the moment is too late")]
     BadMoment,
-    /// 2^62 - 1 events were taken.
+    /// `MOST_EVENTS` events were taken.
     #[error("no more events are counted")]
     CountEnded,
     /// As many cells are stored as there may be. It comes to an admission alone.
@@ -51,7 +52,7 @@ impl<T: Drop> From<AllocFailed<T>> for StepFault {
     }
 }
 
-/// A book of what was found. What it answers is what a replay of its history from nothing gives, with the undone commands struck out.
+/// A book of what was found. What it replies is what a replay of its history from nothing gives, with the undone commands struck out.
 pub trait Book {
     /// The book is what this history comes to.
     ghost stands_for: { Self → List Event → Type 0 };
@@ -75,22 +76,26 @@ pub trait Book {
         ensures same_store { OnErr result (stored self.new ≡ stored self.old) }
         ensures settings { settings self.new ≡ settings self.old };
 
-    /// What a look that gives this moment would be answered. It moves no clock, and no moment is too late for it.
+    /// What a look that gives this moment would see. It moves no clock, and no moment is too late for it.
     fn seen(&self, ask: &Ask, moment: u64) -> Result<Seen, NoMemory>
         ensures { (h : List Event) → stands_for self.now h →
             IfOk result (λ s. s ≡ seen_of (past_of (settings self.now).journal h) ask.now moment) };
 
-    /// What a look at a question would be answered, with no memory taken.
-    fn look(&self, question: &Question, moment: u64) -> Look<'_>
+    /// What a look at a question would see, with no memory taken.
+    fn look<'a>(&'a self, question: &'a Question, moment: u64) -> Look<'a>
         ensures { (h : List Event) → stands_for self.now h →
             look_seen result ≡ seen_of (past_of (settings self.now).journal h) (Ask.Answer question.now) moment };
+
+    /// The local zones and records.
+    fn zones(&self) -> &ZoneTable
+        ensures { (h : List Event) → stands_for self.now h → result.now ≡ tables_of (past_of (settings self.now).journal h) };
 
     /// How many cells are stored.
     fn stored(&self) -> usize
         ensures { result ≡ stored self.now };
 
-    /// Some command can be undone.
-    ghost can_undo: { (book : Self) (h : List Event) → stands_for book h → 1 ≤ (settings book).journal };
+    /// The journal has room for a command.
+    ghost has_journal: { (book : Self) (h : List Event) → stands_for book h → 1 ≤ (settings book).journal };
 
     /// No more is stored than was admitted.
     ghost stores_few: { (book : Self) (h : List Event) → stands_for book h → stored book ≤ count_by is_admission h };

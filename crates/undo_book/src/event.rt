@@ -1,16 +1,24 @@
 //! What a book is given and asked, and what it replies.
 
 ghost use Rattle.std.specs.Prelude.{◌≡◌, IfOk};
+ghost use Rattle.std.specs.Option.{option_map};
+ghost use Rattle.local_zone.specs.Answer.{local_now};
 
 use dns_name::{Name, NoMemory};
-use dns_text::Question;
+use dns_text::{Items, Question, Record, Shared};
+use local_zone::{Local, LocalRecord, LocalSet, SeenRecord, Zone, ZoneType};
 use ranked::{Held, SharedFind, Shown};
+use std::alloc::Global;
 
 /// What a book is asked.
 #[derive(Debug, Drop, PartialEq)]
 pub enum Ask {
     /// What is known about a question.
     Answer(Question),
+    /// The local zones.
+    Zones,
+    /// The local records.
+    Records,
 }
 
 /// What the operator gives, and can take back.
@@ -18,6 +26,14 @@ pub enum Ask {
 pub enum Command {
     /// Empties the cell of one question.
     FlushType(Question),
+    /// Adds a local zone, or gives the zone of this name another type.
+    SetZone { name: Name, kind: ZoneType },
+    /// Removes a local zone, and the records that lie in it.
+    DropZone { name: Name },
+    /// Adds a local record, and gives its time to live to its set.
+    AddRecord { record: Shared<Record> },
+    /// Removes the local records of an owner.
+    DropName { name: Name },
 }
 
 impl Command {
@@ -29,6 +45,7 @@ impl Command {
     {
         match self {
             Command::FlushType(target) => target.owner == *owner && target.kind == kind,
+            _ => false,
         }
     }
 }
@@ -73,19 +90,21 @@ impl Event {
 }
 
 /// What is seen, with the data lent.
-#[derive(Clone, Copy, Debug)]
+#[derive(Debug, Drop)]
 pub enum Look<'a> {
-    /// Nothing that may be answered.
+    /// Nothing that may be shown.
     Unknown,
     /// A find that is alive, with the seconds left.
     Held(Held<'a>),
+    /// What local zones answer, which is not `Pass`.
+    Local(Local<LocalSet<'a>, &'a LocalRecord>),
 }
 
 impl Look<'_> {
     ghost use Rattle.undo_book.specs.Reply.{look_seen};
 
     /// The same with a share of the data. It fails where a find has more owners than can be counted.
-    pub fn to_seen(&self) -> Result<Seen, NoMemory>
+    pub fn to_seen(&self, alloc: Global) -> Result<Seen, NoMemory>
         ensures { IfOk result (λ seen. seen ≡ look_seen self.now) }
     {
         match self {
@@ -95,17 +114,50 @@ impl Look<'_> {
                 left: held.left,
                 body: held.body.share()?,
             })),
+            Look::Local(answer) => Ok(Seen::Local(share_answer(alloc, answer)?)),
         }
+    }
+}
+
+/// A local answer with shares of its records.
+fn share_answer(
+    alloc: Global,
+    answer: &Local<LocalSet<'_>, &LocalRecord>,
+) -> Result<Local<Items<SeenRecord>, LocalRecord>, NoMemory>
+    ensures { IfOk result (λ shared. shared ≡ local_now answer.now) }
+{
+    match answer {
+        Local::Data(set) => Ok(Local::Data(set.to_items(alloc)?)),
+        Local::NoData(soa) => Ok(Local::NoData(share_soa(soa)?)),
+        Local::NoName(soa) => Ok(Local::NoName(share_soa(soa)?)),
+        Local::Refuse => Ok(Local::Refuse),
+        Local::Drop => Ok(Local::Drop),
+        Local::Pass => Ok(Local::Pass),
+    }
+}
+
+fn share_soa(soa: &Option<&LocalRecord>) -> Result<Option<LocalRecord>, NoMemory>
+    ensures { IfOk result (λ shared. shared ≡ option_map (λ r. r.now) soa.now) }
+{
+    match soa {
+        Some(record) => Ok(Some(record.share()?)),
+        None => Ok(None),
     }
 }
 
 /// What is seen, with a share of the data.
 #[derive(Debug, Drop, PartialEq)]
 pub enum Seen {
-    /// Nothing that may be answered.
+    /// Nothing that may be shown.
     Unknown,
     /// A find that is alive, with the seconds left.
     Held(Shown<SharedFind>),
+    /// What local zones answer, which is not `Pass`.
+    Local(Local<Items<SeenRecord>, LocalRecord>),
+    /// The local zones, in order.
+    Zones(Items<Shared<Zone>>),
+    /// The local records, in order.
+    Records(Items<LocalRecord>),
 }
 
 /// Why a command is refused.
@@ -170,8 +222,8 @@ pub struct Entry {
 /// What a book is made with.
 #[derive(Clone, Copy, Debug, PartialEq, Eq)]
 pub struct Settings {
-    /// How many of the newest commands can be undone, from 1 to 256.
+    /// How many of the newest commands can be undone, from 1 to `MOST_COMMANDS`.
     pub journal: usize,
-    /// How many cells there may be, from 1 to 1,000,000.
+    /// How many cells there may be, from 1 to `MOST_CELLS`.
     pub cells: usize,
 }

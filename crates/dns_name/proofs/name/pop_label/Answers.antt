@@ -1,7 +1,7 @@
 use Rattle.std.proofs.Common.{◌≡◌, ◌-◌, ◌<◌, length, take, drop, ap, arith, length-drop}
 use Rattle.std.proofs.lemmas.Bool.{false≢true}
 use Rattle.std.proofs.lemmas.List.{take_all}
-use Rattle.dns_name.specs.Octets.{ends, over}
+use Rattle.dns_name.proofs.ComingLaws.{ends, over}
 use Rattle.dns_name.proofs.name.pop_label.Goals as goal
 
 pub returns-in_err-pop : goal.returns-in_err-pop

@@ -1,11 +1,7 @@
-use Rattle.std.proofs.Common.{◌<◌, Ok, Err, Result, arith}
-use Rattle.std.specs.Prelude.{OnOk}
+use Rattle.std.proofs.Common.{◌<◌, arith}
+use Rattle.dns_name.specs.ResultLaws.{on_ok}
 use Rattle.dns_text.proofs.AddrLaws.{addr_again}
 use Rattle.dns_text.proofs.addr.push_addr.Goals as goal
-
-on_ok : {T E : Type 0} (r : Result T E) (P : Type 0) → P → OnOk r P
-on_ok (Ok x) P p = p
-on_ok (Err e) P p = tt
 
 pub returns-clause-again : goal.returns-clause-again
 returns-clause-again c =

@@ -1,6 +1,7 @@
-use Rattle.std.proofs.Common.{◌≡◌, ℕ, ◌<◌, List, Some, sym, subst, Ok, Err, Result}
-use Rattle.std.specs.Prelude.{OnOk, slice_index}
+use Rattle.std.proofs.Common.{◌≡◌, ℕ, ◌<◌, List, Some, sym, subst}
+use Rattle.std.specs.Prelude.{slice_index}
 use Rattle.std.proofs.lemmas.Result.{on_ok_weaker}
+use Rattle.dns_name.specs.ResultLaws.{on_ok}
 use Rattle.dns_text.specs.declared.record.Data.{Data}
 use Rattle.std.specs.List.{AllByRecursion}
 use Rattle.dns_text.specs.String.{AreOctets}
@@ -10,10 +11,6 @@ use Rattle.dns_text.proofs.data.push_data.Goals as goal
 
 abbrev Again : Data → Type 0
 Again body = (kind : ℕ) → HasForm kind body → data_in kind (data_text body) ≡ Some body
-
-on_ok : {T E : Type 0} (r : Result T E) (P : Type 0) → P → OnOk r P
-on_ok (Ok x) P p = p
-on_ok (Err e) P p = tt
 
 pub returns-in-A-clause-again : goal.returns-in-A-clause-again
 returns-in-A-clause-again c = on_ok _ _ (subst Again (sym c.in-A.is) (λ kind. a_again kind c.in-A.octets c.push_ipv4.ensures.octets))

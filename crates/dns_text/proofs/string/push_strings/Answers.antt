@@ -3,7 +3,7 @@ use Rattle.std.proofs.lemmas.Grind.{common_steps}
 use Rattle.std.proofs.lemmas.List.{take_more, take_all}
 use Rattle.std.specs.List.{AllByRecursion}
 use Rattle.dns_text.specs.String.{AreOctets}
-use Rattle.dns_text.proofs.StringLaws.{all_push}
+use Rattle.dns_name.specs.ListLaws.{all_push}
 use Rattle.dns_text.proofs.string.push_strings.Goals as goal
 
 pub loop-octets-preserved : goal.loop-octets-preserved

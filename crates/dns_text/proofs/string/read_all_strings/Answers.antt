@@ -2,16 +2,17 @@ use Rattle.std.proofs.Common.{◌<◌, ◌≡◌, List, ℕ, [], Some, None, len
 use Rattle.std.specs.Prelude.{option_map}
 use Rattle.std.specs.List.{AllByRecursion}
 use Rattle.dns_text.specs.declared.fault.TextFault.TheVariants.{BadData}
-use Rattle.dns_text.specs.Fault.{or_fault}
+use Rattle.dns_name.specs.Results.{or_fault}
 use Rattle.dns_text.specs.String.{strings_after, string_in}
-use Rattle.dns_text.proofs.StringLaws.{Told, all_push, strings_end, strings_bad, strings_more}
+use Rattle.dns_name.specs.ListLaws.{all_push}
+use Rattle.dns_text.proofs.StringLaws.{Told, strings_end, strings_bad, strings_more}
 use Rattle.dns_text.proofs.string.read_all_strings.Goals as goal
 
 pub returns-in-None-clause-value : goal.returns-in-None-clause-value
 returns-in-None-clause-value c =
     let told = c.loop-word.invariant.told in
     let none : string_in c.in-Some.word.now ≡ None = sym c.in_ok-read_string.ensures.value ∙ c.in-None.is in
-    ap (or_fault BadData) (strings_bad _ told.n _ _ _ _ told.long c.in-Some.ensures.less (sym c.in-Some.ensures.value) none told.told)
+    λ _. ap (or_fault BadData) (strings_bad _ told.n _ _ _ _ told.long c.in-Some.ensures.less (sym c.in-Some.ensures.value) none told.told)
 
 pub loop-word-preserved : goal.loop-word-preserved
 loop-word-preserved c =

@@ -7,8 +7,8 @@ use Rattle.dns_text.proofs.string.take_octet.Goals as goal
 pub returns-in_err-octet : goal.returns-in_err-octet
 returns-in_err-octet c = rw c.from_residual.ensures (octets_bad _ _ c.requires (sym c.next_octet.ensures.value ∙ c.in_err-octet.was))
 
-pub returns-then-len-ge255 : goal.returns-then-len-ge255
-returns-then-len-ge255 c =
+pub returns-then-len-ge-MOST_STRING : goal.returns-then-len-ge-MOST_STRING
+returns-then-len-ge-MOST_STRING c =
     let full : 255 ≤ length c.args.octets.now.items = omega (arith, c.len.ensures.value) in
     octets_full _ _ c.in_ok-octet.octet c.in_ok-octet.taken c.requires (sym c.next_octet.ensures.value ∙ c.in_ok-octet.was) full
 

@@ -1,0 +1,144 @@
+//! The plain book, by the calls and events that no line of a script makes.
+
+use crate::cells::one;
+use dns_name::Name;
+use dns_text::Question;
+use ranked::{Rank, SharedFind};
+use std::alloc::Global;
+use std::test::*;
+use undo_book::{
+    Ask, Book, Command, Event, Look, MOMENT_END, MOST_CELLS, MOST_COMMANDS, MakeFault, PlainBook,
+    Reply, RunFault, Seen, Settings, StepFault, run,
+};
+
+fn question(alloc: Global) -> Result<Question, Fail> {
+    Ok(Question {
+        owner: Name::from_text(alloc, b"a.test")?,
+        kind: 1,
+    })
+}
+
+fn admit(alloc: Global, moment: u64, rank: Rank, ttl: u32) -> Result<Event, Fail> {
+    let find = one(alloc, rank, ttl)?.ok_or("a find")?;
+    Ok(Event::Admit {
+        moment,
+        find: SharedFind::new(alloc, find)?,
+    })
+}
+
+fn flush(alloc: Global, moment: u64) -> Result<Event, Fail> {
+    Ok(Event::Do {
+        moment,
+        command: Command::FlushType(question(alloc)?),
+    })
+}
+
+fn book(alloc: Global, journal: usize, cells: usize) -> Result<PlainBook, MakeFault> {
+    PlainBook::new(alloc, Settings { journal, cells })
+}
+
+/// The seconds that what is held has left.
+fn left(book: &PlainBook, alloc: Global, moment: u64) -> Result<Option<u32>, Fail> {
+    let asked = question(alloc)?;
+    match book.look(&asked, moment) {
+        Look::Held(shown) => Ok(Some(shown.left)),
+        _ => Ok(None),
+    }
+}
+
+#[test]
+fn settings_have_ranges(rt: HostRuntime) {
+    let alloc = rt.alloc();
+    for (journal, cells) in [(1, 1), (MOST_COMMANDS, MOST_CELLS)] {
+        assert!(rt; book(alloc, journal, cells).is_ok());
+    }
+    for (journal, cells) in [(0, 1), (MOST_COMMANDS + 1, 1), (1, 0), (1, MOST_CELLS + 1)] {
+        assert!(rt; matches!(book(alloc, journal, cells), Err(MakeFault::BadSettings)));
+    }
+}
+
+/// What is put back stands where it stood: the set of rank 2 came while the struck flush let it in.
+#[test]
+fn redo_puts_back(rt: HostRuntime) -> Result<(), Fail> {
+    let alloc = rt.alloc();
+    let mut book = book(alloc, 64, 100)?;
+    book.step(admit(alloc, 0, Rank::AuthoritativeAnswer, 60)?)?;
+    book.step(flush(alloc, 1)?)?;
+    assert_eq!(rt; left(&book, alloc, 1)?, None);
+    assert!(rt;
+        matches!(
+            book.step(Event::Undo { moment: 1 })?,
+            Reply::Undone { ticket: 1 }
+        )
+    );
+    assert_eq!(rt; left(&book, alloc, 1)?, Some(59));
+    assert!(rt;
+        matches!(
+            book.step(Event::Redo { moment: 1 })?,
+            Reply::Redone { ticket: 1 }
+        )
+    );
+    assert_eq!(rt; left(&book, alloc, 1)?, None);
+    Ok(())
+}
+
+#[test]
+fn nothing_to_redo(rt: HostRuntime) -> Result<(), Fail> {
+    let alloc = rt.alloc();
+    let mut book = book(alloc, 64, 100)?;
+    assert!(rt; matches!(book.step(Event::Redo { moment: 0 })?, Reply::NothingToRedo));
+    book.step(flush(alloc, 0)?)?;
+    book.step(Event::Undo { moment: 0 })?;
+    book.step(flush(alloc, 0)?)?;
+    assert!(rt; matches!(book.step(Event::Redo { moment: 0 })?, Reply::NothingToRedo));
+    assert!(rt;
+        matches!(
+            book.step(Event::Undo { moment: 0 })?,
+            Reply::Undone { ticket: 2 }
+        )
+    );
+    Ok(())
+}
+
+/// Looks from outside read every moment, and move no clock.
+#[test]
+fn looks_take_every_moment(rt: HostRuntime) -> Result<(), Fail> {
+    let alloc = rt.alloc();
+    let mut book = book(alloc, 64, 100)?;
+    book.step(admit(alloc, 5, Rank::AuthoritativeAnswer, 9)?)?;
+    assert_eq!(rt; left(&book, alloc, u64::MAX)?, None);
+    let ask = Ask::Answer(question(alloc)?);
+    assert!(rt; book.seen(&ask, u64::MAX)? == Seen::Unknown);
+    assert!(rt; book.seen(&ask, 0)? != Seen::Unknown);
+    assert_eq!(rt; left(&book, alloc, 0)?, Some(9));
+    Ok(())
+}
+
+/// What is outranked is stored too, and what meets a fault is not.
+#[test]
+fn stored_counts(rt: HostRuntime) -> Result<(), Fail> {
+    let alloc = rt.alloc();
+    let mut book = book(alloc, 64, 2)?;
+    book.step(admit(alloc, 0, Rank::AuthoritativeAnswer, 60)?)?;
+    let second = book.step(admit(alloc, 0, Rank::Answer, 60)?)?;
+    assert!(rt; matches!(second, Reply::Outranked));
+    let third = book.step(admit(alloc, 0, Rank::AuthoritativeAnswer, 60)?);
+    assert!(rt; matches!(third, Err(StepFault::Full { stored: 2 })));
+    assert_eq!(rt; book.stored(), 2);
+    Ok(())
+}
+
+/// The replies before a fault are there, and what comes after it is not taken.
+#[test]
+fn run_stops_at_a_fault(rt: HostRuntime) -> Result<(), Fail> {
+    let alloc = rt.alloc();
+    let mut book = book(alloc, 64, 100)?;
+    let late = Event::Undo { moment: MOMENT_END };
+    let events = vec![in alloc; flush(alloc, 0)?, late, Event::Undo { moment: 0 }]?;
+    let mut replies = Vec::new(alloc);
+    let stopped = run(&mut book, events, &mut replies);
+    assert!(rt; matches!(stopped, Err(RunFault::Step(StepFault::BadMoment))));
+    assert_eq!(rt; replies.len(), 1);
+    assert!(rt; matches!(replies[0], Reply::Done { ticket: 1 }));
+    Ok(())
+}

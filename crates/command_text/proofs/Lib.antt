@@ -1,0 +1,4 @@
+mod Bars
+mod Heard
+mod Scripts
+mod Sets

@@ -1,0 +1,35 @@
+-- What is admitted.
+use Rattle.std.specs.Prelude.{◌≡◌, ℕ, ◌≤◌, List, length, min}
+use Rattle.std.specs.List.{AllByRecursion}
+use Rattle.dns_name.specs.Labels.{Labels}
+use Rattle.dns_text.specs.declared.record.Data.{Data}
+use Rattle.dns_text.specs.Data.{HasForm}
+use Rattle.dns_text.specs.Equal.{data_eq}
+use Rattle.ranked.specs.declared.rank.Rank.{Rank}
+use Rattle.ranked.specs.declared.find.Find.{Find}
+use Rattle.ranked.specs.declared.find.Scope.TheVariants.{One}
+use Rattle.ranked.specs.declared.find.Body.TheVariants.{Set}
+use Rattle.ranked.specs.declared.find.TheConstants.{LONGEST_TTL}
+use Rattle.ranked.specs.Set.{each_once}
+
+-- what a line admits, as it stands there
+pub record Given : Type 0 where
+  pub rank : Rank
+  pub owner : Labels
+  pub ttl : ℕ
+  pub kind : ℕ
+  pub body : List Data
+
+-- It lives for a second at least and has a datum, and each has the form of its type.
+pub record IsSound (given : Given) : Type 0 where
+  pub lives : 1 ≤ given.ttl
+  pub some : 1 ≤ length given.body
+  pub formed : AllByRecursion (HasForm given.kind) given.body
+
+-- the find of it: its data each once, for a day at most
+pub record IsFindOf (given : Given) (find : Find) : Type 0 where
+  pub owner : find.owner ≡ given.owner
+  pub scope : find.scope ≡ One given.kind
+  pub rank : find.rank ≡ given.rank
+  pub ttl : find.ttl ≡ min given.ttl LONGEST_TTL
+  pub body : find.body ≡ Set (each_once data_eq given.body)

@@ -1,0 +1,11 @@
+pub mod Fault
+pub mod Words
+pub mod Bar
+pub mod Parts
+pub mod Local
+pub mod Admission
+pub mod Admit
+pub mod Line
+pub mod Text
+pub mod Obeying
+pub mod Script

@@ -1,0 +1,141 @@
+-- What a line says: its first word is a command, and the words after it are the command's.
+use Rattle.std.specs.Prelude.{ℕ, ◌-◌, ◌^◌, Bool, true, false, nat_lt, ◌==◌, Option, Some, None, Result, Ok, Err, is_ok, List, [], ◌∷◌, length, if◌then◌else◌}
+use Rattle.streams.specs.declared.held_line.TheConstants.{LONGEST_LINE}
+use Rattle.dns_name.specs.Results.{◌>>=◌, or_fault}
+use Rattle.dns_text.specs.Word.{next_word}
+use Rattle.dns_text.specs.Number.{number_in}
+use Rattle.undo_book.specs.declared.event.Ask.TheVariants.{Answer, Zones, Records}
+use Rattle.undo_book.specs.declared.event.Command.TheVariants.{FlushType as FlushTypeCommand}
+use Rattle.command_text.specs.declared.line.Line.{Line}
+use Rattle.command_text.specs.declared.line.Line.TheVariants.{Silent, At as AtLine, Admit as AdmitLine, Look as LookLine, Do as DoLine, Undo as UndoLine, Redo as RedoLine}
+use Rattle.command_text.specs.declared.fault.LineFault.{LineFault}
+use Rattle.command_text.specs.declared.fault.LineFault.TheVariants.{Unknown, BadData, TooLong}
+use Rattle.command_text.specs.declared.words.Verb.{Verb}
+use Rattle.command_text.specs.declared.words.Verb.TheVariants.{At, Admit, Look, FlushType, LocalZone, LocalZoneRemove, LocalData, LocalDataRemove, ListLocalZones, ListLocalData, Undo, Redo}
+use Rattle.command_text.specs.declared.words.Channel.{Channel}
+use Rattle.command_text.specs.Words.{verb_in}
+use Rattle.command_text.specs.Parts.{word_in, ends, question_words, question_in}
+use Rattle.command_text.specs.Admit.{admit_words, given_of}
+use Rattle.command_text.specs.Local.{set_zone_in, drop_zone_in, record_words, add_record_in, drop_name_in}
+
+-- An empty line says nothing, nor does one that begins with a number sign (35).
+abbrev pub is_silent : List ℕ → Bool
+is_silent [] = true
+is_silent (octet ∷ octets) = octet == 35
+
+-- N: from 0 to 2^64 - 1
+unfoldable pub at_in : List ℕ → Result Line LineFault
+at_in text = do
+  n ← word_in text
+  moment ← or_fault BadData (number_in (2 ^ 64 - 1) n.0)
+  end ← ends n.1
+  Ok (AtLine moment)
+
+unfoldable pub admit_in : List ℕ → Result Line LineFault
+admit_in text = do
+  words ← admit_words text
+  given ← given_of words
+  Ok (AdmitLine given)
+
+unfoldable pub look_in : List ℕ → Result Line LineFault
+look_in text = do
+  question ← question_in text
+  Ok (LookLine (Answer question))
+
+unfoldable pub flush_type_in : List ℕ → Result Line LineFault
+flush_type_in text = do
+  question ← question_in text
+  Ok (DoLine (FlushTypeCommand question))
+
+unfoldable pub local_zone_in : List ℕ → Result Line LineFault
+local_zone_in text = do
+  command ← set_zone_in text
+  Ok (DoLine command)
+
+unfoldable pub local_zone_remove_in : List ℕ → Result Line LineFault
+local_zone_remove_in text = do
+  command ← drop_zone_in text
+  Ok (DoLine command)
+
+unfoldable pub local_data_in : List ℕ → Result Line LineFault
+local_data_in text = do
+  command ← add_record_in text
+  Ok (DoLine command)
+
+unfoldable pub local_data_remove_in : List ℕ → Result Line LineFault
+local_data_remove_in text = do
+  command ← drop_name_in text
+  Ok (DoLine command)
+
+unfoldable pub list_local_zones_in : List ℕ → Result Line LineFault
+list_local_zones_in text = do
+  end ← ends text
+  Ok (LookLine Zones)
+
+unfoldable pub list_local_data_in : List ℕ → Result Line LineFault
+list_local_data_in text = do
+  end ← ends text
+  Ok (LookLine Records)
+
+unfoldable pub undo_in : List ℕ → Result Line LineFault
+undo_in text = do
+  end ← ends text
+  Ok UndoLine
+
+unfoldable pub redo_in : List ℕ → Result Line LineFault
+redo_in text = do
+  end ← ends text
+  Ok RedoLine
+
+-- what a command says with the text after its word
+abbrev pub said_by : Verb → List ℕ → Result Line LineFault
+said_by At text = at_in text
+said_by Admit text = admit_in text
+said_by Look text = look_in text
+said_by FlushType text = flush_type_in text
+said_by LocalZone text = local_zone_in text
+said_by LocalZoneRemove text = local_zone_remove_in text
+said_by LocalData text = local_data_in text
+said_by LocalDataRemove text = local_data_remove_in text
+said_by ListLocalZones text = list_local_zones_in text
+said_by ListLocalData text = list_local_data_in text
+said_by Undo text = undo_in text
+said_by Redo text = redo_in text
+
+-- A line of blanks has no word, and a word that is no command where the line comes from is none.
+abbrev pub read_of : Channel → List ℕ → Result Line LineFault
+read_of channel line =
+    if nat_lt LONGEST_LINE (length line) then Err TooLong
+    else if is_silent line then Ok Silent
+    else (or_fault Unknown (next_word line) >>= λ first. or_fault Unknown (verb_in channel first.0) >>= λ verb. said_by verb first.1)
+
+-- Lines are taken with those that say nothing as such, however long they are.
+abbrev pub says : Channel → List ℕ → Result Line LineFault
+says channel line = if is_silent line then Ok Silent else read_of channel line
+
+-- Only a command that has a name takes memory, and only once all its words are there.
+abbrev pub takes_by : Verb → List ℕ → Bool
+takes_by At text = false
+takes_by Admit text = is_ok (admit_words text)
+takes_by Look text = is_ok (question_words text)
+takes_by FlushType text = is_ok (question_words text)
+takes_by LocalZone text = is_ok (question_words text)
+takes_by LocalZoneRemove text = is_ok (word_in text)
+takes_by LocalData text = is_ok (record_words text)
+takes_by LocalDataRemove text = is_ok (word_in text)
+takes_by ListLocalZones text = false
+takes_by ListLocalData text = false
+takes_by Undo text = false
+takes_by Redo text = false
+
+abbrev takes_if : Option Verb → List ℕ → Bool
+takes_if None text = false
+takes_if (Some verb) text = takes_by verb text
+
+abbrev takes_first : Channel → Option (List ℕ × List ℕ) → Bool
+takes_first channel None = false
+takes_first channel (Some first) = takes_if (verb_in channel first.0) first.1
+
+-- Memory is taken for the line.
+abbrev pub takes_memory : Channel → List ℕ → Bool
+takes_memory channel line = if nat_lt LONGEST_LINE (length line) then false else takes_first channel (next_word line)

@@ -1,0 +1,121 @@
+-- The texts of replies and faults, each with its line's end.
+use Rattle.std.specs.Prelude.{ℕ, Bool, true, false, List, [], ◌∷◌, ◌++◌, codes, decimal, flat_map}
+use Rattle.streams.specs.Split.{with_end}
+use Rattle.dns_name.specs.Text.{text_of}
+use Rattle.dns_text.specs.declared.record.Data.{Data}
+use Rattle.dns_text.specs.declared.record.Record.{Record}
+use Rattle.dns_text.specs.Data.{data_text}
+use Rattle.dns_text.specs.Kind.{type_text}
+use Rattle.dns_text.specs.Record.{record_text}
+use Rattle.ranked.specs.declared.cell.Shown.{Shown}
+use Rattle.ranked.specs.declared.find.Find.{Find}
+use Rattle.ranked.specs.declared.find.Scope.{Scope}
+use Rattle.ranked.specs.declared.find.Scope.TheVariants.{One}
+use Rattle.ranked.specs.declared.find.Body.{Body}
+use Rattle.ranked.specs.declared.find.Body.TheVariants.{Set}
+use Rattle.ranked.specs.Rank.{level_of}
+use Rattle.local_zone.specs.declared.local.Local.{Local}
+use Rattle.local_zone.specs.declared.local.Local.TheVariants as local
+use Rattle.local_zone.specs.declared.zone.Zone.{Zone}
+use Rattle.local_zone.specs.ZoneType.{word_of}
+use Rattle.undo_book.specs.declared.event.Reason.{Reason}
+use Rattle.undo_book.specs.declared.event.Reason.TheVariants.{BelowRedirect, DataBelow, CnameClash, TooMany}
+use Rattle.undo_book.specs.declared.event.Seen.{Seen as Sight}
+use Rattle.undo_book.specs.declared.event.Seen.TheVariants.{Unknown as NothingHeld, Held, Local as LocalSeen, Zones, Records}
+use Rattle.undo_book.specs.declared.event.Reply.{Reply}
+use Rattle.undo_book.specs.declared.event.Reply.TheVariants.{Taken, Outranked, Seen, Done, Refused, Undone, Redone, NothingToUndo, NothingToRedo}
+use Rattle.undo_book.specs.declared.book.StepFault.{StepFault}
+use Rattle.undo_book.specs.declared.book.StepFault.TheVariants.{BadMoment, CountEnded, Full, NoMemory as StepNoMemory}
+use Rattle.command_text.specs.declared.fault.LineFault.{LineFault}
+use Rattle.command_text.specs.declared.fault.LineFault.TheVariants.{Unknown, Missing, BadName, BadType, BadData, TooLong, NoMemory}
+
+-- the data joined by bars
+abbrev pub set_text : List Data → List ℕ
+set_text [] = []
+set_text (first ∷ others) = data_text first ++ flat_map (λ datum. codes " | " ++ data_text datum) others
+
+abbrev pub body_text : Body → List ℕ
+body_text (Set items) = set_text items
+
+abbrev pub scope_text : Scope → List ℕ
+scope_text (One kind) = type_text kind
+
+-- RANK LEFT OWNER TYPE DATA
+unfoldable pub found_text : Shown Find → List ℕ
+found_text shown =
+    decimal (level_of shown.rank) ++ 32 ∷ decimal shown.left ++ 32 ∷ text_of shown.body.owner ++ 32 ∷ scope_text shown.body.scope ++ 32 ∷ body_text shown.body.body
+
+-- TTL OWNER TYPE DATA of a set, by its first record
+abbrev pub records_text : List Record → List ℕ
+records_text [] = []
+records_text (first ∷ others) =
+    decimal first.ttl ++ 32 ∷ text_of first.owner ++ 32 ∷ type_text first.kind ++ 32 ∷ data_text first.body ++ flat_map (λ r. codes " | " ++ data_text r.body) others
+
+-- what local zones answer; where they say nothing, nothing is known
+abbrev pub local_text : Local (List Record) Record → List ℕ
+local_text (local.Data records) = codes "local " ++ records_text records
+local_text (local.NoData soa) = codes "local nodata"
+local_text (local.NoName soa) = codes "local noname"
+local_text local.Refuse = codes "local refuse"
+local_text local.Drop = codes "local drop"
+local_text local.Pass = codes "unknown"
+
+-- NAME TYPE
+abbrev pub zone_line : Zone → List ℕ
+zone_line zone = with_end (text_of zone.name ++ 32 ∷ word_of zone.kind)
+
+-- NAME TTL TYPE DATA
+abbrev pub record_line : Record → List ℕ
+record_line r = with_end (record_text r)
+
+abbrev pub seen_text : Sight → List ℕ
+seen_text NothingHeld = codes "unknown"
+seen_text (Held shown) = codes "found " ++ found_text shown
+seen_text (LocalSeen answer) = local_text answer
+seen_text (Zones zones) = flat_map zone_line zones ++ codes "end"
+seen_text (Records records) = flat_map record_line records ++ codes "end"
+
+abbrev pub reason_text : Reason → List ℕ
+reason_text BelowRedirect = codes "error below_redirect"
+reason_text DataBelow = codes "error data_below"
+reason_text CnameClash = codes "error cname_clash"
+reason_text TooMany = codes "error too_many"
+
+-- local data is answered
+abbrev pub has_data : Local (List Record) Record → Bool
+has_data (local.Data records) = true
+has_data _ = false
+
+-- A find, local data or a list is seen: only these texts are of no bounded length.
+abbrev pub is_long : Reply → Bool
+is_long (Seen (Held shown)) = true
+is_long (Seen (LocalSeen answer)) = has_data answer
+is_long (Seen (Zones zones)) = true
+is_long (Seen (Records records)) = true
+is_long _ = false
+
+abbrev pub reply_text : Reply → List ℕ
+reply_text Taken = with_end (codes "taken")
+reply_text Outranked = with_end (codes "outranked")
+reply_text (Seen seen) = with_end (seen_text seen)
+reply_text (Done ticket) = with_end (codes "ok " ++ decimal ticket)
+reply_text (Refused reason) = with_end (reason_text reason)
+reply_text (Undone ticket) = with_end (codes "undone " ++ decimal ticket)
+reply_text (Redone ticket) = with_end (codes "redone " ++ decimal ticket)
+reply_text NothingToUndo = with_end (codes "error nothing_to_undo")
+reply_text NothingToRedo = with_end (codes "error nothing_to_redo")
+
+abbrev pub fault_text : StepFault → List ℕ
+fault_text BadMoment = with_end (codes "fault bad_moment")
+fault_text CountEnded = with_end (codes "fault count_ended")
+fault_text (Full stored) = with_end (codes "fault full " ++ decimal stored)
+fault_text StepNoMemory = with_end (codes "fault no_memory")
+
+abbrev pub line_fault_text : LineFault → List ℕ
+line_fault_text Unknown = with_end (codes "error unknown")
+line_fault_text Missing = with_end (codes "error missing")
+line_fault_text BadName = with_end (codes "error bad_name")
+line_fault_text BadType = with_end (codes "error bad_type")
+line_fault_text BadData = with_end (codes "error bad_data")
+line_fault_text TooLong = with_end (codes "error too_long")
+line_fault_text NoMemory = with_end (codes "error no_memory")

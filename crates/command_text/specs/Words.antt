@@ -1,0 +1,72 @@
+-- The commands: their words, the forms of what follows, and where each is allowed.
+use Rattle.std.specs.Prelude.{ℕ, Bool, true, false, List, [], ◌∷◌, ◌++◌, Option, Some, None, codes, flat_map, filter, if◌then◌else◌}
+use Rattle.std.specs.Str.{bytes_eq}
+use Rattle.dns_name.specs.Options.{◌>>=◌}
+use Rattle.command_text.specs.declared.words.Verb.{Verb}
+use Rattle.command_text.specs.declared.words.Verb.TheVariants.{At, Admit, Look, FlushType, LocalZone, LocalZoneRemove, LocalData, LocalDataRemove, ListLocalZones, ListLocalData, Undo, Redo}
+use Rattle.command_text.specs.declared.words.Channel.{Channel}
+use Rattle.command_text.specs.declared.words.Channel.TheVariants.{Script, Control}
+use Rattle.command_text.specs.declared.words.Usage.{Usage}
+
+-- a row of the table
+pub record Row : Type 0 where
+  pub verb : Verb
+  pub word : List ℕ
+  pub form : List ℕ
+  pub in_script : Bool
+  pub in_control : Bool
+
+abbrev script_only : Verb → List ℕ → List ℕ → Row
+script_only verb word form = record { verb = verb; word = word; form = form; in_script = true; in_control = false }
+
+abbrev anywhere : Verb → List ℕ → List ℕ → Row
+anywhere verb word form = record { verb = verb; word = word; form = form; in_script = true; in_control = true }
+
+-- the commands, each with its word and the form of what follows it
+abbrev pub commands : List Row
+commands =
+    script_only At (codes "at") (codes "N")
+    ∷ script_only Admit (codes "admit") (codes "RANK NAME TTL TYPE DATA [| DATA]..")
+    ∷ anywhere Look (codes "look") (codes "NAME TYPE")
+    ∷ anywhere FlushType (codes "flush_type") (codes "NAME TYPE")
+    ∷ anywhere LocalZone (codes "local_zone") (codes "NAME TYPE")
+    ∷ anywhere LocalZoneRemove (codes "local_zone_remove") (codes "NAME")
+    ∷ anywhere LocalData (codes "local_data") (codes "RECORD")
+    ∷ anywhere LocalDataRemove (codes "local_data_remove") (codes "NAME")
+    ∷ anywhere ListLocalZones (codes "list_local_zones") []
+    ∷ anywhere ListLocalData (codes "list_local_data") []
+    ∷ anywhere Undo (codes "undo") []
+    ∷ anywhere Redo (codes "redo") []
+    ∷ []
+
+-- a row as the code has it
+abbrev pub row_now : Usage → Row
+row_now usage = record { verb = usage.verb; word = usage.word.now; form = usage.form.now; in_script = usage.in_script; in_control = usage.in_control }
+
+unfoldable pub by_word : List ℕ → List Row → Option Row
+by_word word [] = None
+by_word word (row ∷ table) = if bytes_eq row.word word then Some row else by_word word table
+
+abbrev pub is_allowed : Channel → Row → Bool
+is_allowed Script row = row.in_script
+is_allowed Control row = row.in_control
+
+abbrev pub verb_if : Channel → Row → Option Verb
+verb_if channel row = if is_allowed channel row then Some row.verb else None
+
+-- the command of a word, where it is allowed
+abbrev pub verb_in : Channel → List ℕ → Option Verb
+verb_in channel word = by_word word commands >>= verb_if channel
+
+-- what follows a word, if anything
+abbrev pub form_text : List ℕ → List ℕ
+form_text [] = []
+form_text (c ∷ form) = 32 ∷ c ∷ form
+
+-- a row as help shows it
+abbrev pub usage_text : Row → List ℕ
+usage_text row = codes "  " ++ row.word ++ form_text row.form ++ 10 ∷ []
+
+-- what help says of the commands that are allowed
+abbrev pub help_text : Channel → List ℕ
+help_text channel = flat_map usage_text (filter (is_allowed channel) commands)

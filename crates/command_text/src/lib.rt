@@ -1,0 +1,25 @@
+//! The operator's lines: what a line says, how it is obeyed, and what it is told.
+#![tactic(auto)]
+
+mod words; // the commands: word, form, and where each is allowed
+mod fault; // why a line says nothing
+mod line; // what a line says
+mod parts; // words that many commands have
+mod admission; // what is admitted
+mod admit; // the words of `admit`
+mod local; // the words of the commands on local zones and local data
+mod bar; // the data of a set, between bars
+mod answers; // what local zones answer, as it is told
+mod lists; // the lists of local zones and local data, as they are told
+mod text; // what is told
+mod obeying; // a line is obeyed
+mod script; // lines in, a transcript out
+mod laws; // what the definitions come to, by themselves
+
+pub use admission::Admission;
+pub use fault::LineFault;
+pub use laws::bars_are;
+pub use line::{Line, read_line};
+pub use script::run_script;
+pub use text::reply_text;
+pub use words::{Channel, help_text};

@@ -1,0 +1,194 @@
+//! What a line says.
+
+ghost use Rattle.std.specs.Prelude.{◌≡◌, IsTrue, IsErrOf, is_ok};
+ghost use Rattle.command_text.specs.declared.fault.LineFault.TheVariants.{NoMemory};
+ghost use Rattle.command_text.specs.Fault.{Gives};
+ghost use Rattle.command_text.specs.Line.{is_silent, at_in, admit_in, look_in, flush_type_in, local_zone_in, local_zone_remove_in, local_data_in, local_data_remove_in, list_local_zones_in, list_local_data_in, undo_in, redo_in, said_by, takes_by, read_of, takes_memory};
+
+use crate::admission::Admission;
+use crate::admit::{admit_words, read_admission};
+use crate::fault::LineFault;
+use crate::local::{read_add_record, read_drop_name, read_drop_zone, read_set_zone};
+use crate::parts::{read_end, read_question, read_word};
+use crate::words::{Channel, Verb, verb_in};
+use dns_text::{next_word, read_number};
+use std::alloc::Global;
+use streams::LONGEST_LINE;
+use undo_book::{Ask, Command};
+
+/// What a line says.
+#[derive(Debug, Drop)]
+pub enum Line {
+    /// Nothing: the line is empty or a comment.
+    Silent,
+    /// The moment of the lines after it, in seconds.
+    At { moment: u64 },
+    /// Something was found.
+    Admit(Admission),
+    /// Something is asked.
+    Look(Ask),
+    /// The operator gives a command.
+    Do(Command),
+    /// The newest command is taken back.
+    Undo,
+    /// The command that was undone last is put back.
+    Redo,
+}
+
+/// Whether a line is empty or a comment.
+pub(crate) fn is_silent(line: &[u8]) -> bool
+    ensures { result ≡ is_silent line.now }
+{
+    match line.first() {
+        Some(octet) => *octet == b'#',
+        None => true,
+    }
+}
+
+#[tactic(auto, unfolding(crate::specs::Line::at_in))]
+fn read_at(text: &[u8]) -> Result<Line, LineFault>
+    ensures value { Gives result (at_in text.now) }
+    ensures no_memory { IsErrOf result NoMemory → IsTrue (takes_by Verb.At text.now) }
+{
+    let (word, rest) = read_word(text)?;
+    let moment = read_number(word, u64::MAX).ok_or(LineFault::BadData)?;
+    read_end(rest)?;
+    Ok(Line::At { moment })
+}
+
+#[tactic(auto, unfolding(crate::specs::Line::admit_in))]
+fn read_admit(alloc: Global, text: &[u8]) -> Result<Line, LineFault>
+    ensures value { Gives result (admit_in text.now) }
+    ensures no_memory { IsErrOf result NoMemory → IsTrue (takes_by Verb.Admit text.now) }
+{
+    let words = admit_words(text)?;
+    let admission = read_admission(alloc, words)?;
+    Ok(Line::Admit(admission))
+}
+
+#[tactic(auto, unfolding(crate::specs::Line::look_in))]
+fn read_look(alloc: Global, text: &[u8]) -> Result<Line, LineFault>
+    ensures value { Gives result (look_in text.now) }
+    ensures no_memory { IsErrOf result NoMemory → IsTrue (takes_by Verb.Look text.now) }
+{
+    let question = read_question(alloc, text)?;
+    Ok(Line::Look(Ask::Answer(question)))
+}
+
+#[tactic(auto, unfolding(crate::specs::Line::flush_type_in))]
+fn read_flush_type(alloc: Global, text: &[u8]) -> Result<Line, LineFault>
+    ensures value { Gives result (flush_type_in text.now) }
+    ensures no_memory { IsErrOf result NoMemory → IsTrue (takes_by Verb.FlushType text.now) }
+{
+    let question = read_question(alloc, text)?;
+    Ok(Line::Do(Command::FlushType(question)))
+}
+
+#[tactic(auto, unfolding(crate::specs::Line::local_zone_in))]
+fn read_local_zone(alloc: Global, text: &[u8]) -> Result<Line, LineFault>
+    ensures value { Gives result (local_zone_in text.now) }
+    ensures no_memory { IsErrOf result NoMemory → IsTrue (takes_by Verb.LocalZone text.now) }
+{
+    let command = read_set_zone(alloc, text)?;
+    Ok(Line::Do(command))
+}
+
+#[tactic(auto, unfolding(crate::specs::Line::local_zone_remove_in))]
+fn read_local_zone_remove(alloc: Global, text: &[u8]) -> Result<Line, LineFault>
+    ensures value { Gives result (local_zone_remove_in text.now) }
+    ensures no_memory { IsErrOf result NoMemory → IsTrue (takes_by Verb.LocalZoneRemove text.now) }
+{
+    let command = read_drop_zone(alloc, text)?;
+    Ok(Line::Do(command))
+}
+
+#[tactic(auto, unfolding(crate::specs::Line::local_data_in))]
+fn read_local_data(alloc: Global, text: &[u8]) -> Result<Line, LineFault>
+    ensures value { Gives result (local_data_in text.now) }
+    ensures no_memory { IsErrOf result NoMemory → IsTrue (takes_by Verb.LocalData text.now) }
+{
+    let command = read_add_record(alloc, text)?;
+    Ok(Line::Do(command))
+}
+
+#[tactic(auto, unfolding(crate::specs::Line::local_data_remove_in))]
+fn read_local_data_remove(alloc: Global, text: &[u8]) -> Result<Line, LineFault>
+    ensures value { Gives result (local_data_remove_in text.now) }
+    ensures no_memory { IsErrOf result NoMemory → IsTrue (takes_by Verb.LocalDataRemove text.now) }
+{
+    let command = read_drop_name(alloc, text)?;
+    Ok(Line::Do(command))
+}
+
+#[tactic(auto, unfolding(crate::specs::Line::list_local_zones_in))]
+fn read_list_local_zones(text: &[u8]) -> Result<Line, LineFault>
+    ensures value { Gives result (list_local_zones_in text.now) }
+    ensures no_memory { IsErrOf result NoMemory → IsTrue (takes_by Verb.ListLocalZones text.now) }
+{
+    read_end(text)?;
+    Ok(Line::Look(Ask::Zones))
+}
+
+#[tactic(auto, unfolding(crate::specs::Line::list_local_data_in))]
+fn read_list_local_data(text: &[u8]) -> Result<Line, LineFault>
+    ensures value { Gives result (list_local_data_in text.now) }
+    ensures no_memory { IsErrOf result NoMemory → IsTrue (takes_by Verb.ListLocalData text.now) }
+{
+    read_end(text)?;
+    Ok(Line::Look(Ask::Records))
+}
+
+#[tactic(auto, unfolding(crate::specs::Line::undo_in))]
+fn read_undo(text: &[u8]) -> Result<Line, LineFault>
+    ensures value { Gives result (undo_in text.now) }
+    ensures no_memory { IsErrOf result NoMemory → IsTrue (takes_by Verb.Undo text.now) }
+{
+    read_end(text)?;
+    Ok(Line::Undo)
+}
+
+#[tactic(auto, unfolding(crate::specs::Line::redo_in))]
+fn read_redo(text: &[u8]) -> Result<Line, LineFault>
+    ensures value { Gives result (redo_in text.now) }
+    ensures no_memory { IsErrOf result NoMemory → IsTrue (takes_by Verb.Redo text.now) }
+{
+    read_end(text)?;
+    Ok(Line::Redo)
+}
+
+/// What a command says with the text after its word.
+fn read_command(alloc: Global, verb: Verb, text: &[u8]) -> Result<Line, LineFault>
+    ensures value { Gives result (said_by verb text.now) }
+    ensures no_memory { IsErrOf result NoMemory → IsTrue (takes_by verb text.now) }
+{
+    match verb {
+        Verb::At => read_at(text),
+        Verb::Admit => read_admit(alloc, text),
+        Verb::Look => read_look(alloc, text),
+        Verb::FlushType => read_flush_type(alloc, text),
+        Verb::LocalZone => read_local_zone(alloc, text),
+        Verb::LocalZoneRemove => read_local_zone_remove(alloc, text),
+        Verb::LocalData => read_local_data(alloc, text),
+        Verb::LocalDataRemove => read_local_data_remove(alloc, text),
+        Verb::ListLocalZones => read_list_local_zones(text),
+        Verb::ListLocalData => read_list_local_data(text),
+        Verb::Undo => read_undo(text),
+        Verb::Redo => read_redo(text),
+    }
+}
+
+/// Reads a line, without its end. The fault `TooLong` is told first, then `Unknown`, then `Missing`.
+pub fn read_line(alloc: Global, channel: Channel, line: &[u8]) -> Result<Line, LineFault>
+    ensures value { Gives result (read_of channel line.now) }
+    ensures no_memory { IsErrOf result NoMemory → IsTrue (takes_memory channel line.now) }
+{
+    if line.len() > LONGEST_LINE {
+        return Err(LineFault::TooLong);
+    }
+    if is_silent(line) {
+        return Ok(Line::Silent);
+    }
+    let (word, rest) = next_word(line).ok_or(LineFault::Unknown)?;
+    let verb = verb_in(channel, word).ok_or(LineFault::Unknown)?;
+    read_command(alloc, verb, rest)
+}

@@ -1,0 +1,123 @@
+//! A line is obeyed.
+
+ghost use Rattle.std.specs.Prelude.{◌≡◌, List, Ok, IfOk, codes};
+ghost use Rattle.streams.specs.Split.{with_end};
+ghost use Rattle.streams.specs.Text.{octets_in};
+ghost use Rattle.undo_book.specs.declared.event.Event.{Event};
+ghost use Rattle.undo_book.specs.Answers.{Answers, history_after};
+ghost use Rattle.command_text.specs.declared.line.Line.TheVariants.{At, Admit, Look, Do, Undo, Redo};
+ghost use Rattle.command_text.specs.Admission.{IsFindOf};
+ghost use Rattle.command_text.specs.Obeying.{Place, Asks, Does, GoesOn, Obeys};
+
+use crate::admission::Admission;
+use crate::fault::LineFault;
+use crate::line::{Line, is_silent, read_line};
+use crate::text::{answer_text, line_fault_text};
+use crate::words::Channel;
+use ranked::SharedFind;
+use std::alloc::{AllocError, Global};
+use streams::Text;
+use undo_book::{Ask, Book, Command, Event, Reply, StepFault};
+
+/// Asks the book.
+fn take<B: Book>(book: &mut B, event: Event) -> Result<Reply, StepFault>
+    ensures answers { (h : List Event) → B.stands_for book.old h → Answers (B.settings book.old) h event result }
+    ensures stands { (h : List Event) → B.stands_for book.old h → B.stands_for book.new (history_after h event result) }
+    ensures settings { B.settings book.new ≡ B.settings book.old }
+{
+    book.step(event)
+}
+
+/// Asks the book an event, and says what is told.
+fn ask<B: Book>(alloc: Global, book: &mut B, event: Event) -> Text
+    ensures asks { (place : Place) → B.stands_for book.old place.history → (next : Place)
+        × Asks (B.settings book.old) place event (octets_in result) next
+        × B.stands_for book.new next.history × (next.moment ≡ place.moment) }
+    ensures settings { B.settings book.new ≡ B.settings book.old }
+{
+    let answer = take(book, event);
+    answer_text(alloc, &answer)
+}
+
+/// The moment of the lines after it.
+fn obey_at(moment: &mut u64, given: u64) -> Text
+    ensures moment { moment.new ≡ given }
+    ensures text { octets_in result ≡ with_end (codes "ok") }
+{
+    *moment = given;
+    Text::Fixed(b"ok\n")
+}
+
+fn share_find(alloc: Global, admission: Admission) -> Result<SharedFind, AllocError>
+    ensures { IfOk result (λ find. IsFindOf admission find) }
+{
+    SharedFind::new(alloc, admission.into_find())
+}
+
+fn obey_admit<B: Book>(alloc: Global, book: &mut B, moment: u64, admission: Admission) -> Text
+    ensures does { GoesOn B.stands_for book.old moment book.new moment (λ place next. Does (B.settings book.old) place (Ok (Admit admission)) (octets_in result) next) }
+    ensures settings { B.settings book.new ≡ B.settings book.old }
+{
+    match share_find(alloc, admission) {
+        Ok(find) => ask(alloc, book, Event::Admit { moment, find }),
+        Err(_) => line_fault_text(LineFault::NoMemory),
+    }
+}
+
+fn obey_look<B: Book>(alloc: Global, book: &mut B, moment: u64, asked: Ask) -> Text
+    ensures does { GoesOn B.stands_for book.old moment book.new moment (λ place next. Does (B.settings book.old) place (Ok (Look asked)) (octets_in result) next) }
+    ensures settings { B.settings book.new ≡ B.settings book.old }
+{
+    ask(alloc, book, Event::Look { moment, ask: asked })
+}
+
+fn obey_command<B: Book>(alloc: Global, book: &mut B, moment: u64, command: Command) -> Text
+    ensures does { GoesOn B.stands_for book.old moment book.new moment (λ place next. Does (B.settings book.old) place (Ok (Do command)) (octets_in result) next) }
+    ensures settings { B.settings book.new ≡ B.settings book.old }
+{
+    ask(alloc, book, Event::Do { moment, command })
+}
+
+fn obey_undo<B: Book>(alloc: Global, book: &mut B, moment: u64) -> Text
+    ensures does { GoesOn B.stands_for book.old moment book.new moment (λ place next. Does (B.settings book.old) place (Ok Undo) (octets_in result) next) }
+    ensures settings { B.settings book.new ≡ B.settings book.old }
+{
+    ask(alloc, book, Event::Undo { moment })
+}
+
+fn obey_redo<B: Book>(alloc: Global, book: &mut B, moment: u64) -> Text
+    ensures does { GoesOn B.stands_for book.old moment book.new moment (λ place next. Does (B.settings book.old) place (Ok Redo) (octets_in result) next) }
+    ensures settings { B.settings book.new ≡ B.settings book.old }
+{
+    ask(alloc, book, Event::Redo { moment })
+}
+
+/// Obeys what a line says.
+fn obey_line<B: Book>(alloc: Global, book: &mut B, moment: &mut u64, line: Line) -> Text
+    ensures does { GoesOn B.stands_for book.old moment.old book.new moment.new (λ place next. Does (B.settings book.old) place (Ok line) (octets_in result) next) }
+    ensures settings { B.settings book.new ≡ B.settings book.old }
+{
+    match line {
+        Line::Silent => Text::Fixed(b""),
+        Line::At { moment: given } => obey_at(moment, given),
+        Line::Admit(admission) => obey_admit(alloc, book, *moment, admission),
+        Line::Look(asked) => obey_look(alloc, book, *moment, asked),
+        Line::Do(command) => obey_command(alloc, book, *moment, command),
+        Line::Undo => obey_undo(alloc, book, *moment),
+        Line::Redo => obey_redo(alloc, book, *moment),
+    }
+}
+
+/// Obeys a line, and says what it is told. The moment is that of the events after it.
+pub(crate) fn obey<B: Book>(alloc: Global, book: &mut B, moment: &mut u64, line: &[u8]) -> Text
+    ensures obeys { GoesOn B.stands_for book.old moment.old book.new moment.new (λ place next. Obeys (B.settings book.old) place line.now (octets_in result) next) }
+    ensures settings { B.settings book.new ≡ B.settings book.old }
+{
+    if is_silent(line) {
+        return Text::Fixed(b"");
+    }
+    match read_line(alloc, Channel::Script, line) {
+        Ok(said) => obey_line(alloc, book, moment, said),
+        Err(fault) => line_fault_text(fault),
+    }
+}

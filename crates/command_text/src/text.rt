@@ -1,0 +1,159 @@
+//! What is told.
+
+ghost use Rattle.std.specs.Prelude.{◌≡◌, ◌≤◌, ◌++◌, ◌∷◌, [], length, IsTrue, IfOk, OnOk, OnErr, codes, decimal, flat_map};
+ghost use Rattle.streams.specs.Split.{with_end};
+ghost use Rattle.streams.specs.Text.{octets_in};
+ghost use Rattle.dns_name.specs.Text.{text_of};
+ghost use Rattle.dns_text.specs.Data.{data_text};
+ghost use Rattle.command_text.specs.Text.{set_text, body_text, scope_text, found_text, is_long, reply_text, reason_text, fault_text, line_fault_text};
+ghost use Rattle.command_text.specs.Obeying.{Tells};
+
+use crate::answers::answer_line;
+use crate::fault::LineFault;
+use crate::lists::{records_lines, zones_lines};
+use arrayvec::ArrayVec;
+use dns_text::{Data, NoMemory, push_data, push_type};
+use itoa::Buffer;
+use ranked::{Body, Find, Scope, SharedFind, Shown};
+use std::alloc::Global;
+use streams::Text;
+use undo_book::{Reason, Reply, Seen, StepFault};
+
+/// Writes the data after the first of a set.
+fn push_others(others: &[Data], out: &mut Vec<u8>) -> Result<(), NoMemory>
+    ensures { OnOk result (out.new.items ≡ out.old.items ++ flat_map (λ datum. codes " | " ++ data_text datum) others.now) }
+{
+    for datum in others {
+        out.extend_from_slice(b" | ")?;
+        push_data(datum, out)?;
+    }
+    Ok(())
+}
+
+/// Writes data joined by bars.
+fn push_set(items: &[Data], out: &mut Vec<u8>) -> Result<(), NoMemory>
+    ensures { OnOk result (out.new.items ≡ out.old.items ++ set_text items.now) }
+{
+    match items {
+        [] => Ok(()),
+        [first, others @ ..] => {
+            push_data(first, out)?;
+            push_others(others, out)
+        }
+    }
+}
+
+/// Writes ` OWNER TYPE DATA`.
+fn push_find(find: &Find, out: &mut Vec<u8>) -> Result<(), NoMemory>
+    ensures { OnOk result (out.new.items ≡ out.old.items ++ 32 ∷ text_of find.now.owner ++ 32 ∷ scope_text find.now.scope ++ 32 ∷ body_text find.now.body) }
+{
+    let Scope::One(kind) = find.scope;
+    let Body::Set(items) = &find.body;
+    out.push(b' ')?;
+    find.owner.push_text(out)?;
+    out.push(b' ')?;
+    push_type(kind, out)?;
+    out.push(b' ')?;
+    push_set(items.as_slice(), out)
+}
+
+/// The line of a set that is held.
+#[tactic(auto, unfolding(crate::specs::Text::found_text))]
+fn found_line(alloc: Global, shown: &Shown<SharedFind>) -> Result<Vec<u8>, NoMemory>
+    ensures { IfOk result (λ text. text.items ≡ with_end (codes "found " ++ found_text shown.now)) }
+{
+    let rank = shown.rank.level();
+    let left = shown.left;
+    let mut out = format!(in alloc; "found {rank} {left}")?.into_bytes();
+    push_find(shown.body.find(), &mut out)?;
+    out.push(b'\n')?;
+    Ok(out)
+}
+
+/// A line of words and a number. It takes no memory.
+fn number_line(words: &[u8], number: u64) -> Text
+    requires { length words.now ≤ 16 }
+    ensures { octets_in result ≡ with_end (words.now ++ 32 ∷ decimal number) }
+{
+    let mut digits = Buffer::new();
+    let mut line = ArrayVec::new();
+    line.try_extend_from_slice(words).unwrap();
+    line.push(b' ');
+    line.try_extend_from_slice(digits.format(number).as_bytes())
+        .unwrap();
+    line.push(b'\n');
+    Text::Short(line)
+}
+
+fn reason_line(reason: Reason) -> Text
+    ensures { octets_in result ≡ with_end (reason_text reason) }
+{
+    match reason {
+        Reason::BelowRedirect => Text::Fixed(b"error below_redirect\n"),
+        Reason::DataBelow => Text::Fixed(b"error data_below\n"),
+        Reason::CnameClash => Text::Fixed(b"error cname_clash\n"),
+        Reason::TooMany => Text::Fixed(b"error too_many\n"),
+    }
+}
+
+/// The lines of a reply, each with its end. Only those of a find, of local data or of a list take memory.
+pub fn reply_text(alloc: Global, reply: &Reply) -> Result<Text, NoMemory>
+    ensures text { IfOk result (λ text. octets_in text ≡ reply_text reply.now) }
+    ensures memory { OnErr result (IsTrue (is_long reply.now)) }
+{
+    match reply {
+        Reply::Taken => Ok(Text::Fixed(b"taken\n")),
+        Reply::Outranked => Ok(Text::Fixed(b"outranked\n")),
+        Reply::Seen(Seen::Unknown) => Ok(Text::Fixed(b"unknown\n")),
+        Reply::Seen(Seen::Held(shown)) => Ok(Text::Made(found_line(alloc, shown)?)),
+        Reply::Seen(Seen::Local(answer)) => answer_line(alloc, answer),
+        Reply::Seen(Seen::Zones(zones)) => Ok(Text::Made(zones_lines(alloc, zones)?)),
+        Reply::Seen(Seen::Records(records)) => Ok(Text::Made(records_lines(alloc, records)?)),
+        Reply::Done { ticket } => Ok(number_line(b"ok", *ticket)),
+        Reply::Refused(reason) => Ok(reason_line(*reason)),
+        Reply::Undone { ticket } => Ok(number_line(b"undone", *ticket)),
+        Reply::Redone { ticket } => Ok(number_line(b"redone", *ticket)),
+        Reply::NothingToUndo => Ok(Text::Fixed(b"error nothing_to_undo\n")),
+        Reply::NothingToRedo => Ok(Text::Fixed(b"error nothing_to_redo\n")),
+    }
+}
+
+/// The line of a fault of a step.
+fn fault_text(fault: StepFault) -> Text
+    ensures { octets_in result ≡ fault_text fault }
+{
+    match fault {
+        StepFault::BadMoment => Text::Fixed(b"fault bad_moment\n"),
+        StepFault::CountEnded => Text::Fixed(b"fault count_ended\n"),
+        StepFault::Full { stored } => number_line(b"fault full", stored as u64),
+        StepFault::NoMemory => Text::Fixed(b"fault no_memory\n"),
+    }
+}
+
+/// The line of what a step answers. A find, local data or a list that finds no memory for its text is lost.
+pub fn answer_text(alloc: Global, answer: &Result<Reply, StepFault>) -> Text
+    ensures { Tells answer.now (octets_in result) }
+{
+    match answer {
+        Ok(reply) => match reply_text(alloc, reply) {
+            Ok(text) => text,
+            Err(_) => Text::Fixed(b"fault reply_lost\n"),
+        },
+        Err(fault) => fault_text(*fault),
+    }
+}
+
+/// The line of what says nothing.
+pub fn line_fault_text(fault: LineFault) -> Text
+    ensures { octets_in result ≡ line_fault_text fault }
+{
+    match fault {
+        LineFault::Unknown => Text::Fixed(b"error unknown\n"),
+        LineFault::Missing => Text::Fixed(b"error missing\n"),
+        LineFault::BadName => Text::Fixed(b"error bad_name\n"),
+        LineFault::BadType => Text::Fixed(b"error bad_type\n"),
+        LineFault::BadData => Text::Fixed(b"error bad_data\n"),
+        LineFault::TooLong => Text::Fixed(b"error too_long\n"),
+        LineFault::NoMemory => Text::Fixed(b"error no_memory\n"),
+    }
+}

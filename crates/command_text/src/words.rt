@@ -1,0 +1,211 @@
+//! The commands: their words, the forms of what follows, and where each is allowed.
+
+ghost use Rattle.std.specs.Prelude.{map, filter, flat_map, ◌≡◌, ◌++◌, option_map, string_bytes, IfOk, OnOk};
+ghost use Rattle.std.specs.Str.{bytes_eq};
+ghost use Rattle.command_text.specs.Words.{row_now, commands, by_word, is_allowed, verb_in, form_text, usage_text, help_text};
+
+use std::alloc::{AllocError, Global};
+
+/// What the first word of a line commands.
+#[derive(Clone, Copy)]
+pub(crate) enum Verb {
+    At,
+    Admit,
+    Look,
+    FlushType,
+    LocalZone,
+    LocalZoneRemove,
+    LocalData,
+    LocalDataRemove,
+    ListLocalZones,
+    ListLocalData,
+    Undo,
+    Redo,
+}
+
+/// Where lines come from.
+#[derive(Clone, Copy, Debug, PartialEq, Eq)]
+pub enum Channel {
+    Script,
+    /// The control socket.
+    Control,
+}
+
+/// How a command is written, and where it is allowed.
+struct Usage {
+    verb: Verb,
+    /// The first word of its line.
+    word: &'static str,
+    /// What follows the word.
+    form: &'static str,
+    in_script: bool,
+    in_control: bool,
+}
+
+static COMMANDS: [Usage; 12] = [
+    Usage {
+        verb: Verb::At,
+        word: "at",
+        form: "N",
+        in_script: true,
+        in_control: false,
+    },
+    Usage {
+        verb: Verb::Admit,
+        word: "admit",
+        form: "RANK NAME TTL TYPE DATA [| DATA]..",
+        in_script: true,
+        in_control: false,
+    },
+    Usage {
+        verb: Verb::Look,
+        word: "look",
+        form: "NAME TYPE",
+        in_script: true,
+        in_control: true,
+    },
+    Usage {
+        verb: Verb::FlushType,
+        word: "flush_type",
+        form: "NAME TYPE",
+        in_script: true,
+        in_control: true,
+    },
+    Usage {
+        verb: Verb::LocalZone,
+        word: "local_zone",
+        form: "NAME TYPE",
+        in_script: true,
+        in_control: true,
+    },
+    Usage {
+        verb: Verb::LocalZoneRemove,
+        word: "local_zone_remove",
+        form: "NAME",
+        in_script: true,
+        in_control: true,
+    },
+    Usage {
+        verb: Verb::LocalData,
+        word: "local_data",
+        form: "RECORD",
+        in_script: true,
+        in_control: true,
+    },
+    Usage {
+        verb: Verb::LocalDataRemove,
+        word: "local_data_remove",
+        form: "NAME",
+        in_script: true,
+        in_control: true,
+    },
+    Usage {
+        verb: Verb::ListLocalZones,
+        word: "list_local_zones",
+        form: "",
+        in_script: true,
+        in_control: true,
+    },
+    Usage {
+        verb: Verb::ListLocalData,
+        word: "list_local_data",
+        form: "",
+        in_script: true,
+        in_control: true,
+    },
+    Usage {
+        verb: Verb::Undo,
+        word: "undo",
+        form: "",
+        in_script: true,
+        in_control: true,
+    },
+    Usage {
+        verb: Verb::Redo,
+        word: "redo",
+        form: "",
+        in_script: true,
+        in_control: true,
+    },
+];
+
+// A function of its own, so that no goal spells the table out.
+fn table() -> &'static [Usage]
+    ensures { map row_now result.now ≡ commands }
+{
+    &COMMANDS
+}
+
+impl Usage {
+    fn has_word(&self, word: &[u8]) -> bool
+        ensures { result ≡ bytes_eq self.now.word.now word.now }
+    {
+        self.word.as_bytes() == word
+    }
+
+    fn is_allowed(&self, channel: Channel) -> bool
+        ensures { result ≡ is_allowed channel (row_now self.now) }
+    {
+        match channel {
+            Channel::Script => self.in_script,
+            Channel::Control => self.in_control,
+        }
+    }
+}
+
+/// The row of a word.
+#[tactic(auto, unfolding(crate::specs::Words::by_word))]
+fn by_word(word: &[u8]) -> Option<&'static Usage>
+    ensures { option_map (λ usage. row_now usage.now) result ≡ by_word word.now commands }
+{
+    for usage in table() {
+        if usage.has_word(word) {
+            return Some(usage);
+        }
+    }
+    None
+}
+
+/// The command of a word, where it is allowed.
+pub(crate) fn verb_in(channel: Channel, word: &[u8]) -> Option<Verb>
+    ensures { result ≡ verb_in channel word.now }
+{
+    let usage = by_word(word)?;
+    if usage.is_allowed(channel) {
+        Some(usage.verb)
+    } else {
+        None
+    }
+}
+
+fn push_form(form: &str, out: &mut String) -> Result<(), AllocError>
+    ensures { OnOk result (string_bytes out.new ≡ string_bytes out.old ++ form_text form.now) }
+{
+    if form.is_empty() {
+        return Ok(());
+    }
+    out.push_str(" ")?;
+    out.push_str(form)
+}
+
+fn push_usage(usage: &Usage, out: &mut String) -> Result<(), AllocError>
+    ensures { OnOk result (string_bytes out.new ≡ string_bytes out.old ++ usage_text (row_now usage.now)) }
+{
+    out.push_str("  ")?;
+    out.push_str(usage.word)?;
+    push_form(usage.form, out)?;
+    out.push_str("\n")
+}
+
+/// A line for each command that is allowed, with its form.
+pub fn help_text(alloc: Global, channel: Channel) -> Result<String, AllocError>
+    ensures { IfOk result (λ text. string_bytes text ≡ help_text channel) }
+{
+    let mut out = String::new(alloc);
+    for usage in table() {
+        if usage.is_allowed(channel) {
+            push_usage(usage, &mut out)?;
+        }
+    }
+    Ok(out)
+}

@@ -1,0 +1,71 @@
+//! The calls by their words.
+
+use crate::fault::CallFault;
+use crate::messages::{
+    encoding_of, fault_reply_to, is_read_again, reply_octets, reply_over_udp, verdict_on, words_of,
+};
+use crate::names::{
+    is_below, labels_of, length_of, name_of_labels, name_text, order_of, parent_of, spelling_of,
+};
+use crate::texts::{addr_text, data_text, record_text, type_text};
+use dns_text::next_word;
+use hex::FromHexError;
+use std::alloc::{AllocError, Global};
+
+/// The octets of an argument.
+fn octets_of(alloc: Global, word: &[u8]) -> Result<Vec<u8>, CallFault> {
+    if word == b"-".as_slice() {
+        return Ok(Vec::new(alloc));
+    }
+    match hex::decode(alloc, word) {
+        Ok(octets) => Ok(octets),
+        Err(FromHexError::OutOfMemory) => Err(CallFault::NoMemory(AllocError)),
+        Err(_) => Err(CallFault::NoCall),
+    }
+}
+
+/// The arguments behind the word of a call.
+fn arguments(alloc: Global, text: &[u8]) -> Result<Vec<Vec<u8>>, CallFault> {
+    let mut found = Vec::new(alloc);
+    let mut text = text;
+    while let Some((word, rest)) = next_word(text) {
+        found.push(octets_of(alloc, word)?)?;
+        text = rest;
+    }
+    Ok(found)
+}
+
+/// What a call gives.
+fn answer(alloc: Global, word: &[u8], arguments: &[Vec<u8>]) -> Result<Vec<u8>, CallFault> {
+    match (word, arguments) {
+        (b"name", [text]) => name_text(alloc, text),
+        (b"from_labels", labels) => name_of_labels(alloc, labels),
+        (b"labels", [text]) => labels_of(alloc, text),
+        (b"length", [text]) => length_of(alloc, text),
+        (b"spell", [text]) => spelling_of(alloc, text),
+        (b"parent", [text]) => parent_of(alloc, text),
+        (b"compare", [text, other]) => order_of(alloc, text, other),
+        (b"below", [text, zone]) => is_below(alloc, text, zone),
+        (b"record", [text]) => record_text(alloc, text),
+        (b"data", [kind, text]) => data_text(alloc, kind, text),
+        (b"type", [word]) => type_text(alloc, word),
+        (b"addr", [text]) => addr_text(alloc, text),
+        (b"decode", [octets]) => words_of(alloc, octets),
+        (b"encode", [octets]) => encoding_of(alloc, octets),
+        (b"again", [octets]) => is_read_again(alloc, octets),
+        (b"ask", [octets]) => verdict_on(alloc, octets),
+        (b"fault", [octets, rcode]) => fault_reply_to(alloc, octets, rcode),
+        (b"cut", [query, octets]) => reply_over_udp(alloc, query, octets),
+        (b"reply", [query, octets]) => reply_octets(alloc, query, octets),
+        _ => Err(CallFault::NoCall),
+    }
+}
+
+/// The line that tells what the call of a line gives, with its end.
+pub fn call(alloc: Global, line: &[u8]) -> Result<Vec<u8>, CallFault> {
+    let (word, rest) = next_word(line).ok_or(CallFault::NoCall)?;
+    let arguments = arguments(alloc, rest)?;
+    let mut told = answer(alloc, word, arguments.as_slice())?;
+    told.push(b'\n')?;
+    Ok(told)
+}

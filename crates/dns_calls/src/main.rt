@@ -1,0 +1,40 @@
+//! Reads lines from standard input, each a call of the crates that say what DNS says, and writes one line for each: what
+//! the call gives, or `fault` and why it gives nothing.
+//!
+//! A call is a word and its arguments, `calls` has them all. An argument is octets as hexadecimal digits, or `-` for none.
+#![tactic(auto)]
+
+mod calls; // each call by its word
+mod fault; // why a call gives nothing
+mod messages; // messages and queries
+mod names; // names
+mod texts; // records, types and addresses as text
+mod words; // a message in words
+
+use calls::call;
+use std::io;
+use std::io::{BufRead, Input, Write};
+
+/// Writes what the call of a line gives.
+fn tell(rt: &HostRuntime, line: &[u8]) -> io::Result<()> {
+    match call(rt.alloc(), line) {
+        Ok(text) => rt.stdout().write_all(&text),
+        Err(fault) => println!(rt; "fault {fault}"),
+    }
+}
+
+fn main(rt: HostRuntime) -> io::Result<()> {
+    let mut input = rt.reader();
+    let mut line = Vec::new(rt.alloc());
+    for _ in 0..u64::MAX {
+        line.clear();
+        if input.read_until(b'\n', &mut line)? == 0 {
+            break;
+        }
+        if line.ends_with(b"\n") {
+            line.pop();
+        }
+        tell(&rt, &line)?;
+    }
+    Ok(())
+}

@@ -1,0 +1,10 @@
+//! How long labels and names may be (RFC 1035 section 2.3.4).
+
+/// The most octets of a label.
+pub const MAX_LABEL_OCTETS: usize = 63;
+
+/// The most octets of a name in a message: its labels, each behind its length, and the zero octet that ends it.
+pub const MAX_NAME_OCTETS: usize = 255;
+
+/// The most labels of a name: each takes two octets or more.
+pub const MAX_LABELS: usize = (MAX_NAME_OCTETS - 1) / 2;

@@ -1,0 +1,30 @@
+//! What the definitions of texts say by themselves.
+
+ghost use Rattle.std.specs.Prelude.{ℕ};
+ghost use Rattle.dns_text.specs.Ipv4.{ReadsIpv4};
+ghost use Rattle.dns_text.specs.Ipv6.{IsIpv6Text, ReadsIpv6};
+ghost use Rattle.dns_text.specs.String.{IsStringsText, ReadsStrings};
+ghost use Rattle.dns_text.specs.Data.{IsDataText, ReadsData};
+ghost use Rattle.dns_text.specs.Record.{IsRecordText, ReadsRecords};
+ghost use Rattle.dns_text.specs.Laws.{StandsForOne};
+
+/// What is read from a text is what it stands for.
+pub fn text_law()
+    ensures ipv4 { ReadsIpv4 }
+    ensures ipv6 { ReadsIpv6 }
+    ensures strings { ReadsStrings }
+    ensures data { ReadsData }
+    ensures records { ReadsRecords }
+{
+    dns_name::text_law();
+}
+
+/// A text stands for one thing at most.
+pub fn one_meaning()
+    ensures ipv6 { StandsForOne IsIpv6Text }
+    ensures strings { StandsForOne IsStringsText }
+    ensures data { (kind : ℕ) → StandsForOne (IsDataText kind) }
+    ensures record { StandsForOne IsRecordText }
+{
+    text_law();
+}

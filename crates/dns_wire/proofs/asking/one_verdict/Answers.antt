@@ -1,5 +1,0 @@
-use Rattle.dns_wire.proofs.VerdictLaws.{asked_once}
-use Rattle.dns_wire.proofs.asking.one_verdict.Goals as goal
-
-pub returns : goal.returns
-returns c = λ m a b h k. asked_once h k

@@ -1,8 +1,0 @@
-use Rattle.std.proofs.Common.{List, ℕ, subst, sym}
-use Rattle.dns_wire.specs.Message.{SpelledMessage}
-use Rattle.dns_wire.proofs.WrittenMessage.{message_written}
-use Rattle.dns_wire.proofs.encoding.encode.Goals as goal
-
-pub returns-in_ok-write_message-in-Some-clause-spelled : goal.returns-in_ok-write_message-in-Some-clause-spelled
-returns-in_ok-write_message-in-Some-clause-spelled c =
-    subst (λ (o : List ℕ). SpelledMessage o c.args.message.now) (sym c.in_ok-write_message-in-Some.ensures) (message_written c.args.message.now c.requires c.in-Some.ensures.1)

@@ -1,5 +1,0 @@
-use Rattle.dns_wire.proofs.WrittenSize.{sections_fit}
-use Rattle.dns_wire.proofs.encoding.write_reply.Goals as goal
-
-pub push_sections-requires-clause-short : goal.push_sections-requires-clause-short
-push_sections-requires-clause-short c = sections_fit c.args.reply.now c.requires.fits

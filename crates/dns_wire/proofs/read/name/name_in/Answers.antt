@@ -1,0 +1,13 @@
+use Rattle.std.proofs.Common.{take, arith}
+use Rattle.std.proofs.lemmas.List.{length-take}
+use Rattle.dns_wire.proofs.NameLaws.{found_gives, found_within}
+use Rattle.dns_wire.proofs.read.name.name_in.Goals as goal
+
+pub returns-clause-exact : goal.returns-clause-exact
+returns-clause-exact c =
+    let m = c.args.message.now in
+    let size = length-take c.args.limit m in
+    found_gives m (take c.args.limit m) c.args.ending c.args.at (omega (arith, size, c.requires.within, c.requires.limit)) (omega (arith, size)) _ c.follow_name.ensures.stands c.follow_name.ensures.name
+
+pub returns-clause-within : goal.returns-clause-within
+returns-clause-within c = found_within c.args.message.now c.args.limit c.args.ending c.args.at _ c.follow_name.ensures.stands

@@ -1,0 +1,11 @@
+pub mod Number
+pub mod Header
+pub mod Place
+pub mod Chains
+pub mod Name
+pub mod Question
+pub mod Rdata
+pub mod Record
+pub mod Section
+pub mod Message
+pub mod Decoding

@@ -1,0 +1,37 @@
+-- What decoding answers, and that the octets leave it no choice but by memory.
+use Rattle.std.specs.Prelude.{◌≡◌, ℕ, ◌<◌, ◌⊎◌, List, length}
+use Rattle.dns_wire.specs.declared.fault.WireFault.{WireFault}
+use Rattle.dns_wire.specs.declared.fault.WireFault.TheVariants.{NoMemory}
+use Rattle.dns_wire.specs.declared.message.Message.{Message}
+use Rattle.dns_wire.specs.Read.Message.{MessageAt, SpelledMessage, MessageFails}
+
+-- The octets spell no message.
+abbrev pub IsUnspelled : List ℕ → Type 0
+IsUnspelled m = (v : Message) → ¬ (SpelledMessage m v)
+
+-- The octets spell a message, and more octets follow it.
+pub record HasTrailing (m : List ℕ) : Type 0 where
+  pub message : Message
+  pub after : ℕ
+  pub stands : MessageAt m message after
+  pub more : after < length m
+
+-- Memory ran out, or this holds.
+abbrev pub UnlessMemory : WireFault → Type 0 → Type 0
+UnlessMemory fault p = (fault ≡ NoMemory) ⊎ p
+
+-- Octets spell a message, or a fault keeps them from it.
+abbrev pub SpelledOrFails : Type 0
+SpelledOrFails = (m : List ℕ) → ((v : Message) × SpelledMessage m v) ⊎ ((fault : WireFault) × MessageFails m fault)
+
+-- Octets that a fault keeps from being a message spell none.
+abbrev pub NeverBoth : Type 0
+NeverBoth = (m : List ℕ) (fault : WireFault) → MessageFails m fault → IsUnspelled m
+
+-- Octets spell one message at most.
+abbrev pub SpelledOnce : Type 0
+SpelledOnce = (m : List ℕ) (v w : Message) → SpelledMessage m v → SpelledMessage m w → v ≡ w
+
+-- One fault at most keeps octets from being a message.
+abbrev pub FailsOnce : Type 0
+FailsOnce = (m : List ℕ) (fault other : WireFault) → MessageFails m fault → MessageFails m other → fault ≡ other

@@ -1,0 +1,18 @@
+-- Replies that are made of a query's header and question alone (RFC 1035, section 4.1.1; RFC 2181, section 9).
+use Rattle.std.specs.Prelude.{ℕ, true, false, [], ◌∷◌}
+use Rattle.dns_text.specs.declared.record.Question.{Question}
+use Rattle.dns_wire.specs.declared.message.Head.{Head}
+use Rattle.dns_wire.specs.declared.message.Message.{Message}
+use Rattle.dns_wire.specs.Write.Question.{in_class_in}
+
+-- the head of the reply that tells a fault: the query's identifier, opcode and wish for recursion
+abbrev pub fault_head : Head → ℕ → Head
+fault_head query rcode = record { id = query.id; qr = true; opcode = query.opcode; aa = false; tc = false; rd = query.rd; ra = true; z = 0; rcode = rcode }
+
+-- a message of a head alone
+abbrev pub head_alone : Head → Message
+head_alone head = record { head = head; questions = []; answer = []; authority = []; additional = [] }
+
+-- what is left of a reply that is too long for UDP: its head, with TC set, and the question
+abbrev pub cut_reply : Head → Question → Message
+cut_reply head question = record { head = record head { tc = true }; questions = in_class_in question ∷ []; answer = []; authority = []; additional = [] }

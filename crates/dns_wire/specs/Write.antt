@@ -1,0 +1,9 @@
+pub mod Number
+pub mod Header
+pub mod Name
+pub mod Question
+pub mod Rdata
+pub mod Record
+pub mod Message
+pub mod Size
+pub mod Encoding

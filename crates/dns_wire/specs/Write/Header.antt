@@ -1,0 +1,17 @@
+-- The header as octets (RFC 1035, section 4.1.1).
+use Rattle.std.specs.Prelude.{ℕ, ◌+◌, ◌*◌, Bool, true, false, List, ◌++◌}
+use Rattle.dns_wire.specs.declared.message.Head.{Head}
+use Rattle.dns_wire.specs.Write.Number.{u16_octets}
+
+abbrev pub bit : Bool → ℕ
+bit false = 0
+bit true = 1
+
+-- from the high bit on: QR 1, OPCODE 4, AA 1, TC 1, RD 1, RA 1, Z 3, RCODE 4
+abbrev pub flags_of : Head → ℕ
+flags_of h = bit h.qr * 32768 + h.opcode * 2048 + bit h.aa * 1024 + bit h.tc * 512 + bit h.rd * 256 + bit h.ra * 128 + h.z * 16 + h.rcode
+
+-- a head, and how many questions, answers, authority and additional records follow
+unfoldable pub header_octets : Head → ℕ → ℕ → ℕ → ℕ → List ℕ
+header_octets h questions answer authority additional =
+    u16_octets h.id ++ u16_octets (flags_of h) ++ u16_octets questions ++ u16_octets answer ++ u16_octets authority ++ u16_octets additional

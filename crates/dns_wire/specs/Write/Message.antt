@@ -1,0 +1,25 @@
+-- Messages as octets (RFC 1035, section 4.1).
+use Rattle.std.specs.Prelude.{ℕ, ◌<◌, ◌⊎◌, List, ◌++◌, length}
+use Rattle.std.specs.List.{flat_map}
+use Rattle.dns_wire.specs.declared.message.Message.{Message}
+use Rattle.dns_wire.specs.Write.Header.{header_octets}
+use Rattle.dns_wire.specs.Write.Question.{question_octets, first_name}
+use Rattle.dns_wire.specs.Write.Record.{records_octets}
+
+-- the records of a message
+abbrev pub sections_octets : Message → List ℕ
+sections_octets v =
+    records_octets (first_name v.questions) v.answer ++ records_octets (first_name v.questions) v.authority ++ records_octets (first_name v.questions) v.additional
+
+-- a message whose questions take these octets
+unfoldable pub octets_with : List ℕ → Message → List ℕ
+octets_with questions v =
+    header_octets v.head (length v.questions) (length v.answer) (length v.authority) (length v.additional) ++ questions ++ sections_octets v
+
+-- a message
+abbrev pub message_octets : Message → List ℕ
+message_octets v = octets_with (flat_map question_octets v.questions) v
+
+-- More than 65,535 octets, or questions or records of a section.
+abbrev pub IsTooLong : Message → Type 0
+IsTooLong v = (65535 < length (message_octets v)) ⊎ ((65535 < length v.questions) ⊎ ((65535 < length v.answer) ⊎ ((65535 < length v.authority) ⊎ (65535 < length v.additional))))

@@ -1,0 +1,117 @@
+//! Chains of pointers, whose ends are noted once where a message is long enough to have many.
+
+ghost use Rattle.std.specs.Prelude.{◌≡◌, ◌≤◌, ◌<◌, ◌-◌, ℕ, length};
+ghost use Rattle.dns_wire.specs.Read.Chains.{Leads, IsNotedAt, AreEnds};
+
+use crate::read::number::u16_at;
+use crate::read::place::{Next, next_at};
+use std::marker::Model;
+
+/// How far a pointer reaches: its offset has 14 bits (RFC 1035, section 4.1.4).
+pub(crate) const POINTER_REACH: usize = 16384;
+
+/// So many steps along pointers are taken one by one.
+const MOST_STEPS: usize = 1 << 18;
+
+/// The octets of a message, and for the places that a pointer reaches where pointers lead from there. Contracts see the
+/// octets.
+#[derive(Drop)]
+pub(crate) struct Wire<'a> {
+    octets: &'a [u8],
+    // For a place where a pointer back stands, one more than the place where the chain from there ends; else 0. Empty where
+    // nothing is noted.
+    ends: &'a [u16],
+}
+
+impl<'a> Model for Wire<'a> {
+    ghost use Rattle.std.specs.Prelude.{List, ℕ};
+    ghost use Rattle.dns_wire.specs.Read.Chains.{AreEnds};
+
+    ghost Value = { List ℕ };
+
+    ghost view = { λ w. w.octets.now };
+
+    ghost invariant = { λ w. AreEnds w.octets.now w.ends.now };
+}
+
+impl<'a> Wire<'a> {
+    /// A message of which nothing is noted: each pointer is followed by itself.
+    pub(crate) fn plain(octets: &'a [u8]) -> Wire<'a>
+        ensures { result ≡ octets.now }
+    {
+        Wire { octets, ends: &[] }
+    }
+
+    /// A message of which all chains are noted, by a walk over the places that a pointer reaches.
+    pub(crate) fn noted(octets: &'a [u8], ends: &'a mut [u16; POINTER_REACH]) -> Wire<'a>
+        ensures { result ≡ octets.now }
+    {
+        note_ends(octets, ends);
+        Wire { octets, ends }
+    }
+
+    /// The octets alone.
+    pub(crate) fn as_slice(&self) -> &'a [u8]
+        ensures { result.now ≡ self.now }
+    {
+        self.octets
+    }
+
+    /// A place to which pointers lead from this one. Where all chains are noted, no pointer back stands there.
+    pub(crate) fn end_of(&self, at: usize) -> usize
+        ensures { Leads self.now at result }
+    {
+        end_in(self.octets, self.ends, at)
+    }
+}
+
+/// The place that is noted for one, or that place itself.
+fn end_in(octets: &[u8], ends: &[u16], at: usize) -> usize
+    requires { IsNotedAt octets.now ends.now at }
+    ensures { Leads octets.now at result }
+{
+    match ends.get(at) {
+        None | Some(0) => at,
+        Some(end) => usize::from(*end) - 1,
+    }
+}
+
+/// What to note for a place, where those before it are noted.
+fn note_of(octets: &[u8], ends: &[u16], at: usize) -> u16
+    requires reach { at < POINTER_REACH }
+    requires noted { (place : ℕ) → place < at → IsNotedAt octets.now ends.now place }
+    ensures { 0 < result → Leads octets.now at (result - 1) }
+{
+    match next_at(octets, at) {
+        Next::Pointer(to) if to < at => (end_in(octets, ends, to) + 1) as u16,
+        _ => 0,
+    }
+}
+
+/// Notes for each place where the chain of pointers from there ends.
+fn note_ends(octets: &[u8], ends: &mut [u16])
+    requires { length ends.old ≤ POINTER_REACH }
+    ensures { AreEnds octets.now ends.new }
+{
+    for at in 0..ends.len() {
+        let note = note_of(octets, ends, at);
+        ends[at] = note;
+    }
+}
+
+// A function of its own, so that no goal spells the zeros out.
+pub(crate) fn blank_ends() -> [u16; POINTER_REACH] {
+    [0; POINTER_REACH]
+}
+
+/// Whether so many names may stand in a message that following each pointer by itself could take long: as many steps as
+/// the names that the header counts, times the octets.
+pub(crate) fn has_many_names(octets: &[u8]) -> bool
+    requires { 12 ≤ length octets.now }
+{
+    let records = usize::from(u16_at(octets, 6))
+        + usize::from(u16_at(octets, 8))
+        + usize::from(u16_at(octets, 10));
+    let names = usize::from(u16_at(octets, 4)) + 3 * records;
+    octets.len() > 65535 || names * octets.len() > MOST_STEPS
+}

@@ -1,0 +1,154 @@
+//! Names in messages, which may point back to others.
+
+ghost use Rattle.std.specs.Prelude.{◌≡◌, ◌≤◌, length, take, MatchOption, MatchResult, IfOk, IfSome};
+ghost use Rattle.dns_name.specs.Labels.{Labels, IsName};
+ghost use Rattle.dns_wire.specs.declared.fault.WireFault.{WireFault};
+ghost use Rattle.dns_wire.specs.Fault.{Gives};
+ghost use Rattle.dns_wire.specs.Read.Decoding.{UnlessMemory};
+ghost use Rattle.dns_wire.specs.Read.Name.{NameAt, SpelledIn, UnspelledIn, name_read_in, name_read, name_end};
+
+use crate::fault::WireFault;
+use crate::read::chains::Wire;
+use crate::read::place::{Next, next_at};
+use dns_name::{MAX_NAME_OCTETS, Name, NameBuilder};
+use std::alloc::Global;
+
+/// Follows a name from a place of a message on: the name, and the place after it. Its own octets end at the limit at the
+/// latest, or there is this fault.
+fn follow_name(
+    alloc: Global,
+    message: &Wire<'_>,
+    limit: usize,
+    ending: WireFault,
+    start: usize,
+) -> Result<(Name, usize), WireFault>
+    requires within { start ≤ limit }
+    requires limit { limit ≤ length message.now }
+    ensures stands { MatchResult result (λ r. NameAt message.now (take limit message.now) start start r.1 r.0)
+        (λ e. UnlessMemory e (UnspelledIn message.now (take limit message.now) ending start e)) }
+    ensures name { IfOk result (λ r. IsName r.0) }
+{
+    let octets = message.as_slice();
+    let (mut front, _) = octets.split_at(limit);
+    let mut labels = NameBuilder::new();
+    let mut at = start;
+    let mut run = start;
+    let mut beyond = ending;
+    let mut after = None;
+    loop {
+        match next_at(front, at) {
+            Next::Finish => return Ok((labels.name(alloc)?, after.unwrap_or(at + 1))),
+            Next::Label(n) => {
+                if n >= labels.room() {
+                    return Err(WireFault::BadName { at: start });
+                }
+                if front.len() - at <= n {
+                    return Err(beyond);
+                }
+                labels.push(&front[at + 1..at + 1 + n]);
+                at += n + 1;
+            }
+            Next::Pointer(to) => {
+                if to >= run {
+                    return Err(WireFault::BadPointer { at });
+                }
+                after = Some(after.unwrap_or(at + 2));
+                at = message.end_of(to);
+                run = at;
+                front = octets;
+                beyond = WireFault::Short;
+            }
+            Next::Reserved => return Err(WireFault::BadName { at: start }),
+            Next::Cut => return Err(beyond),
+        }
+    }
+}
+
+/// The name at a place of a message, and the place after it. The name's own octets, those that a pointer ends, are in
+/// front of the limit, or there is this fault.
+pub(crate) fn name_in(
+    alloc: Global,
+    message: &Wire<'_>,
+    limit: usize,
+    ending: WireFault,
+    at: usize,
+) -> Result<(Name, usize), WireFault>
+    requires within { at ≤ limit }
+    requires limit { limit ≤ length message.now }
+    ensures exact { Gives result (name_read_in message.now (take limit message.now) ending at) }
+    ensures within { IfOk result (λ r. r.1 ≤ limit) }
+{
+    follow_name(alloc, message, limit, ending, at)
+}
+
+/// The name at a place of a message, and the place after it.
+pub(crate) fn name_at(
+    alloc: Global,
+    message: &Wire<'_>,
+    at: usize,
+) -> Result<(Name, usize), WireFault>
+    requires { at ≤ length message.now }
+    ensures exact { Gives result (name_read message.now at) }
+    ensures within { IfOk result (λ r. r.1 ≤ length message.now) }
+{
+    name_in(
+        alloc,
+        message,
+        message.as_slice().len(),
+        WireFault::Short,
+        at,
+    )
+}
+
+/// Follows a name as `follow_name` does, and keeps nothing of it. It takes no memory.
+fn follow_end(message: &Wire<'_>, limit: usize, start: usize) -> Option<usize>
+    requires within { start ≤ limit }
+    requires limit { limit ≤ length message.now }
+    ensures { MatchOption result
+        ((ending : WireFault) → (fault : WireFault) × UnspelledIn message.now (take limit message.now) ending start fault)
+        (λ after. (labels : Labels) × SpelledIn message.now (take limit message.now) start after labels) }
+{
+    let octets = message.as_slice();
+    let (mut front, _) = octets.split_at(limit);
+    let mut used = 0;
+    let mut at = start;
+    let mut run = start;
+    let mut after = None;
+    loop {
+        match next_at(front, at) {
+            Next::Finish => return Some(after.unwrap_or(at + 1)),
+            Next::Label(n) => {
+                if used + n + 1 >= MAX_NAME_OCTETS {
+                    return None;
+                }
+                if front.len() - at <= n {
+                    return None;
+                }
+                used += n + 1;
+                at += n + 1;
+            }
+            Next::Pointer(to) => {
+                if run <= to {
+                    return None;
+                }
+                after = Some(after.unwrap_or(at + 2));
+                at = message.end_of(to);
+                run = at;
+                front = octets;
+            }
+            Next::Reserved => return None,
+            Next::Cut => return None,
+        }
+    }
+}
+
+/// The place after the name at a place of a message, where one stands whose own octets are in front of the limit. It
+/// takes no memory.
+pub(crate) fn name_end(message: &Wire<'_>, limit: usize, at: usize) -> Option<usize>
+    requires within { at ≤ limit }
+    requires limit { limit ≤ length message.now }
+    ensures exact { (ending : WireFault) → result ≡ name_end message.now (take limit message.now) ending at }
+    ensures within { IfSome result (λ after. after ≤ limit) }
+{
+    follow_end(message, limit, at)
+}

@@ -1,0 +1,43 @@
+//! A section: items one after another.
+
+ghost use Rattle.std.specs.Prelude.{◌≤◌, ℕ, List, Result, length, IfOk};
+ghost use Rattle.dns_wire.specs.declared.fault.WireFault.{WireFault};
+ghost use Rattle.dns_wire.specs.Read.Section.{section_read};
+ghost use Rattle.dns_wire.specs.Fault.{Gives};
+
+use crate::fault::WireFault;
+use crate::read::chains::Wire;
+use dns_text::Items;
+use std::alloc::Global;
+
+/// What a section holds.
+pub(crate) trait Entry: Drop {
+    ghost read: { List ℕ → ℕ → Result (Self × ℕ) WireFault };
+
+    /// The one at a place, and the place after it.
+    fn read_at(alloc: Global, message: &Wire<'_>, at: usize) -> Result<(Self, usize), WireFault>
+        requires { at ≤ length message.now }
+        ensures exact { Gives result (read message.now at) }
+        ensures within { IfOk result (λ r. r.1 ≤ length message.now) };
+}
+
+/// So many items, and the place after them.
+pub(crate) fn section_at<T: Entry>(
+    alloc: Global,
+    message: &Wire<'_>,
+    count: u16,
+    at: usize,
+) -> Result<(Items<T>, usize), WireFault>
+    requires { at ≤ length message.now }
+    ensures exact { Gives result (section_read (λ i. T.read message.now i) count at) }
+    ensures within { IfOk result (λ r. r.1 ≤ length message.now) }
+{
+    let mut items = Vec::new(alloc);
+    let mut at = at;
+    for _ in 0..count {
+        let (item, after) = T::read_at(alloc, message, at)?;
+        items.push(item)?;
+        at = after;
+    }
+    Ok((Items::new(items), at))
+}

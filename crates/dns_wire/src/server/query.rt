@@ -1,0 +1,29 @@
+//! A query, as a server sees it.
+
+ghost use Rattle.dns_wire.specs.Write.Question.{IsQuestionOctets};
+
+use crate::rcode::Rcode;
+use dns_text::{Octets, Question};
+
+/// A query of one question of class IN, its name whole (RFC 1035, section 4.1.2).
+#[derive(Debug, Drop)]
+pub struct Query {
+    pub id: u16,
+    /// Whether recursion is desired.
+    pub rd: bool,
+    pub question: Question,
+    /// The question's octets in the case in which they came, at most 259: a reply repeats them.
+    pub octets: Octets,
+    pub ghost spelled: { IsQuestionOctets octets question },
+}
+
+/// What octets that came to a server ask for.
+#[derive(Debug, Drop)]
+pub enum Asked {
+    /// No reply: they have no header, or are a reply themselves.
+    Drop,
+    /// A reply of a header alone with this RCODE: `FORMAT_ERROR` where they are malformed, `NOT_IMPLEMENTED` where what
+    /// they ask is.
+    Fault(Rcode),
+    Good(Query),
+}

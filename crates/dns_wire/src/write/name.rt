@@ -1,0 +1,38 @@
+//! Names as octets, each behind what `out` holds.
+
+ghost use Rattle.std.specs.Prelude.{◌≡◌, ◌++◌, ◌<◌, ◌+◌, OnOk};
+ghost use Rattle.dns_name.specs.Labels.{IsName};
+ghost use Rattle.dns_wire.specs.Write.Name.{name_octets, owner_octets};
+ghost use Rattle.dns_wire.specs.Write.Question.{first_name};
+
+use crate::message::Classed;
+use dns_name::Name;
+use dns_text::Question;
+use std::alloc::AllocError;
+
+/// A name, whole.
+pub(crate) fn push_name(out: &mut Vec<u8>, name: &Name) -> Result<(), AllocError>
+    ensures octets { OnOk result (out.new.items ≡ out.old.items ++ name_octets name.now) }
+    ensures name { IsName name.now }
+{
+    let _len = name.wire_len();
+    name.push_spelled(out)?;
+    out.push(0)?;
+    Ok(())
+}
+
+/// An owner in a message of these questions.
+pub(crate) fn push_owner(
+    out: &mut Vec<u8>,
+    questions: &[Classed<Question>],
+    owner: &Name,
+) -> Result<(), AllocError>
+    ensures octets { OnOk result (out.new.items ≡ out.old.items ++ owner_octets (first_name questions.now) owner.now) }
+    ensures name { IsName owner.now }
+{
+    let _len = owner.wire_len();
+    match questions.first() {
+        Some(first) if first.item.owner == *owner => out.extend_from_slice(&[192, 12]),
+        _ => push_name(out, owner),
+    }
+}

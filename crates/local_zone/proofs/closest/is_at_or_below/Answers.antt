@@ -1,0 +1,5 @@
+use Rattle.local_zone.proofs.ClosestLaws.{test_is}
+use Rattle.local_zone.proofs.closest.is_at_or_below.Goals as goal
+
+pub returns : goal.returns
+returns c = test_is c.at_or_below.result c.args.name.now c.args.zone.now c.at_or_below.ensures

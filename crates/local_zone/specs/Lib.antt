@@ -1,0 +1,9 @@
+pub mod ZoneType
+pub mod Closest
+pub mod Tables
+pub mod Change
+pub mod Reason
+pub mod Saved
+pub mod Show
+pub mod Shown
+pub mod Answer

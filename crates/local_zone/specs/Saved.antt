@@ -1,0 +1,17 @@
+-- What a change saves for its way back.
+use Rattle.std.specs.Prelude.{◌≡◌, List, take}
+use Rattle.local_zone.specs.declared.saved.SavedList.{SavedList}
+use Rattle.local_zone.specs.declared.saved.SavedList.TheVariants.{First, Whole}
+use Rattle.local_zone.specs.declared.saved.SavedTables.{SavedTables}
+use Rattle.local_zone.specs.Tables.{Tables, AreTables}
+
+-- the list before a change, from the one that the change left
+abbrev pub list_before : {A : Type 0} → SavedList A → List A → List A
+list_before (First count) left = take count left
+list_before (Whole items) left = items
+
+-- From the lists that a change left, the saved value takes back to those before it.
+pub record TakesBack (saved : SavedTables) (left before : Tables) : Type 0 where
+  pub zones : list_before saved.zones left.zones ≡ before.zones
+  pub records : list_before saved.records left.records ≡ before.records
+  pub sound : AreTables before

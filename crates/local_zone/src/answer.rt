@@ -1,0 +1,160 @@
+//! What a question is answered from the table. None of it takes memory.
+
+ghost use Rattle.std.specs.Prelude.{◌≡◌};
+ghost use Rattle.std.specs.List.{list_any};
+ghost use Rattle.std.specs.Option.{option_map};
+ghost use Rattle.local_zone.specs.Answer.{absent_in, absent_or_pass, answer_in, data_or, has_record, has_record_below, local_now, local_of, soa_of};
+ghost use Rattle.local_zone.specs.Show.{data_shown, is_for};
+
+use crate::closest::{closest, is_at_or_below};
+use crate::local::{Local, LocalSet};
+use crate::next::is_for;
+use crate::record::LocalRecord;
+use crate::zone::Zone;
+use crate::zone_type::ZoneType;
+use crate::zones::lies_in;
+use dns_name::Name;
+use dns_text::types::{CNAME, SOA};
+use dns_text::{Question, Shared};
+
+/// Whether an owner has a record of this type.
+fn has_set(records: &[LocalRecord], owner: &Name, kind: u16) -> bool
+    ensures { result ≡ list_any (is_for owner.now kind) records.now }
+{
+    records.iter().any(|r| is_for(r, owner, kind))
+}
+
+/// The first SOA record at a zone's name.
+fn soa_of<'a>(records: &'a [LocalRecord], name: &Name) -> Option<&'a LocalRecord>
+    ensures { option_map (λ r. r.now) result ≡ soa_of name.now records.now }
+{
+    records.iter().find(|r| is_for(r, name, SOA))
+}
+
+/// Whether a name has a record.
+fn has_record(records: &[LocalRecord], name: &Name) -> bool
+    ensures { result ≡ has_record name.now records.now }
+{
+    records.iter().any(|r| *r.owner() == *name)
+}
+
+/// Whether a name, or one below it, has a record that lies in the zone.
+fn has_record_below(
+    zones: &Vec<Shared<Zone>>,
+    records: &[LocalRecord],
+    zone: &Zone,
+    name: &Name,
+) -> bool
+    ensures { result ≡ has_record_below name.now zone.now (record { zones = zones.now.items; records = records.now }) }
+{
+    records.iter().any(|r| is_at_or_below(r.owner(), name) && lies_in(zones, &zone.name, r.owner()))
+}
+
+/// The CNAME of an owner, else its set of the type, shown as of the name that is asked for; else what is answered where there is none.
+fn data_or<'a>(
+    records: &'a [LocalRecord],
+    asked: &'a Name,
+    owner: &'a Name,
+    kind: u16,
+    otherwise: Local<LocalSet<'a>, &'a LocalRecord>,
+) -> Local<LocalSet<'a>, &'a LocalRecord>
+    ensures { local_now result ≡ data_or (local_now otherwise.entry) (data_shown asked.now owner.now kind records.now) }
+{
+    if has_set(records, owner, CNAME) {
+        return Local::Data(LocalSet {
+            records,
+            owner,
+            kind: CNAME,
+            shown: asked,
+        });
+    }
+    if has_set(records, owner, kind) {
+        return Local::Data(LocalSet {
+            records,
+            owner,
+            kind,
+            shown: asked,
+        });
+    }
+    otherwise
+}
+
+/// What is not there in a static zone: data of the type, or the name.
+fn absent<'a>(
+    zones: &Vec<Shared<Zone>>,
+    records: &'a [LocalRecord],
+    zone: &Zone,
+    name: &Name,
+) -> Local<LocalSet<'a>, &'a LocalRecord>
+    ensures { local_now result ≡ absent_in (record { zones = zones.now.items; records = records.now }) name.now zone.now }
+{
+    let soa = soa_of(records, &zone.name);
+    if has_record_below(zones, records, zone, name) {
+        Local::NoData(soa)
+    } else {
+        Local::NoName(soa)
+    }
+}
+
+/// What a transparent zone answers where it has no data of the type.
+fn absent_or_pass<'a>(
+    records: &'a [LocalRecord],
+    zone: &Zone,
+    name: &Name,
+) -> Local<LocalSet<'a>, &'a LocalRecord>
+    ensures { local_now result ≡ absent_or_pass records.now name.now zone.now }
+{
+    if has_record(records, name) {
+        Local::NoData(soa_of(records, &zone.name))
+    } else {
+        Local::Pass
+    }
+}
+
+/// What a zone answers.
+fn answer_in<'a>(
+    zones: &'a Vec<Shared<Zone>>,
+    records: &'a [LocalRecord],
+    zone: &'a Zone,
+    question: &'a Question,
+) -> Local<LocalSet<'a>, &'a LocalRecord>
+    ensures { local_now result ≡ answer_in (record { zones = zones.now.items; records = records.now }) question.now zone.now zone.now.kind }
+{
+    let name = &question.owner;
+    let kind = question.kind;
+    match zone.kind {
+        ZoneType::Deny => data_or(records, name, name, kind, Local::Drop),
+        ZoneType::Refuse => data_or(records, name, name, kind, Local::Refuse),
+        ZoneType::Static => {
+            let otherwise = absent(zones, records, zone, name);
+            data_or(records, name, name, kind, otherwise)
+        }
+        ZoneType::Transparent => {
+            let otherwise = absent_or_pass(records, zone, name);
+            data_or(records, name, name, kind, otherwise)
+        }
+        ZoneType::TypeTransparent => data_or(records, name, name, kind, Local::Pass),
+        ZoneType::Redirect => {
+            let otherwise = Local::NoData(soa_of(records, &zone.name));
+            data_or(records, name, &zone.name, kind, otherwise)
+        }
+        ZoneType::AlwaysTransparent => Local::Pass,
+        ZoneType::AlwaysRefuse => Local::Refuse,
+        ZoneType::AlwaysNxDomain => Local::NoName(None),
+        ZoneType::AlwaysNoData => Local::NoData(None),
+    }
+}
+
+/// What the table answers.
+pub(crate) fn answer<'a>(
+    zones: &'a Vec<Shared<Zone>>,
+    records: &'a [LocalRecord],
+    question: &'a Question,
+) -> Local<LocalSet<'a>, &'a LocalRecord>
+    ensures { local_now result ≡ local_of (record { zones = zones.now.items; records = records.now }) question.now }
+{
+    match closest(zones, &question.owner) {
+        Some(zone) => answer_in(zones, records, zone, question),
+        None => Local::Pass,
+    }
+}

@@ -1,0 +1,116 @@
+//! What keeps a change from being made. None of it takes memory.
+
+ghost use Rattle.std.specs.Prelude.{◌≡◌, ◌≤◌, ◌&&◌, not, length};
+ghost use Rattle.std.specs.List.{list_any};
+ghost use Rattle.dns_name.specs.Order.{name_eq};
+ghost use Rattle.local_zone.specs.Reason.{clashes, differ, has_data_below, reason_of_add, reason_of_set, redirects_below};
+ghost use Rattle.local_zone.specs.Change.{zones_with};
+ghost use Rattle.local_zone.specs.ZoneType.{is_redirect};
+ghost use Rattle.local_zone.specs.Closest.{closest, lies_in};
+ghost use Rattle.local_zone.specs.Tables.{is_cname};
+ghost use Rattle.local_zone.specs.declared.table.TheConstants.{MOST_ZONES, MOST_RECORDS};
+
+use crate::closest::closest;
+use crate::fault::TableFault;
+use crate::record::LocalRecord;
+use crate::zone::Zone;
+use crate::zone_type::ZoneType;
+use crate::zones::{has_no_room_for, would_lie_below};
+use crate::{records, zones};
+use dns_name::Name;
+use dns_text::types::CNAME;
+use dns_text::{Record, Shared};
+
+fn is_cname(kind: u16) -> bool
+    ensures { result ≡ is_cname kind }
+{
+    kind == CNAME
+}
+
+fn is_redirect(kind: ZoneType) -> bool
+    ensures { result ≡ is_redirect kind }
+{
+    matches!(kind, ZoneType::Redirect)
+}
+
+/// Whether just one of two holds.
+fn differ(a: bool, b: bool) -> bool
+    ensures { result ≡ differ a b }
+{
+    if a { !b } else { b }
+}
+
+/// Whether a record would lie in the new zone, strictly below its name.
+fn has_record_below(zones: &Vec<Shared<Zone>>, records: &[LocalRecord], new: &Zone) -> bool
+    ensures { result ≡ list_any (λ r. lies_in (zones_with new.now zones.now.items) new.now.name r.owner && not (name_eq r.owner new.now.name)) records.now }
+{
+    records
+        .iter()
+        .any(|r| would_lie_below(zones, new, r.owner()))
+}
+
+/// Whether a record would lie strictly below the name of the redirect zone.
+fn has_data_below(zones: &Vec<Shared<Zone>>, records: &[LocalRecord], new: &Zone) -> bool
+    ensures { result ≡ has_data_below new.now (record { zones = zones.now.items; records = records.now }) }
+{
+    is_redirect(new.kind) && has_record_below(zones, records, new)
+}
+
+/// Whether the owner lies strictly below the name of the redirect zone that it lies in.
+fn is_below_redirect(zones: &Vec<Shared<Zone>>, owner: &Name) -> bool
+    ensures { result ≡ redirects_below owner.now (closest zones.now.items owner.now) }
+{
+    match closest(zones, owner) {
+        Some(zone) => is_redirect(zone.kind) && *owner != zone.name,
+        None => false,
+    }
+}
+
+/// Whether a CNAME would not stand alone at the owner.
+fn clashes(zones: &Vec<Shared<Zone>>, records: &[LocalRecord], new: &Record) -> bool
+    ensures { result ≡ clashes new.now (record { zones = zones.now.items; records = records.now }) }
+{
+    records.iter().any(|r| *r.owner() == new.owner
+        && differ(is_cname(r.kind()), is_cname(new.kind)))
+}
+
+/// Why a zone can't be set.
+pub(crate) fn reason_of_set(
+    zones: &Vec<Shared<Zone>>,
+    records: &[LocalRecord],
+    new: &Zone,
+) -> Option<TableFault>
+    requires few_zones { length zones.now.items ≤ MOST_ZONES }
+    requires few_records { length records.now ≤ MOST_RECORDS }
+    ensures { result ≡ reason_of_set new.now (record { zones = zones.now.items; records = records.now }) }
+{
+    if has_data_below(zones, records, new) {
+        return Some(TableFault::DataBelow);
+    }
+    if zones::has_no_room(zones, new) {
+        return Some(TableFault::TooMany);
+    }
+    None
+}
+
+/// Why a record can't be added.
+pub(crate) fn reason_of_add(
+    zones: &Vec<Shared<Zone>>,
+    records: &[LocalRecord],
+    new: &Record,
+) -> Option<TableFault>
+    requires few_zones { length zones.now.items ≤ MOST_ZONES }
+    requires few_records { length records.now ≤ MOST_RECORDS }
+    ensures { result ≡ reason_of_add new.now (record { zones = zones.now.items; records = records.now }) }
+{
+    if is_below_redirect(zones, &new.owner) {
+        return Some(TableFault::BelowRedirect);
+    }
+    if clashes(zones, records, new) {
+        return Some(TableFault::CnameClash);
+    }
+    if has_no_room_for(zones, &new.owner) || records::has_no_room(records, new) {
+        return Some(TableFault::TooMany);
+    }
+    None
+}

@@ -1,0 +1,5 @@
+mod Held
+mod Transcripts
+mod Telling
+mod Running
+mod Lines

@@ -1,0 +1,90 @@
+//! What is read from.
+
+ghost use Rattle.std.specs.Prelude.{◌≡◌, ℕ, List, Option, ◌+◌, ◌<◌, ◌≤◌, length, take, IfOk, OnErr, MatchOption};
+ghost use Rattle.std.specs.Io.KnownBytes.{Consumes, IsAtEnd, Keeps};
+ghost use Rattle.streams.specs.Told.{CountsFailure};
+ghost use Rattle.streams.specs.declared.source.TheConstants.{MOST_COUNTED};
+
+use std::io::{ErrorKind, Read};
+
+/// A call is made only while its count is below this.
+pub const MOST_COUNTED: u64 = 1 << 63;
+
+/// A read failed.
+#[derive(Clone, Copy, Debug, PartialEq, Eq)]
+pub struct ReadFailed;
+
+/// What gives octets in pieces. It counts its calls, and those that failed.
+pub trait Source {
+    /// The octets that it has left, where they are known.
+    ghost remaining: { Self → Option (List ℕ) };
+
+    /// How often it was called.
+    ghost calls: { Self → ℕ };
+
+    /// How many of the calls failed.
+    ghost failures: { Self → ℕ };
+
+    /// Some octets, or nothing at the end. A read that a signal interrupts gives no octets.
+    fn next(&mut self, room: &mut [u8]) -> Result<Option<usize>, ReadFailed>
+        requires room { 0 < length room.old }
+        requires few { calls self.old < MOST_COUNTED }
+        ensures some { IfOk result (λ came. MatchOption came
+            (Keeps (remaining self.old) (remaining self.new) × IsAtEnd (remaining self.new))
+            (λ n. (n ≤ length room.new) × Consumes (remaining self.old) (remaining self.new) (take n room.new))) }
+        ensures err { OnErr result (Keeps (remaining self.old) (remaining self.new)) }
+        ensures length { length room.new ≡ length room.old }
+        ensures calls { calls self.new ≡ calls self.old + 1 }
+        ensures failures { CountsFailure result (failures self.old) (failures self.new) };
+}
+
+/// A reader, with its counts.
+#[derive(Drop)]
+pub struct CountedReader<R> {
+    reader: R,
+    calls: u64,
+    failures: u64,
+    ghost fewer: { failures ≤ calls },
+}
+
+impl<R: Read> CountedReader<R> {
+    pub fn new(reader: R) -> CountedReader<R>
+        ensures reader { result.reader ≡ reader }
+        ensures calls { result.calls ≡ 0 }
+    {
+        CountedReader {
+            reader,
+            calls: 0,
+            failures: 0,
+        }
+    }
+}
+
+impl<R: Read> Source for CountedReader<R> {
+    ghost remaining = { λ s. R.remaining s.reader };
+
+    ghost calls = { λ s. s.calls };
+
+    ghost failures = { λ s. s.failures };
+
+    fn next(&mut self, room: &mut [u8]) -> Result<Option<usize>, ReadFailed> {
+        match self.reader.read(room) {
+            Ok(0) => {
+                self.calls += 1;
+                Ok(None)
+            }
+            Ok(n) => {
+                self.calls += 1;
+                Ok(Some(n))
+            }
+            Err(e) => {
+                self.calls += 1;
+                if e.kind() == ErrorKind::Interrupted {
+                    return Ok(Some(0));
+                }
+                self.failures += 1;
+                Err(ReadFailed)
+            }
+        }
+    }
+}

@@ -1,0 +1,57 @@
+-- The table that each reply leaves is that of the history with the event.
+use Rattle.std.proofs.Common.{◌≡◌, sym, ◌∙◌, ap}
+use Rattle.std.specs.Prelude.{OnOk}
+use Rattle.std.proofs.lemmas.Result.{on_ok_weaker}
+use Rattle.local_zone.specs.Tables.{Tables}
+use Rattle.undo_book.specs.declared.event.Event.TheVariants.{Do, Undo, Redo}
+use Rattle.undo_book.specs.declared.event.Reply.{Reply}
+use Rattle.undo_book.specs.Changes.{reason_on, unless_refused}
+use Rattle.undo_book.specs.History.{Past, followed_by, tables_of}
+use Rattle.undo_book.specs.Marks.{last_of}
+use Rattle.undo_book.specs.PlainPast.{past_in}
+use Rattle.undo_book.specs.Replayed.{tables_by_reply}
+use Rattle.undo_book.specs.Reply.{reply_to_undo, reply_to_redo}
+use Rattle.undo_book.specs.declared.log.Logged.{Logged}
+use Rattle.std.specs.Prelude.{List, Result, Ok, Err, IfOk}
+use Rattle.undo_book.proofs.TablesLaws.{tables_commanded, tables_undone, tables_redone}
+use Rattle.undo_book.proofs.replies.reply.Goals as goal
+
+-- what a reply leaves, where the reply is known
+by_reply : {E : Type 0} (r : Result Reply E) (reply : Reply) (log : List Logged) (before after : Tables) → IfOk r (λ told. told ≡ reply) → IfOk r (λ told. after ≡ tables_by_reply told log before) → OnOk r (after ≡ tables_by_reply reply log before)
+by_reply (Ok told) reply log before after is left = left ∙ ap (λ (r : Reply). tables_by_reply r log before) is
+by_reply (Err e) reply log before after is left = tt
+
+pub returns-in-Do-clause-tabled : goal.returns-in-Do-clause-tabled
+returns-in-Do-clause-tabled c =
+    let past : Past = past_in c.args.past.now in
+    let bound = c.args.past.now.settings.journal in
+    let command = c.in-Do.command in
+    let after = tables_commanded bound past c.in-Do.moment command c.args.past.now.in_one in
+    let event : followed_by bound past c.args.event.now ≡ followed_by bound past (Do c.in-Do.moment command) = ap (followed_by bound past) c.in-Do.is in
+    on_ok_weaker c.reply_to_command.result
+    (λ changed. changed ∙ ap (λ (t : Tables). unless_refused (reason_on t command) command t) c.requires.tabled ∙ sym after ∙ sym (ap tables_of event))
+    c.reply_to_command.ensures.changed
+
+pub returns-in-Undo-clause-tabled : goal.returns-in-Undo-clause-tabled
+returns-in-Undo-clause-tabled c =
+    let past : Past = past_in c.args.past.now in
+    let bound = c.args.past.now.settings.journal in
+    let log = c.args.past.now.log.items in
+    let reply : Reply = reply_to_undo (last_of past.marks.done) in
+    let after = tables_undone bound past.now c.in-Undo.moment past.marks log c.args.past.now.flagged in
+    let event : followed_by bound past c.args.event.now ≡ followed_by bound past (Undo c.in-Undo.moment) = ap (followed_by bound past) c.in-Undo.is in
+    on_ok_weaker c.reply_to_undo.result
+    (λ changed. changed ∙ ap (λ (t : Tables). tables_by_reply reply log t) c.requires.tabled ∙ sym after ∙ sym (ap tables_of event))
+    (by_reply c.reply_to_undo.result reply log _ _ c.reply_to_undo.ensures.told c.reply_to_undo.ensures.changed)
+
+pub returns-in-Redo-clause-tabled : goal.returns-in-Redo-clause-tabled
+returns-in-Redo-clause-tabled c =
+    let past : Past = past_in c.args.past.now in
+    let bound = c.args.past.now.settings.journal in
+    let log = c.args.past.now.log.items in
+    let reply : Reply = reply_to_redo (last_of past.marks.undone) in
+    let after = tables_redone bound past.now c.in-Redo.moment past.marks log c.args.past.now.flagged in
+    let event : followed_by bound past c.args.event.now ≡ followed_by bound past (Redo c.in-Redo.moment) = ap (followed_by bound past) c.in-Redo.is in
+    on_ok_weaker c.reply_to_redo.result
+    (λ changed. changed ∙ ap (λ (t : Tables). tables_by_reply reply log t) c.requires.tabled ∙ sym after ∙ sym (ap tables_of event))
+    (by_reply c.reply_to_redo.result reply log _ _ c.reply_to_redo.ensures.told c.reply_to_redo.ensures.changed)

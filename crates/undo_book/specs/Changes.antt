@@ -1,0 +1,62 @@
+-- What the commands make of local zones and records, and why one is refused.
+use Rattle.std.specs.Prelude.{List, [], Option, Some, None, fold}
+use Rattle.local_zone.specs.declared.fault.TableFault.{TableFault}
+use Rattle.local_zone.specs.declared.fault.TableFault.TheVariants as fault
+use Rattle.local_zone.specs.Tables.{Tables}
+use Rattle.local_zone.specs.Change.{after_set, after_drop, after_add, after_drop_name}
+use Rattle.local_zone.specs.Reason.{reason_of_set, reason_of_add}
+use Rattle.undo_book.specs.declared.event.Command.{Command}
+use Rattle.undo_book.specs.declared.event.Command.TheVariants.{FlushType, SetZone, DropZone, AddRecord, DropName}
+use Rattle.undo_book.specs.declared.event.Event.{Event}
+use Rattle.undo_book.specs.declared.event.Event.TheVariants.{Do}
+use Rattle.undo_book.specs.declared.event.Entry.{Entry}
+use Rattle.undo_book.specs.declared.event.Reason.{Reason}
+use Rattle.undo_book.specs.declared.event.Reason.TheVariants.{BelowRedirect, DataBelow, CnameClash, TooMany}
+
+-- no zones and no records
+abbrev pub no_tables : Tables
+no_tables = record { zones = []; records = [] }
+
+-- the tables after a command
+abbrev pub after_command_on : Command → Tables → Tables
+after_command_on (FlushType target) t = t
+after_command_on (SetZone name kind) t = after_set (record { name = name; kind = kind }) t
+after_command_on (DropZone name) t = after_drop name t
+after_command_on (AddRecord new) t = after_add new t
+after_command_on (DropName name) t = after_drop_name name t
+
+abbrev pub after_event_on : Event → Tables → Tables
+after_event_on (Do moment command) t = after_command_on command t
+after_event_on event t = t
+
+abbrev pub tables_after : Tables → Entry → Tables
+tables_after t entry = after_event_on entry.event t
+
+-- the tables after these entries, from empty ones
+abbrev pub tables_by : List Entry → Tables
+tables_by entries = fold tables_after no_tables entries
+
+-- the tables after a command for which there may be a reason to refuse it
+abbrev pub unless_refused : Option Reason → Command → Tables → Tables
+unless_refused None command t = after_command_on command t
+unless_refused (Some reason) command t = t
+
+-- the reason that a fault of the table tells
+abbrev pub reason_told : TableFault → Option Reason
+reason_told fault.BelowRedirect = Some BelowRedirect
+reason_told fault.DataBelow = Some DataBelow
+reason_told fault.CnameClash = Some CnameClash
+reason_told fault.TooMany = Some TooMany
+reason_told fault.NoMemory = None
+
+abbrev pub reason_in : Option TableFault → Option Reason
+reason_in None = None
+reason_in (Some told) = reason_told told
+
+-- why a command is refused where the tables are these; a flush never is, and neither is what drops
+abbrev pub reason_on : Tables → Command → Option Reason
+reason_on t (FlushType target) = None
+reason_on t (SetZone name kind) = reason_in (reason_of_set (record { name = name; kind = kind }) t)
+reason_on t (DropZone name) = None
+reason_on t (AddRecord new) = reason_in (reason_of_add new t)
+reason_on t (DropName name) = None

@@ -1,0 +1,166 @@
+//! The history of a plain book: its log and its marks.
+
+ghost use Rattle.std.specs.Prelude.{◌≡◌, ℕ, ◌+◌, ◌<◌, ◌≤◌, ◌^◌, [], length, option_map, OnOk, vec_len, vec_capacity, if◌then◌else◌};
+ghost use Rattle.undo_book.specs.Counts.{admissions_in};
+ghost use Rattle.undo_book.specs.Event.{is_admission, AreSettings};
+ghost use Rattle.undo_book.specs.Tickets.{InOne};
+ghost use Rattle.undo_book.specs.Plain.{marks_in, marks_by, entries_in, AreFlagged, AreFlagged-prop, HasRoom, admitted_now, shown_now};
+
+use crate::event::{Entry, Event, Look, Reply, Settings};
+use crate::log::{Logged, set_flags};
+use crate::marks::PlainMarks;
+use crate::replay::replay_entry;
+use dns_name::{Name, NoMemory};
+use dns_text::Question;
+use ranked::{Cell, Fate, Held, Scope, SharedFind};
+use std::alloc::Global;
+
+/// The events so far. Every admission counts as a cell, an outranked one too.
+#[derive(Debug, Drop)]
+pub struct PlainPast {
+    pub settings: Settings,
+    pub moment: u64,
+    pub marks: PlainMarks,
+    pub log: Vec<Logged>,
+    pub admissions: usize,
+    pub ghost in_range: { AreSettings settings },
+    pub ghost few_tickets: { marks.tickets ≤ length log.items },
+    pub ghost counted: { admissions ≡ admissions_in (entries_in log.items) },
+    pub ghost in_one: { (ticket : ℕ) → InOne (marks_in marks) ticket },
+    pub ghost flagged: { AreFlagged marks.struck.items log.items } by { AreFlagged-prop marks.struck.items log.items },
+}
+
+impl PlainPast {
+    ghost use Rattle.undo_book.specs.History.{nothing, followed_by};
+    ghost use Rattle.undo_book.specs.Cells.{cell_of, shows};
+    ghost use Rattle.undo_book.specs.Reply.{seen_by, reply_of, reply_to_admission, look_seen};
+    ghost use Rattle.undo_book.specs.PlainPast.{past_in};
+
+    /// The history of no events. It takes no memory.
+    pub fn new(alloc: Global, settings: Settings) -> PlainPast
+        requires { AreSettings settings }
+        ensures nothing { past_in result ≡ nothing }
+        ensures settings { result.settings ≡ settings }
+    {
+        PlainPast {
+            settings,
+            moment: 0,
+            marks: PlainMarks::new(alloc),
+            log: Vec::new(alloc),
+            admissions: 0,
+        }
+    }
+
+    /// Makes room for one more event.
+    pub fn make_room(&mut self) -> Result<(), NoMemory>
+        ensures past { past_in self.new ≡ past_in self.old }
+        ensures log { self.new.log.items ≡ self.old.log.items }
+        ensures admissions { self.new.admissions ≡ self.old.admissions }
+        ensures settings { self.new.settings ≡ self.old.settings }
+        ensures room { OnOk result (HasRoom self.new.marks) }
+        ensures log_room { OnOk result (vec_len self.new.log < vec_capacity self.new.log) }
+    {
+        self.marks.make_room()?;
+        self.log.reserve(1)?;
+        Ok(())
+    }
+
+    /// The cell of a question, by a replay from nothing.
+    fn cell<'a>(&'a self, owner: &Name, kind: u16) -> Cell<&'a SharedFind>
+        ensures { option_map admitted_now result.held ≡ cell_of (past_in self.now) (record { owner = owner.now; kind = kind }) }
+    {
+        let mut cell = Cell::empty();
+        for logged in &self.log {
+            cell = replay_entry(owner, kind, cell, logged);
+        }
+        cell
+    }
+
+    /// What the cell of a question shows.
+    fn shows<'a>(&'a self, question: &Question, moment: u64) -> Option<Held<'a>>
+        ensures { option_map shown_now result ≡ shows (past_in self.now) question.now moment }
+    {
+        self.cell(&question.owner, question.kind)
+            .at(self.moment.max(moment))
+    }
+
+    /// What a look at a question sees of it.
+    pub fn sight<'a>(&'a self, question: &Question, moment: u64) -> Look<'a>
+        ensures { look_seen result ≡ seen_by (shows (past_in self.now) question.now moment) }
+    {
+        match self.shows(question, moment) {
+            Some(shown) => {
+                if shown.rank.level() < 2 {
+                    Look::Unknown
+                } else {
+                    Look::Held(shown)
+                }
+            }
+            None => Look::Unknown,
+        }
+    }
+
+    /// What becomes of an admission.
+    pub fn fate(&self, find: &SharedFind, moment: u64) -> Reply
+        ensures { result ≡ reply_to_admission (past_in self.now) find.now moment find.now.scope }
+    {
+        let Scope::One(kind) = find.find().scope;
+        let mut cell = self.cell(&find.find().owner, kind);
+        match cell.admit(find.find(), find, self.moment.max(moment)) {
+            Fate::Taken => Reply::Taken,
+            Fate::Outranked => Reply::Outranked,
+        }
+    }
+
+    /// Adds an event to the history, with its reply.
+    pub fn add(&mut self, event: Event, reply: &Reply)
+        requires reply { reply.now ≡ reply_of (past_in self.old) event }
+        requires room { HasRoom self.old.marks }
+        requires log_room { vec_len self.old.log < vec_capacity self.old.log }
+        requires few { length self.old.log.items < 2 ^ 62 }
+        ensures past { past_in self.new ≡ followed_by self.old.settings.journal (past_in self.old) event }
+        ensures settings { self.new.settings ≡ self.old.settings }
+    {
+        let moment = self.moment.max(event.moment());
+        let ticket = reply.ticket_taken();
+        mark(&mut self.marks, self.settings.journal, reply);
+        self.moment = moment;
+        self.admissions = count_admission(self.admissions, &event);
+        self.log.push_reserved(Logged {
+            entry: Entry {
+                event,
+                moment,
+                ticket,
+            },
+            struck: false,
+        });
+        set_flags(&mut self.log, reply);
+    }
+}
+
+/// How many admissions there are with an event more.
+fn count_admission(admissions: usize, event: &Event) -> usize
+    requires few { admissions + 1 < 2 ^ 64 }
+    ensures { result ≡ admissions + (if is_admission event.now then 1 else 0) }
+{
+    if event.is_admission() {
+        admissions + 1
+    } else {
+        admissions
+    }
+}
+
+/// Sets the marks after an event that got this reply.
+fn mark(marks: &mut PlainMarks, bound: usize, reply: &Reply)
+    requires room { HasRoom marks.old }
+    requires few { marks.old.tickets + 1 < 2 ^ 64 }
+    ensures marks { marks_in marks.new ≡ marks_by bound (marks_in marks.old) reply.now }
+    ensures few { marks.new.tickets ≤ marks.old.tickets + 1 }
+{
+    match reply {
+        Reply::Done { .. } => marks.command(bound),
+        Reply::Undone { ticket } => marks.strike(*ticket),
+        Reply::Redone { ticket } => marks.restore(*ticket),
+        _ => {}
+    }
+}

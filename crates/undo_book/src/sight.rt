@@ -1,0 +1,74 @@
+//! What a look sees, with a share of the data.
+
+ghost use Rattle.std.specs.Prelude.{◌≡◌, IfOk};
+ghost use Rattle.undo_book.specs.History.{tables_of};
+ghost use Rattle.undo_book.specs.PlainPast.{past_in};
+ghost use Rattle.undo_book.specs.Reply.{look_seen, seen_by, seen_first, seen_of};
+ghost use Rattle.undo_book.specs.Cells.{shows};
+ghost use Rattle.local_zone.specs.Answer.{local_of};
+
+use crate::event::{Ask, Look, Seen};
+use crate::past::PlainPast;
+use dns_name::NoMemory;
+use dns_text::{Items, Question, Shared};
+use local_zone::{Local, LocalRecord, Zone, ZoneTable};
+use std::alloc::Global;
+
+/// What a look at a question sees: what the table answers, and the cell where it says nothing.
+pub(crate) fn sight<'a>(
+    past: &'a PlainPast,
+    table: &'a ZoneTable,
+    question: &'a Question,
+    moment: u64,
+) -> Look<'a>
+    ensures { look_seen result ≡ seen_first (local_of table.now question.now) (seen_by (shows (past_in past.now) question.now moment)) }
+{
+    match table.answer(question) {
+        Local::Data(set) => Look::Local(Local::Data(set)),
+        Local::NoData(soa) => Look::Local(Local::NoData(soa)),
+        Local::NoName(soa) => Look::Local(Local::NoName(soa)),
+        Local::Refuse => Look::Local(Local::Refuse),
+        Local::Drop => Look::Local(Local::Drop),
+        Local::Pass => past.sight(question, moment),
+    }
+}
+
+/// What is seen of what is asked.
+pub(crate) fn shared_sight(
+    alloc: Global,
+    past: &PlainPast,
+    table: &ZoneTable,
+    ask: &Ask,
+    moment: u64,
+) -> Result<Seen, NoMemory>
+    requires tabled { table.now ≡ tables_of (past_in past.now) }
+    ensures { IfOk result (λ s. s ≡ seen_of (past_in past.now) ask.now moment) }
+{
+    match ask {
+        Ask::Answer(question) => sight(past, table, question, moment).to_seen(alloc),
+        Ask::Zones => Ok(Seen::Zones(Items::new(share_zones(alloc, table.zones())?))),
+        Ask::Records => Ok(Seen::Records(Items::new(share_records(alloc, table.records())?))),
+    }
+}
+
+/// A share of each zone.
+fn share_zones(alloc: Global, zones: &[Shared<Zone>]) -> Result<Vec<Shared<Zone>>, NoMemory>
+    ensures { IfOk result (λ v. v.items ≡ zones.now) }
+{
+    let mut shared = Vec::new(alloc);
+    for zone in zones {
+        shared.push(zone.share()?)?;
+    }
+    Ok(shared)
+}
+
+/// A share of each record.
+fn share_records(alloc: Global, records: &[LocalRecord]) -> Result<Vec<LocalRecord>, NoMemory>
+    ensures { IfOk result (λ v. v.items ≡ records.now) }
+{
+    let mut shared = Vec::new(alloc);
+    for record in records {
+        shared.push(record.share()?)?;
+    }
+    Ok(shared)
+}

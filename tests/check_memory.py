@@ -1,0 +1,188 @@
+"""Every growth of memory is refused in turn: want of memory is told, only where memory was refused, and does no harm."""
+
+import os
+
+from checks import Checks, difference, short
+from made_rows import every_octet
+from programs import CALLS, DRAWN, RESOLVER, TOP, ZONES, read, run, scripts
+from rowfile import ROWS, call, read_rows
+
+# More growths than this have no run and no call here.
+MOST = 100_000
+
+
+def refusals(done):
+    return done.told.count("refused")
+
+
+# ---- scripts: one growth of the run is refused
+
+NO_MEMORY = {b"error no_memory", b"fault no_memory"}
+LOST = b"fault reply_lost"
+
+
+def replied_lines(text):
+    """The lines that get a reply."""
+    lines = text.split(b"\n")
+    if lines[-1] == b"":
+        lines.pop()
+    return [line for line in lines if line.rstrip(b"\r") and not line.startswith(b"#")]
+
+
+# A list is told on a line each, up to this one.
+LISTS = (b"list_local_zones", b"list_local_data")
+LIST_END = b"end"
+
+
+def replies_to(lines, told):
+    """The reply to each line, or `None` where that is not so many replies: a list is one reply, and any other is one line."""
+    replies = []
+    rest = told.split(b"\n")[:-1]
+    for line in lines:
+        size = 1
+        if line in LISTS and rest and rest[0] not in NO_MEMORY and rest[0] != LOST and not rest[0].startswith(b"error "):
+            size = rest.index(LIST_END) + 1 if LIST_END in rest else 0
+        if not 0 < size <= len(rest):
+            return None
+        replies.append(b"\n".join(rest[:size]))
+        rest = rest[size:]
+    return None if rest else replies
+
+
+def fault_of_script(command, lines, done):
+    """What is wrong with a run of a script in which a growth was refused.
+
+    Memory was refused at the start: status 1, `resolver: no memory` and no reply. Or the script ran to its end, and is
+    answered as though the lines that found no memory had not been given, while those whose reply was lost stand.
+    """
+    if done.status == 1 and not done.out and done.err == b"resolver: no memory\n":
+        return None
+    if done.status != 0:
+        return f"status {done.status}, {done.err!r}"
+    replies = replies_to(lines, done.out)
+    if replies is None:
+        return f"{done.out!r} are not the replies to {len(lines)} lines"
+    wants = sum(reply in NO_MEMORY or reply == LOST for reply in replies)
+    if wants > refusals(done):
+        return f"{wants} lines want memory, {refusals(done)} growths were refused"
+    kept = [(line, reply) for line, reply in zip(lines, replies) if reply not in NO_MEMORY]
+    again = run(command, b"".join(line + b"\n" for line, _ in kept))
+    wanted = replies_to([line for line, _ in kept], again.out)
+    if wanted is None:
+        return f"{again.out!r} are not the replies to {len(kept)} lines"
+    for (line, reply), want in zip(kept, wanted):
+        if reply not in (LOST, want):
+            return f"{line[:60]!r} is answered {reply!r}, without the lines that found no memory {want!r}"
+    return None
+
+
+def check_script(checks, name, arguments, text):
+    command = [RESOLVER, "script"] + arguments
+    lines = replied_lines(text)
+    for nth in range(1, MOST):
+        done = run(command, text, preload="refuse", REFUSE_NTH=nth)
+        if not refusals(done):
+            break
+        checks.tell(f"{name}, growth {nth} refused", fault_of_script(command, lines, done))
+    checks.tell(f"{name}, growths refused", None if nth > 1 else "none was")
+
+
+# ---- rows: a growth of each call is refused in one run
+
+def check_rows(checks, name, rows):
+    """The longest call goes first and is not compared: the line's buffer has its size before growths are refused."""
+    longest = max((line for line, _ in rows), key=len)
+    text = b"".join(line + b"\n" for line in [longest] + [line for line, _ in rows])
+    for nth in range(1, MOST):
+        done = run([CALLS], text, preload="refuse", REFUSE_EACH=nth)
+        told = done.out.split(b"\n")[1:-1]
+        wants = told.count(b"fault NoMemory")
+        wrong = [
+            f"{short(line)} gives {difference(found, wanted)}"
+            for (line, wanted), found in zip(rows, told)
+            if found not in (wanted, b"fault NoMemory")
+        ]
+        if done.status != 0 or len(told) != len(rows):
+            wrong.append(f"status {done.status}, {len(told)} lines to {len(rows)} calls")
+        if wants != refusals(done):
+            wrong.append(f"{refusals(done)} growths refused, {wants} calls want memory")
+        checks.tell(f"{name}, growth {nth} of each call refused", "; ".join(wrong[:3]))
+        if not refusals(done):
+            break
+    checks.tell(f"{name}, growths refused", None if nth > 1 else "none was")
+
+
+def check_start_of_rows(checks):
+    """Where the first line cannot be held, the program ends with a failure."""
+    done = run([CALLS], call("name", b"a") + b"\n", preload="refuse", REFUSE_NTH=1)
+    checks.equal("the first growth of the calls", (refusals(done), done.status, done.out), (1, 1, b""))
+
+
+# ---- changes of local zones, each with its way back
+
+def zone_runs(lines):
+    """What may be written where one growth is refused: all, or all without one line, which finds no memory or is not read."""
+    def written(some):
+        return run([ZONES], b"".join(line + b"\n" for line in some)).out
+
+    may = {written(lines)}
+    for place in range(len(lines)):
+        before = written(lines[:place])
+        behind = written(lines[:place] + lines[place + 1 :])[len(before) :]
+        may.update(before + told + behind for told in (b"out of memory\n", b"what?\n"))
+    return may
+
+
+def check_zones(checks):
+    """A refused growth leaves both lists as they were, or ends the program behind a whole line."""
+    text = read(os.path.join(TOP, "crates/local_zone_tests/stdin"))
+    lines = [line for line in text.splitlines() if not line.startswith((b"fill", b"#"))]
+    text = b"".join(line + b"\n" for line in lines)
+    whole = run([ZONES], text).out
+    may = zone_runs(lines)
+    for nth in range(1, MOST):
+        done = run([ZONES], text, preload="refuse", REFUSE_NTH=nth)
+        if not refusals(done):
+            break
+        good = done.out in may if done.status == 0 else whole.startswith(done.out)
+        checks.tell(f"local zones, growth {nth} refused", None if good else f"status {done.status}, {short(done.out)}")
+    checks.tell("local zones, growths refused", None if nth > 1 else "none was")
+
+
+# ---- messages that are drawn
+
+def check_drawn(checks):
+    """The first growths: each run ends with a failure and writes nothing."""
+    for nth in range(1, 401):
+        done = run([DRAWN], preload="refuse", REFUSE_NTH=nth)
+        checks.equal(f"drawn messages, growth {nth} refused", (refusals(done), done.status, done.out), (1, 1, b""))
+
+
+# ---- how much is asked for
+
+def check_counts(checks):
+    """A header that counts 65,535 of each, and has none, takes no memory for them."""
+    header = bytes.fromhex("12340100ffffffffffffffff")
+    one_question = bytes.fromhex("123401000001ffffffffffff0000010001")
+    first = call("decode", bytes(40))
+    for line in [call(word, octets) for word in ("decode", "ask") for octets in (header, one_question)]:
+        done = run([CALLS], first + b"\n" + line + b"\n", preload="refuse")
+        largest = [int(told.split()[1]) for told in done.told if told.startswith("largest ")]
+        checks.tell(f"{line.decode()}, growth", None if largest and largest[0] <= 1_024 else f"as much as {largest}")
+
+
+def main():
+    checks = Checks()
+    for name, arguments, text, _ in scripts():
+        check_script(checks, name, arguments, text)
+    for file in sorted(os.listdir(ROWS)):
+        check_rows(checks, file, read_rows(os.path.join(ROWS, file))[0])
+    check_rows(checks, "every octet", list(every_octet()))
+    check_start_of_rows(checks)
+    check_zones(checks)
+    check_drawn(checks)
+    check_counts(checks)
+    checks.end()
+
+
+main()

@@ -1,0 +1,42 @@
+"""Counts checks. Each file of checks tells those that fail, and at its end how many passed and failed."""
+
+import sys
+
+
+class Checks:
+    def __init__(self):
+        self.passed = 0
+        self.failed = 0
+
+    def tell(self, name, fault=None):
+        """A check, and what is wrong; nothing is where it passed."""
+        if fault:
+            self.failed += 1
+            print(f"{name}: {fault}")
+        else:
+            self.passed += 1
+
+    def equal(self, name, found, wanted):
+        """A check that two texts or numbers are the same."""
+        self.tell(name, None if found == wanted else difference(found, wanted))
+
+    def end(self):
+        print(f"{self.passed} passed, {self.failed} failed")
+        sys.exit(1 if self.failed else 0)
+
+
+def short(value):
+    """A value as it is shown, cut where it is long."""
+    text = repr(value)
+    return text if len(text) <= 300 else f"{text[:300]}.. ({len(value)} long)"
+
+
+def difference(found, wanted):
+    """Where two values differ first, line by line where both are octets."""
+    if isinstance(found, bytes) and isinstance(wanted, bytes):
+        pairs = zip(found.split(b"\n"), wanted.split(b"\n"))
+        for number, (line, want) in enumerate(pairs, 1):
+            if line != want:
+                return f"line {number} is {short(line)}, wanted {short(want)}"
+        return f"{found.count(10)} lines, wanted {wanted.count(10)}"
+    return f"{short(found)}, wanted {short(wanted)}"
