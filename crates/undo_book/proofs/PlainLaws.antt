@@ -9,7 +9,7 @@ use Rattle.std.proofs.lemmas.Map.Views.{any-filter_same}
 use Rattle.dns_text.specs.declared.record.Question.{Question}
 use Rattle.ranked.specs.declared.find.Find.{Find}
 use Rattle.ranked.specs.declared.find.Scope.{Scope}
-use Rattle.ranked.specs.declared.find.Scope.TheVariants.{One}
+use Rattle.ranked.specs.declared.find.Scope.TheVariants.{One, Whole}
 use Rattle.ranked.specs.declared.cell.Admitted.{Admitted}
 use Rattle.ranked.specs.Cell.{turns_away}
 use Rattle.ranked.specs.Find.{admission_of}
@@ -60,6 +60,7 @@ by_fate bound marks false = refl
 by_admission : (bound : ℕ) (past : Past) (find : Find) (m : ℕ) (scope : Scope) → marks_by bound past.marks (reply_to_admission past find m scope) ≡ past.marks
 by_admission bound past find m (One kind) =
     by_fate bound past.marks (turns_away (cell_of past (record { owner = find.owner; kind = kind })) (admission_of find find (max past.now m)))
+by_admission bound past find m Whole = refl
 
 by_command : (bound : ℕ) (marks : Marks) (m : ℕ) (c : Command) (o : Option Reason) → marks_after bound marks (Do m c) (ticket_unless marks o) ≡ marks_by bound marks (reply_to_command marks o)
 by_command bound marks m c None = refl
@@ -89,6 +90,7 @@ ticket_by_fate false = refl
 ticket_by_admission : (past : Past) (find : Find) (m : ℕ) (scope : Scope) → ticket_taken (reply_to_admission past find m scope) ≡ None
 ticket_by_admission past find m (One kind) =
     ticket_by_fate (turns_away (cell_of past (record { owner = find.owner; kind = kind })) (admission_of find find (max past.now m)))
+ticket_by_admission past find m Whole = refl
 
 ticket_by_command : (marks : Marks) (o : Option Reason) → ticket_taken (reply_to_command marks o) ≡ ticket_unless marks o
 ticket_by_command marks None = refl
