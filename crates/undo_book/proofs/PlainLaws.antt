@@ -15,7 +15,7 @@ use Rattle.ranked.specs.Cell.{turns_away}
 use Rattle.ranked.specs.Find.{admission_of}
 use Rattle.dns_name.specs.ListLaws.{all_push}
 use Rattle.undo_book.specs.declared.event.Event.{Event}
-use Rattle.undo_book.specs.declared.event.Event.TheVariants.{Admit, Look, Do, Undo, Redo}
+use Rattle.undo_book.specs.declared.event.Event.TheVariants.{Admit, Look, Sweep, Do, Undo, Redo}
 use Rattle.undo_book.specs.declared.event.Command.{Command}
 use Rattle.undo_book.specs.declared.event.Entry.{Entry}
 use Rattle.undo_book.specs.declared.event.Reason.{Reason}
@@ -36,6 +36,7 @@ use Rattle.undo_book.proofs.UndoLaw.{struck_now, struck_other}
 pub flag_tells : (marks : Marks) (event : Event) (ticket : Option ℕ) (flag : Bool) → flag ≡ has_struck marks.struck ticket → stands_by (λ t. not flag) event ticket ≡ stands_by (is_unstruck marks) event ticket
 flag_tells marks (Admit m f) ticket flag is = refl
 flag_tells marks (Look m a) ticket flag is = refl
+flag_tells marks (Sweep m) ticket flag is = refl
 flag_tells marks (Do m c) None flag is = refl
 flag_tells marks (Do m c) (Some ticket) flag is = ap not is
 flag_tells marks (Undo m) ticket flag is = refl
@@ -77,6 +78,7 @@ by_redo bound marks (Some ticket) = refl
 pub marks_by_reply : (bound : ℕ) (past : Past) (event : Event) → marks_by bound past.marks (reply_of past event) ≡ marks_after bound past.marks event (ticket_for past event)
 marks_by_reply bound past (Admit m f) = by_admission bound past f m f.scope
 marks_by_reply bound past (Look m a) = refl
+marks_by_reply bound past (Sweep m) = refl
 marks_by_reply bound past (Do m c) = sym (by_command bound past.marks m c (reason_of past c))
 marks_by_reply bound past (Undo m) = sym (by_undo bound past.marks (last_of past.marks.done))
 marks_by_reply bound past (Redo m) = sym (by_redo bound past.marks (last_of past.marks.undone))
@@ -107,6 +109,7 @@ ticket_by_redo (Some ticket) = refl
 pub ticket_by_reply : (past : Past) (event : Event) → ticket_taken (reply_of past event) ≡ ticket_for past event
 ticket_by_reply past (Admit m f) = ticket_by_admission past f m f.scope
 ticket_by_reply past (Look m a) = refl
+ticket_by_reply past (Sweep m) = refl
 ticket_by_reply past (Do m c) = ticket_by_command past.marks (reason_of past c)
 ticket_by_reply past (Undo m) = ticket_by_undo (last_of past.marks.done)
 ticket_by_reply past (Redo m) = ticket_by_redo (last_of past.marks.undone)
@@ -198,6 +201,7 @@ new_by_reason marks (Some reason) h = refl
 new_ticket : (past : Past) (event : Event) → ((t : ℕ) → InOne past.marks t) → has_struck past.marks.struck (ticket_for past event) ≡ false
 new_ticket past (Admit m f) h = refl
 new_ticket past (Look m a) h = refl
+new_ticket past (Sweep m) h = refl
 new_ticket past (Do m c) h = new_by_reason past.marks (reason_of past c) h
 new_ticket past (Undo m) h = refl
 new_ticket past (Redo m) h = refl

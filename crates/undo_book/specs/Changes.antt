@@ -6,7 +6,7 @@ use Rattle.local_zone.specs.Tables.{Tables}
 use Rattle.local_zone.specs.Change.{after_set, after_drop, after_add, after_drop_name}
 use Rattle.local_zone.specs.Reason.{reason_of_set, reason_of_add}
 use Rattle.undo_book.specs.declared.event.Command.{Command}
-use Rattle.undo_book.specs.declared.event.Command.TheVariants.{FlushType, SetZone, DropZone, AddRecord, DropName}
+use Rattle.undo_book.specs.declared.event.Command.TheVariants.{FlushType, Flush, FlushZone, SetZone, DropZone, AddRecord, DropName}
 use Rattle.undo_book.specs.declared.event.Event.{Event}
 use Rattle.undo_book.specs.declared.event.Event.TheVariants.{Do}
 use Rattle.undo_book.specs.declared.event.Entry.{Entry}
@@ -20,6 +20,8 @@ no_tables = record { zones = []; records = [] }
 -- the tables after a command
 abbrev pub after_command_on : Command → Tables → Tables
 after_command_on (FlushType target) t = t
+after_command_on (Flush name) t = t
+after_command_on (FlushZone name) t = t
 after_command_on (SetZone name kind) t = after_set (record { name = name; kind = kind }) t
 after_command_on (DropZone name) t = after_drop name t
 after_command_on (AddRecord new) t = after_add new t
@@ -56,6 +58,8 @@ reason_in (Some told) = reason_told told
 -- why a command is refused where the tables are these; a flush never is, and neither is what drops
 abbrev pub reason_on : Tables → Command → Option Reason
 reason_on t (FlushType target) = None
+reason_on t (Flush name) = None
+reason_on t (FlushZone name) = None
 reason_on t (SetZone name kind) = reason_in (reason_of_set (record { name = name; kind = kind }) t)
 reason_on t (DropZone name) = None
 reason_on t (AddRecord new) = reason_in (reason_of_add new t)
