@@ -4,7 +4,7 @@ ghost use Rattle.std.specs.Prelude.{◌≡◌, ◌≤◌, ℕ, List, count_by, I
 ghost use Rattle.undo_book.specs.declared.event.Event.{Event};
 ghost use Rattle.undo_book.specs.declared.event.Settings.{Settings};
 ghost use Rattle.undo_book.specs.Event.{is_admission};
-ghost use Rattle.undo_book.specs.History.{past_of, tables_of};
+ghost use Rattle.undo_book.specs.History.{past_of, stubs_of, tables_of};
 ghost use Rattle.undo_book.specs.Reply.{seen_of, look_seen};
 ghost use Rattle.undo_book.specs.Answers.{Answers, history_after};
 
@@ -13,6 +13,7 @@ use dns_name::NoMemory;
 use dns_text::Question;
 use local_zone::ZoneTable;
 use std::alloc::{AllocError, AllocFailed};
+use stub_table::StubTable;
 use thiserror::Error;
 
 /// Why an event is not taken. Then nothing has changed, the greatest moment included.
@@ -88,7 +89,11 @@ pub trait Book {
 
     /// The local zones and records.
     fn zones(&self) -> &ZoneTable
-        ensures { (h : List Event) → stands_for self.now h → result.now ≡ tables_of (past_of (settings self.now).journal h) };
+        ensures { (h : List Event) → stands_for self.now h → result.now ≡ (tables_of (past_of (settings self.now).journal h)).local };
+
+    /// The stubs.
+    fn stubs(&self) -> &StubTable
+        ensures { (h : List Event) → stands_for self.now h → result.now ≡ stubs_of (past_of (settings self.now).journal h) };
 
     /// How many cells are stored.
     fn stored(&self) -> usize

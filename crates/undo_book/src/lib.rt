@@ -11,10 +11,11 @@ mod marks; // the commands that can be undone and redone
 mod log; // each event, and whether its command is struck
 mod replay; // a cell, by a replay of a log
 mod past; // the history of a plain book: its log and its marks
-mod changes; // what a command makes of local zones and records
-mod tables; // local zones and records, by a replay of a log
+mod made; // what the operator's commands make: local zones, records and stubs
+mod changes; // what a command makes of them
+mod tables; // the same, by a replay of a log
 mod sight; // what a look sees, with a share of the data
-mod replies; // what is replied to an event, and the table after it
+mod replies; // what is replied to an event, and the tables after it
 mod plain; // the book that keeps its history and replays it
 
 pub use book::{Book, StepFault};
