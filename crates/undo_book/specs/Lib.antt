@@ -6,6 +6,8 @@ pub mod History
 pub mod Cells
 pub mod Reply
 pub mod Answers
+pub mod Desk
+pub mod Equal
 pub mod Runs
 pub mod Refusal
 pub mod Redo
