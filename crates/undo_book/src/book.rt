@@ -1,6 +1,6 @@
 //! The promise that every book keeps, however it keeps it.
 
-ghost use Rattle.std.specs.Prelude.{◌≡◌, ◌≤◌, ℕ, List, count_by, IfOk, OnErr, IsErrOf};
+ghost use Rattle.std.specs.Prelude.{◌≡◌, ◌≤◌, ℕ, List, length, count_by, IfOk, OnErr, IsErrOf};
 ghost use Rattle.undo_book.specs.declared.event.Event.{Event};
 ghost use Rattle.undo_book.specs.declared.event.Settings.{Settings};
 ghost use Rattle.undo_book.specs.Event.{is_admission};
@@ -54,7 +54,7 @@ impl<T: Drop> From<AllocFailed<T>> for StepFault {
 }
 
 /// A book of what was found. What it replies is what a replay of its history from nothing gives, with the undone commands struck out.
-pub trait Book {
+pub trait Book: Drop {
     /// The book is what this history comes to.
     ghost stands_for: { Self → List Event → Type 0 };
 
@@ -104,4 +104,7 @@ pub trait Book {
 
     /// No more is stored than was admitted.
     ghost stores_few: { (book : Self) (h : List Event) → stands_for book h → stored book ≤ count_by is_admission h };
+
+    /// The histories that it stands for have as many events.
+    ghost one_count: { (book : Self) (h k : List Event) → stands_for book h → stands_for book k → length h ≡ length k };
 }
