@@ -1,10 +1,10 @@
 //! The promise that every book keeps, however it keeps it.
 
-ghost use Rattle.std.specs.Prelude.{◌≡◌, ◌≤◌, ℕ, List, count_by, IfOk, OnErr, IsErrOf};
+ghost use Rattle.std.specs.Prelude.{◌≡◌, ◌≤◌, ℕ, List, length, count_by, IfOk, OnErr, IsErrOf};
 ghost use Rattle.undo_book.specs.declared.event.Event.{Event};
 ghost use Rattle.undo_book.specs.declared.event.Settings.{Settings};
 ghost use Rattle.undo_book.specs.Event.{is_admission};
-ghost use Rattle.undo_book.specs.History.{past_of, tables_of};
+ghost use Rattle.undo_book.specs.History.{past_of, stubs_of, tables_of};
 ghost use Rattle.undo_book.specs.Reply.{seen_of, look_seen};
 ghost use Rattle.undo_book.specs.Answers.{Answers, history_after};
 
@@ -13,6 +13,7 @@ use dns_name::NoMemory;
 use dns_text::Question;
 use local_zone::ZoneTable;
 use std::alloc::{AllocError, AllocFailed};
+use stub_table::StubTable;
 use thiserror::Error;
 
 /// Why an event is not taken. Then nothing has changed, the greatest moment included.
@@ -53,7 +54,7 @@ impl<T: Drop> From<AllocFailed<T>> for StepFault {
 }
 
 /// A book of what was found. What it replies is what a replay of its history from nothing gives, with the undone commands struck out.
-pub trait Book {
+pub trait Book: Drop {
     /// The book is what this history comes to.
     ghost stands_for: { Self → List Event → Type 0 };
 
@@ -79,16 +80,20 @@ pub trait Book {
     /// What a look that gives this moment would see. It moves no clock, and no moment is too late for it.
     fn seen(&self, ask: &Ask, moment: u64) -> Result<Seen, NoMemory>
         ensures { (h : List Event) → stands_for self.now h →
-            IfOk result (λ s. s ≡ seen_of (past_of (settings self.now).journal h) ask.now moment) };
+            IfOk result (λ s. s ≡ seen_of (settings self.now) (past_of (settings self.now).journal h) ask.now moment) };
 
     /// What a look at a question would see, with no memory taken.
     fn look<'a>(&'a self, question: &'a Question, moment: u64) -> Look<'a>
         ensures { (h : List Event) → stands_for self.now h →
-            look_seen result ≡ seen_of (past_of (settings self.now).journal h) (Ask.Answer question.now) moment };
+            look_seen result ≡ seen_of (settings self.now) (past_of (settings self.now).journal h) (Ask.Answer question.now) moment };
 
     /// The local zones and records.
     fn zones(&self) -> &ZoneTable
-        ensures { (h : List Event) → stands_for self.now h → result.now ≡ tables_of (past_of (settings self.now).journal h) };
+        ensures { (h : List Event) → stands_for self.now h → result.now ≡ (tables_of (past_of (settings self.now).journal h)).local };
+
+    /// The stubs.
+    fn stubs(&self) -> &StubTable
+        ensures { (h : List Event) → stands_for self.now h → result.now ≡ stubs_of (past_of (settings self.now).journal h) };
 
     /// How many cells are stored.
     fn stored(&self) -> usize
@@ -99,4 +104,7 @@ pub trait Book {
 
     /// No more is stored than was admitted.
     ghost stores_few: { (book : Self) (h : List Event) → stands_for book h → stored book ≤ count_by is_admission h };
+
+    /// The histories that it stands for have as many events.
+    ghost one_count: { (book : Self) (h k : List Event) → stands_for book h → stands_for book k → length h ≡ length k };
 }
