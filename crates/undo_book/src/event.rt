@@ -20,6 +20,8 @@ pub enum Ask {
     Zones,
     /// The local records.
     Records,
+    /// The commands that can be undone or redone.
+    Commands,
 }
 
 /// What the operator gives, and can take back.
@@ -168,6 +170,17 @@ pub enum Seen {
     Zones(Items<Shared<Zone>>),
     /// The local records, in order.
     Records(Items<LocalRecord>),
+    /// The commands that can be undone or redone, the oldest first.
+    Commands(Items<Journalled>),
+}
+
+/// A command that can be undone or redone, as the journal holds it.
+#[derive(Debug, Drop, PartialEq)]
+pub struct Journalled {
+    pub ticket: u64,
+    /// Whether it can be undone; else it can be redone.
+    pub done: bool,
+    pub command: Command,
 }
 
 /// Why a command is refused.

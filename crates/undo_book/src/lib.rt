@@ -10,15 +10,17 @@ mod laws; // what undoing and refusing come to, by the definitions alone
 mod marks; // the commands that can be undone and redone
 mod log; // each event, and whether its command is struck
 mod replay; // a cell, by a replay of a log
+mod copying; // what is handed in, once more
 mod past; // the history of a plain book: its log and its marks
 mod changes; // what a command makes of local zones and records
 mod tables; // local zones and records, by a replay of a log
 mod sight; // what a look sees, with a share of the data
+mod journal; // the commands that can be undone or redone
 mod replies; // what is replied to an event, and the table after it
 mod plain; // the book that keeps its history and replays it
 
 pub use book::{Book, StepFault};
-pub use event::{Ask, Command, Entry, Event, Look, Reason, Reply, Seen, Settings};
+pub use event::{Ask, Command, Entry, Event, Journalled, Look, Reason, Reply, Seen, Settings};
 pub use laws::{
     clock_is_greatest, done_is_in_order, flush_forgets, redo_puts_back,
     refusal_changes_only_the_clock, sweep_changes_only_the_clock, undo_takes_back,

@@ -8,6 +8,7 @@ ghost use Rattle.undo_book.specs.Cells.{shows};
 ghost use Rattle.local_zone.specs.Answer.{local_of};
 
 use crate::event::{Ask, Look, Seen};
+use crate::journal::commands;
 use crate::past::PlainPast;
 use dns_name::NoMemory;
 use dns_text::{Items, Question, Shared};
@@ -48,6 +49,7 @@ pub(crate) fn shared_sight(
         Ask::Answer(question) => sight(past, table, question, moment).to_seen(alloc),
         Ask::Zones => Ok(Seen::Zones(Items::new(share_zones(alloc, table.zones())?))),
         Ask::Records => Ok(Seen::Records(Items::new(share_records(alloc, table.records())?))),
+        Ask::Commands => Ok(Seen::Commands(Items::new(commands(alloc, past)?))),
     }
 }
 
