@@ -79,12 +79,12 @@ pub trait Book {
     /// What a look that gives this moment would see. It moves no clock, and no moment is too late for it.
     fn seen(&self, ask: &Ask, moment: u64) -> Result<Seen, NoMemory>
         ensures { (h : List Event) → stands_for self.now h →
-            IfOk result (λ s. s ≡ seen_of (past_of (settings self.now).journal h) ask.now moment) };
+            IfOk result (λ s. s ≡ seen_of (settings self.now) (past_of (settings self.now).journal h) ask.now moment) };
 
     /// What a look at a question would see, with no memory taken.
     fn look<'a>(&'a self, question: &'a Question, moment: u64) -> Look<'a>
         ensures { (h : List Event) → stands_for self.now h →
-            look_seen result ≡ seen_of (past_of (settings self.now).journal h) (Ask.Answer question.now) moment };
+            look_seen result ≡ seen_of (settings self.now) (past_of (settings self.now).journal h) (Ask.Answer question.now) moment };
 
     /// The local zones and records.
     fn zones(&self) -> &ZoneTable
