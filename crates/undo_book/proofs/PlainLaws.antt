@@ -126,7 +126,7 @@ entries_by (Undone ticket) log = entries_flagged ticket true log
 entries_by (Redone ticket) log = entries_flagged ticket false log
 entries_by reply log = refl
 
-entries_push : (log : List Logged) (l : Logged) → entries_in (log ++ l ∷ []) ≡ entries_in log ++ l.entry ∷ []
+pub entries_push : (log : List Logged) (l : Logged) → entries_in (log ++ l ∷ []) ≡ entries_in log ++ l.entry ∷ []
 entries_push [] l = refl
 entries_push (k ∷ log) l = ap (λ (es : List Entry). k.entry ∷ es) (entries_push log l)
 
