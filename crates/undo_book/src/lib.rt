@@ -24,6 +24,7 @@ mod plain; // the book that keeps its history and replays it
 pub use book::{Book, StepFault};
 pub use desk::{Desk, DeskFault};
 pub use event::{Ask, Command, Entry, Event, Journalled, Look, Reason, Reply, Seen, Settings};
+pub use journal::journal_law;
 pub use laws::{
     clock_is_greatest, done_is_in_order, equality_law, flush_forgets, redo_puts_back,
     refusal_changes_only_the_clock, sweep_changes_only_the_clock, undo_takes_back,
