@@ -20,6 +20,7 @@ impl Event {
                 moment: *moment,
                 ask: ask.copy()?,
             }),
+            Event::Sweep { moment } => Ok(Event::Sweep { moment: *moment }),
             Event::Do { moment, command } => Ok(Event::Do {
                 moment: *moment,
                 command: command.copy()?,
@@ -39,6 +40,8 @@ impl Ask {
             Ask::Answer(question) => Ok(Ask::Answer(copy_question(question)?)),
             Ask::Zones => Ok(Ask::Zones),
             Ask::Records => Ok(Ask::Records),
+            Ask::Stubs => Ok(Ask::Stubs),
+            Ask::Commands => Ok(Ask::Commands),
         }
     }
 }
@@ -50,6 +53,12 @@ impl Command {
     {
         match self {
             Command::FlushType(target) => Ok(Command::FlushType(copy_question(target)?)),
+            Command::Flush { name } => Ok(Command::Flush {
+                name: name.clone()?,
+            }),
+            Command::FlushZone { name } => Ok(Command::FlushZone {
+                name: name.clone()?,
+            }),
             Command::SetZone { name, kind } => Ok(Command::SetZone {
                 name: name.clone()?,
                 kind: *kind,
@@ -61,6 +70,12 @@ impl Command {
                 record: record.share()?,
             }),
             Command::DropName { name } => Ok(Command::DropName {
+                name: name.clone()?,
+            }),
+            Command::SetStub { stub } => Ok(Command::SetStub {
+                stub: stub.share()?,
+            }),
+            Command::DropStub { name } => Ok(Command::DropStub {
                 name: name.clone()?,
             }),
         }
