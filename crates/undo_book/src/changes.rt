@@ -18,7 +18,7 @@ pub(crate) fn change(tables: &mut Tables, command: &Command) -> Result<Option<Re
     ensures same { OnErr result (tables.new ≡ tables.old) }
 {
     match command {
-        Command::FlushType(_) => Ok(None),
+        Command::FlushType(_) | Command::Flush { .. } | Command::FlushZone { .. } => Ok(None),
         Command::SetZone { name, kind } => set_zone(tables, name, *kind),
         Command::DropZone { name } => drop_zone(tables, name),
         Command::AddRecord { record } => add_record(tables, record),
