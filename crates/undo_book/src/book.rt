@@ -6,10 +6,12 @@ ghost use Rattle.undo_book.specs.declared.event.Settings.{Settings};
 ghost use Rattle.undo_book.specs.Event.{is_admission};
 ghost use Rattle.undo_book.specs.History.{past_of, stubs_of, tables_of};
 ghost use Rattle.undo_book.specs.Reply.{seen_of, look_seen};
+ghost use Rattle.undo_book.specs.Servers.{servers_of};
 ghost use Rattle.undo_book.specs.Answers.{Answers, history_after};
 
 use crate::event::{Ask, Event, Look, Reply, Seen, Settings};
-use dns_name::NoMemory;
+use crate::servers::Servers;
+use dns_name::{Name, NoMemory};
 use dns_text::Question;
 use local_zone::ZoneTable;
 use std::alloc::{AllocError, AllocFailed};
@@ -94,6 +96,11 @@ pub trait Book {
     /// The stubs.
     fn stubs(&self) -> &StubTable
         ensures { (h : List Event) → stands_for self.now h → result.now ≡ stubs_of (past_of (settings self.now).journal h) };
+
+    /// The servers to ask about a name at a moment.
+    fn servers(&self, name: &Name, moment: u64) -> Result<Servers, NoMemory>
+        ensures { (h : List Event) → stands_for self.now h →
+            IfOk result (λ s. s ≡ servers_of (settings self.now) (past_of (settings self.now).journal h) name.now moment) };
 
     /// How many cells are stored.
     fn stored(&self) -> usize
