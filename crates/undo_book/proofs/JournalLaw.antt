@@ -1,7 +1,7 @@
 -- The commands that the journal holds stand in the order of tickets, those that are done are those that can be undone, and the others those that can be redone.
 use Rattle.std.proofs.Common.{◌≡◌, ℕ, ◌+◌, ◌<◌, ◌≤◌, Bool, true, false, cond, Option, Some, None, List, [], ◌∷◌, ◌++◌, refl, sym, ◌∙◌, ap, subst, inl, inr, arith}
-use Rattle.std.specs.Prelude.{fold, filter, filter_map, map, not, ◌==◌, ◌||◌, ◌&&◌}
-use Rattle.std.specs.List.{AllByRecursion, list_any, cons_option}
+use Rattle.std.specs.Prelude.{fold, filter, filter_map, not, ◌==◌, ◌||◌, ◌&&◌}
+use Rattle.std.specs.List.{AllByRecursion, cons_option}
 use Rattle.std.specs.Option.{option_map, option_map_or}
 use Rattle.std.proofs.lemmas.Bool.{cases_Bool, eq-eqb, eqb-true, false≢true}
 use Rattle.std.proofs.lemmas.Bool.Decides.{nat_tests}
@@ -15,10 +15,10 @@ use Rattle.undo_book.specs.declared.event.Command.{Command}
 use Rattle.undo_book.specs.declared.event.Entry.{Entry}
 use Rattle.undo_book.specs.declared.event.Journalled.{Journalled}
 use Rattle.undo_book.specs.declared.event.Reason.{Reason}
-use Rattle.undo_book.specs.Marks.{Marks, AreAscending, last_of, newest, without, in_place, strike, restore, after_command}
+use Rattle.undo_book.specs.Marks.{Marks, AreAscending, last_of, without, strike, restore, after_command}
 use Rattle.undo_book.specs.Tickets.{tally, occurs}
 use Rattle.undo_book.specs.History.{Past, past_of, nothing, followed_by, marks_after, ticket_unless, reason_of}
-use Rattle.undo_book.specs.Journal.{is_among, held_as, journalled_of, commands_of, tickets_of}
+use Rattle.undo_book.specs.Journal.{is_among, journalled_of, commands_of, tickets_of}
 use Rattle.undo_book.proofs.OrderLaw.{tally_same, tally_other, occurs_push, occurs_newest, occurs_in_place, last_occurs, of_one, above_both, absent_below, ascending_push, done_ascends, orderly}
 use Rattle.undo_book.proofs.PlainLaws.{not_struck}
 
@@ -43,9 +43,9 @@ picks (x ∷ xs) (y ∷ ys) up down has =
           let is : y ≡ x = eqb-true y x same in
           let above : AllByRecursion (λ t. y < t) xs = subst (λ (n : ℕ). AllByRecursion (λ t. n < t) xs) (sym is) up.0 in
           let rest : (t : ℕ) → 1 ≤ occurs t ys → 1 ≤ occurs t xs = λ t some.
-              let lt : y < t = of_one (λ s. y < s) t ys down.0 some in
-              let zero = tally_other x t (grind (arith, nat_tests)) in
-              let there = has t (omega arith) in omega arith
+          let lt : y < t = of_one (λ s. y < s) t ys down.0 some in
+          let zero = tally_other x t (grind (arith, nat_tests)) in
+          let there = has t (omega arith) in omega arith
           in
           rw same (ap (λ (l : List ℕ). x ∷ l) (past_first y ys xs above ∙ picks xs ys up.1 down.1 rest) ∙ ap (λ (n : ℕ). n ∷ ys) (sym is))
       | inr other ↦
@@ -56,9 +56,9 @@ picks (x ∷ xs) (y ∷ ys) up down has =
           let all : AllByRecursion (λ s. x < s) (y ∷ ys) = (lt, above_both x y ys lt down.0) in
           let out : is_among (y ∷ ys) x ≡ false = not_struck x (y ∷ ys) (absent_below x (y ∷ ys) all) in
           let rest : (t : ℕ) → 1 ≤ occurs t (y ∷ ys) → 1 ≤ occurs t xs = λ t some.
-              let later : x < t = of_one (λ s. x < s) t (y ∷ ys) all some in
-              let apart = tally_other x t (grind (arith, nat_tests)) in
-              let found = has t some in omega arith
+          let later : x < t = of_one (λ s. x < s) t (y ∷ ys) all some in
+          let apart = tally_other x t (grind (arith, nat_tests)) in
+          let found = has t some in omega arith
           in
           rw out (picks xs (y ∷ ys) up.1 down rest)
     ]
@@ -318,9 +318,9 @@ undone_are_held bound history t =
     ap (λ (l : List ℕ). is_among l t) (undone_picked marks past.log h.taken)
     ∙ among_picked (λ s. not (is_among marks.done s) && is_among marks.undone s) t (tickets_in past.log) marks.undone
     (λ there.
-        let some = occurs_among t marks.undone there in
-        let once = one.once in
-        let few = one.undone in
-        let not_done : is_among marks.done t ≡ false = not_struck t marks.done (omega arith) in
-        (rw (not_done, there) refl, h.held t (omega arith)))
+    let some = occurs_among t marks.undone there in
+    let once = one.once in
+    let few = one.undone in
+    let not_done : is_among marks.done t ≡ false = not_struck t marks.done (omega arith) in
+    (rw (not_done, there) refl, h.held t (omega arith)))
     (λ none. rw none (not_both (is_among marks.done t)))
