@@ -1,5 +1,5 @@
 -- What a question is answered from the table.
-use Rattle.std.specs.Prelude.{Bool, ◌&&◌, List, [], ◌∷◌, Option, Some, None, if◌then◌else◌}
+use Rattle.std.specs.Prelude.{Bool, ◌&&◌, List, Option, Some, None, if◌then◌else◌}
 use Rattle.std.specs.List.{find, list_any}
 use Rattle.std.specs.Option.{option_map}
 use Rattle.std.specs.Borrow.{Bor}
@@ -30,9 +30,9 @@ abbrev pub has_record_below : Labels → Zone → Tables → Bool
 has_record_below name zone t = list_any (λ r. is_at_or_below r.owner name && lies_in t.zones zone.name r.owner) t.records
 
 -- data, or what is answered where there is none
-abbrev pub data_or : Local (List Record) Record → List Record → Local (List Record) Record
-data_or otherwise [] = otherwise
-data_or otherwise (r ∷ rs) = local.Data (r ∷ rs)
+abbrev pub data_or : Local (List Record) Record → Option (List Record) → Local (List Record) Record
+data_or otherwise None = otherwise
+data_or otherwise (Some set) = local.Data set
 
 -- where a static zone has no data for the question: the name is there where it, or a name below it, has a record that lies in the zone
 abbrev pub absent_in : Tables → Labels → Zone → Local (List Record) Record

@@ -1,19 +1,18 @@
 -- The zone that speaks for a name: the longest one at or above it.
 use Rattle.std.specs.Prelude.{Bool, true, false, ◌&&◌, ◌||◌, not, List, [], ◌∷◌, Option, Some, None, if◌then◌else◌}
 use Rattle.std.specs.List.{find, Contains}
-use Rattle.std.specs.Option.{option_or}
 use Rattle.dns_name.specs.Labels.{Labels, IsAtOrBelow}
 use Rattle.dns_name.specs.Order.{name_eq}
+use Rattle.dns_name.specs.Closest.{closest_with}
 use Rattle.local_zone.specs.declared.zone.Zone.{Zone}
 
 -- the zone of this very name
 abbrev pub zone_named : List Zone → Labels → Option Zone
 zone_named zones name = find (λ zone. name_eq zone.name name) zones
 
--- The zone of this very name, else the one that is closest to its parent.
+-- the zone of this very name, else the one that is closest to its parent
 abbrev pub closest : List Zone → Labels → Option Zone
-closest zones [] = zone_named zones []
-closest zones (label ∷ labels) = option_or (zone_named zones (label ∷ labels)) (closest zones labels)
+closest zones name = closest_with (zone_named zones) name
 
 -- whether this is the zone of that name
 abbrev pub is_named : Labels → Option Zone → Bool
