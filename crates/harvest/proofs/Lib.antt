@@ -1,0 +1,6 @@
+pub mod BelowLaws
+pub mod CountedLaws
+pub mod SetLaws
+pub mod GatheringLaws
+pub mod LoopLaws
+pub mod ZoneLaws
