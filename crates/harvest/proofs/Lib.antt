@@ -1,4 +1,3 @@
-pub mod BelowLaws
 pub mod CountedLaws
 pub mod SetLaws
 pub mod GatheringLaws

@@ -1,5 +1,5 @@
 -- What is believed of a message is at or below the zone asked.
-use Rattle.std.proofs.Common.{◌≡◌, Bool, true, false, List, [], ◌∷◌, ◌++◌, map, cond, refl, subst, Option, Some, None}
+use Rattle.std.proofs.Common.{append_assoc, ◌≡◌, Bool, true, false, List, [], ◌∷◌, ◌++◌, map, cond, refl, sym, ap, ◌∙◌, subst, Option, Some, None}
 use Rattle.std.specs.List.{AllByRecursion, Contains, fold, filter}
 use Rattle.std.specs.Option.{option_to_list}
 use Rattle.std.proofs.lemmas.Bool.{and_parts}
@@ -10,6 +10,7 @@ use Rattle.dns_text.specs.declared.record.Question.{Question}
 use Rattle.dns_text.specs.declared.record.Record.{Record}
 use Rattle.dns_wire.specs.declared.message.Classed.{Classed}
 use Rattle.dns_wire.specs.declared.message.Message.{Message}
+use Rattle.neg_rule.specs.BelowLaws.{fact_from_below}
 use Rattle.neg_rule.specs.Negative.{Said, negative_in, IsDeniedWithin}
 use Rattle.ranked.specs.Set.{with_datum, is_among, each_once}
 use Rattle.ranked.specs.declared.find.Body.{Body}
@@ -20,7 +21,6 @@ use Rattle.harvest.specs.Counted.{Ranked, counts, ranked_in, ranked_of, answer_r
 use Rattle.harvest.specs.Harvest.{sets_in, finds_in, passing_in, lives, passes}
 use Rattle.harvest.specs.Learnt.{said_of}
 use Rattle.harvest.specs.Sets.{Key, Set, key_of, same_key, set_among, sets_of}
-use Rattle.harvest.proofs.BelowLaws.{fact_from_below, below_both}
 
 -- ---- what holds of each element
 
@@ -72,6 +72,9 @@ sets_below zone records h =
 
 sets_in_below : (message : Message) (question : Question) (zone : Labels) → AllByRecursion (IsSetBelow zone) (sets_in message question zone)
 sets_in_below message question zone = sets_below zone (ranked_of message question zone) (records_below message question zone)
+
+below_both : (n m z : Labels) → IsAtOrBelow n m → IsAtOrBelow m z → IsAtOrBelow n z
+below_both n m z h k = (h.0 ++ k.0, h.1 ∙ ap (λ (x : Labels). h.0 ++ x) k.1 ∙ sym (append_assoc h.0 k.0 z))
 
 from_denied : (zone name : Labels) (body : Body) → IsDeniedWithin zone name body → IsAtOrBelow name zone
 from_denied zone name (SetOf found) h = absurd h
