@@ -10,7 +10,7 @@ use Rattle.dns_text.specs.declared.record.Question.{Question}
 use Rattle.dns_text.specs.declared.record.Record.{Record}
 use Rattle.dns_wire.specs.declared.message.Classed.{Classed}
 use Rattle.dns_wire.specs.declared.message.Message.{Message}
-use Rattle.neg_rule.specs.BelowLaws.{fact_from_below}
+use Rattle.dns_name.specs.BelowLaws.{fact_from_below}
 use Rattle.neg_rule.specs.Negative.{Said, negative_in, IsDeniedWithin}
 use Rattle.ranked.specs.Set.{with_datum, is_among, each_once}
 use Rattle.ranked.specs.declared.find.Body.{Body}

@@ -8,7 +8,7 @@ use Rattle.dns_text.specs.declared.record.Record.{Record}
 use Rattle.dns_wire.specs.declared.message.Classed.{Classed}
 use Rattle.dns_wire.specs.declared.message.Message.{Message}
 use Rattle.dns_wire.specs.declared.message.TheConstants.{CLASS_IN}
-use Rattle.neg_rule.specs.Below.{is_at_or_below}
+use Rattle.dns_name.specs.Below.{is_at_or_below}
 use Rattle.ranked.specs.declared.rank.Rank.{Rank}
 use Rattle.ranked.specs.declared.rank.Rank.TheVariants.{Additional, Answer, Authority, AuthoritativeAnswer}
 

@@ -3,7 +3,7 @@
 ghost use Rattle.std.specs.Prelude.{◌≡◌, ◌++◌, IfOk, OnOk};
 ghost use Rattle.std.specs.List.{AllByRecursion};
 ghost use Rattle.dns_wire.specs.WellFormed.{HasForms, HasItsForm};
-ghost use Rattle.neg_rule.specs.Below.{is_at_or_below};
+ghost use Rattle.dns_name.specs.Below.{is_at_or_below};
 ghost use Rattle.harvest.specs.Counted.{counts, answer_rank, authority_rank, ranked_in, ranked_of};
 
 use dns_name::{Name, NoMemory};

@@ -5,7 +5,8 @@ ghost use Rattle.std.specs.List.{Contains};
 ghost use Rattle.std.specs.Option.{option_map};
 ghost use Rattle.dns_name.specs.Labels.{Labels, IsAtOrBelow};
 ghost use Rattle.local_zone.specs.declared.zone.Zone.{Zone};
-ghost use Rattle.local_zone.specs.Closest.{closest, closer, is_at_or_below, IsClosest};
+ghost use Rattle.local_zone.specs.Closest.{closest, closer, IsClosest};
+ghost use Rattle.dns_name.specs.Below.{is_at_or_below};
 
 use crate::zone::Zone;
 use dns_name::Name;

@@ -18,9 +18,9 @@ use Rattle.dns_wire.specs.declared.message.Message.{Message}
 use Rattle.dns_wire.specs.declared.message.TheConstants.{CLASS_IN}
 use Rattle.ranked.specs.Body.{IsSoa}
 use Rattle.neg_rule.specs.Alias.{last_of}
-use Rattle.neg_rule.specs.Below.{is_at_or_below}
+use Rattle.dns_name.specs.Below.{is_at_or_below}
 use Rattle.neg_rule.specs.Negative.{may_deny, denies, soa_for, has_answer, denied_by, denied_in, denied_for, minimum_of, denial, negative_in, Said, IsDeniedWithin}
-use Rattle.neg_rule.specs.BelowLaws.{fact_from_below}
+use Rattle.dns_name.specs.BelowLaws.{fact_from_below}
 
 -- ---- what a step gave
 

@@ -1,4 +1,2 @@
-pub mod Below
-pub mod BelowLaws
 pub mod Alias
 pub mod Negative

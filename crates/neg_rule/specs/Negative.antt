@@ -21,7 +21,7 @@ use Rattle.ranked.specs.declared.find.TheConstants.{LONGEST_NEGATIVE_TTL}
 use Rattle.ranked.specs.declared.rank.Rank.{Rank}
 use Rattle.ranked.specs.declared.rank.Rank.TheVariants.{AuthoritativeAnswer}
 use Rattle.neg_rule.specs.Alias.{is_for, last_of}
-use Rattle.neg_rule.specs.Below.{is_at_or_below}
+use Rattle.dns_name.specs.Below.{is_at_or_below}
 
 -- what a find says, without the facts of its type
 pub record Said : Type 0 where

@@ -3,6 +3,7 @@ use Rattle.std.specs.Prelude.{Bool, false, ◌&&◌, ◌||◌, not, [], ◌∷�
 use Rattle.std.specs.List.{find, Contains}
 use Rattle.dns_name.specs.Labels.{Labels, IsAtOrBelow}
 use Rattle.dns_name.specs.Order.{name_eq}
+use Rattle.dns_name.specs.Below.{is_at_or_below}
 use Rattle.dns_name.specs.Closest.{closest_with}
 use Rattle.stub_table.specs.declared.stub.Stub.{Stub}
 use Rattle.stub_table.specs.Stubs.{Stubs}
@@ -22,11 +23,6 @@ pub record IsClosest (stubs : Stubs) (name : Labels) (stub : Stub) : Type 0 wher
   pub longest : (other : Stub) → Contains stubs other → IsAtOrBelow name other.name → IsAtOrBelow stub.name other.name
 
 -- ---- how the walk over the list finds it
-
--- whether a name is another or below it
-abbrev pub is_at_or_below : Labels → Labels → Bool
-is_at_or_below [] other = name_eq [] other
-is_at_or_below (label ∷ labels) other = name_eq (label ∷ labels) other || is_at_or_below labels other
 
 -- whether a stub is no longer than another, which is at or above the same name
 abbrev pub is_no_longer : Stub → Option Stub → Bool

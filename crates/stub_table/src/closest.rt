@@ -5,7 +5,8 @@ ghost use Rattle.std.specs.List.{Contains};
 ghost use Rattle.std.specs.Option.{option_map};
 ghost use Rattle.dns_name.specs.Labels.{Labels, IsAtOrBelow};
 ghost use Rattle.stub_table.specs.declared.stub.Stub.{Stub};
-ghost use Rattle.stub_table.specs.Closest.{closest_stub, closer, is_at_or_below, IsClosest};
+ghost use Rattle.stub_table.specs.Closest.{closest_stub, closer, IsClosest};
+ghost use Rattle.dns_name.specs.Below.{is_at_or_below};
 
 use crate::stub::Stub;
 use dns_name::Name;

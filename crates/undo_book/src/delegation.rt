@@ -2,7 +2,7 @@
 
 ghost use Rattle.std.specs.Prelude.{◌≡◌, ◌++◌, ◌∷◌, [], IfOk, OnOk, not, filter};
 ghost use Rattle.std.specs.List.{flat_map, list_any};
-ghost use Rattle.local_zone.specs.Closest.{is_at_or_below};
+ghost use Rattle.dns_name.specs.Below.{is_at_or_below};
 ghost use Rattle.ranked.specs.Body.{data_of};
 ghost use Rattle.undo_book.specs.PlainPast.{past_in};
 ghost use Rattle.undo_book.specs.Servers.{addr_of, addrs_at, cached_servers, data_at, has_no_addr, is_usable, servers_named, target_of};

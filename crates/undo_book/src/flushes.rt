@@ -1,7 +1,7 @@
 //! What a flush covers: the types, and the names at or below one.
 
 ghost use Rattle.std.specs.Prelude.{◌≡◌};
-ghost use Rattle.local_zone.specs.Closest.{is_at_or_below};
+ghost use Rattle.dns_name.specs.Below.{is_at_or_below};
 ghost use Rattle.undo_book.specs.Event.{is_flushed};
 
 use dns_name::Name;

@@ -1,4 +1,4 @@
-use Rattle.local_zone.proofs.ClosestLaws.{test_is}
+use Rattle.dns_name.specs.BelowLaws.{test_is}
 use Rattle.local_zone.proofs.closest.is_at_or_below.Goals as goal
 
 pub returns : goal.returns

@@ -1,4 +1,4 @@
-use Rattle.stub_table.proofs.ClosestLaws.{test_is}
+use Rattle.dns_name.specs.BelowLaws.{test_is}
 use Rattle.stub_table.proofs.closest.is_at_or_below.Goals as goal
 
 pub returns : goal.returns
