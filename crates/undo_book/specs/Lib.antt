@@ -6,8 +6,11 @@ pub mod History
 pub mod Cells
 pub mod Flushes
 pub mod Servers
+pub mod Journal
 pub mod Reply
 pub mod Answers
+pub mod Desk
+pub mod Equal
 pub mod Runs
 pub mod Refusal
 pub mod Redo

@@ -26,6 +26,8 @@ pub enum Ask {
     Stubs,
     /// The servers to ask about a name.
     Servers(Name),
+    /// The commands that can be undone or redone.
+    Commands,
 }
 
 /// What the operator gives, and can take back.
@@ -182,6 +184,17 @@ pub enum Seen {
     Stubs(Items<Shared<Stub>>),
     /// The servers that are closest to a name.
     Servers(Shared<Servers>),
+    /// The commands that can be undone or redone, the oldest first.
+    Commands(Items<Journalled>),
+}
+
+/// A command that can be undone or redone, as the journal holds it.
+#[derive(Debug, Drop, PartialEq)]
+pub struct Journalled {
+    pub ticket: u64,
+    /// Whether it can be undone; else it can be redone.
+    pub done: bool,
+    pub command: Command,
 }
 
 /// Why a command is refused.

@@ -106,7 +106,7 @@ impl Book for PlainBook {
     ghost use Rattle.std.specs.Prelude.{◌≡◌, ◌↔◌, ℕ, List, length, count_by, IsTrue, OnErr, IsErrOf};
     ghost use Rattle.undo_book.specs.declared.event.Event.{Event};
     ghost use Rattle.undo_book.specs.Event.{is_admission};
-    ghost use Rattle.undo_book.specs.Counts.{stores_admissions};
+    ghost use Rattle.undo_book.specs.Counts.{stores_admissions, same_count};
     ghost use Rattle.undo_book.specs.Answers.{IsTimely, Answers, history_after};
     ghost use Rattle.undo_book.specs.PlainBook.{settings_in, stored_in, StandsFor};
 
@@ -119,6 +119,8 @@ impl Book for PlainBook {
     ghost has_journal = { λ book history is. book.past.in_range.some_commands };
 
     ghost stores_few = { λ book history is. stores_admissions (settings_in book).journal (past_in book.past) history (stored_in book) book.past.counted is };
+
+    ghost one_count = { λ book h k is also. same_count (settings_in book).journal (past_in book.past) h k is also };
 
     fn step(&mut self, event: Event) -> Result<Reply, StepFault>
         ensures answers { (h : List Event) → StandsFor self.old h → Answers (settings_in self.old) h event result }

@@ -10,6 +10,7 @@ ghost use Rattle.local_zone.specs.Answer.{local_of};
 
 use crate::closest::servers;
 use crate::event::{Ask, Look, Seen};
+use crate::journal::commands;
 use crate::made::Tables;
 use crate::past::PlainPast;
 use dns_name::{Name, NoMemory};
@@ -54,6 +55,7 @@ pub(crate) fn shared_sight(
         Ask::Records => Ok(Seen::Records(Items::new(share_records(alloc, tables.local.records())?))),
         Ask::Stubs => Ok(Seen::Stubs(Items::new(share_stubs(alloc, tables.stubs.stubs())?))),
         Ask::Servers(name) => seen_servers(alloc, past, &tables.stubs, name, moment),
+        Ask::Commands => Ok(Seen::Commands(Items::new(commands(alloc, past)?))),
     }
 }
 
