@@ -11,4 +11,5 @@ pub mod Addr
 pub mod Data
 pub mod Equal
 pub mod Record
+pub mod Written
 pub mod Laws
