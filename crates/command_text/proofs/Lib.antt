@@ -1,4 +1,5 @@
 mod Bars
+mod Commands
 mod Heard
 mod Scripts
 mod Sets

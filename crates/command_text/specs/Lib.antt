@@ -6,6 +6,7 @@ pub mod Local
 pub mod Admission
 pub mod Admit
 pub mod Line
+pub mod CommandWords
 pub mod Text
 pub mod Obeying
 pub mod Script

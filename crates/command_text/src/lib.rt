@@ -9,6 +9,7 @@ mod admission; // what is admitted
 mod admit; // the words of `admit`
 mod local; // the words of the commands on local zones and local data
 mod bar; // the data of a set, between bars
+mod command_words; // commands in the words that give them
 mod answers; // what local zones answer, as it is told
 mod lists; // the lists of local zones and local data, as they are told
 mod text; // what is told
@@ -17,8 +18,9 @@ mod script; // lines in, a transcript out
 mod laws; // what the definitions come to, by themselves
 
 pub use admission::Admission;
+pub use command_words::push_command;
 pub use fault::LineFault;
-pub use laws::bars_are;
+pub use laws::{bars_are, commands_are_read_back};
 pub use line::{Line, read_line};
 pub use script::run_script;
 pub use text::reply_text;
