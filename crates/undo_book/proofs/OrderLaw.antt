@@ -9,7 +9,7 @@ use Rattle.std.proofs.lemmas.List.{take_all, take_more, take-append-drop}
 use Rattle.std.proofs.lemmas.Option.{slice_get_within, get_or_from_slice_get}
 use Rattle.dns_name.specs.ListLaws.{all_push, all_weaker}
 use Rattle.undo_book.specs.declared.event.Event.{Event}
-use Rattle.undo_book.specs.declared.event.Event.TheVariants.{Admit, Look, Do, Undo, Redo}
+use Rattle.undo_book.specs.declared.event.Event.TheVariants.{Admit, Look, Sweep, Do, Undo, Redo}
 use Rattle.undo_book.specs.declared.event.Command.{Command}
 use Rattle.undo_book.specs.declared.event.Reason.{Reason}
 use Rattle.undo_book.specs.Marks.{Marks, AreAscending, last_of, newest, without, in_place, after_command, strike, restore}
@@ -258,6 +258,7 @@ redo_in_one j (Some x) last h = λ t. restored_one j x t (last_occurs j.undone x
 pub next_in_one : (bound : ℕ) (past : Past) (e : Event) → EachInOne past.marks → EachInOne (followed_by bound past e).marks
 next_in_one bound past (Admit m f) h = h
 next_in_one bound past (Look m a) h = h
+next_in_one bound past (Sweep m) h = h
 next_in_one bound past (Do m c) h = do_in_one bound past.marks m c (reason_of past c) h
 next_in_one bound past (Undo m) h = undo_in_one past.marks (last_of past.marks.done) refl h
 next_in_one bound past (Redo m) h = redo_in_one past.marks (last_of past.marks.undone) refl h
@@ -285,6 +286,7 @@ redo_ascends j (Some x) last h =
 next_ascends : (bound : ℕ) (past : Past) (e : Event) → AreOrderly past.marks → AreAscending (followed_by bound past e).marks.done
 next_ascends bound past (Admit m f) h = h.ascending
 next_ascends bound past (Look m a) h = h.ascending
+next_ascends bound past (Sweep m) h = h.ascending
 next_ascends bound past (Do m c) h = do_ascends bound past.marks m c (reason_of past c) h
 next_ascends bound past (Undo m) h = undo_ascends past.marks (last_of past.marks.done) h
 next_ascends bound past (Redo m) h = redo_ascends past.marks (last_of past.marks.undone) refl h

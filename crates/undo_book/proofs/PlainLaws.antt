@@ -9,13 +9,13 @@ use Rattle.std.proofs.lemmas.Map.Views.{any-filter_same}
 use Rattle.dns_text.specs.declared.record.Question.{Question}
 use Rattle.ranked.specs.declared.find.Find.{Find}
 use Rattle.ranked.specs.declared.find.Scope.{Scope}
-use Rattle.ranked.specs.declared.find.Scope.TheVariants.{One}
+use Rattle.ranked.specs.declared.find.Scope.TheVariants.{One, Whole}
 use Rattle.ranked.specs.declared.cell.Admitted.{Admitted}
 use Rattle.ranked.specs.Cell.{turns_away}
 use Rattle.ranked.specs.Find.{admission_of}
 use Rattle.dns_name.specs.ListLaws.{all_push}
 use Rattle.undo_book.specs.declared.event.Event.{Event}
-use Rattle.undo_book.specs.declared.event.Event.TheVariants.{Admit, Look, Do, Undo, Redo}
+use Rattle.undo_book.specs.declared.event.Event.TheVariants.{Admit, Look, Sweep, Do, Undo, Redo}
 use Rattle.undo_book.specs.declared.event.Command.{Command}
 use Rattle.undo_book.specs.declared.event.Entry.{Entry}
 use Rattle.undo_book.specs.declared.event.Reason.{Reason}
@@ -36,6 +36,7 @@ use Rattle.undo_book.proofs.UndoLaw.{struck_now, struck_other}
 pub flag_tells : (marks : Marks) (event : Event) (ticket : Option ℕ) (flag : Bool) → flag ≡ has_struck marks.struck ticket → stands_by (λ t. not flag) event ticket ≡ stands_by (is_unstruck marks) event ticket
 flag_tells marks (Admit m f) ticket flag is = refl
 flag_tells marks (Look m a) ticket flag is = refl
+flag_tells marks (Sweep m) ticket flag is = refl
 flag_tells marks (Do m c) None flag is = refl
 flag_tells marks (Do m c) (Some ticket) flag is = ap not is
 flag_tells marks (Undo m) ticket flag is = refl
@@ -60,6 +61,7 @@ by_fate bound marks false = refl
 by_admission : (bound : ℕ) (past : Past) (find : Find) (m : ℕ) (scope : Scope) → marks_by bound past.marks (reply_to_admission past find m scope) ≡ past.marks
 by_admission bound past find m (One kind) =
     by_fate bound past.marks (turns_away (cell_of past (record { owner = find.owner; kind = kind })) (admission_of find find (max past.now m)))
+by_admission bound past find m Whole = refl
 
 by_command : (bound : ℕ) (marks : Marks) (m : ℕ) (c : Command) (o : Option Reason) → marks_after bound marks (Do m c) (ticket_unless marks o) ≡ marks_by bound marks (reply_to_command marks o)
 by_command bound marks m c None = refl
@@ -76,6 +78,7 @@ by_redo bound marks (Some ticket) = refl
 pub marks_by_reply : (bound : ℕ) (past : Past) (event : Event) → marks_by bound past.marks (reply_of past event) ≡ marks_after bound past.marks event (ticket_for past event)
 marks_by_reply bound past (Admit m f) = by_admission bound past f m f.scope
 marks_by_reply bound past (Look m a) = refl
+marks_by_reply bound past (Sweep m) = refl
 marks_by_reply bound past (Do m c) = sym (by_command bound past.marks m c (reason_of past c))
 marks_by_reply bound past (Undo m) = sym (by_undo bound past.marks (last_of past.marks.done))
 marks_by_reply bound past (Redo m) = sym (by_redo bound past.marks (last_of past.marks.undone))
@@ -89,6 +92,7 @@ ticket_by_fate false = refl
 ticket_by_admission : (past : Past) (find : Find) (m : ℕ) (scope : Scope) → ticket_taken (reply_to_admission past find m scope) ≡ None
 ticket_by_admission past find m (One kind) =
     ticket_by_fate (turns_away (cell_of past (record { owner = find.owner; kind = kind })) (admission_of find find (max past.now m)))
+ticket_by_admission past find m Whole = refl
 
 ticket_by_command : (marks : Marks) (o : Option Reason) → ticket_taken (reply_to_command marks o) ≡ ticket_unless marks o
 ticket_by_command marks None = refl
@@ -105,6 +109,7 @@ ticket_by_redo (Some ticket) = refl
 pub ticket_by_reply : (past : Past) (event : Event) → ticket_taken (reply_of past event) ≡ ticket_for past event
 ticket_by_reply past (Admit m f) = ticket_by_admission past f m f.scope
 ticket_by_reply past (Look m a) = refl
+ticket_by_reply past (Sweep m) = refl
 ticket_by_reply past (Do m c) = ticket_by_command past.marks (reason_of past c)
 ticket_by_reply past (Undo m) = ticket_by_undo (last_of past.marks.done)
 ticket_by_reply past (Redo m) = ticket_by_redo (last_of past.marks.undone)
@@ -196,6 +201,7 @@ new_by_reason marks (Some reason) h = refl
 new_ticket : (past : Past) (event : Event) → ((t : ℕ) → InOne past.marks t) → has_struck past.marks.struck (ticket_for past event) ≡ false
 new_ticket past (Admit m f) h = refl
 new_ticket past (Look m a) h = refl
+new_ticket past (Sweep m) h = refl
 new_ticket past (Do m c) h = new_by_reason past.marks (reason_of past c) h
 new_ticket past (Undo m) h = refl
 new_ticket past (Redo m) h = refl

@@ -4,6 +4,7 @@ pub mod Tickets
 pub mod Changes
 pub mod History
 pub mod Cells
+pub mod Flushes
 pub mod Reply
 pub mod Answers
 pub mod Runs

@@ -18,7 +18,7 @@ pub(crate) fn change(table: &mut ZoneTable, command: &Command) -> Result<Option<
     ensures same { OnErr result (table.new ≡ table.old) }
 {
     match command {
-        Command::FlushType(_) => Ok(None),
+        Command::FlushType(_) | Command::Flush { .. } | Command::FlushZone { .. } => Ok(None),
         Command::SetZone { name, kind } => set_zone(table, name, *kind),
         Command::DropZone { name } => drop_zone(table, name),
         Command::AddRecord { record } => add_record(table, record),

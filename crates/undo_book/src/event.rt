@@ -4,6 +4,7 @@ ghost use Rattle.std.specs.Prelude.{◌≡◌, IfOk};
 ghost use Rattle.std.specs.Option.{option_map};
 ghost use Rattle.local_zone.specs.Answer.{local_now};
 
+use crate::flushes::{is_at_or_below, is_flushed};
 use dns_name::{Name, NoMemory};
 use dns_text::{Items, Question, Record, Shared};
 use local_zone::{Local, LocalRecord, LocalSet, SeenRecord, Zone, ZoneType};
@@ -26,6 +27,10 @@ pub enum Ask {
 pub enum Command {
     /// Empties the cell of one question.
     FlushType(Question),
+    /// Empties the cells of a name of the types that `flush` of `unbound-control(8)` names.
+    Flush { name: Name },
+    /// Empties the cells of every name at or below a name, of any type.
+    FlushZone { name: Name },
     /// Adds a local zone, or gives the zone of this name another type.
     SetZone { name: Name, kind: ZoneType },
     /// Removes a local zone, and the records that lie in it.
@@ -45,6 +50,8 @@ impl Command {
     {
         match self {
             Command::FlushType(target) => target.owner == *owner && target.kind == kind,
+            Command::Flush { name } => *name == *owner && is_flushed(kind),
+            Command::FlushZone { name } => is_at_or_below(owner, name),
             _ => false,
         }
     }
@@ -57,6 +64,8 @@ pub enum Event {
     Admit { moment: u64, find: SharedFind },
     /// Something is asked.
     Look { moment: u64, ask: Ask },
+    /// What can never be shown again may be given up. It changes nothing but the clock.
+    Sweep { moment: u64 },
     /// The operator gives a command.
     Do { moment: u64, command: Command },
     /// The newest command that can be undone is taken back.
@@ -75,6 +84,7 @@ impl Event {
         match self {
             Event::Admit { moment, .. } => *moment,
             Event::Look { moment, .. } => *moment,
+            Event::Sweep { moment } => *moment,
             Event::Do { moment, .. } => *moment,
             Event::Undo { moment } => *moment,
             Event::Redo { moment } => *moment,
@@ -182,6 +192,8 @@ pub enum Reply {
     Outranked,
     /// What the look sees.
     Seen(Seen),
+    /// What can never be shown again may have been given up.
+    Swept,
     /// The command is accepted, and took this ticket.
     Done { ticket: u64 },
     /// The command is not accepted.

@@ -2,6 +2,7 @@
 #![tactic(auto)]
 
 mod event; // what a book is given and asked, and what it replies
+mod flushes; // what a flush covers, as tests
 mod limits; // how far moments, counts and settings go
 mod book; // the promise that every book keeps
 mod runs; // any book, over a list of events
@@ -20,7 +21,7 @@ pub use book::{Book, StepFault};
 pub use event::{Ask, Command, Entry, Event, Look, Reason, Reply, Seen, Settings};
 pub use laws::{
     clock_is_greatest, done_is_in_order, flush_forgets, redo_puts_back,
-    refusal_changes_only_the_clock, undo_takes_back,
+    refusal_changes_only_the_clock, sweep_changes_only_the_clock, undo_takes_back,
 };
 pub use limits::{MOMENT_END, MOST_CELLS, MOST_COMMANDS, MOST_EVENTS};
 pub use plain::{MakeFault, PlainBook};

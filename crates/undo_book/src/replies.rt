@@ -37,6 +37,7 @@ pub(crate) fn reply(
             let seen = shared_sight(alloc, past, table, ask, *moment)?;
             Ok(Reply::Seen(seen))
         }
+        Event::Sweep { .. } => Ok(Reply::Swept),
         Event::Do { command, .. } => reply_to_command(past, table, command),
         Event::Undo { .. } => reply_to_undo(alloc, past, table),
         Event::Redo { .. } => reply_to_redo(alloc, past, table),
