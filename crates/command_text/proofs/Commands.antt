@@ -14,16 +14,16 @@ use Rattle.dns_text.specs.Written.{WritesNames, WritesNumbers, WritesTypes, Writ
 use Rattle.local_zone.specs.declared.zone_type.ZoneType.{ZoneType}
 use Rattle.local_zone.specs.declared.zone_type.ZoneType.TheVariants.{Deny, Refuse, Static, Transparent, TypeTransparent, Redirect, AlwaysTransparent, AlwaysRefuse, AlwaysNxDomain, AlwaysNoData}
 use Rattle.local_zone.specs.ZoneType.{word_of, zone_type_in}
-use Rattle.undo_book.specs.declared.event.Command.TheVariants.{FlushType as FlushTypeCommand, SetZone, DropZone, AddRecord, DropName}
+use Rattle.undo_book.specs.declared.event.Command.TheVariants.{Flush as FlushCommand, FlushType as FlushTypeCommand, FlushZone as FlushZoneCommand, SetZone, DropZone, AddRecord, DropName}
 use Rattle.command_text.specs.declared.line.Line.TheVariants.{Do}
 use Rattle.command_text.specs.declared.words.Verb.{Verb}
-use Rattle.command_text.specs.declared.words.Verb.TheVariants.{FlushType, LocalZone, LocalZoneRemove, LocalData, LocalDataRemove}
+use Rattle.command_text.specs.declared.words.Verb.TheVariants.{Flush, FlushType, FlushZone, LocalZone, LocalZoneRemove, LocalData, LocalDataRemove}
 use Rattle.command_text.specs.declared.words.Channel.{Channel}
 use Rattle.command_text.specs.declared.words.Channel.TheVariants.{Script, Control}
 use Rattle.command_text.specs.Words.{by_word, verb_in}
 use Rattle.command_text.specs.Parts.{question_words, question_of, question_in, name_of, only_name}
 use Rattle.command_text.specs.Local.{zone_of, set_zone_in, drop_zone_in, drop_name_in, record_words, add_record_in}
-use Rattle.command_text.specs.Line.{is_silent, flush_type_in, local_zone_in, local_zone_remove_in, local_data_in, local_data_remove_in, said_by, read_of}
+use Rattle.command_text.specs.Line.{is_silent, flush_in, flush_type_in, flush_zone_in, local_zone_in, local_zone_remove_in, local_data_in, local_data_remove_in, said_by, read_of}
 use Rattle.command_text.specs.CommandWords.{ReadsCommands}
 
 -- ---- what the first word of a line commands
@@ -44,6 +44,14 @@ by_both P script control Control = control
 flush_type_commands : Commands (codes "flush_type") FlushType
 unfolding cut_word by_word
 flush_type_commands = record { loud = λ rest. refl; first = λ rest. refl; found = by_both (λ channel. verb_in channel (codes "flush_type") ≡ Some FlushType) refl refl }
+
+flush_commands : Commands (codes "flush") Flush
+unfolding cut_word by_word
+flush_commands = record { loud = λ rest. refl; first = λ rest. refl; found = by_both (λ channel. verb_in channel (codes "flush") ≡ Some Flush) refl refl }
+
+flush_zone_commands : Commands (codes "flush_zone") FlushZone
+unfolding cut_word by_word
+flush_zone_commands = record { loud = λ rest. refl; first = λ rest. refl; found = by_both (λ channel. verb_in channel (codes "flush_zone") ≡ Some FlushZone) refl refl }
 
 local_zone_commands : Commands (codes "local_zone") LocalZone
 unfolding cut_word by_word
@@ -81,6 +89,14 @@ flush_type_read w question h small known =
     let name = w.names question.owner h in
     let kind = w.types question.kind small in
     rw (name.0.first (type_text question.kind), kind.0.last, name.1, kind.1 known) refl
+
+flush_read : Written → (name : Labels) → IsName name → flush_in (32 ∷ text_of name) ≡ Ok (Do (FlushCommand name))
+unfolding flush_in
+flush_read w name h = rw (name_read w name h) refl
+
+flush_zone_read : Written → (name : Labels) → IsName name → flush_zone_in (32 ∷ text_of name) ≡ Ok (Do (FlushZoneCommand name))
+unfolding flush_zone_in
+flush_zone_read w name h = rw (name_read w name h) refl
 
 record ReadsZoneType (kind : ZoneType) : Type 0 where
   word : next_word (word_of kind) ≡ Some (word_of kind, [])
@@ -136,6 +152,8 @@ local_data_read w r h small known ttl again =
     rw (has_words w r h small ttl, record_behind (record_text r), w.records r h small known ttl again) refl
 
 pub reads_commands : Written → ReadsCommands
+reads_commands w channel (FlushCommand name) h short = said channel (codes "flush") (text_of name) Flush flush_commands short ∙ flush_read w name h
+reads_commands w channel (FlushZoneCommand name) h short = said channel (codes "flush_zone") (text_of name) FlushZone flush_zone_commands short ∙ flush_zone_read w name h
 reads_commands w channel (FlushTypeCommand question) h short =
     said channel (codes "flush_type") (text_of question.owner ++ 32 ∷ type_text question.kind) FlushType flush_type_commands short ∙ flush_type_read w question h.0 h.1 h.2
 reads_commands w channel (SetZone name kind) h short =

@@ -1,3 +1,4 @@
+mod AddrWords
 mod Bars
 mod Commands
 mod Heard

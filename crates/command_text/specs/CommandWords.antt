@@ -8,13 +8,15 @@ use Rattle.dns_text.specs.Data.{data_in, data_text}
 use Rattle.dns_text.specs.Record.{record_text}
 use Rattle.local_zone.specs.ZoneType.{word_of}
 use Rattle.undo_book.specs.declared.event.Command.{Command}
-use Rattle.undo_book.specs.declared.event.Command.TheVariants.{FlushType, SetZone, DropZone, AddRecord, DropName}
+use Rattle.undo_book.specs.declared.event.Command.TheVariants.{Flush, FlushType, FlushZone, SetZone, DropZone, AddRecord, DropName}
 use Rattle.command_text.specs.declared.line.Line.TheVariants.{Do}
 use Rattle.command_text.specs.declared.words.Channel.{Channel}
 use Rattle.command_text.specs.Line.{read_of}
 
 -- the line that gives a command, without its end
 abbrev pub command_words : Command → List ℕ
+command_words (Flush name) = codes "flush " ++ text_of name
+command_words (FlushZone name) = codes "flush_zone " ++ text_of name
 command_words (FlushType question) = codes "flush_type " ++ text_of question.owner ++ 32 ∷ type_text question.kind
 command_words (SetZone name kind) = codes "local_zone " ++ text_of name ++ 32 ∷ word_of kind
 command_words (DropZone name) = codes "local_zone_remove " ++ text_of name
@@ -23,6 +25,8 @@ command_words (DropName name) = codes "local_data_remove " ++ text_of name
 
 -- A line can give the command: its names are names, its type is one that records have, and its record's data are read back, as all data are that have the form of their type.
 abbrev pub IsGivable : Command → Type 0
+IsGivable (Flush name) = IsName name
+IsGivable (FlushZone name) = IsName name
 IsGivable (FlushType question) = IsName question.owner × (question.kind < 2 ^ 16) × (is_excluded question.kind ≡ false)
 IsGivable (SetZone name kind) = IsName name
 IsGivable (DropZone name) = IsName name

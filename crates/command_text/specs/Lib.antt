@@ -5,6 +5,9 @@ pub mod Parts
 pub mod Local
 pub mod Admission
 pub mod Admit
+pub mod Denial
+pub mod Deny
+pub mod Addrs
 pub mod Line
 pub mod CommandWords
 pub mod Text

@@ -1,5 +1,5 @@
 -- The texts of replies and faults, each with its line's end.
-use Rattle.std.specs.Prelude.{ℕ, Bool, true, false, List, [], ◌∷◌, ◌++◌, codes, decimal, flat_map}
+use Rattle.std.specs.Prelude.{ℕ, Bool, true, false, not, List, [], ◌∷◌, ◌++◌, codes, decimal, flat_map}
 use Rattle.streams.specs.Split.{with_end}
 use Rattle.dns_name.specs.Text.{text_of}
 use Rattle.dns_text.specs.declared.record.Data.{Data}
@@ -10,9 +10,10 @@ use Rattle.dns_text.specs.Record.{record_text}
 use Rattle.ranked.specs.declared.cell.Shown.{Shown}
 use Rattle.ranked.specs.declared.find.Find.{Find}
 use Rattle.ranked.specs.declared.find.Scope.{Scope}
-use Rattle.ranked.specs.declared.find.Scope.TheVariants.{One}
+use Rattle.ranked.specs.declared.find.Scope.TheVariants.{One, Whole}
 use Rattle.ranked.specs.declared.find.Body.{Body}
-use Rattle.ranked.specs.declared.find.Body.TheVariants.{Set}
+use Rattle.ranked.specs.declared.find.Body.TheVariants.{Set, NoData, NoName}
+use Rattle.ranked.specs.Body.{is_negative}
 use Rattle.ranked.specs.Rank.{level_of}
 use Rattle.local_zone.specs.declared.local.Local.{Local}
 use Rattle.local_zone.specs.declared.local.Local.TheVariants as local
@@ -23,27 +24,35 @@ use Rattle.undo_book.specs.declared.event.Reason.TheVariants.{BelowRedirect, Dat
 use Rattle.undo_book.specs.declared.event.Seen.{Seen as Sight}
 use Rattle.undo_book.specs.declared.event.Seen.TheVariants.{Unknown as NothingHeld, Held, Local as LocalSeen, Zones, Records}
 use Rattle.undo_book.specs.declared.event.Reply.{Reply}
-use Rattle.undo_book.specs.declared.event.Reply.TheVariants.{Taken, Outranked, Seen, Done, Refused, Undone, Redone, NothingToUndo, NothingToRedo}
+use Rattle.undo_book.specs.declared.event.Reply.TheVariants.{Taken, Outranked, Swept, Seen, Done, Refused, Undone, Redone, NothingToUndo, NothingToRedo}
 use Rattle.undo_book.specs.declared.book.StepFault.{StepFault}
 use Rattle.undo_book.specs.declared.book.StepFault.TheVariants.{BadMoment, CountEnded, Full, NoMemory as StepNoMemory}
 use Rattle.command_text.specs.declared.fault.LineFault.{LineFault}
-use Rattle.command_text.specs.declared.fault.LineFault.TheVariants.{Unknown, Missing, BadName, BadType, BadData, TooLong, NoMemory}
+use Rattle.command_text.specs.declared.fault.LineFault.TheVariants.{Unknown, Missing, BadName, BadType, BadData, BadAddress, TooLong, NoMemory}
 
 -- the data joined by bars
 abbrev pub set_text : List Data → List ℕ
 set_text [] = []
 set_text (first ∷ others) = data_text first ++ flat_map (λ datum. codes " | " ++ data_text datum) others
 
-abbrev pub body_text : Body → List ℕ
-body_text (Set items) = set_text items
-
+-- Every set is of one type.
 abbrev pub scope_text : Scope → List ℕ
 scope_text (One kind) = type_text kind
+scope_text Whole = []
 
 -- RANK LEFT OWNER TYPE DATA
-unfoldable pub found_text : Shown Find → List ℕ
-found_text shown =
-    decimal (level_of shown.rank) ++ 32 ∷ decimal shown.left ++ 32 ∷ text_of shown.body.owner ++ 32 ∷ scope_text shown.body.scope ++ 32 ∷ body_text shown.body.body
+unfoldable pub found_text : Shown Find → List Data → List ℕ
+found_text shown items =
+    decimal (level_of shown.rank) ++ 32 ∷ decimal shown.left ++ 32 ∷ text_of shown.body.owner ++ 32 ∷ scope_text shown.body.scope ++ 32 ∷ set_text items
+
+abbrev pub held_by : Shown Find → Body → List ℕ
+held_by shown (Set items) = codes "found " ++ found_text shown items
+held_by shown (NoData soa) = codes "nodata " ++ decimal shown.left
+held_by shown (NoName soa) = codes "noname " ++ decimal shown.left
+
+-- what is held: a set, or what denies, with the seconds left
+abbrev pub held_text : Shown Find → List ℕ
+held_text shown = held_by shown shown.body.body
 
 -- TTL OWNER TYPE DATA of a set, by its first record
 abbrev pub records_text : List Record → List ℕ
@@ -70,7 +79,7 @@ record_line r = with_end (record_text r)
 
 abbrev pub seen_text : Sight → List ℕ
 seen_text NothingHeld = codes "unknown"
-seen_text (Held shown) = codes "found " ++ found_text shown
+seen_text (Held shown) = held_text shown
 seen_text (LocalSeen answer) = local_text answer
 seen_text (Zones zones) = flat_map zone_line zones ++ codes "end"
 seen_text (Records records) = flat_map record_line records ++ codes "end"
@@ -86,9 +95,9 @@ abbrev pub has_data : Local (List Record) Record → Bool
 has_data (local.Data records) = true
 has_data _ = false
 
--- A find, local data or a list is seen: only these texts are of no bounded length.
+-- A set, local data or a list is seen: only these texts are of no bounded length.
 abbrev pub is_long : Reply → Bool
-is_long (Seen (Held shown)) = true
+is_long (Seen (Held shown)) = not (is_negative shown.body.body)
 is_long (Seen (LocalSeen answer)) = has_data answer
 is_long (Seen (Zones zones)) = true
 is_long (Seen (Records records)) = true
@@ -97,6 +106,7 @@ is_long _ = false
 abbrev pub reply_text : Reply → List ℕ
 reply_text Taken = with_end (codes "taken")
 reply_text Outranked = with_end (codes "outranked")
+reply_text Swept = with_end (codes "swept")
 reply_text (Seen seen) = with_end (seen_text seen)
 reply_text (Done ticket) = with_end (codes "ok " ++ decimal ticket)
 reply_text (Refused reason) = with_end (reason_text reason)
@@ -117,5 +127,6 @@ line_fault_text Missing = with_end (codes "error missing")
 line_fault_text BadName = with_end (codes "error bad_name")
 line_fault_text BadType = with_end (codes "error bad_type")
 line_fault_text BadData = with_end (codes "error bad_data")
+line_fault_text BadAddress = with_end (codes "error bad_address")
 line_fault_text TooLong = with_end (codes "error too_long")
 line_fault_text NoMemory = with_end (codes "error no_memory")

@@ -51,11 +51,11 @@ fn push_record(r: &Record, out: &mut Vec<u8>) -> Result<(), NoMemory>
     push_data(&r.body, out)
 }
 
-fn push_add_record(record: &Record, out: &mut Vec<u8>) -> Result<(), NoMemory>
-    ensures { OnOk result (out.new.items ≡ out.old.items ++ codes "local_data " ++ record_text record.now) }
+fn push_add_record(r: &Record, out: &mut Vec<u8>) -> Result<(), NoMemory>
+    ensures { OnOk result (out.new.items ≡ out.old.items ++ codes "local_data " ++ record_text r.now) }
 {
     out.extend_from_slice(b"local_data ")?;
-    push_record(record, out)
+    push_record(r, out)
 }
 
 /// Writes a command behind what `out` holds, in the words that give it. Where memory runs out, a part of them may stand there.
@@ -63,6 +63,8 @@ pub fn push_command(command: &Command, out: &mut Vec<u8>) -> Result<(), NoMemory
     ensures { OnOk result (out.new.items ≡ out.old.items ++ command_words command.now) }
 {
     match command {
+        Command::Flush { name } => push_named(b"flush ", name, out),
+        Command::FlushZone { name } => push_named(b"flush_zone ", name, out),
         Command::FlushType(question) => push_flush_type(question, out),
         Command::SetZone { name, kind } => push_set_zone(name, *kind, out),
         Command::DropZone { name } => push_named(b"local_zone_remove ", name, out),

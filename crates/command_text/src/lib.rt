@@ -7,6 +7,9 @@ mod line; // what a line says
 mod parts; // words that many commands have
 mod admission; // what is admitted
 mod admit; // the words of `admit`
+mod denial; // what denies that there are data, or a name
+mod deny; // the words of `nodata` and `noname`
+mod addrs; // addresses of servers, each a word
 mod local; // the words of the commands on local zones and local data
 mod bar; // the data of a set, between bars
 mod command_words; // commands in the words that give them
@@ -19,6 +22,7 @@ mod laws; // what the definitions come to, by themselves
 
 pub use admission::Admission;
 pub use command_words::push_command;
+pub use denial::Denial;
 pub use fault::LineFault;
 pub use laws::{bars_are, commands_are_read_back};
 pub use line::{Line, read_line};

@@ -11,8 +11,13 @@ use std::alloc::{AllocError, Global};
 pub(crate) enum Verb {
     At,
     Admit,
+    NoData,
+    NoName,
     Look,
+    Sweep,
+    Flush,
     FlushType,
+    FlushZone,
     LocalZone,
     LocalZoneRemove,
     LocalData,
@@ -42,7 +47,7 @@ struct Usage {
     in_control: bool,
 }
 
-static COMMANDS: [Usage; 12] = [
+static COMMANDS: [Usage; 17] = [
     Usage {
         verb: Verb::At,
         word: "at",
@@ -58,6 +63,20 @@ static COMMANDS: [Usage; 12] = [
         in_control: false,
     },
     Usage {
+        verb: Verb::NoData,
+        word: "nodata",
+        form: "NAME TTL TYPE OWNER SOA-DATA",
+        in_script: true,
+        in_control: false,
+    },
+    Usage {
+        verb: Verb::NoName,
+        word: "noname",
+        form: "NAME TTL OWNER SOA-DATA",
+        in_script: true,
+        in_control: false,
+    },
+    Usage {
         verb: Verb::Look,
         word: "look",
         form: "NAME TYPE",
@@ -65,9 +84,30 @@ static COMMANDS: [Usage; 12] = [
         in_control: true,
     },
     Usage {
+        verb: Verb::Sweep,
+        word: "sweep",
+        form: "",
+        in_script: true,
+        in_control: true,
+    },
+    Usage {
+        verb: Verb::Flush,
+        word: "flush",
+        form: "NAME",
+        in_script: true,
+        in_control: true,
+    },
+    Usage {
         verb: Verb::FlushType,
         word: "flush_type",
         form: "NAME TYPE",
+        in_script: true,
+        in_control: true,
+    },
+    Usage {
+        verb: Verb::FlushZone,
+        word: "flush_zone",
+        form: "NAME",
         in_script: true,
         in_control: true,
     },
