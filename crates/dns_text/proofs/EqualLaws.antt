@@ -8,7 +8,8 @@ use Rattle.dns_name.specs.Order.{name_eq_exact, name_eq_itself}
 use Rattle.dns_text.specs.declared.record.Data.{Data}
 use Rattle.dns_text.specs.declared.record.Data.TheVariants.{A, Aaaa, One, Mx, Soa, Txt, Srv, Opaque}
 use Rattle.dns_text.specs.declared.record.Question.{Question}
-use Rattle.dns_text.specs.Equal.{data_eq, question_eq}
+use Rattle.dns_text.specs.declared.record.Record.{Record}
+use Rattle.dns_text.specs.Equal.{data_eq, question_eq, record_eq}
 
 a_exact : (x0 : List ℕ) (b : Data) → data_eq (A x0) b ≡ true → A x0 ≡ b
 a_exact x0 (A y0) e = ap A ((bytes_eq-Decides x0 y0).0 e)
@@ -85,6 +86,17 @@ question_eq_exact a b e =
     let with_kind : ℕ → Question = λ kind. record b { kind = kind } in
     ap with_owner (name_eq_exact a.owner b.owner parts.0) ∙ ap with_kind (eqb-true a.kind b.kind parts.1)
 
+pub record_eq_exact : (a b : Record) → record_eq a b ≡ true → a ≡ b
+record_eq_exact a b e =
+    let p0 = and_parts _ _ e in
+    let p1 = and_parts _ _ p0.1 in
+    let p2 = and_parts _ _ p1.1 in
+    let e0 : a.owner ≡ b.owner = name_eq_exact a.owner b.owner p0.0 in
+    let e1 : a.kind ≡ b.kind = eqb-true a.kind b.kind p1.0 in
+    let e2 : a.ttl ≡ b.ttl = eqb-true a.ttl b.ttl p2.0 in
+    let e3 : a.body ≡ b.body = data_eq_exact a.body b.body p2.1 in
+    λ i. record { owner = e0 i; kind = e1 i; ttl = e2 i; body = e3 i }
+
 -- ---- each value is equal to itself
 
 same : (n : ℕ) → eqb n n ≡ true
@@ -103,3 +115,6 @@ data_eq_itself (Opaque octets) = (bytes_eq-Decides octets octets).1 refl
 
 pub question_eq_itself : (a : Question) → question_eq a a ≡ true
 question_eq_itself a = both_true (name_eq_itself a.owner) (same a.kind)
+
+pub record_eq_itself : (a : Record) → record_eq a a ≡ true
+record_eq_itself a = both_true (name_eq_itself a.owner) (both_true (same a.kind) (both_true (same a.ttl) (data_eq_itself a.body)))

@@ -2,11 +2,16 @@
 use Rattle.std.specs.Prelude.{Bool}
 use Rattle.dns_text.specs.declared.record.Data.{Data}
 use Rattle.dns_text.specs.declared.record.Question.{Question}
+use Rattle.dns_text.specs.declared.record.Record.{Record}
 use Rattle.dns_text.specs.contracts.record.DataPartialEq.TheImpl as data_impl
 use Rattle.dns_text.specs.contracts.record.QuestionPartialEq.TheImpl as question_impl
+use Rattle.dns_text.specs.contracts.record.RecordPartialEq.TheImpl as record_impl
 
 abbrev pub data_eq : Data → Data → Bool
 data_eq a b = data_impl.ghosts.eq a b
 
 abbrev pub question_eq : Question → Question → Bool
 question_eq a b = question_impl.ghosts.eq a b
+
+abbrev pub record_eq : Record → Record → Bool
+record_eq a b = record_impl.ghosts.eq a b

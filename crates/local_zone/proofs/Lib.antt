@@ -1,5 +1,6 @@
 pub mod AnswerLaws
 pub mod ClosestLaws
+pub mod EqualLaws
 pub mod ListLaws
 pub mod ReasonLaws
 pub mod SoundLaws

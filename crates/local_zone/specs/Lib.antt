@@ -7,3 +7,4 @@ pub mod Saved
 pub mod Show
 pub mod Shown
 pub mod Answer
+pub mod Equal

@@ -7,6 +7,8 @@ pub mod Cells
 pub mod Flushes
 pub mod Reply
 pub mod Answers
+pub mod Desk
+pub mod Equal
 pub mod Runs
 pub mod Refusal
 pub mod Redo

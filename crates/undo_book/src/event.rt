@@ -6,10 +6,11 @@ ghost use Rattle.local_zone.specs.Answer.{local_now};
 
 use crate::flushes::{is_at_or_below, is_flushed};
 use dns_name::{Name, NoMemory};
-use dns_text::{Items, Question, Record, Shared};
+use dns_text::{Addr, Items, Question, Record, Shared};
 use local_zone::{Local, LocalRecord, LocalSet, SeenRecord, Zone, ZoneType};
 use ranked::{Held, SharedFind, Shown};
 use std::alloc::Global;
+use stub_table::Stub;
 
 /// What a book is asked.
 #[derive(Debug, Drop, PartialEq)]
@@ -20,6 +21,8 @@ pub enum Ask {
     Zones,
     /// The local records.
     Records,
+    /// The stubs.
+    Stubs,
 }
 
 /// What the operator gives, and can take back.
@@ -39,6 +42,10 @@ pub enum Command {
     AddRecord { record: Shared<Record> },
     /// Removes the local records of an owner.
     DropName { name: Name },
+    /// Adds a stub, or gives the stub of this name other addresses.
+    SetStub { stub: Shared<Stub> },
+    /// Removes a stub.
+    DropStub { name: Name },
 }
 
 impl Command {
@@ -168,6 +175,8 @@ pub enum Seen {
     Zones(Items<Shared<Zone>>),
     /// The local records, in order.
     Records(Items<LocalRecord>),
+    /// The stubs, in order.
+    Stubs(Items<Shared<Stub>>),
 }
 
 /// Why a command is refused.
@@ -179,7 +188,7 @@ pub enum Reason {
     DataBelow,
     /// A CNAME would stand beside other types.
     CnameClash,
-    /// A list would be longer than it may be.
+    /// A list would be longer than it may be, or a stub's addresses are not 1 to 8.
     TooMany,
 }
 
@@ -232,10 +241,14 @@ pub struct Entry {
 }
 
 /// What a book is made with.
-#[derive(Clone, Copy, Debug, PartialEq, Eq)]
+#[derive(Debug, Drop, PartialEq)]
 pub struct Settings {
     /// How many of the newest commands can be undone, from 1 to `MOST_COMMANDS`.
     pub journal: usize,
     /// How many cells there may be, from 1 to `MOST_CELLS`.
     pub cells: usize,
+    /// The addresses of the root's servers, at most `MOST_HINTS`.
+    pub hints: Items<Addr>,
+    /// The port of the servers whose addresses are in the cache, from 1 to 65,535.
+    pub server_port: u16,
 }
