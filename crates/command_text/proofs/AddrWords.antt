@@ -1,13 +1,18 @@
 -- The addresses of a text, word by word.
 use Rattle.std.proofs.Common.{◌≡◌, ℕ, zero, suc, ◌<◌, ◌≤◌, List, [], ◌∷◌, ◌++◌, length, Some, None, Ok, Err, refl, ap, ◌∙◌, arith}
+use Rattle.std.proofs.Common.{map, ◌^◌, length-append}
+use Rattle.std.proofs.lemmas.List.{append-nil}
+use Rattle.std.specs.List.{AllByRecursion}
 use Rattle.dns_name.specs.Results.{or_fault, GivesBut}
 use Rattle.dns_text.specs.declared.addr.Addr.{Addr}
 use Rattle.dns_text.specs.Word.{next_word}
-use Rattle.dns_text.specs.Addr.{addr_in}
+use Rattle.dns_text.specs.Addr.{addr_in, addr_text}
+use Rattle.dns_text.specs.Written.{WritesAddrs}
 use Rattle.command_text.specs.declared.fault.LineFault.{LineFault}
 use Rattle.command_text.specs.declared.fault.LineFault.TheVariants.{BadAddress, NoMemory}
 use Rattle.command_text.specs.Parts.{each_in}
-use Rattle.command_text.specs.Addrs.{first_words, words_of, addrs_in}
+use Rattle.command_text.specs.Addrs.{first_words, words_of, addrs_in, addrs_text}
+use Rattle.command_text.specs.CommandWords.{IsAddr}
 use Rattle.command_text.proofs.Sets.{behind, one-more, no-more, fails-more}
 
 -- The addresses of a text are those read so far, and those of the words that are left of it.
@@ -58,3 +63,28 @@ read-fails text rest addrs word after fault left some less one =
 pub read-all : (text rest : List ℕ) (addrs : List Addr) → Left text rest addrs → next_word rest ≡ None → addrs_in text ≡ Ok addrs
 read-all text rest addrs left none =
     no-more BadAddress addr_in addrs _ (left.read ∙ ap (λ (words : List (List ℕ)). behind addrs (each_in addr_in words)) (words-none left.most rest none))
+
+-- ---- addresses that are written are read back
+
+pub first-addr : WritesAddrs → (addr : Addr) (addrs : List Addr) → IsAddr addr → next_word (addr_text addr ++ addrs_text addrs) ≡ Some (addr_text addr, addrs_text addrs)
+first-addr w addr [] h = ap next_word (append-nil (addr_text addr)) ∙ (w addr h.0 h.1 h.2).0.last
+first-addr w addr (next ∷ addrs) h = (w addr h.0 h.1 h.2).0.first (addr_text next ++ addrs_text addrs)
+
+written-words : WritesAddrs → (addrs : List Addr) (most : ℕ) → AllByRecursion IsAddr addrs → length addrs ≤ most → first_words most (addrs_text addrs) ≡ map addr_text addrs
+unfolding first_words
+written-words w [] zero each few = refl
+written-words w [] (suc most) each few = refl
+written-words w (addr ∷ addrs) zero each few = absurd (omega arith)
+written-words w (addr ∷ addrs) (suc most) each few = rw (first-addr w addr addrs each.0) (ap (λ (words : List (List ℕ)). addr_text addr ∷ words) (written-words w addrs most each.1 (omega arith)))
+
+written-read : WritesAddrs → (addrs : List Addr) → AllByRecursion IsAddr addrs → each_in addr_in (map addr_text addrs) ≡ Some addrs
+unfolding each_in
+written-read w [] each = refl
+written-read w (addr ∷ addrs) each = rw ((w addr each.0.0 each.0.1 each.0.2).1, written-read w addrs each.1) refl
+
+written-long : (addrs : List Addr) → length addrs ≤ length (addrs_text addrs)
+written-long [] = omega arith
+written-long (addr ∷ addrs) = omega (arith, written-long addrs, length-append (addr_text addr) (addrs_text addrs))
+
+pub addrs-again : WritesAddrs → (addrs : List Addr) → AllByRecursion IsAddr addrs → addrs_in (addrs_text addrs) ≡ Ok addrs
+addrs-again w addrs each = rw (written-words w addrs (length (addrs_text addrs)) each (written-long addrs), written-read w addrs each) refl

@@ -8,6 +8,7 @@ pub mod Admit
 pub mod Denial
 pub mod Deny
 pub mod Addrs
+pub mod Stubs
 pub mod Line
 pub mod CommandWords
 pub mod Text

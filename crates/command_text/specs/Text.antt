@@ -19,16 +19,20 @@ use Rattle.local_zone.specs.declared.local.Local.{Local}
 use Rattle.local_zone.specs.declared.local.Local.TheVariants as local
 use Rattle.local_zone.specs.declared.zone.Zone.{Zone}
 use Rattle.local_zone.specs.ZoneType.{word_of}
+use Rattle.stub_table.specs.declared.stub.Stub.{Stub}
+use Rattle.undo_book.specs.declared.event.Journalled.{Journalled}
 use Rattle.undo_book.specs.declared.event.Reason.{Reason}
 use Rattle.undo_book.specs.declared.event.Reason.TheVariants.{BelowRedirect, DataBelow, CnameClash, TooMany}
 use Rattle.undo_book.specs.declared.event.Seen.{Seen as Sight}
-use Rattle.undo_book.specs.declared.event.Seen.TheVariants.{Unknown as NothingHeld, Held, Local as LocalSeen, Zones, Records}
+use Rattle.undo_book.specs.declared.event.Seen.TheVariants.{Unknown as NothingHeld, Held, Local as LocalSeen, Zones, Records, Stubs, Commands}
 use Rattle.undo_book.specs.declared.event.Reply.{Reply}
 use Rattle.undo_book.specs.declared.event.Reply.TheVariants.{Taken, Outranked, Swept, Seen, Done, Refused, Undone, Redone, NothingToUndo, NothingToRedo}
 use Rattle.undo_book.specs.declared.book.StepFault.{StepFault}
 use Rattle.undo_book.specs.declared.book.StepFault.TheVariants.{BadMoment, CountEnded, Full, NoMemory as StepNoMemory}
 use Rattle.command_text.specs.declared.fault.LineFault.{LineFault}
 use Rattle.command_text.specs.declared.fault.LineFault.TheVariants.{Unknown, Missing, BadName, BadType, BadData, BadAddress, TooLong, NoMemory}
+use Rattle.command_text.specs.Addrs.{addrs_text}
+use Rattle.command_text.specs.CommandWords.{command_words}
 
 -- the data joined by bars
 abbrev pub set_text : List Data → List ℕ
@@ -77,12 +81,27 @@ zone_line zone = with_end (text_of zone.name ++ 32 ∷ word_of zone.kind)
 abbrev pub record_line : Record → List ℕ
 record_line r = with_end (record_text r)
 
+-- NAME ADDR..
+abbrev pub stub_line : Stub → List ℕ
+stub_line stub = with_end (text_of stub.name ++ addrs_text stub.addrs)
+
+-- whether it is done, between blanks
+abbrev pub state_text : Bool → List ℕ
+state_text true = codes " done "
+state_text false = codes " undone "
+
+-- TICKET done COMMAND, the command in the words that would give it again
+abbrev pub journalled_line : Journalled → List ℕ
+journalled_line j = with_end (decimal j.ticket ++ state_text j.done ++ command_words j.command)
+
 abbrev pub seen_text : Sight → List ℕ
 seen_text NothingHeld = codes "unknown"
 seen_text (Held shown) = held_text shown
 seen_text (LocalSeen answer) = local_text answer
 seen_text (Zones zones) = flat_map zone_line zones ++ codes "end"
 seen_text (Records records) = flat_map record_line records ++ codes "end"
+seen_text (Stubs stubs) = flat_map stub_line stubs ++ codes "end"
+seen_text (Commands commands) = flat_map journalled_line commands ++ codes "end"
 
 abbrev pub reason_text : Reason → List ℕ
 reason_text BelowRedirect = codes "error below_redirect"
@@ -101,6 +120,8 @@ is_long (Seen (Held shown)) = not (is_negative shown.body.body)
 is_long (Seen (LocalSeen answer)) = has_data answer
 is_long (Seen (Zones zones)) = true
 is_long (Seen (Records records)) = true
+is_long (Seen (Stubs stubs)) = true
+is_long (Seen (Commands commands)) = true
 is_long _ = false
 
 abbrev pub reply_text : Reply → List ℕ

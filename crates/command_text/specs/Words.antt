@@ -3,7 +3,7 @@ use Rattle.std.specs.Prelude.{ℕ, Bool, true, false, List, [], ◌∷◌, ◌++
 use Rattle.std.specs.Str.{bytes_eq}
 use Rattle.dns_name.specs.Options.{◌>>=◌}
 use Rattle.command_text.specs.declared.words.Verb.{Verb}
-use Rattle.command_text.specs.declared.words.Verb.TheVariants.{At, Admit, NoData, NoName, Look, Sweep, Flush, FlushType, FlushZone, LocalZone, LocalZoneRemove, LocalData, LocalDataRemove, ListLocalZones, ListLocalData, Undo, Redo}
+use Rattle.command_text.specs.declared.words.Verb.TheVariants.{At, Admit, NoData, NoName, Look, Sweep, Flush, FlushType, FlushZone, LocalZone, LocalZoneRemove, LocalData, LocalDataRemove, StubAdd, StubRemove, ListLocalZones, ListLocalData, ListStubs, ListCommands, Undo, Redo}
 use Rattle.command_text.specs.declared.words.Channel.{Channel}
 use Rattle.command_text.specs.declared.words.Channel.TheVariants.{Script, Control}
 use Rattle.command_text.specs.declared.words.Usage.{Usage}
@@ -38,8 +38,12 @@ commands =
     ∷ anywhere LocalZoneRemove (codes "local_zone_remove") (codes "NAME")
     ∷ anywhere LocalData (codes "local_data") (codes "RECORD")
     ∷ anywhere LocalDataRemove (codes "local_data_remove") (codes "NAME")
+    ∷ anywhere StubAdd (codes "stub_add") (codes "NAME ADDR..")
+    ∷ anywhere StubRemove (codes "stub_remove") (codes "NAME")
     ∷ anywhere ListLocalZones (codes "list_local_zones") []
     ∷ anywhere ListLocalData (codes "list_local_data") []
+    ∷ anywhere ListStubs (codes "list_stubs") []
+    ∷ anywhere ListCommands (codes "list_commands") []
     ∷ anywhere Undo (codes "undo") []
     ∷ anywhere Redo (codes "redo") []
     ∷ []

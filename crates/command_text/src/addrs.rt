@@ -1,14 +1,14 @@
 //! Addresses of servers, each a word.
 
-ghost use Rattle.std.specs.Prelude.{◌≡◌};
+ghost use Rattle.std.specs.Prelude.{◌≡◌, ◌++◌, OnOk};
 ghost use Rattle.dns_name.specs.Results.{or_fault};
 ghost use Rattle.dns_text.specs.Addr.{addr_in};
 ghost use Rattle.command_text.specs.declared.fault.LineFault.TheVariants.{BadAddress};
 ghost use Rattle.command_text.specs.Fault.{Gives};
-ghost use Rattle.command_text.specs.Addrs.{addrs_in};
+ghost use Rattle.command_text.specs.Addrs.{addrs_in, addrs_text};
 
 use crate::fault::LineFault;
-use dns_text::{Addr, Items, next_word, read_addr};
+use dns_text::{Addr, Items, NoMemory, next_word, push_addr, read_addr};
 use std::alloc::Global;
 
 fn read_address(word: &[u8]) -> Result<Addr, LineFault>
@@ -31,4 +31,15 @@ pub(crate) fn read_addrs(alloc: Global, text: &[u8]) -> Result<Items<Addr>, Line
         rest = after;
     }
     Ok(Items::new(addrs))
+}
+
+/// Writes addresses, each behind a blank.
+pub(crate) fn push_addrs(addrs: &[Addr], out: &mut Vec<u8>) -> Result<(), NoMemory>
+    ensures { OnOk result (out.new.items ≡ out.old.items ++ addrs_text addrs.now) }
+{
+    for addr in addrs {
+        out.push(b' ')?;
+        push_addr(addr, out)?;
+    }
+    Ok(())
 }

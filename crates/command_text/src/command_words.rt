@@ -5,12 +5,15 @@ ghost use Rattle.dns_name.specs.Text.{text_of};
 ghost use Rattle.dns_text.specs.Kind.{type_text};
 ghost use Rattle.dns_text.specs.Record.{record_text};
 ghost use Rattle.local_zone.specs.ZoneType.{word_of};
+ghost use Rattle.command_text.specs.Addrs.{addrs_text};
 ghost use Rattle.command_text.specs.CommandWords.{command_words};
 
+use crate::addrs::push_addrs;
 use dns_name::Name;
 use dns_text::{NoMemory, Question, Record, push_data, push_type};
 use itoa::Buffer;
 use local_zone::ZoneType;
+use stub_table::Stub;
 use undo_book::Command;
 
 /// Writes a word, and a name behind it.
@@ -58,6 +61,13 @@ fn push_add_record(r: &Record, out: &mut Vec<u8>) -> Result<(), NoMemory>
     push_record(r, out)
 }
 
+fn push_set_stub(stub: &Stub, out: &mut Vec<u8>) -> Result<(), NoMemory>
+    ensures { OnOk result (out.new.items ≡ out.old.items ++ codes "stub_add " ++ text_of stub.now.name ++ addrs_text stub.now.addrs) }
+{
+    push_named(b"stub_add ", &stub.name, out)?;
+    push_addrs(stub.addrs.as_slice(), out)
+}
+
 /// Writes a command behind what `out` holds, in the words that give it. Where memory runs out, a part of them may stand there.
 pub fn push_command(command: &Command, out: &mut Vec<u8>) -> Result<(), NoMemory>
     ensures { OnOk result (out.new.items ≡ out.old.items ++ command_words command.now) }
@@ -70,5 +80,7 @@ pub fn push_command(command: &Command, out: &mut Vec<u8>) -> Result<(), NoMemory
         Command::DropZone { name } => push_named(b"local_zone_remove ", name, out),
         Command::AddRecord { record } => push_add_record(record.get(), out),
         Command::DropName { name } => push_named(b"local_data_remove ", name, out),
+        Command::SetStub { stub } => push_set_stub(stub.get(), out),
+        Command::DropStub { name } => push_named(b"stub_remove ", name, out),
     }
 }

@@ -10,11 +10,13 @@ mod admit; // the words of `admit`
 mod denial; // what denies that there are data, or a name
 mod deny; // the words of `nodata` and `noname`
 mod addrs; // addresses of servers, each a word
+mod stubs; // the words of the commands on stubs
 mod local; // the words of the commands on local zones and local data
 mod bar; // the data of a set, between bars
 mod command_words; // commands in the words that give them
 mod answers; // what local zones answer, as it is told
-mod lists; // the lists of local zones and local data, as they are told
+mod lists; // the lists of local zones, local data and stubs, as they are told
+mod journal; // the commands that can be undone or redone, as they are told
 mod text; // what is told
 mod obeying; // a line is obeyed
 mod script; // lines in, a transcript out

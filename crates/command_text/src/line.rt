@@ -3,7 +3,7 @@
 ghost use Rattle.std.specs.Prelude.{◌≡◌, IsTrue, IsErrOf, is_ok};
 ghost use Rattle.command_text.specs.declared.fault.LineFault.TheVariants.{NoMemory};
 ghost use Rattle.command_text.specs.Fault.{Gives};
-ghost use Rattle.command_text.specs.Line.{is_silent, at_in, admit_in, no_data_in, no_name_in, look_in, sweep_in, flush_in, flush_type_in, flush_zone_in, local_zone_in, local_zone_remove_in, local_data_in, local_data_remove_in, list_local_zones_in, list_local_data_in, undo_in, redo_in, said_by, takes_by, read_of, takes_memory};
+ghost use Rattle.command_text.specs.Line.{is_silent, at_in, admit_in, no_data_in, no_name_in, look_in, sweep_in, flush_in, flush_type_in, flush_zone_in, local_zone_in, local_zone_remove_in, local_data_in, local_data_remove_in, stub_add_in, stub_remove_in, list_local_zones_in, list_local_data_in, list_stubs_in, list_commands_in, undo_in, redo_in, said_by, takes_by, read_of, takes_memory};
 
 use crate::admission::Admission;
 use crate::admit::{admit_words, read_admission};
@@ -12,6 +12,7 @@ use crate::deny::{no_data_words, no_name_words, read_no_data, read_no_name};
 use crate::fault::LineFault;
 use crate::local::{read_add_record, read_drop_name, read_drop_zone, read_set_zone};
 use crate::parts::{read_end, read_only_name, read_question, read_word};
+use crate::stubs::{read_drop_stub, read_set_stub};
 use crate::words::{Channel, Verb, verb_in};
 use dns_text::{next_word, read_number};
 use std::alloc::Global;
@@ -173,6 +174,24 @@ fn read_local_data_remove(alloc: Global, text: &[u8]) -> Result<Line, LineFault>
     Ok(Line::Do(command))
 }
 
+#[tactic(auto, unfolding(crate::specs::Line::stub_add_in))]
+fn read_stub_add(alloc: Global, text: &[u8]) -> Result<Line, LineFault>
+    ensures value { Gives result (stub_add_in text.now) }
+    ensures no_memory { IsErrOf result NoMemory → IsTrue (takes_by Verb.StubAdd text.now) }
+{
+    let command = read_set_stub(alloc, text)?;
+    Ok(Line::Do(command))
+}
+
+#[tactic(auto, unfolding(crate::specs::Line::stub_remove_in))]
+fn read_stub_remove(alloc: Global, text: &[u8]) -> Result<Line, LineFault>
+    ensures value { Gives result (stub_remove_in text.now) }
+    ensures no_memory { IsErrOf result NoMemory → IsTrue (takes_by Verb.StubRemove text.now) }
+{
+    let command = read_drop_stub(alloc, text)?;
+    Ok(Line::Do(command))
+}
+
 #[tactic(auto, unfolding(crate::specs::Line::list_local_zones_in))]
 fn read_list_local_zones(text: &[u8]) -> Result<Line, LineFault>
     ensures value { Gives result (list_local_zones_in text.now) }
@@ -189,6 +208,24 @@ fn read_list_local_data(text: &[u8]) -> Result<Line, LineFault>
 {
     read_end(text)?;
     Ok(Line::Look(Ask::Records))
+}
+
+#[tactic(auto, unfolding(crate::specs::Line::list_stubs_in))]
+fn read_list_stubs(text: &[u8]) -> Result<Line, LineFault>
+    ensures value { Gives result (list_stubs_in text.now) }
+    ensures no_memory { IsErrOf result NoMemory → IsTrue (takes_by Verb.ListStubs text.now) }
+{
+    read_end(text)?;
+    Ok(Line::Look(Ask::Stubs))
+}
+
+#[tactic(auto, unfolding(crate::specs::Line::list_commands_in))]
+fn read_list_commands(text: &[u8]) -> Result<Line, LineFault>
+    ensures value { Gives result (list_commands_in text.now) }
+    ensures no_memory { IsErrOf result NoMemory → IsTrue (takes_by Verb.ListCommands text.now) }
+{
+    read_end(text)?;
+    Ok(Line::Look(Ask::Commands))
 }
 
 #[tactic(auto, unfolding(crate::specs::Line::undo_in))]
@@ -228,8 +265,12 @@ fn read_command(alloc: Global, verb: Verb, text: &[u8]) -> Result<Line, LineFaul
         Verb::LocalZoneRemove => read_local_zone_remove(alloc, text),
         Verb::LocalData => read_local_data(alloc, text),
         Verb::LocalDataRemove => read_local_data_remove(alloc, text),
+        Verb::StubAdd => read_stub_add(alloc, text),
+        Verb::StubRemove => read_stub_remove(alloc, text),
         Verb::ListLocalZones => read_list_local_zones(text),
         Verb::ListLocalData => read_list_local_data(text),
+        Verb::ListStubs => read_list_stubs(text),
+        Verb::ListCommands => read_list_commands(text),
         Verb::Undo => read_undo(text),
         Verb::Redo => read_redo(text),
     }

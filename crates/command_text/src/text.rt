@@ -11,7 +11,8 @@ ghost use Rattle.command_text.specs.Obeying.{Tells};
 
 use crate::answers::answer_line;
 use crate::fault::LineFault;
-use crate::lists::{records_lines, zones_lines};
+use crate::journal::commands_lines;
+use crate::lists::{records_lines, stubs_lines, zones_lines};
 use arrayvec::ArrayVec;
 use dns_text::{Data, NoMemory, push_data, push_type};
 use itoa::Buffer;
@@ -130,6 +131,8 @@ pub fn reply_text(alloc: Global, reply: &Reply) -> Result<Text, NoMemory>
         Reply::Seen(Seen::Local(answer)) => answer_line(alloc, answer),
         Reply::Seen(Seen::Zones(zones)) => Ok(Text::Made(zones_lines(alloc, zones)?)),
         Reply::Seen(Seen::Records(records)) => Ok(Text::Made(records_lines(alloc, records)?)),
+        Reply::Seen(Seen::Stubs(stubs)) => Ok(Text::Made(stubs_lines(alloc, stubs)?)),
+        Reply::Seen(Seen::Commands(commands)) => Ok(Text::Made(commands_lines(alloc, commands)?)),
         Reply::Done { ticket } => Ok(number_line(b"ok", *ticket)),
         Reply::Refused(reason) => Ok(reason_line(*reason)),
         Reply::Undone { ticket } => Ok(number_line(b"undone", *ticket)),

@@ -22,8 +22,12 @@ pub(crate) enum Verb {
     LocalZoneRemove,
     LocalData,
     LocalDataRemove,
+    StubAdd,
+    StubRemove,
     ListLocalZones,
     ListLocalData,
+    ListStubs,
+    ListCommands,
     Undo,
     Redo,
 }
@@ -47,7 +51,7 @@ struct Usage {
     in_control: bool,
 }
 
-static COMMANDS: [Usage; 17] = [
+static COMMANDS: [Usage; 21] = [
     Usage {
         verb: Verb::At,
         word: "at",
@@ -140,6 +144,20 @@ static COMMANDS: [Usage; 17] = [
         in_control: true,
     },
     Usage {
+        verb: Verb::StubAdd,
+        word: "stub_add",
+        form: "NAME ADDR..",
+        in_script: true,
+        in_control: true,
+    },
+    Usage {
+        verb: Verb::StubRemove,
+        word: "stub_remove",
+        form: "NAME",
+        in_script: true,
+        in_control: true,
+    },
+    Usage {
         verb: Verb::ListLocalZones,
         word: "list_local_zones",
         form: "",
@@ -149,6 +167,20 @@ static COMMANDS: [Usage; 17] = [
     Usage {
         verb: Verb::ListLocalData,
         word: "list_local_data",
+        form: "",
+        in_script: true,
+        in_control: true,
+    },
+    Usage {
+        verb: Verb::ListStubs,
+        word: "list_stubs",
+        form: "",
+        in_script: true,
+        in_control: true,
+    },
+    Usage {
+        verb: Verb::ListCommands,
+        word: "list_commands",
         form: "",
         in_script: true,
         in_control: true,
