@@ -10,6 +10,7 @@ pub mod Ipv6
 pub mod Addr
 pub mod Data
 pub mod Equal
+pub mod EqualLaws
 pub mod Record
 pub mod Written
 pub mod Laws

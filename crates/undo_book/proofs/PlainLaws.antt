@@ -126,7 +126,7 @@ entries_by (Undone ticket) log = entries_flagged ticket true log
 entries_by (Redone ticket) log = entries_flagged ticket false log
 entries_by reply log = refl
 
-entries_push : (log : List Logged) (l : Logged) → entries_in (log ++ l ∷ []) ≡ entries_in log ++ l.entry ∷ []
+pub entries_push : (log : List Logged) (l : Logged) → entries_in (log ++ l ∷ []) ≡ entries_in log ++ l.entry ∷ []
 entries_push [] l = refl
 entries_push (k ∷ log) l = ap (λ (es : List Entry). k.entry ∷ es) (entries_push log l)
 
@@ -184,7 +184,7 @@ flags_by_reply bound marks (Undone ticket) log h = struck_flags marks.struck tic
 flags_by_reply bound marks (Redone ticket) log h = stands_flags marks.struck ticket log h
 flags_by_reply bound marks reply log h = h
 
-not_struck : (n : ℕ) (xs : List ℕ) → occurs n xs ≡ 0 → list_any (λ s. s == n) xs ≡ false
+pub not_struck : (n : ℕ) (xs : List ℕ) → occurs n xs ≡ 0 → list_any (λ s. s == n) xs ≡ false
 not_struck n [] none = refl
 not_struck n (x ∷ xs) none =
     elim (cases_Bool (x == n)) [

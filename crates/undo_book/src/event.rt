@@ -23,6 +23,8 @@ pub enum Ask {
     Records,
     /// The stubs.
     Stubs,
+    /// The commands that can be undone or redone.
+    Commands,
 }
 
 /// What the operator gives, and can take back.
@@ -177,6 +179,17 @@ pub enum Seen {
     Records(Items<LocalRecord>),
     /// The stubs, in order.
     Stubs(Items<Shared<Stub>>),
+    /// The commands that can be undone or redone, the oldest first.
+    Commands(Items<Journalled>),
+}
+
+/// A command that can be undone or redone, as the journal holds it.
+#[derive(Debug, Drop, PartialEq)]
+pub struct Journalled {
+    pub ticket: u64,
+    /// Whether it can be undone; else it can be redone.
+    pub done: bool,
+    pub command: Command,
 }
 
 /// Why a command is refused.

@@ -17,12 +17,14 @@ mod made; // what the operator's commands make: local zones, records and stubs
 mod changes; // what a command makes of them
 mod tables; // the same, by a replay of a log
 mod sight; // what a look sees, with a share of the data
+mod journal; // the commands that can be undone or redone
 mod replies; // what is replied to an event, and the tables after it
 mod plain; // the book that keeps its history and replays it
 
 pub use book::{Book, StepFault};
 pub use desk::{Desk, DeskFault};
-pub use event::{Ask, Command, Entry, Event, Look, Reason, Reply, Seen, Settings};
+pub use event::{Ask, Command, Entry, Event, Journalled, Look, Reason, Reply, Seen, Settings};
+pub use journal::journal_law;
 pub use laws::{
     clock_is_greatest, done_is_in_order, equality_law, flush_forgets, redo_puts_back,
     refusal_changes_only_the_clock, sweep_changes_only_the_clock, undo_takes_back,

@@ -8,6 +8,7 @@ ghost use Rattle.undo_book.specs.Cells.{shows};
 ghost use Rattle.local_zone.specs.Answer.{local_of};
 
 use crate::event::{Ask, Look, Seen};
+use crate::journal::commands;
 use crate::made::Tables;
 use crate::past::PlainPast;
 use dns_name::NoMemory;
@@ -51,6 +52,7 @@ pub(crate) fn shared_sight(
         Ask::Zones => Ok(Seen::Zones(Items::new(share_zones(alloc, tables.local.zones())?))),
         Ask::Records => Ok(Seen::Records(Items::new(share_records(alloc, tables.local.records())?))),
         Ask::Stubs => Ok(Seen::Stubs(Items::new(share_stubs(alloc, tables.stubs.stubs())?))),
+        Ask::Commands => Ok(Seen::Commands(Items::new(commands(alloc, past)?))),
     }
 }
 
