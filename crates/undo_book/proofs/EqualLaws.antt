@@ -34,6 +34,7 @@ use Rattle.undo_book.specs.declared.event.Reason.{Reason}
 use Rattle.undo_book.specs.declared.event.Reason.TheVariants.{BelowRedirect, DataBelow, CnameClash, TooMany}
 use Rattle.undo_book.specs.declared.event.Reply.{Reply}
 use Rattle.undo_book.specs.declared.event.Reply.TheVariants.{Taken, Outranked, Seen, Swept, Done, Refused, Undone, Redone, NothingToUndo, NothingToRedo}
+use Rattle.undo_book.proofs.ServersEqual.{servers_eq_exact, servers_eq_itself}
 use Rattle.undo_book.specs.Equal.{ask_eq, command_eq, journalled_eq, event_eq, seen_eq, reason_eq, reply_eq}
 
 same : (n : ℕ) → eqb n n ≡ true
@@ -46,6 +47,7 @@ ask_eq_exact (ask.Answer q) (ask.Answer r) e = ap ask.Answer (question_eq_exact 
 ask_eq_exact ask.Zones ask.Zones e = refl
 ask_eq_exact ask.Records ask.Records e = refl
 ask_eq_exact ask.Stubs ask.Stubs e = refl
+ask_eq_exact (ask.Servers name) (ask.Servers other) e = ap ask.Servers (name_eq_exact name other e)
 ask_eq_exact ask.Commands ask.Commands e = refl
 ask_eq_exact _ _ e = absurd (false≢true e)
 
@@ -54,6 +56,7 @@ ask_eq_itself (ask.Answer q) = question_eq_itself q
 ask_eq_itself ask.Zones = refl
 ask_eq_itself ask.Records = refl
 ask_eq_itself ask.Stubs = refl
+ask_eq_itself (ask.Servers name) = name_eq_itself name
 ask_eq_itself ask.Commands = refl
 
 -- ---- commands
@@ -198,6 +201,7 @@ seen_eq_exact (seen.Local a) b e = local_exact a b e
 seen_eq_exact (seen.Zones zones) (seen.Zones other) e = ap seen.Zones ((slice_eq-Decides zone_eq-Decides zones other _ refl).0 e)
 seen_eq_exact (seen.Records records) (seen.Records other) e = ap seen.Records ((slice_eq-Decides record_eq-Decides records other _ refl).0 e)
 seen_eq_exact (seen.Stubs stubs) (seen.Stubs other) e = ap seen.Stubs ((slice_eq-Decides stub_eq-Decides stubs other _ refl).0 e)
+seen_eq_exact (seen.Servers servers) (seen.Servers other) e = ap seen.Servers (servers_eq_exact servers other e)
 seen_eq_exact (seen.Commands commands) (seen.Commands other) e = ap seen.Commands ((slice_eq-Decides journalled_eq-Decides commands other _ refl).0 e)
 seen_eq_exact _ _ e = absurd (false≢true e)
 
@@ -224,6 +228,7 @@ seen_eq_itself (seen.Local a) = local_itself a
 seen_eq_itself (seen.Zones zones) = (slice_eq-Decides zone_eq-Decides zones zones _ refl).1 refl
 seen_eq_itself (seen.Records records) = (slice_eq-Decides record_eq-Decides records records _ refl).1 refl
 seen_eq_itself (seen.Stubs stubs) = (slice_eq-Decides stub_eq-Decides stubs stubs _ refl).1 refl
+seen_eq_itself (seen.Servers servers) = servers_eq_itself servers
 seen_eq_itself (seen.Commands commands) = (slice_eq-Decides journalled_eq-Decides commands commands _ refl).1 refl
 
 -- ---- replies

@@ -5,6 +5,7 @@ pub mod Changes
 pub mod History
 pub mod Cells
 pub mod Flushes
+pub mod Servers
 pub mod Journal
 pub mod Reply
 pub mod Answers

@@ -5,6 +5,7 @@ ghost use Rattle.std.specs.Option.{option_map};
 ghost use Rattle.local_zone.specs.Answer.{local_now};
 
 use crate::flushes::{is_at_or_below, is_flushed};
+use crate::servers::Servers;
 use dns_name::{Name, NoMemory};
 use dns_text::{Addr, Items, Question, Record, Shared};
 use local_zone::{Local, LocalRecord, LocalSet, SeenRecord, Zone, ZoneType};
@@ -23,6 +24,8 @@ pub enum Ask {
     Records,
     /// The stubs.
     Stubs,
+    /// The servers to ask about a name.
+    Servers(Name),
     /// The commands that can be undone or redone.
     Commands,
 }
@@ -179,6 +182,8 @@ pub enum Seen {
     Records(Items<LocalRecord>),
     /// The stubs, in order.
     Stubs(Items<Shared<Stub>>),
+    /// The servers that are closest to a name.
+    Servers(Shared<Servers>),
     /// The commands that can be undone or redone, the oldest first.
     Commands(Items<Journalled>),
 }
