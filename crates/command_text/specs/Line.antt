@@ -4,14 +4,14 @@ use Rattle.streams.specs.declared.held_line.TheConstants.{LONGEST_LINE}
 use Rattle.dns_name.specs.Results.{◌>>=◌, or_fault}
 use Rattle.dns_text.specs.Word.{next_word}
 use Rattle.dns_text.specs.Number.{number_in}
-use Rattle.undo_book.specs.declared.event.Ask.TheVariants.{Answer, Zones, Records, Stubs, Commands as CommandsAsk}
+use Rattle.undo_book.specs.declared.event.Ask.TheVariants.{Answer, Servers as ServersAsk, Zones, Records, Stubs, Commands as CommandsAsk}
 use Rattle.undo_book.specs.declared.event.Command.TheVariants.{Flush as FlushCommand, FlushType as FlushTypeCommand, FlushZone as FlushZoneCommand}
 use Rattle.command_text.specs.declared.line.Line.{Line}
 use Rattle.command_text.specs.declared.line.Line.TheVariants.{Silent, At as AtLine, Admit as AdmitLine, Deny as DenyLine, Look as LookLine, Sweep as SweepLine, Do as DoLine, Undo as UndoLine, Redo as RedoLine}
 use Rattle.command_text.specs.declared.fault.LineFault.{LineFault}
 use Rattle.command_text.specs.declared.fault.LineFault.TheVariants.{Unknown, BadData, TooLong}
 use Rattle.command_text.specs.declared.words.Verb.{Verb}
-use Rattle.command_text.specs.declared.words.Verb.TheVariants.{At, Admit, NoData, NoName, Look, Sweep, Flush, FlushType, FlushZone, LocalZone, LocalZoneRemove, LocalData, LocalDataRemove, StubAdd, StubRemove, ListLocalZones, ListLocalData, ListStubs, ListCommands, Undo, Redo}
+use Rattle.command_text.specs.declared.words.Verb.TheVariants.{At, Admit, NoData, NoName, Look, Servers, Sweep, Flush, FlushType, FlushZone, LocalZone, LocalZoneRemove, LocalData, LocalDataRemove, StubAdd, StubRemove, ListLocalZones, ListLocalData, ListStubs, ListCommands, Undo, Redo}
 use Rattle.command_text.specs.declared.words.Channel.{Channel}
 use Rattle.command_text.specs.Words.{verb_in}
 use Rattle.command_text.specs.Parts.{word_in, ends, question_words, question_in, only_name}
@@ -55,6 +55,11 @@ unfoldable pub look_in : List ℕ → Result Line LineFault
 look_in text = do
   question ← question_in text
   Ok (LookLine (Answer question))
+
+unfoldable pub servers_in : List ℕ → Result Line LineFault
+servers_in text = do
+  name ← only_name text
+  Ok (LookLine (ServersAsk name))
 
 unfoldable pub sweep_in : List ℕ → Result Line LineFault
 sweep_in text = do
@@ -143,6 +148,7 @@ said_by Admit text = admit_in text
 said_by NoData text = no_data_in text
 said_by NoName text = no_name_in text
 said_by Look text = look_in text
+said_by Servers text = servers_in text
 said_by Sweep text = sweep_in text
 said_by Flush text = flush_in text
 said_by FlushType text = flush_type_in text
@@ -178,6 +184,7 @@ takes_by Admit text = is_ok (admit_words text)
 takes_by NoData text = is_ok (no_data_words text)
 takes_by NoName text = is_ok (no_name_words text)
 takes_by Look text = is_ok (question_words text)
+takes_by Servers text = is_ok (word_in text)
 takes_by Sweep text = false
 takes_by Flush text = is_ok (word_in text)
 takes_by FlushType text = is_ok (question_words text)

@@ -1,6 +1,7 @@
 -- The texts of replies and faults, each with its line's end.
 use Rattle.std.specs.Prelude.{ℕ, Bool, true, false, not, List, [], ◌∷◌, ◌++◌, codes, decimal, flat_map}
 use Rattle.streams.specs.Split.{with_end}
+use Rattle.dns_name.specs.Labels.{Labels}
 use Rattle.dns_name.specs.Text.{text_of}
 use Rattle.dns_text.specs.declared.record.Data.{Data}
 use Rattle.dns_text.specs.declared.record.Record.{Record}
@@ -21,10 +22,13 @@ use Rattle.local_zone.specs.declared.zone.Zone.{Zone}
 use Rattle.local_zone.specs.ZoneType.{word_of}
 use Rattle.stub_table.specs.declared.stub.Stub.{Stub}
 use Rattle.undo_book.specs.declared.event.Journalled.{Journalled}
+use Rattle.undo_book.specs.declared.servers.Servers.{Servers as ServersOf}
+use Rattle.undo_book.specs.declared.servers.Source.{Source}
+use Rattle.undo_book.specs.declared.servers.Source.TheVariants as source
 use Rattle.undo_book.specs.declared.event.Reason.{Reason}
 use Rattle.undo_book.specs.declared.event.Reason.TheVariants.{BelowRedirect, DataBelow, CnameClash, TooMany}
 use Rattle.undo_book.specs.declared.event.Seen.{Seen as Sight}
-use Rattle.undo_book.specs.declared.event.Seen.TheVariants.{Unknown as NothingHeld, Held, Local as LocalSeen, Zones, Records, Stubs, Commands}
+use Rattle.undo_book.specs.declared.event.Seen.TheVariants.{Unknown as NothingHeld, Held, Local as LocalSeen, Servers, Zones, Records, Stubs, Commands}
 use Rattle.undo_book.specs.declared.event.Reply.{Reply}
 use Rattle.undo_book.specs.declared.event.Reply.TheVariants.{Taken, Outranked, Swept, Seen, Done, Refused, Undone, Redone, NothingToUndo, NothingToRedo}
 use Rattle.undo_book.specs.declared.book.StepFault.{StepFault}
@@ -94,10 +98,29 @@ state_text false = codes " undone "
 abbrev pub journalled_line : Journalled → List ℕ
 journalled_line j = with_end (decimal j.ticket ++ state_text j.done ++ command_words j.command)
 
+abbrev pub source_text : Source → List ℕ
+source_text source.Hints = codes "hints"
+source_text source.Stub = codes "stub"
+source_text source.Cache = codes "cache"
+
+-- names, each behind a blank
+abbrev pub names_text : List Labels → List ℕ
+names_text names = flat_map (λ name. 32 ∷ text_of name) names
+
+-- the names that have no address, if any, behind a bar
+abbrev pub missing_text : List Labels → List ℕ
+missing_text [] = []
+missing_text (name ∷ names) = codes " |" ++ names_text (name ∷ names)
+
+-- ZONE SOURCE ADDR.., and the names that have no address
+unfoldable pub servers_text : ServersOf → List ℕ
+servers_text servers = text_of servers.zone ++ 32 ∷ source_text servers.source ++ addrs_text servers.addrs ++ missing_text servers.missing
+
 abbrev pub seen_text : Sight → List ℕ
 seen_text NothingHeld = codes "unknown"
 seen_text (Held shown) = held_text shown
 seen_text (LocalSeen answer) = local_text answer
+seen_text (Servers servers) = codes "servers " ++ servers_text servers
 seen_text (Zones zones) = flat_map zone_line zones ++ codes "end"
 seen_text (Records records) = flat_map record_line records ++ codes "end"
 seen_text (Stubs stubs) = flat_map stub_line stubs ++ codes "end"
@@ -118,6 +141,7 @@ has_data _ = false
 abbrev pub is_long : Reply → Bool
 is_long (Seen (Held shown)) = not (is_negative shown.body.body)
 is_long (Seen (LocalSeen answer)) = has_data answer
+is_long (Seen (Servers servers)) = true
 is_long (Seen (Zones zones)) = true
 is_long (Seen (Records records)) = true
 is_long (Seen (Stubs stubs)) = true

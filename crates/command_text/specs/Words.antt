@@ -3,7 +3,7 @@ use Rattle.std.specs.Prelude.{ℕ, Bool, true, false, List, [], ◌∷◌, ◌++
 use Rattle.std.specs.Str.{bytes_eq}
 use Rattle.dns_name.specs.Options.{◌>>=◌}
 use Rattle.command_text.specs.declared.words.Verb.{Verb}
-use Rattle.command_text.specs.declared.words.Verb.TheVariants.{At, Admit, NoData, NoName, Look, Sweep, Flush, FlushType, FlushZone, LocalZone, LocalZoneRemove, LocalData, LocalDataRemove, StubAdd, StubRemove, ListLocalZones, ListLocalData, ListStubs, ListCommands, Undo, Redo}
+use Rattle.command_text.specs.declared.words.Verb.TheVariants.{At, Admit, NoData, NoName, Look, Servers, Sweep, Flush, FlushType, FlushZone, LocalZone, LocalZoneRemove, LocalData, LocalDataRemove, StubAdd, StubRemove, ListLocalZones, ListLocalData, ListStubs, ListCommands, Undo, Redo}
 use Rattle.command_text.specs.declared.words.Channel.{Channel}
 use Rattle.command_text.specs.declared.words.Channel.TheVariants.{Script, Control}
 use Rattle.command_text.specs.declared.words.Usage.{Usage}
@@ -30,6 +30,7 @@ commands =
     ∷ script_only NoData (codes "nodata") (codes "NAME TTL TYPE OWNER SOA-DATA")
     ∷ script_only NoName (codes "noname") (codes "NAME TTL OWNER SOA-DATA")
     ∷ anywhere Look (codes "look") (codes "NAME TYPE")
+    ∷ anywhere Servers (codes "servers") (codes "NAME")
     ∷ anywhere Sweep (codes "sweep") []
     ∷ anywhere Flush (codes "flush") (codes "NAME")
     ∷ anywhere FlushType (codes "flush_type") (codes "NAME TYPE")

@@ -16,6 +16,7 @@ mod bar; // the data of a set, between bars
 mod command_words; // commands in the words that give them
 mod answers; // what local zones answer, as it is told
 mod lists; // the lists of local zones, local data and stubs, as they are told
+mod servers; // the servers of a name, as they are told
 mod journal; // the commands that can be undone or redone, as they are told
 mod text; // what is told
 mod obeying; // a line is obeyed

@@ -3,7 +3,7 @@
 ghost use Rattle.std.specs.Prelude.{◌≡◌, IsTrue, IsErrOf, is_ok};
 ghost use Rattle.command_text.specs.declared.fault.LineFault.TheVariants.{NoMemory};
 ghost use Rattle.command_text.specs.Fault.{Gives};
-ghost use Rattle.command_text.specs.Line.{is_silent, at_in, admit_in, no_data_in, no_name_in, look_in, sweep_in, flush_in, flush_type_in, flush_zone_in, local_zone_in, local_zone_remove_in, local_data_in, local_data_remove_in, stub_add_in, stub_remove_in, list_local_zones_in, list_local_data_in, list_stubs_in, list_commands_in, undo_in, redo_in, said_by, takes_by, read_of, takes_memory};
+ghost use Rattle.command_text.specs.Line.{is_silent, at_in, admit_in, no_data_in, no_name_in, look_in, servers_in, sweep_in, flush_in, flush_type_in, flush_zone_in, local_zone_in, local_zone_remove_in, local_data_in, local_data_remove_in, stub_add_in, stub_remove_in, list_local_zones_in, list_local_data_in, list_stubs_in, list_commands_in, undo_in, redo_in, said_by, takes_by, read_of, takes_memory};
 
 use crate::admission::Admission;
 use crate::admit::{admit_words, read_admission};
@@ -100,6 +100,15 @@ fn read_look(alloc: Global, text: &[u8]) -> Result<Line, LineFault>
 {
     let question = read_question(alloc, text)?;
     Ok(Line::Look(Ask::Answer(question)))
+}
+
+#[tactic(auto, unfolding(crate::specs::Line::servers_in))]
+fn read_servers(alloc: Global, text: &[u8]) -> Result<Line, LineFault>
+    ensures value { Gives result (servers_in text.now) }
+    ensures no_memory { IsErrOf result NoMemory → IsTrue (takes_by Verb.Servers text.now) }
+{
+    let name = read_only_name(alloc, text)?;
+    Ok(Line::Look(Ask::Servers(name)))
 }
 
 #[tactic(auto, unfolding(crate::specs::Line::sweep_in))]
@@ -257,6 +266,7 @@ fn read_command(alloc: Global, verb: Verb, text: &[u8]) -> Result<Line, LineFaul
         Verb::NoData => read_no_data_line(alloc, text),
         Verb::NoName => read_no_name_line(alloc, text),
         Verb::Look => read_look(alloc, text),
+        Verb::Servers => read_servers(alloc, text),
         Verb::Sweep => read_sweep(text),
         Verb::Flush => read_flush(alloc, text),
         Verb::FlushType => read_flush_type(alloc, text),

@@ -13,6 +13,7 @@ use crate::answers::answer_line;
 use crate::fault::LineFault;
 use crate::journal::commands_lines;
 use crate::lists::{records_lines, stubs_lines, zones_lines};
+use crate::servers::servers_line;
 use arrayvec::ArrayVec;
 use dns_text::{Data, NoMemory, push_data, push_type};
 use itoa::Buffer;
@@ -129,6 +130,7 @@ pub fn reply_text(alloc: Global, reply: &Reply) -> Result<Text, NoMemory>
         Reply::Seen(Seen::Unknown) => Ok(Text::Fixed(b"unknown\n")),
         Reply::Seen(Seen::Held(shown)) => held_line(alloc, shown),
         Reply::Seen(Seen::Local(answer)) => answer_line(alloc, answer),
+        Reply::Seen(Seen::Servers(servers)) => Ok(Text::Made(servers_line(alloc, servers.get())?)),
         Reply::Seen(Seen::Zones(zones)) => Ok(Text::Made(zones_lines(alloc, zones)?)),
         Reply::Seen(Seen::Records(records)) => Ok(Text::Made(records_lines(alloc, records)?)),
         Reply::Seen(Seen::Stubs(stubs)) => Ok(Text::Made(stubs_lines(alloc, stubs)?)),

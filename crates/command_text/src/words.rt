@@ -14,6 +14,7 @@ pub(crate) enum Verb {
     NoData,
     NoName,
     Look,
+    Servers,
     Sweep,
     Flush,
     FlushType,
@@ -51,7 +52,7 @@ struct Usage {
     in_control: bool,
 }
 
-static COMMANDS: [Usage; 21] = [
+static COMMANDS: [Usage; 22] = [
     Usage {
         verb: Verb::At,
         word: "at",
@@ -84,6 +85,13 @@ static COMMANDS: [Usage; 21] = [
         verb: Verb::Look,
         word: "look",
         form: "NAME TYPE",
+        in_script: true,
+        in_control: true,
+    },
+    Usage {
+        verb: Verb::Servers,
+        word: "servers",
+        form: "NAME",
         in_script: true,
         in_control: true,
     },
