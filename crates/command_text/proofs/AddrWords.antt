@@ -1,6 +1,6 @@
 -- The addresses of a text, word by word.
 use Rattle.std.proofs.Common.{◌≡◌, ℕ, zero, suc, ◌<◌, ◌≤◌, List, [], ◌∷◌, ◌++◌, length, Some, None, Ok, Err, refl, ap, ◌∙◌, arith}
-use Rattle.std.proofs.Common.{map, ◌^◌, length-append}
+use Rattle.std.proofs.Common.{map, length-append}
 use Rattle.std.proofs.lemmas.List.{append-nil}
 use Rattle.std.specs.List.{AllByRecursion}
 use Rattle.dns_name.specs.Results.{or_fault, GivesBut}
