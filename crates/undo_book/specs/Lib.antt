@@ -5,8 +5,8 @@ pub mod Changes
 pub mod History
 pub mod Cells
 pub mod Flushes
-pub mod Servers
 pub mod Journal
+pub mod Servers
 pub mod Reply
 pub mod Answers
 pub mod Desk

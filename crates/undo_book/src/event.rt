@@ -24,10 +24,10 @@ pub enum Ask {
     Records,
     /// The stubs.
     Stubs,
-    /// The servers to ask about a name.
-    Servers(Name),
     /// The commands that can be undone or redone.
     Commands,
+    /// The servers to ask about a name.
+    Servers(Name),
 }
 
 /// What the operator gives, and can take back.
@@ -182,10 +182,10 @@ pub enum Seen {
     Records(Items<LocalRecord>),
     /// The stubs, in order.
     Stubs(Items<Shared<Stub>>),
-    /// The servers that are closest to a name.
-    Servers(Shared<Servers>),
     /// The commands that can be undone or redone, the oldest first.
     Commands(Items<Journalled>),
+    /// The servers that are closest to a name.
+    Servers(Shared<Servers>),
 }
 
 /// A command that can be undone or redone, as the journal holds it.

@@ -54,8 +54,8 @@ pub(crate) fn shared_sight(
         Ask::Zones => Ok(Seen::Zones(Items::new(share_zones(alloc, tables.local.zones())?))),
         Ask::Records => Ok(Seen::Records(Items::new(share_records(alloc, tables.local.records())?))),
         Ask::Stubs => Ok(Seen::Stubs(Items::new(share_stubs(alloc, tables.stubs.stubs())?))),
-        Ask::Servers(name) => seen_servers(alloc, past, &tables.stubs, name, moment),
         Ask::Commands => Ok(Seen::Commands(Items::new(commands(alloc, past)?))),
+        Ask::Servers(name) => seen_servers(alloc, past, &tables.stubs, name, moment),
     }
 }
 
