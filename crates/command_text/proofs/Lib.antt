@@ -1,4 +1,6 @@
+mod AddrWords
 mod Bars
+mod Commands
 mod Heard
 mod Scripts
 mod Sets

@@ -1,5 +1,5 @@
 -- The command `admit`.
-use Rattle.std.specs.Prelude.{ℕ, Option, Some, Result, Ok, List, [], ◌∷◌}
+use Rattle.std.specs.Prelude.{ℕ, Option, Result, Ok, List}
 use Rattle.dns_name.specs.Options.{◌>>=◌ as ◌>>=?◌}
 use Rattle.dns_name.specs.Results.{◌>>=◌, or_fault}
 use Rattle.dns_text.specs.declared.record.Data.{Data}
@@ -14,7 +14,7 @@ use Rattle.command_text.specs.declared.admit.AdmitWords.{AdmitWords as LentWords
 use Rattle.command_text.specs.declared.fault.LineFault.{LineFault}
 use Rattle.command_text.specs.declared.fault.LineFault.TheVariants.{BadName, BadType, BadData}
 use Rattle.command_text.specs.Bar.{pieces}
-use Rattle.command_text.specs.Parts.{word_in}
+use Rattle.command_text.specs.Parts.{word_in, each_in}
 use Rattle.command_text.specs.Admission.{Given}
 
 -- RANK NAME TTL TYPE, and the text from DATA on
@@ -47,9 +47,8 @@ abbrev pub ttl_in : List ℕ → Option ℕ
 ttl_in word = number_in MOST_TTL word >>=? unless_zero
 
 -- the data of each piece
-unfoldable pub data_of : ℕ → List (List ℕ) → Option (List Data)
-data_of kind [] = Some []
-data_of kind (piece ∷ pieces) = data_in kind piece >>=? λ datum. data_of kind pieces >>=? λ others. Some (datum ∷ others)
+abbrev pub data_of : ℕ → List (List ℕ) → Option (List Data)
+data_of kind pieces = each_in (data_in kind) pieces
 
 unfoldable pub given_of : AdmitWords → Result Given LineFault
 given_of words = do

@@ -5,7 +5,12 @@ pub mod Parts
 pub mod Local
 pub mod Admission
 pub mod Admit
+pub mod Denial
+pub mod Deny
+pub mod Addrs
+pub mod Stubs
 pub mod Line
+pub mod CommandWords
 pub mod Text
 pub mod Obeying
 pub mod Script

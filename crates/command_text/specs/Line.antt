@@ -4,18 +4,20 @@ use Rattle.streams.specs.declared.held_line.TheConstants.{LONGEST_LINE}
 use Rattle.dns_name.specs.Results.{◌>>=◌, or_fault}
 use Rattle.dns_text.specs.Word.{next_word}
 use Rattle.dns_text.specs.Number.{number_in}
-use Rattle.undo_book.specs.declared.event.Ask.TheVariants.{Answer, Zones, Records}
-use Rattle.undo_book.specs.declared.event.Command.TheVariants.{FlushType as FlushTypeCommand}
+use Rattle.undo_book.specs.declared.event.Ask.TheVariants.{Answer, Servers as ServersAsk, Zones, Records, Stubs, Commands as CommandsAsk}
+use Rattle.undo_book.specs.declared.event.Command.TheVariants.{Flush as FlushCommand, FlushType as FlushTypeCommand, FlushZone as FlushZoneCommand}
 use Rattle.command_text.specs.declared.line.Line.{Line}
-use Rattle.command_text.specs.declared.line.Line.TheVariants.{Silent, At as AtLine, Admit as AdmitLine, Look as LookLine, Do as DoLine, Undo as UndoLine, Redo as RedoLine}
+use Rattle.command_text.specs.declared.line.Line.TheVariants.{Silent, At as AtLine, Admit as AdmitLine, Deny as DenyLine, Look as LookLine, Sweep as SweepLine, Do as DoLine, Undo as UndoLine, Redo as RedoLine}
 use Rattle.command_text.specs.declared.fault.LineFault.{LineFault}
 use Rattle.command_text.specs.declared.fault.LineFault.TheVariants.{Unknown, BadData, TooLong}
 use Rattle.command_text.specs.declared.words.Verb.{Verb}
-use Rattle.command_text.specs.declared.words.Verb.TheVariants.{At, Admit, Look, FlushType, LocalZone, LocalZoneRemove, LocalData, LocalDataRemove, ListLocalZones, ListLocalData, Undo, Redo}
+use Rattle.command_text.specs.declared.words.Verb.TheVariants.{At, Admit, NoData, NoName, Look, Servers, Sweep, Flush, FlushType, FlushZone, LocalZone, LocalZoneRemove, LocalData, LocalDataRemove, StubAdd, StubRemove, ListLocalZones, ListLocalData, ListStubs, ListCommands, Undo, Redo}
 use Rattle.command_text.specs.declared.words.Channel.{Channel}
 use Rattle.command_text.specs.Words.{verb_in}
-use Rattle.command_text.specs.Parts.{word_in, ends, question_words, question_in}
+use Rattle.command_text.specs.Parts.{word_in, ends, question_words, question_in, only_name}
 use Rattle.command_text.specs.Admit.{admit_words, given_of}
+use Rattle.command_text.specs.Deny.{no_data_words, no_name_words, no_data_of, no_name_of}
+use Rattle.command_text.specs.Stubs.{stub_words, set_stub_in, drop_stub_in}
 use Rattle.command_text.specs.Local.{set_zone_in, drop_zone_in, record_words, add_record_in, drop_name_in}
 
 -- An empty line says nothing, nor does one that begins with a number sign (35).
@@ -37,15 +39,47 @@ admit_in text = do
   given ← given_of words
   Ok (AdmitLine given)
 
+unfoldable pub no_data_in : List ℕ → Result Line LineFault
+no_data_in text = do
+  words ← no_data_words text
+  denied ← no_data_of words
+  Ok (DenyLine denied)
+
+unfoldable pub no_name_in : List ℕ → Result Line LineFault
+no_name_in text = do
+  words ← no_name_words text
+  denied ← no_name_of words
+  Ok (DenyLine denied)
+
 unfoldable pub look_in : List ℕ → Result Line LineFault
 look_in text = do
   question ← question_in text
   Ok (LookLine (Answer question))
 
+unfoldable pub servers_in : List ℕ → Result Line LineFault
+servers_in text = do
+  name ← only_name text
+  Ok (LookLine (ServersAsk name))
+
+unfoldable pub sweep_in : List ℕ → Result Line LineFault
+sweep_in text = do
+  end ← ends text
+  Ok SweepLine
+
+unfoldable pub flush_in : List ℕ → Result Line LineFault
+flush_in text = do
+  name ← only_name text
+  Ok (DoLine (FlushCommand name))
+
 unfoldable pub flush_type_in : List ℕ → Result Line LineFault
 flush_type_in text = do
   question ← question_in text
   Ok (DoLine (FlushTypeCommand question))
+
+unfoldable pub flush_zone_in : List ℕ → Result Line LineFault
+flush_zone_in text = do
+  name ← only_name text
+  Ok (DoLine (FlushZoneCommand name))
 
 unfoldable pub local_zone_in : List ℕ → Result Line LineFault
 local_zone_in text = do
@@ -67,6 +101,16 @@ local_data_remove_in text = do
   command ← drop_name_in text
   Ok (DoLine command)
 
+unfoldable pub stub_add_in : List ℕ → Result Line LineFault
+stub_add_in text = do
+  command ← set_stub_in text
+  Ok (DoLine command)
+
+unfoldable pub stub_remove_in : List ℕ → Result Line LineFault
+stub_remove_in text = do
+  command ← drop_stub_in text
+  Ok (DoLine command)
+
 unfoldable pub list_local_zones_in : List ℕ → Result Line LineFault
 list_local_zones_in text = do
   end ← ends text
@@ -76,6 +120,16 @@ unfoldable pub list_local_data_in : List ℕ → Result Line LineFault
 list_local_data_in text = do
   end ← ends text
   Ok (LookLine Records)
+
+unfoldable pub list_stubs_in : List ℕ → Result Line LineFault
+list_stubs_in text = do
+  end ← ends text
+  Ok (LookLine Stubs)
+
+unfoldable pub list_commands_in : List ℕ → Result Line LineFault
+list_commands_in text = do
+  end ← ends text
+  Ok (LookLine CommandsAsk)
 
 unfoldable pub undo_in : List ℕ → Result Line LineFault
 undo_in text = do
@@ -91,14 +145,24 @@ redo_in text = do
 abbrev pub said_by : Verb → List ℕ → Result Line LineFault
 said_by At text = at_in text
 said_by Admit text = admit_in text
+said_by NoData text = no_data_in text
+said_by NoName text = no_name_in text
 said_by Look text = look_in text
+said_by Servers text = servers_in text
+said_by Sweep text = sweep_in text
+said_by Flush text = flush_in text
 said_by FlushType text = flush_type_in text
+said_by FlushZone text = flush_zone_in text
 said_by LocalZone text = local_zone_in text
 said_by LocalZoneRemove text = local_zone_remove_in text
 said_by LocalData text = local_data_in text
 said_by LocalDataRemove text = local_data_remove_in text
+said_by StubAdd text = stub_add_in text
+said_by StubRemove text = stub_remove_in text
 said_by ListLocalZones text = list_local_zones_in text
 said_by ListLocalData text = list_local_data_in text
+said_by ListStubs text = list_stubs_in text
+said_by ListCommands text = list_commands_in text
 said_by Undo text = undo_in text
 said_by Redo text = redo_in text
 
@@ -117,14 +181,24 @@ says channel line = if is_silent line then Ok Silent else read_of channel line
 abbrev pub takes_by : Verb → List ℕ → Bool
 takes_by At text = false
 takes_by Admit text = is_ok (admit_words text)
+takes_by NoData text = is_ok (no_data_words text)
+takes_by NoName text = is_ok (no_name_words text)
 takes_by Look text = is_ok (question_words text)
+takes_by Servers text = is_ok (word_in text)
+takes_by Sweep text = false
+takes_by Flush text = is_ok (word_in text)
 takes_by FlushType text = is_ok (question_words text)
+takes_by FlushZone text = is_ok (word_in text)
 takes_by LocalZone text = is_ok (question_words text)
 takes_by LocalZoneRemove text = is_ok (word_in text)
 takes_by LocalData text = is_ok (record_words text)
 takes_by LocalDataRemove text = is_ok (word_in text)
+takes_by StubAdd text = is_ok (stub_words text)
+takes_by StubRemove text = is_ok (word_in text)
 takes_by ListLocalZones text = false
 takes_by ListLocalData text = false
+takes_by ListStubs text = false
+takes_by ListCommands text = false
 takes_by Undo text = false
 takes_by Redo text = false
 

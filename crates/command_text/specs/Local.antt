@@ -3,7 +3,6 @@ use Rattle.std.specs.Prelude.{ℕ, Result, Ok, Err, List}
 use Rattle.dns_name.specs.Results.{◌>>=◌, or_fault}
 use Rattle.dns_text.specs.declared.fault.TextFault.{TextFault}
 use Rattle.dns_text.specs.declared.fault.TextFault.TheVariants as text_fault
-use Rattle.dns_text.specs.declared.record.Record.{Record}
 use Rattle.dns_text.specs.Field.{named}
 use Rattle.dns_text.specs.Record.{record_in}
 use Rattle.local_zone.specs.ZoneType.{zone_type_in}

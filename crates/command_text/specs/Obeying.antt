@@ -4,16 +4,17 @@ use Rattle.streams.specs.Split.{with_end}
 use Rattle.ranked.specs.declared.find.Find.{Find}
 use Rattle.undo_book.specs.declared.event.Settings.{Settings}
 use Rattle.undo_book.specs.declared.event.Event.{Event}
-use Rattle.undo_book.specs.declared.event.Event.TheVariants.{Admit as AdmitEvent, Look as LookEvent, Do as DoEvent, Undo as UndoEvent, Redo as RedoEvent}
+use Rattle.undo_book.specs.declared.event.Event.TheVariants.{Admit as AdmitEvent, Look as LookEvent, Sweep as SweepEvent, Do as DoEvent, Undo as UndoEvent, Redo as RedoEvent}
 use Rattle.undo_book.specs.declared.event.Reply.{Reply}
 use Rattle.undo_book.specs.declared.book.StepFault.{StepFault}
 use Rattle.undo_book.specs.Answers.{Answers, history_after}
 use Rattle.command_text.specs.declared.line.Line.{Line}
-use Rattle.command_text.specs.declared.line.Line.TheVariants.{Silent, At, Admit, Look, Do, Undo, Redo}
+use Rattle.command_text.specs.declared.line.Line.TheVariants.{Silent, At, Admit, Deny, Look, Sweep, Do, Undo, Redo}
 use Rattle.command_text.specs.declared.fault.LineFault.{LineFault}
 use Rattle.command_text.specs.declared.fault.LineFault.TheVariants.{NoMemory}
 use Rattle.command_text.specs.declared.words.Channel.TheVariants.{Script}
 use Rattle.command_text.specs.Admission.{IsFindOf}
+use Rattle.command_text.specs.Denial.{IsDenialOf}
 use Rattle.command_text.specs.Line.{says, takes_memory}
 use Rattle.command_text.specs.Text.{is_long, reply_text, fault_text, line_fault_text}
 
@@ -42,7 +43,9 @@ abbrev pub Does : Settings → Place → Result Line LineFault → List ℕ → 
 Does settings place (Ok Silent) text next = (text ≡ []) × (next ≡ place)
 Does settings place (Ok (At moment)) text next = (text ≡ with_end (codes "ok")) × (next ≡ record { history = place.history; moment = moment })
 Does settings place (Ok (Admit given)) text next = ((find : Find) × IsFindOf given find × Asks settings place (AdmitEvent place.moment find) text next) ⊎ Drops place text next
+Does settings place (Ok (Deny denied)) text next = ((find : Find) × IsDenialOf denied find × Asks settings place (AdmitEvent place.moment find) text next) ⊎ Drops place text next
 Does settings place (Ok (Look ask)) text next = Asks settings place (LookEvent place.moment ask) text next
+Does settings place (Ok Sweep) text next = Asks settings place (SweepEvent place.moment) text next
 Does settings place (Ok (Do command)) text next = Asks settings place (DoEvent place.moment command) text next
 Does settings place (Ok Undo) text next = Asks settings place (UndoEvent place.moment) text next
 Does settings place (Ok Redo) text next = Asks settings place (RedoEvent place.moment) text next

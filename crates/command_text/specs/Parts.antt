@@ -1,6 +1,7 @@
 -- Words that the forms of many commands have.
-use Rattle.std.specs.Prelude.{ℕ, Option, Some, None, Result, Ok, Err, List}
+use Rattle.std.specs.Prelude.{ℕ, Option, Some, None, Result, Ok, Err, List, [], ◌∷◌}
 use Rattle.dns_name.specs.Labels.{Labels}
+use Rattle.dns_name.specs.Options.{◌>>=◌ as ◌>>=?◌}
 use Rattle.dns_name.specs.Results.{◌>>=◌, or_fault}
 use Rattle.dns_text.specs.declared.record.Question.{Question}
 use Rattle.dns_text.specs.Word.{next_word}
@@ -53,3 +54,8 @@ name_of word = do
 -- NAME and no more
 unfoldable pub only_name : List ℕ → Result Labels LineFault
 only_name text = word_in text >>= name_of
+
+-- what each of these texts stands for, if each stands for something
+unfoldable pub each_in : {A : Type 0} → (List ℕ → Option A) → List (List ℕ) → Option (List A)
+each_in read [] = Some []
+each_in read (text ∷ texts) = read text >>=? λ x. each_in read texts >>=? λ others. Some (x ∷ others)

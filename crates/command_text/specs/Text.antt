@@ -1,6 +1,7 @@
 -- The texts of replies and faults, each with its line's end.
-use Rattle.std.specs.Prelude.{ℕ, Bool, true, false, List, [], ◌∷◌, ◌++◌, codes, decimal, flat_map}
+use Rattle.std.specs.Prelude.{ℕ, Bool, true, false, not, List, [], ◌∷◌, ◌++◌, codes, decimal, flat_map}
 use Rattle.streams.specs.Split.{with_end}
+use Rattle.dns_name.specs.Labels.{Labels}
 use Rattle.dns_name.specs.Text.{text_of}
 use Rattle.dns_text.specs.declared.record.Data.{Data}
 use Rattle.dns_text.specs.declared.record.Record.{Record}
@@ -10,40 +11,56 @@ use Rattle.dns_text.specs.Record.{record_text}
 use Rattle.ranked.specs.declared.cell.Shown.{Shown}
 use Rattle.ranked.specs.declared.find.Find.{Find}
 use Rattle.ranked.specs.declared.find.Scope.{Scope}
-use Rattle.ranked.specs.declared.find.Scope.TheVariants.{One}
+use Rattle.ranked.specs.declared.find.Scope.TheVariants.{One, Whole}
 use Rattle.ranked.specs.declared.find.Body.{Body}
-use Rattle.ranked.specs.declared.find.Body.TheVariants.{Set}
+use Rattle.ranked.specs.declared.find.Body.TheVariants.{Set, NoData, NoName}
+use Rattle.ranked.specs.Body.{is_negative}
 use Rattle.ranked.specs.Rank.{level_of}
 use Rattle.local_zone.specs.declared.local.Local.{Local}
 use Rattle.local_zone.specs.declared.local.Local.TheVariants as local
 use Rattle.local_zone.specs.declared.zone.Zone.{Zone}
 use Rattle.local_zone.specs.ZoneType.{word_of}
+use Rattle.stub_table.specs.declared.stub.Stub.{Stub}
+use Rattle.undo_book.specs.declared.event.Journalled.{Journalled}
+use Rattle.undo_book.specs.declared.servers.Servers.{Servers as ServersOf}
+use Rattle.undo_book.specs.declared.servers.Source.{Source}
+use Rattle.undo_book.specs.declared.servers.Source.TheVariants as source
 use Rattle.undo_book.specs.declared.event.Reason.{Reason}
 use Rattle.undo_book.specs.declared.event.Reason.TheVariants.{BelowRedirect, DataBelow, CnameClash, TooMany}
 use Rattle.undo_book.specs.declared.event.Seen.{Seen as Sight}
-use Rattle.undo_book.specs.declared.event.Seen.TheVariants.{Unknown as NothingHeld, Held, Local as LocalSeen, Zones, Records}
+use Rattle.undo_book.specs.declared.event.Seen.TheVariants.{Unknown as NothingHeld, Held, Local as LocalSeen, Servers, Zones, Records, Stubs, Commands}
 use Rattle.undo_book.specs.declared.event.Reply.{Reply}
-use Rattle.undo_book.specs.declared.event.Reply.TheVariants.{Taken, Outranked, Seen, Done, Refused, Undone, Redone, NothingToUndo, NothingToRedo}
+use Rattle.undo_book.specs.declared.event.Reply.TheVariants.{Taken, Outranked, Swept, Seen, Done, Refused, Undone, Redone, NothingToUndo, NothingToRedo}
 use Rattle.undo_book.specs.declared.book.StepFault.{StepFault}
 use Rattle.undo_book.specs.declared.book.StepFault.TheVariants.{BadMoment, CountEnded, Full, NoMemory as StepNoMemory}
 use Rattle.command_text.specs.declared.fault.LineFault.{LineFault}
-use Rattle.command_text.specs.declared.fault.LineFault.TheVariants.{Unknown, Missing, BadName, BadType, BadData, TooLong, NoMemory}
+use Rattle.command_text.specs.declared.fault.LineFault.TheVariants.{Unknown, Missing, BadName, BadType, BadData, BadAddress, TooLong, NoMemory}
+use Rattle.command_text.specs.Addrs.{addrs_text}
+use Rattle.command_text.specs.CommandWords.{command_words}
 
 -- the data joined by bars
 abbrev pub set_text : List Data → List ℕ
 set_text [] = []
 set_text (first ∷ others) = data_text first ++ flat_map (λ datum. codes " | " ++ data_text datum) others
 
-abbrev pub body_text : Body → List ℕ
-body_text (Set items) = set_text items
-
+-- Every set is of one type.
 abbrev pub scope_text : Scope → List ℕ
 scope_text (One kind) = type_text kind
+scope_text Whole = []
 
 -- RANK LEFT OWNER TYPE DATA
-unfoldable pub found_text : Shown Find → List ℕ
-found_text shown =
-    decimal (level_of shown.rank) ++ 32 ∷ decimal shown.left ++ 32 ∷ text_of shown.body.owner ++ 32 ∷ scope_text shown.body.scope ++ 32 ∷ body_text shown.body.body
+unfoldable pub found_text : Shown Find → List Data → List ℕ
+found_text shown items =
+    decimal (level_of shown.rank) ++ 32 ∷ decimal shown.left ++ 32 ∷ text_of shown.body.owner ++ 32 ∷ scope_text shown.body.scope ++ 32 ∷ set_text items
+
+abbrev pub held_by : Shown Find → Body → List ℕ
+held_by shown (Set items) = codes "found " ++ found_text shown items
+held_by shown (NoData soa) = codes "nodata " ++ decimal shown.left
+held_by shown (NoName soa) = codes "noname " ++ decimal shown.left
+
+-- what is held: a set, or what denies, with the seconds left
+abbrev pub held_text : Shown Find → List ℕ
+held_text shown = held_by shown shown.body.body
 
 -- TTL OWNER TYPE DATA of a set, by its first record
 abbrev pub records_text : List Record → List ℕ
@@ -68,12 +85,46 @@ zone_line zone = with_end (text_of zone.name ++ 32 ∷ word_of zone.kind)
 abbrev pub record_line : Record → List ℕ
 record_line r = with_end (record_text r)
 
+-- NAME ADDR..
+abbrev pub stub_line : Stub → List ℕ
+stub_line stub = with_end (text_of stub.name ++ addrs_text stub.addrs)
+
+-- whether it is done, between blanks
+abbrev pub state_text : Bool → List ℕ
+state_text true = codes " done "
+state_text false = codes " undone "
+
+-- TICKET done COMMAND, the command in the words that would give it again
+abbrev pub journalled_line : Journalled → List ℕ
+journalled_line j = with_end (decimal j.ticket ++ state_text j.done ++ command_words j.command)
+
+abbrev pub source_text : Source → List ℕ
+source_text source.Hints = codes "hints"
+source_text source.Stub = codes "stub"
+source_text source.Cache = codes "cache"
+
+-- names, each behind a blank
+abbrev pub names_text : List Labels → List ℕ
+names_text names = flat_map (λ name. 32 ∷ text_of name) names
+
+-- the names that have no address, if any, behind a bar
+abbrev pub missing_text : List Labels → List ℕ
+missing_text [] = []
+missing_text (name ∷ names) = codes " |" ++ names_text (name ∷ names)
+
+-- ZONE SOURCE ADDR.., and the names that have no address
+unfoldable pub servers_text : ServersOf → List ℕ
+servers_text servers = text_of servers.zone ++ 32 ∷ source_text servers.source ++ addrs_text servers.addrs ++ missing_text servers.missing
+
 abbrev pub seen_text : Sight → List ℕ
 seen_text NothingHeld = codes "unknown"
-seen_text (Held shown) = codes "found " ++ found_text shown
+seen_text (Held shown) = held_text shown
 seen_text (LocalSeen answer) = local_text answer
+seen_text (Servers servers) = codes "servers " ++ servers_text servers
 seen_text (Zones zones) = flat_map zone_line zones ++ codes "end"
 seen_text (Records records) = flat_map record_line records ++ codes "end"
+seen_text (Stubs stubs) = flat_map stub_line stubs ++ codes "end"
+seen_text (Commands commands) = flat_map journalled_line commands ++ codes "end"
 
 abbrev pub reason_text : Reason → List ℕ
 reason_text BelowRedirect = codes "error below_redirect"
@@ -86,17 +137,21 @@ abbrev pub has_data : Local (List Record) Record → Bool
 has_data (local.Data records) = true
 has_data _ = false
 
--- A find, local data or a list is seen: only these texts are of no bounded length.
+-- A set, local data or a list is seen: only these texts are of no bounded length.
 abbrev pub is_long : Reply → Bool
-is_long (Seen (Held shown)) = true
+is_long (Seen (Held shown)) = not (is_negative shown.body.body)
 is_long (Seen (LocalSeen answer)) = has_data answer
+is_long (Seen (Servers servers)) = true
 is_long (Seen (Zones zones)) = true
 is_long (Seen (Records records)) = true
+is_long (Seen (Stubs stubs)) = true
+is_long (Seen (Commands commands)) = true
 is_long _ = false
 
 abbrev pub reply_text : Reply → List ℕ
 reply_text Taken = with_end (codes "taken")
 reply_text Outranked = with_end (codes "outranked")
+reply_text Swept = with_end (codes "swept")
 reply_text (Seen seen) = with_end (seen_text seen)
 reply_text (Done ticket) = with_end (codes "ok " ++ decimal ticket)
 reply_text (Refused reason) = with_end (reason_text reason)
@@ -117,5 +172,6 @@ line_fault_text Missing = with_end (codes "error missing")
 line_fault_text BadName = with_end (codes "error bad_name")
 line_fault_text BadType = with_end (codes "error bad_type")
 line_fault_text BadData = with_end (codes "error bad_data")
+line_fault_text BadAddress = with_end (codes "error bad_address")
 line_fault_text TooLong = with_end (codes "error too_long")
 line_fault_text NoMemory = with_end (codes "error no_memory")

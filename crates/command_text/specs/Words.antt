@@ -3,7 +3,7 @@ use Rattle.std.specs.Prelude.{ℕ, Bool, true, false, List, [], ◌∷◌, ◌++
 use Rattle.std.specs.Str.{bytes_eq}
 use Rattle.dns_name.specs.Options.{◌>>=◌}
 use Rattle.command_text.specs.declared.words.Verb.{Verb}
-use Rattle.command_text.specs.declared.words.Verb.TheVariants.{At, Admit, Look, FlushType, LocalZone, LocalZoneRemove, LocalData, LocalDataRemove, ListLocalZones, ListLocalData, Undo, Redo}
+use Rattle.command_text.specs.declared.words.Verb.TheVariants.{At, Admit, NoData, NoName, Look, Servers, Sweep, Flush, FlushType, FlushZone, LocalZone, LocalZoneRemove, LocalData, LocalDataRemove, StubAdd, StubRemove, ListLocalZones, ListLocalData, ListStubs, ListCommands, Undo, Redo}
 use Rattle.command_text.specs.declared.words.Channel.{Channel}
 use Rattle.command_text.specs.declared.words.Channel.TheVariants.{Script, Control}
 use Rattle.command_text.specs.declared.words.Usage.{Usage}
@@ -27,14 +27,24 @@ abbrev pub commands : List Row
 commands =
     script_only At (codes "at") (codes "N")
     ∷ script_only Admit (codes "admit") (codes "RANK NAME TTL TYPE DATA [| DATA]..")
+    ∷ script_only NoData (codes "nodata") (codes "NAME TTL TYPE OWNER SOA-DATA")
+    ∷ script_only NoName (codes "noname") (codes "NAME TTL OWNER SOA-DATA")
     ∷ anywhere Look (codes "look") (codes "NAME TYPE")
+    ∷ anywhere Servers (codes "servers") (codes "NAME")
+    ∷ anywhere Sweep (codes "sweep") []
+    ∷ anywhere Flush (codes "flush") (codes "NAME")
     ∷ anywhere FlushType (codes "flush_type") (codes "NAME TYPE")
+    ∷ anywhere FlushZone (codes "flush_zone") (codes "NAME")
     ∷ anywhere LocalZone (codes "local_zone") (codes "NAME TYPE")
     ∷ anywhere LocalZoneRemove (codes "local_zone_remove") (codes "NAME")
     ∷ anywhere LocalData (codes "local_data") (codes "RECORD")
     ∷ anywhere LocalDataRemove (codes "local_data_remove") (codes "NAME")
+    ∷ anywhere StubAdd (codes "stub_add") (codes "NAME ADDR..")
+    ∷ anywhere StubRemove (codes "stub_remove") (codes "NAME")
     ∷ anywhere ListLocalZones (codes "list_local_zones") []
     ∷ anywhere ListLocalData (codes "list_local_data") []
+    ∷ anywhere ListStubs (codes "list_stubs") []
+    ∷ anywhere ListCommands (codes "list_commands") []
     ∷ anywhere Undo (codes "undo") []
     ∷ anywhere Redo (codes "redo") []
     ∷ []

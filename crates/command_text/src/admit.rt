@@ -1,6 +1,6 @@
 //! The words of the command `admit`.
 
-ghost use Rattle.std.specs.Prelude.{◌≡◌, ◌≤◌, IfOk, IfSome, IsErrOf, length};
+ghost use Rattle.std.specs.Prelude.{◌≡◌, ◌≤◌, ◌<◌, ◌^◌, IfOk, IfSome, IsErrOf, length};
 ghost use Rattle.std.specs.List.{AllByRecursion};
 ghost use Rattle.dns_name.specs.Results.{or_fault, result_map};
 ghost use Rattle.dns_text.specs.Data.{data_in, HasForm};
@@ -52,15 +52,16 @@ fn read_rank(word: &[u8]) -> Option<Rank>
     Rank::from_level(read_number(word, 4)?)
 }
 
-fn read_ttl(word: &[u8]) -> Option<u32>
+pub(crate) fn read_ttl(word: &[u8]) -> Option<u32>
     ensures value { result ≡ ttl_in word.now }
     ensures some { IfSome result (λ ttl. 1 ≤ ttl) }
+    ensures range { IfSome result (λ ttl. ttl < 2 ^ 31) }
 {
     let ttl = read_number(word, MOST_TTL)?;
     if ttl == 0 { None } else { Some(ttl as u32) }
 }
 
-fn read_datum(alloc: Global, kind: u16, text: &[u8]) -> Result<Data, LineFault>
+pub(crate) fn read_datum(alloc: Global, kind: u16, text: &[u8]) -> Result<Data, LineFault>
     ensures value { Gives result (or_fault BadData (data_in kind text.now)) }
     ensures form { IfOk result (λ datum. HasForm kind datum) }
 {

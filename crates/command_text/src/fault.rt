@@ -21,6 +21,9 @@ pub enum LineFault {
     /// A moment, a rank, a time to live or data, or a word too many.
     #[error("bad data, or a word too many")]
     BadData,
+    /// A word of addresses is none.
+    #[error("not an address")]
+    BadAddress,
     /// More octets than a line may have.
     #[error("the line is too long")]
     TooLong,

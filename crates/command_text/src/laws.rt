@@ -3,6 +3,9 @@
 ghost use Rattle.std.specs.Prelude.{◌≡◌, ◌≢◌, ℕ, List, [], ◌∷◌, ◌++◌, Some, None, map, codes};
 ghost use Rattle.dns_text.specs.Word.{next_word};
 ghost use Rattle.command_text.specs.Bar.{onto, pieces};
+ghost use Rattle.command_text.specs.CommandWords.{ReadsCommands};
+
+use dns_text::written_law;
 
 /// The pieces of a text, by its words: one that is a bar alone ends a piece, with the blanks before it, and any other is of the piece that it stands in.
 pub fn bars_are()
@@ -12,3 +15,10 @@ pub fn bars_are()
     ensures word { (text word after : List ℕ) → next_word text ≡ Some (word, after) → word ≢ codes "|"
         → (first : List ℕ) × (text ≡ first ++ after) × (pieces text ≡ onto first (pieces after)) }
 {}
+
+/// The words of a command are read back as that command, wherever lines come from.
+pub fn commands_are_read_back()
+    ensures { ReadsCommands }
+{
+    written_law();
+}

@@ -7,18 +7,27 @@ mod line; // what a line says
 mod parts; // words that many commands have
 mod admission; // what is admitted
 mod admit; // the words of `admit`
+mod denial; // what denies that there are data, or a name
+mod deny; // the words of `nodata` and `noname`
+mod addrs; // addresses of servers, each a word
+mod stubs; // the words of the commands on stubs
 mod local; // the words of the commands on local zones and local data
 mod bar; // the data of a set, between bars
+mod command_words; // commands in the words that give them
 mod answers; // what local zones answer, as it is told
-mod lists; // the lists of local zones and local data, as they are told
+mod lists; // the lists of local zones, local data and stubs, as they are told
+mod servers; // the servers of a name, as they are told
+mod journal; // the commands that can be undone or redone, as they are told
 mod text; // what is told
 mod obeying; // a line is obeyed
 mod script; // lines in, a transcript out
 mod laws; // what the definitions come to, by themselves
 
 pub use admission::Admission;
+pub use command_words::push_command;
+pub use denial::Denial;
 pub use fault::LineFault;
-pub use laws::bars_are;
+pub use laws::{bars_are, commands_are_read_back};
 pub use line::{Line, read_line};
 pub use script::run_script;
 pub use text::reply_text;

@@ -3,13 +3,16 @@
 ghost use Rattle.std.specs.Prelude.{◌≡◌, IsTrue, IsErrOf, is_ok};
 ghost use Rattle.command_text.specs.declared.fault.LineFault.TheVariants.{NoMemory};
 ghost use Rattle.command_text.specs.Fault.{Gives};
-ghost use Rattle.command_text.specs.Line.{is_silent, at_in, admit_in, look_in, flush_type_in, local_zone_in, local_zone_remove_in, local_data_in, local_data_remove_in, list_local_zones_in, list_local_data_in, undo_in, redo_in, said_by, takes_by, read_of, takes_memory};
+ghost use Rattle.command_text.specs.Line.{is_silent, at_in, admit_in, no_data_in, no_name_in, look_in, servers_in, sweep_in, flush_in, flush_type_in, flush_zone_in, local_zone_in, local_zone_remove_in, local_data_in, local_data_remove_in, stub_add_in, stub_remove_in, list_local_zones_in, list_local_data_in, list_stubs_in, list_commands_in, undo_in, redo_in, said_by, takes_by, read_of, takes_memory};
 
 use crate::admission::Admission;
 use crate::admit::{admit_words, read_admission};
+use crate::denial::Denial;
+use crate::deny::{no_data_words, no_name_words, read_no_data, read_no_name};
 use crate::fault::LineFault;
 use crate::local::{read_add_record, read_drop_name, read_drop_zone, read_set_zone};
-use crate::parts::{read_end, read_question, read_word};
+use crate::parts::{read_end, read_only_name, read_question, read_word};
+use crate::stubs::{read_drop_stub, read_set_stub};
 use crate::words::{Channel, Verb, verb_in};
 use dns_text::{next_word, read_number};
 use std::alloc::Global;
@@ -25,8 +28,12 @@ pub enum Line {
     At { moment: u64 },
     /// Something was found.
     Admit(Admission),
+    /// Something was found not to be.
+    Deny(Denial),
     /// Something is asked.
     Look(Ask),
+    /// What can never be shown again may be given up.
+    Sweep,
     /// The operator gives a command.
     Do(Command),
     /// The newest command is taken back.
@@ -66,6 +73,26 @@ fn read_admit(alloc: Global, text: &[u8]) -> Result<Line, LineFault>
     Ok(Line::Admit(admission))
 }
 
+#[tactic(auto, unfolding(crate::specs::Line::no_data_in))]
+fn read_no_data_line(alloc: Global, text: &[u8]) -> Result<Line, LineFault>
+    ensures value { Gives result (no_data_in text.now) }
+    ensures no_memory { IsErrOf result NoMemory → IsTrue (takes_by Verb.NoData text.now) }
+{
+    let words = no_data_words(text)?;
+    let denial = read_no_data(alloc, words)?;
+    Ok(Line::Deny(denial))
+}
+
+#[tactic(auto, unfolding(crate::specs::Line::no_name_in))]
+fn read_no_name_line(alloc: Global, text: &[u8]) -> Result<Line, LineFault>
+    ensures value { Gives result (no_name_in text.now) }
+    ensures no_memory { IsErrOf result NoMemory → IsTrue (takes_by Verb.NoName text.now) }
+{
+    let words = no_name_words(text)?;
+    let denial = read_no_name(alloc, words)?;
+    Ok(Line::Deny(denial))
+}
+
 #[tactic(auto, unfolding(crate::specs::Line::look_in))]
 fn read_look(alloc: Global, text: &[u8]) -> Result<Line, LineFault>
     ensures value { Gives result (look_in text.now) }
@@ -75,6 +102,33 @@ fn read_look(alloc: Global, text: &[u8]) -> Result<Line, LineFault>
     Ok(Line::Look(Ask::Answer(question)))
 }
 
+#[tactic(auto, unfolding(crate::specs::Line::servers_in))]
+fn read_servers(alloc: Global, text: &[u8]) -> Result<Line, LineFault>
+    ensures value { Gives result (servers_in text.now) }
+    ensures no_memory { IsErrOf result NoMemory → IsTrue (takes_by Verb.Servers text.now) }
+{
+    let name = read_only_name(alloc, text)?;
+    Ok(Line::Look(Ask::Servers(name)))
+}
+
+#[tactic(auto, unfolding(crate::specs::Line::sweep_in))]
+fn read_sweep(text: &[u8]) -> Result<Line, LineFault>
+    ensures value { Gives result (sweep_in text.now) }
+    ensures no_memory { IsErrOf result NoMemory → IsTrue (takes_by Verb.Sweep text.now) }
+{
+    read_end(text)?;
+    Ok(Line::Sweep)
+}
+
+#[tactic(auto, unfolding(crate::specs::Line::flush_in))]
+fn read_flush(alloc: Global, text: &[u8]) -> Result<Line, LineFault>
+    ensures value { Gives result (flush_in text.now) }
+    ensures no_memory { IsErrOf result NoMemory → IsTrue (takes_by Verb.Flush text.now) }
+{
+    let name = read_only_name(alloc, text)?;
+    Ok(Line::Do(Command::Flush { name }))
+}
+
 #[tactic(auto, unfolding(crate::specs::Line::flush_type_in))]
 fn read_flush_type(alloc: Global, text: &[u8]) -> Result<Line, LineFault>
     ensures value { Gives result (flush_type_in text.now) }
@@ -82,6 +136,15 @@ fn read_flush_type(alloc: Global, text: &[u8]) -> Result<Line, LineFault>
 {
     let question = read_question(alloc, text)?;
     Ok(Line::Do(Command::FlushType(question)))
+}
+
+#[tactic(auto, unfolding(crate::specs::Line::flush_zone_in))]
+fn read_flush_zone(alloc: Global, text: &[u8]) -> Result<Line, LineFault>
+    ensures value { Gives result (flush_zone_in text.now) }
+    ensures no_memory { IsErrOf result NoMemory → IsTrue (takes_by Verb.FlushZone text.now) }
+{
+    let name = read_only_name(alloc, text)?;
+    Ok(Line::Do(Command::FlushZone { name }))
 }
 
 #[tactic(auto, unfolding(crate::specs::Line::local_zone_in))]
@@ -120,6 +183,24 @@ fn read_local_data_remove(alloc: Global, text: &[u8]) -> Result<Line, LineFault>
     Ok(Line::Do(command))
 }
 
+#[tactic(auto, unfolding(crate::specs::Line::stub_add_in))]
+fn read_stub_add(alloc: Global, text: &[u8]) -> Result<Line, LineFault>
+    ensures value { Gives result (stub_add_in text.now) }
+    ensures no_memory { IsErrOf result NoMemory → IsTrue (takes_by Verb.StubAdd text.now) }
+{
+    let command = read_set_stub(alloc, text)?;
+    Ok(Line::Do(command))
+}
+
+#[tactic(auto, unfolding(crate::specs::Line::stub_remove_in))]
+fn read_stub_remove(alloc: Global, text: &[u8]) -> Result<Line, LineFault>
+    ensures value { Gives result (stub_remove_in text.now) }
+    ensures no_memory { IsErrOf result NoMemory → IsTrue (takes_by Verb.StubRemove text.now) }
+{
+    let command = read_drop_stub(alloc, text)?;
+    Ok(Line::Do(command))
+}
+
 #[tactic(auto, unfolding(crate::specs::Line::list_local_zones_in))]
 fn read_list_local_zones(text: &[u8]) -> Result<Line, LineFault>
     ensures value { Gives result (list_local_zones_in text.now) }
@@ -136,6 +217,24 @@ fn read_list_local_data(text: &[u8]) -> Result<Line, LineFault>
 {
     read_end(text)?;
     Ok(Line::Look(Ask::Records))
+}
+
+#[tactic(auto, unfolding(crate::specs::Line::list_stubs_in))]
+fn read_list_stubs(text: &[u8]) -> Result<Line, LineFault>
+    ensures value { Gives result (list_stubs_in text.now) }
+    ensures no_memory { IsErrOf result NoMemory → IsTrue (takes_by Verb.ListStubs text.now) }
+{
+    read_end(text)?;
+    Ok(Line::Look(Ask::Stubs))
+}
+
+#[tactic(auto, unfolding(crate::specs::Line::list_commands_in))]
+fn read_list_commands(text: &[u8]) -> Result<Line, LineFault>
+    ensures value { Gives result (list_commands_in text.now) }
+    ensures no_memory { IsErrOf result NoMemory → IsTrue (takes_by Verb.ListCommands text.now) }
+{
+    read_end(text)?;
+    Ok(Line::Look(Ask::Commands))
 }
 
 #[tactic(auto, unfolding(crate::specs::Line::undo_in))]
@@ -164,14 +263,24 @@ fn read_command(alloc: Global, verb: Verb, text: &[u8]) -> Result<Line, LineFaul
     match verb {
         Verb::At => read_at(text),
         Verb::Admit => read_admit(alloc, text),
+        Verb::NoData => read_no_data_line(alloc, text),
+        Verb::NoName => read_no_name_line(alloc, text),
         Verb::Look => read_look(alloc, text),
+        Verb::Servers => read_servers(alloc, text),
+        Verb::Sweep => read_sweep(text),
+        Verb::Flush => read_flush(alloc, text),
         Verb::FlushType => read_flush_type(alloc, text),
+        Verb::FlushZone => read_flush_zone(alloc, text),
         Verb::LocalZone => read_local_zone(alloc, text),
         Verb::LocalZoneRemove => read_local_zone_remove(alloc, text),
         Verb::LocalData => read_local_data(alloc, text),
         Verb::LocalDataRemove => read_local_data_remove(alloc, text),
+        Verb::StubAdd => read_stub_add(alloc, text),
+        Verb::StubRemove => read_stub_remove(alloc, text),
         Verb::ListLocalZones => read_list_local_zones(text),
         Verb::ListLocalData => read_list_local_data(text),
+        Verb::ListStubs => read_list_stubs(text),
+        Verb::ListCommands => read_list_commands(text),
         Verb::Undo => read_undo(text),
         Verb::Redo => read_redo(text),
     }

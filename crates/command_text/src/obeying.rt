@@ -5,11 +5,13 @@ ghost use Rattle.streams.specs.Split.{with_end};
 ghost use Rattle.streams.specs.Text.{octets_in};
 ghost use Rattle.undo_book.specs.declared.event.Event.{Event};
 ghost use Rattle.undo_book.specs.Answers.{Answers, history_after};
-ghost use Rattle.command_text.specs.declared.line.Line.TheVariants.{At, Admit, Look, Do, Undo, Redo};
+ghost use Rattle.command_text.specs.declared.line.Line.TheVariants.{At, Admit, Deny, Look, Sweep, Do, Undo, Redo};
 ghost use Rattle.command_text.specs.Admission.{IsFindOf};
+ghost use Rattle.command_text.specs.Denial.{IsDenialOf};
 ghost use Rattle.command_text.specs.Obeying.{Place, Asks, Does, GoesOn, Obeys};
 
 use crate::admission::Admission;
+use crate::denial::Denial;
 use crate::fault::LineFault;
 use crate::line::{Line, is_silent, read_line};
 use crate::text::{answer_text, line_fault_text};
@@ -64,11 +66,34 @@ fn obey_admit<B: Book>(alloc: Global, book: &mut B, moment: u64, admission: Admi
     }
 }
 
+fn share_denial(alloc: Global, denial: Denial) -> Result<SharedFind, AllocError>
+    ensures { IfOk result (λ find. IsDenialOf denial find) }
+{
+    SharedFind::new(alloc, denial.into_find())
+}
+
+fn obey_deny<B: Book>(alloc: Global, book: &mut B, moment: u64, denial: Denial) -> Text
+    ensures does { GoesOn B.stands_for book.old moment book.new moment (λ place next. Does (B.settings book.old) place (Ok (Deny denial)) (octets_in result) next) }
+    ensures settings { B.settings book.new ≡ B.settings book.old }
+{
+    match share_denial(alloc, denial) {
+        Ok(find) => ask(alloc, book, Event::Admit { moment, find }),
+        Err(_) => line_fault_text(LineFault::NoMemory),
+    }
+}
+
 fn obey_look<B: Book>(alloc: Global, book: &mut B, moment: u64, asked: Ask) -> Text
     ensures does { GoesOn B.stands_for book.old moment book.new moment (λ place next. Does (B.settings book.old) place (Ok (Look asked)) (octets_in result) next) }
     ensures settings { B.settings book.new ≡ B.settings book.old }
 {
     ask(alloc, book, Event::Look { moment, ask: asked })
+}
+
+fn obey_sweep<B: Book>(alloc: Global, book: &mut B, moment: u64) -> Text
+    ensures does { GoesOn B.stands_for book.old moment book.new moment (λ place next. Does (B.settings book.old) place (Ok Sweep) (octets_in result) next) }
+    ensures settings { B.settings book.new ≡ B.settings book.old }
+{
+    ask(alloc, book, Event::Sweep { moment })
 }
 
 fn obey_command<B: Book>(alloc: Global, book: &mut B, moment: u64, command: Command) -> Text
@@ -101,7 +126,9 @@ fn obey_line<B: Book>(alloc: Global, book: &mut B, moment: &mut u64, line: Line)
         Line::Silent => Text::Fixed(b""),
         Line::At { moment: given } => obey_at(moment, given),
         Line::Admit(admission) => obey_admit(alloc, book, *moment, admission),
+        Line::Deny(denial) => obey_deny(alloc, book, *moment, denial),
         Line::Look(asked) => obey_look(alloc, book, *moment, asked),
+        Line::Sweep => obey_sweep(alloc, book, *moment),
         Line::Do(command) => obey_command(alloc, book, *moment, command),
         Line::Undo => obey_undo(alloc, book, *moment),
         Line::Redo => obey_redo(alloc, book, *moment),

@@ -1,16 +1,19 @@
 //! What is told.
 
-ghost use Rattle.std.specs.Prelude.{◌≡◌, ◌≤◌, ◌++◌, ◌∷◌, [], length, IsTrue, IfOk, OnOk, OnErr, codes, decimal, flat_map};
+ghost use Rattle.std.specs.Prelude.{◌≡◌, ◌≤◌, not, ◌++◌, ◌∷◌, [], length, IsTrue, IfOk, OnOk, OnErr, codes, decimal, flat_map};
 ghost use Rattle.streams.specs.Split.{with_end};
 ghost use Rattle.streams.specs.Text.{octets_in};
 ghost use Rattle.dns_name.specs.Text.{text_of};
 ghost use Rattle.dns_text.specs.Data.{data_text};
-ghost use Rattle.command_text.specs.Text.{set_text, body_text, scope_text, found_text, is_long, reply_text, reason_text, fault_text, line_fault_text};
+ghost use Rattle.ranked.specs.Body.{is_negative};
+ghost use Rattle.command_text.specs.Text.{set_text, scope_text, found_text, held_text, is_long, reply_text, reason_text, fault_text, line_fault_text};
 ghost use Rattle.command_text.specs.Obeying.{Tells};
 
 use crate::answers::answer_line;
 use crate::fault::LineFault;
-use crate::lists::{records_lines, zones_lines};
+use crate::journal::commands_lines;
+use crate::lists::{records_lines, stubs_lines, zones_lines};
+use crate::servers::servers_line;
 use arrayvec::ArrayVec;
 use dns_text::{Data, NoMemory, push_data, push_type};
 use itoa::Buffer;
@@ -43,31 +46,50 @@ fn push_set(items: &[Data], out: &mut Vec<u8>) -> Result<(), NoMemory>
     }
 }
 
-/// Writes ` OWNER TYPE DATA`.
-fn push_find(find: &Find, out: &mut Vec<u8>) -> Result<(), NoMemory>
-    ensures { OnOk result (out.new.items ≡ out.old.items ++ 32 ∷ text_of find.now.owner ++ 32 ∷ scope_text find.now.scope ++ 32 ∷ body_text find.now.body) }
+fn push_scope(scope: Scope, out: &mut Vec<u8>) -> Result<(), NoMemory>
+    ensures { OnOk result (out.new.items ≡ out.old.items ++ scope_text scope) }
 {
-    let Scope::One(kind) = find.scope;
-    let Body::Set(items) = &find.body;
+    match scope {
+        Scope::One(kind) => push_type(kind, out),
+        Scope::Whole => Ok(()),
+    }
+}
+
+/// Writes ` OWNER TYPE DATA` of a set.
+fn push_find(find: &Find, items: &[Data], out: &mut Vec<u8>) -> Result<(), NoMemory>
+    ensures { OnOk result (out.new.items ≡ out.old.items ++ 32 ∷ text_of find.now.owner ++ 32 ∷ scope_text find.now.scope ++ 32 ∷ set_text items.now) }
+{
     out.push(b' ')?;
     find.owner.push_text(out)?;
     out.push(b' ')?;
-    push_type(kind, out)?;
+    push_scope(find.scope, out)?;
     out.push(b' ')?;
-    push_set(items.as_slice(), out)
+    push_set(items, out)
 }
 
 /// The line of a set that is held.
 #[tactic(auto, unfolding(crate::specs::Text::found_text))]
-fn found_line(alloc: Global, shown: &Shown<SharedFind>) -> Result<Vec<u8>, NoMemory>
-    ensures { IfOk result (λ text. text.items ≡ with_end (codes "found " ++ found_text shown.now)) }
+fn found_line(alloc: Global, shown: &Shown<SharedFind>, items: &[Data]) -> Result<Vec<u8>, NoMemory>
+    ensures { IfOk result (λ text. text.items ≡ with_end (codes "found " ++ found_text shown.now items.now)) }
 {
     let rank = shown.rank.level();
     let left = shown.left;
     let mut out = format!(in alloc; "found {rank} {left}")?.into_bytes();
-    push_find(shown.body.find(), &mut out)?;
+    push_find(shown.body.find(), items, &mut out)?;
     out.push(b'\n')?;
     Ok(out)
+}
+
+/// The line of what is held. Only that of a set takes memory.
+fn held_line(alloc: Global, shown: &Shown<SharedFind>) -> Result<Text, NoMemory>
+    ensures text { IfOk result (λ text. octets_in text ≡ with_end (held_text shown.now)) }
+    ensures memory { OnErr result (IsTrue (not (is_negative shown.now.body.body))) }
+{
+    match &shown.body.find().body {
+        Body::Set(items) => Ok(Text::Made(found_line(alloc, shown, items.as_slice())?)),
+        Body::NoData(_) => Ok(number_line(b"nodata", u64::from(shown.left))),
+        Body::NoName(_) => Ok(number_line(b"noname", u64::from(shown.left))),
+    }
 }
 
 /// A line of words and a number. It takes no memory.
@@ -96,7 +118,7 @@ fn reason_line(reason: Reason) -> Text
     }
 }
 
-/// The lines of a reply, each with its end. Only those of a find, of local data or of a list take memory.
+/// The lines of a reply, each with its end. Only those of a set, of local data or of a list take memory.
 pub fn reply_text(alloc: Global, reply: &Reply) -> Result<Text, NoMemory>
     ensures text { IfOk result (λ text. octets_in text ≡ reply_text reply.now) }
     ensures memory { OnErr result (IsTrue (is_long reply.now)) }
@@ -104,11 +126,15 @@ pub fn reply_text(alloc: Global, reply: &Reply) -> Result<Text, NoMemory>
     match reply {
         Reply::Taken => Ok(Text::Fixed(b"taken\n")),
         Reply::Outranked => Ok(Text::Fixed(b"outranked\n")),
+        Reply::Swept => Ok(Text::Fixed(b"swept\n")),
         Reply::Seen(Seen::Unknown) => Ok(Text::Fixed(b"unknown\n")),
-        Reply::Seen(Seen::Held(shown)) => Ok(Text::Made(found_line(alloc, shown)?)),
+        Reply::Seen(Seen::Held(shown)) => held_line(alloc, shown),
         Reply::Seen(Seen::Local(answer)) => answer_line(alloc, answer),
+        Reply::Seen(Seen::Servers(servers)) => Ok(Text::Made(servers_line(alloc, servers.get())?)),
         Reply::Seen(Seen::Zones(zones)) => Ok(Text::Made(zones_lines(alloc, zones)?)),
         Reply::Seen(Seen::Records(records)) => Ok(Text::Made(records_lines(alloc, records)?)),
+        Reply::Seen(Seen::Stubs(stubs)) => Ok(Text::Made(stubs_lines(alloc, stubs)?)),
+        Reply::Seen(Seen::Commands(commands)) => Ok(Text::Made(commands_lines(alloc, commands)?)),
         Reply::Done { ticket } => Ok(number_line(b"ok", *ticket)),
         Reply::Refused(reason) => Ok(reason_line(*reason)),
         Reply::Undone { ticket } => Ok(number_line(b"undone", *ticket)),
@@ -130,7 +156,7 @@ fn fault_text(fault: StepFault) -> Text
     }
 }
 
-/// The line of what a step answers. A find, local data or a list that finds no memory for its text is lost.
+/// The line of what a step answers. A set, local data or a list that finds no memory for its text is lost.
 pub fn answer_text(alloc: Global, answer: &Result<Reply, StepFault>) -> Text
     ensures { Tells answer.now (octets_in result) }
 {
@@ -153,6 +179,7 @@ pub fn line_fault_text(fault: LineFault) -> Text
         LineFault::BadName => Text::Fixed(b"error bad_name\n"),
         LineFault::BadType => Text::Fixed(b"error bad_type\n"),
         LineFault::BadData => Text::Fixed(b"error bad_data\n"),
+        LineFault::BadAddress => Text::Fixed(b"error bad_address\n"),
         LineFault::TooLong => Text::Fixed(b"error too_long\n"),
         LineFault::NoMemory => Text::Fixed(b"error no_memory\n"),
     }

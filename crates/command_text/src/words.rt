@@ -11,14 +11,24 @@ use std::alloc::{AllocError, Global};
 pub(crate) enum Verb {
     At,
     Admit,
+    NoData,
+    NoName,
     Look,
+    Servers,
+    Sweep,
+    Flush,
     FlushType,
+    FlushZone,
     LocalZone,
     LocalZoneRemove,
     LocalData,
     LocalDataRemove,
+    StubAdd,
+    StubRemove,
     ListLocalZones,
     ListLocalData,
+    ListStubs,
+    ListCommands,
     Undo,
     Redo,
 }
@@ -42,7 +52,7 @@ struct Usage {
     in_control: bool,
 }
 
-static COMMANDS: [Usage; 12] = [
+static COMMANDS: [Usage; 22] = [
     Usage {
         verb: Verb::At,
         word: "at",
@@ -58,6 +68,20 @@ static COMMANDS: [Usage; 12] = [
         in_control: false,
     },
     Usage {
+        verb: Verb::NoData,
+        word: "nodata",
+        form: "NAME TTL TYPE OWNER SOA-DATA",
+        in_script: true,
+        in_control: false,
+    },
+    Usage {
+        verb: Verb::NoName,
+        word: "noname",
+        form: "NAME TTL OWNER SOA-DATA",
+        in_script: true,
+        in_control: false,
+    },
+    Usage {
         verb: Verb::Look,
         word: "look",
         form: "NAME TYPE",
@@ -65,9 +89,37 @@ static COMMANDS: [Usage; 12] = [
         in_control: true,
     },
     Usage {
+        verb: Verb::Servers,
+        word: "servers",
+        form: "NAME",
+        in_script: true,
+        in_control: true,
+    },
+    Usage {
+        verb: Verb::Sweep,
+        word: "sweep",
+        form: "",
+        in_script: true,
+        in_control: true,
+    },
+    Usage {
+        verb: Verb::Flush,
+        word: "flush",
+        form: "NAME",
+        in_script: true,
+        in_control: true,
+    },
+    Usage {
         verb: Verb::FlushType,
         word: "flush_type",
         form: "NAME TYPE",
+        in_script: true,
+        in_control: true,
+    },
+    Usage {
+        verb: Verb::FlushZone,
+        word: "flush_zone",
+        form: "NAME",
         in_script: true,
         in_control: true,
     },
@@ -100,6 +152,20 @@ static COMMANDS: [Usage; 12] = [
         in_control: true,
     },
     Usage {
+        verb: Verb::StubAdd,
+        word: "stub_add",
+        form: "NAME ADDR..",
+        in_script: true,
+        in_control: true,
+    },
+    Usage {
+        verb: Verb::StubRemove,
+        word: "stub_remove",
+        form: "NAME",
+        in_script: true,
+        in_control: true,
+    },
+    Usage {
         verb: Verb::ListLocalZones,
         word: "list_local_zones",
         form: "",
@@ -109,6 +175,20 @@ static COMMANDS: [Usage; 12] = [
     Usage {
         verb: Verb::ListLocalData,
         word: "list_local_data",
+        form: "",
+        in_script: true,
+        in_control: true,
+    },
+    Usage {
+        verb: Verb::ListStubs,
+        word: "list_stubs",
+        form: "",
+        in_script: true,
+        in_control: true,
+    },
+    Usage {
+        verb: Verb::ListCommands,
+        word: "list_commands",
         form: "",
         in_script: true,
         in_control: true,

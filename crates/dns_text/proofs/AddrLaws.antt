@@ -1,5 +1,5 @@
 -- Addresses that are written are read back.
-use Rattle.std.proofs.Common.{◌≡◌, ℕ, ◌<◌, Bool, true, false, List, [], ◌∷◌, ◌++◌, length, get_or, Some, None, refl, ◌∙◌, arith, ne_eqb}
+use Rattle.std.proofs.Common.{◌≡◌, ℕ, ◌<◌, ◌^◌, Bool, true, false, List, [], ◌∷◌, ◌++◌, length, get_or, Some, None, refl, ◌∙◌, arith, ne_eqb, length-append}
 use Rattle.std.specs.Prelude.{◌==◌, not, decimal, slice_index}
 use Rattle.std.specs.Char.{is_ascii_digit, digit_char}
 use Rattle.std.specs.Str.{all_ascii_digits}
@@ -16,7 +16,10 @@ use Rattle.dns_text.specs.Word.{cut_at}
 use Rattle.dns_text.specs.Ipv4.{ipv4_in, dotted_text, ipv4_text}
 use Rattle.dns_text.specs.Ipv6.{ipv6_text}
 use Rattle.dns_text.specs.Addr.{addr_in, ip_text, addr_text, IpReads}
+use Rattle.dns_text.specs.declared.word.Within.TheVariants.{Plain}
 use Rattle.dns_text.proofs.NumberLaws.{digits-decimal, number_in-decimal}
+use Rattle.dns_text.proofs.WordLaws.{scanned, IsWord, joined_scanned}
+use Rattle.dns_text.proofs.FieldLaws.{number_is_word}
 use Rattle.dns_text.proofs.Ipv4Laws.{ipv4_in-ipv4_text}
 use Rattle.dns_text.proofs.Ipv6Laws.{AllGroups, segments, more_text, hex_all, ipv6_again}
 
@@ -99,3 +102,15 @@ unfolding addr_in
 addr_again addr h some small =
     rw (cut_behind 64 (ip_text addr.ip) (decimal addr.port) refl h.plain)
     (rw (number_in-decimal 65535 addr.port (omega arith) (omega arith)) (rw (ne_eqb addr.port 0 (λ e. omega arith)) (rw (h.value) refl)))
+
+at_scanned : scanned Plain (64 ∷ []) ≡ Some Plain
+unfolding scanned
+at_scanned = refl
+
+pub addr_is_word : (addr : Addr) → IsWord (ip_text addr.ip) → addr.port < 2 ^ 64 → IsWord (addr_text addr)
+addr_is_word addr ip small =
+    let port = number_is_word addr.port small in
+    record {
+      some = omega (arith, length-append (ip_text addr.ip) (64 ∷ decimal addr.port));
+      closed = joined_scanned (ip_text addr.ip) (64 ∷ decimal addr.port) ip.closed (joined_scanned (64 ∷ []) (decimal addr.port) at_scanned port.closed);
+    }

@@ -12,4 +12,5 @@ pub mod Data
 pub mod Equal
 pub mod EqualLaws
 pub mod Record
+pub mod Written
 pub mod Laws

@@ -7,6 +7,7 @@ ghost use Rattle.dns_text.specs.String.{IsStringsText, ReadsStrings};
 ghost use Rattle.dns_text.specs.Data.{IsDataText, ReadsData};
 ghost use Rattle.dns_text.specs.Record.{IsRecordText, ReadsRecords};
 ghost use Rattle.dns_text.specs.Laws.{StandsForOne};
+ghost use Rattle.dns_text.specs.Written.{WritesNames, WritesNumbers, WritesTypes, WritesAddrs, WritesRecords};
 
 /// What is read from a text is what it stands for.
 pub fn text_law()
@@ -28,3 +29,12 @@ pub fn one_meaning()
 {
     text_law();
 }
+
+/// What is written are words that are read back, wherever in a line they stand.
+pub fn written_law()
+    ensures names { WritesNames }
+    ensures numbers { WritesNumbers }
+    ensures types { WritesTypes }
+    ensures addrs { WritesAddrs }
+    ensures records { WritesRecords }
+{}

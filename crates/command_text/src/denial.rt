@@ -1,0 +1,45 @@
+//! What denies that there are data, or a name.
+
+ghost use Rattle.command_text.specs.Denial.{IsDenialOf};
+
+use dns_name::Name;
+use dns_text::Record;
+use ranked::{Find, Scope};
+use std::marker::Model;
+
+/// What a line denies. It lives for a second at least, and an SOA record denies it.
+#[derive(Debug, Drop)]
+pub struct Denial {
+    pub(crate) owner: Name,
+    pub(crate) scope: Scope,
+    pub(crate) ttl: u32,
+    pub(crate) soa: Record,
+}
+
+impl Model for Denial {
+    ghost use Rattle.command_text.specs.Denial.{Denied, IsSound};
+
+    ghost Value = { Denied };
+
+    ghost view = { λ d. record { owner = d.owner; scope = d.scope; ttl = d.ttl; soa = d.soa } };
+
+    ghost invariant = { λ d. IsSound (record { owner = d.owner; scope = d.scope; ttl = d.ttl; soa = d.soa }) };
+}
+
+impl Denial {
+    /// The find that it is. A longer time to live is cut to an hour.
+    pub fn into_find(self) -> Find
+        ensures { IsDenialOf self result }
+    {
+        let Denial {
+            owner,
+            scope,
+            ttl,
+            soa,
+        } = self;
+        match scope {
+            Scope::One(kind) => Find::no_data(owner, kind, ttl, soa).unwrap(),
+            Scope::Whole => Find::no_name(owner, ttl, soa).unwrap(),
+        }
+    }
+}
