@@ -30,7 +30,7 @@ def replied_lines(text):
 
 
 # A list is told on a line each, up to this one.
-LISTS = (b"list_local_zones", b"list_local_data")
+LISTS = (b"list_local_zones", b"list_local_data", b"list_stubs", b"list_commands")
 LIST_END = b"end"
 
 

@@ -94,7 +94,10 @@ def check_interrupted(checks):
 
 
 def check_refused_write(checks):
-    """A file that may have so many octets and no more gets that front of the replies, and the program says what failed."""
+    """A file that may have so many octets and no more gets that front of the replies, and the program says what failed.
+
+    So where the third octet of the second reply is the last that is written.
+    """
     text, replies = FIND + LOOK + LOOK, b"taken\n" + FOUND + FOUND
     for most in range(len(replies)):
         with tempfile.TemporaryFile() as file:
