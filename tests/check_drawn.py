@@ -4,8 +4,9 @@ from collections import Counter
 
 from checks import Checks, short
 from drawing import LISTS, drawn_script
-from model import cell_of, name_in, now, servers_at, shown, standing, tables_of, type_in, words_of
+from model import cell_of, now, servers_at, shown, standing, tables_of
 from programs import RESOLVER, run
+from reading import name_in, type_in, words_of
 
 SCRIPTS, SEED = 200, 20_261_122
 

@@ -2,7 +2,8 @@
 
 import random
 
-from model import FLUSHED, ZONE_TYPES, Model, type_text
+from model import FLUSHED, Model
+from reading import ZONE_TYPES, type_text
 
 LINES = 200
 
