@@ -64,10 +64,10 @@ at 1 2
 # How often each kind of line is drawn: in scripts of all, of the cache, of servers, and of tables.
 WEIGHTS = [
     dict(
-        at=6, admit=16, ns=8, denial=6, look=16, servers=8, flush=7,
+        at=6, clock=1, admit=16, ns=8, denial=6, look=16, servers=8, flush=7,
         stub=4, zone=2, record=3, list=5, back=5, sweep=1, wrong=2,
     ),
-    dict(at=8, admit=20, denial=8, look=20, flush=12, flushed_type=4, list=1, back=8, sweep=2, wrong=1),
+    dict(at=6, clock=4, admit=20, denial=8, look=20, flush=12, flushed_type=4, list=1, back=6, sweep=2, wrong=1),
     dict(at=6, admit=4, ns=24, denial=3, servers=32, flush=4, stub=7, list=2, back=6),
     dict(at=2, admit=4, look=20, zone=12, record=24, stub=4, list=10, back=8, wrong=1),
 ]
@@ -133,6 +133,15 @@ class Drawer:
         owner, kind = self.question()
         return [f"look {owner} {kind}"]
 
+    def clock(self):
+        """An event whose moment counts, whatever is replied to it, before the moment goes back."""
+        owner, kind = self.question()
+        draws = [self.change, self.change, self.admit, self.list, self.servers, self.sweep, self.look]
+        refused = f"stub_add {owner} {' '.join(ADDRESSES * 3)}"
+        event = self.draw.choice([*(draw() for draw in draws), ["undo"], ["redo"], [*self.change(), "undo"], [refused]])
+        before, later = f"at {self.moment}", f"at {self.moment + self.draw.randint(1, 9)}"
+        return [before, f"admit 4 {owner} 300 {kind} {self.data(kind)}", later, *event[:2], before, f"look {owner} {kind}"]
+
     def servers(self):
         return [f"servers {self.name()}"]
 
@@ -141,9 +150,11 @@ class Drawer:
         return [self.draw.choice([f"flush {owner}", f"flush_zone {owner}", f"flush_type {owner} {kind}"]), *self.look()]
 
     def flushed_type(self):
-        """Types that a flush covers, and some that it does not."""
+        """A name that is denied, of which a flush covers some types and others not."""
+        owner = self.question()[0]
         kind = self.draw.choice([type_text(number) for number in sorted(FLUSHED)] + ["TXT", "TYPE731"])
-        return [f"{self.draw.choice(['flush_type', 'look', 'look'])} {self.name()} {kind}"]
+        flush = self.draw.choice([f"flush {owner}", f"flush {owner}", f"flush_type {owner} {kind}"])
+        return [f"noname {owner} 300 test. {FORMS['SOA'](self.draw)}", flush, f"look {owner} {kind}", *self.look()]
 
     def stub(self):
         addrs = self.draw.choices(ADDRESSES, k=self.draw.choice([1, 1, 2, 8, 9]))
