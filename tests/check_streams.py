@@ -98,7 +98,8 @@ def check_refused_write(checks):
 
     So where the third octet of the second reply is the last that is written.
     """
-    text, replies = FIND + LOOK + LOOK, b"taken\n" + FOUND + FOUND
+    text = FIND + LOOK + b"flush a.test.\nlist_commands\n"
+    replies = b"taken\n" + FOUND + b"ok 1\n1 done flush a.test.\nend\n"
     for most in range(len(replies)):
         with tempfile.TemporaryFile() as file:
             done = subprocess.run(
