@@ -104,17 +104,21 @@ impl PlainPast {
     pub fn fate(&self, find: &SharedFind, moment: u64) -> Reply
         ensures { result ≡ reply_to_admission (past_in self.now) find.now moment find.now.scope }
     {
-        let Scope::One(kind) = find.find().scope;
-        let mut cell = self.cell(&find.find().owner, kind);
-        match cell.admit(find.find(), find, self.moment.max(moment)) {
-            Fate::Taken => Reply::Taken,
-            Fate::Outranked => Reply::Outranked,
+        match find.find().scope {
+            Scope::One(kind) => {
+                let mut cell = self.cell(&find.find().owner, kind);
+                match cell.admit(find.find(), find, self.moment.max(moment)) {
+                    Fate::Taken => Reply::Taken,
+                    Fate::Outranked => Reply::Outranked,
+                }
+            }
+            Scope::Whole => Reply::Taken,
         }
     }
 
     /// Adds an event to the history, with its reply.
     pub fn add(&mut self, event: Event, reply: &Reply)
-        requires reply { reply.now ≡ reply_of (past_in self.old) event }
+        requires reply { reply.now ≡ reply_of self.old.settings (past_in self.old) event }
         requires room { HasRoom self.old.marks }
         requires log_room { vec_len self.old.log < vec_capacity self.old.log }
         requires few { length self.old.log.items < 2 ^ 62 }
