@@ -20,14 +20,28 @@ def check_arguments(checks):
         (["--journal", "1x"], b"journal"),
         (["--cells", "0"], b"cells"),
         (["--cells", "1000001"], b"cells"),
+        (["--server-port", "0"], b"server-port"),
+        (["--server-port", "65536"], b"server-port"),
     ]:
         done = run([RESOLVER, "script", *arguments])
         first = done.err.split(b"\n")[0]
         is_told = first.startswith(b"error: ") and word in first
         checks.tell(" ".join(arguments), None if (done.status, done.out, is_told) == (2, b"", True) else f"{done}")
-    for arguments in (["--journal", "256"], ["--cells", "1000000"], ["--journal=1", "--cells=1"]):
+    for arguments in (["--journal", "256"], ["--cells", "1000000"], ["--journal=1", "--cells=1"], ["--server-port", "1"], ["--server-port=65535"]):
         done = run([RESOLVER, "script", *arguments], b"undo\n")
         checks.equal(" ".join(arguments), (done.status, done.out, done.err), (0, b"error nothing_to_undo\n", b""))
+
+
+def check_hints(checks):
+    """Up to 16 addresses of root servers, before and behind options."""
+    hints = [f"198.51.100.{place}" for place in range(17)]
+    told = "".join(f" {hint}@53" for hint in hints[:16])
+    for name, arguments in (("16 hints", hints[:16]), ("hints round an option", [*hints[:3], "--journal", "1", *hints[3:16]])):
+        done = run([RESOLVER, "script", *arguments], b"servers a.\n")
+        checks.equal(name, (done.status, done.out, done.err), (0, f"servers . hints{told}\n".encode(), b""))
+    for arguments in (hints, [*hints[:2], "ns.test."], ["1.2.3@53"], ["::1@0"], ["192.0.2.1@65536"], ["192.0.2.01"], [""]):
+        done = run([RESOLVER, "script", *arguments], b"servers a.\n")
+        checks.equal(f"hints {' '.join(arguments)}", (done.status, done.out, done.err), (2, b"", b"resolver: bad arguments\n"))
 
 
 def check_help(checks):
@@ -121,6 +135,7 @@ def check_starter(checks):
 def main():
     checks = Checks()
     check_arguments(checks)
+    check_hints(checks)
     check_help(checks)
     check_faults(checks)
     check_starter(checks)

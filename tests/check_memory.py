@@ -30,7 +30,7 @@ def replied_lines(text):
 
 
 # A list is told on a line each, up to this one.
-LISTS = (b"list_local_zones", b"list_local_data")
+LISTS = (b"list_local_zones", b"list_local_data", b"list_stubs", b"list_commands")
 LIST_END = b"end"
 
 
@@ -40,7 +40,7 @@ def replies_to(lines, told):
     rest = told.split(b"\n")[:-1]
     for line in lines:
         size = 1
-        if line in LISTS and rest and rest[0] not in NO_MEMORY and rest[0] != LOST and not rest[0].startswith(b"error "):
+        if line in LISTS and rest and not rest[0].startswith((b"error ", b"fault ")):
             size = rest.index(LIST_END) + 1 if LIST_END in rest else 0
         if not 0 < size <= len(rest):
             return None

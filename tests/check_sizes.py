@@ -125,6 +125,28 @@ def full_zones():
     yield "list_local_data", "end"
 
 
+def full_stubs():
+    """1,024 stubs and no more. One that is there takes its new addresses; the last is taken back, and another comes."""
+    stubs = [f"s{place}. 127.0.0.1@53" for place in range(1_024)]
+    for place in range(1_024):
+        yield f"stub_add s{place}. 127.0.0.1", f"ok {place + 1}"
+    yield "stub_add more. 127.0.0.1", "error too_many"
+    yield "servers more.", "servers . hints"
+    yield "stub_add s7. 127.0.0.2 127.0.0.3", "ok 1025"
+    stubs[7] = "s7. 127.0.0.2@53 127.0.0.3@53"
+    yield "list_stubs", "\n".join(stubs + ["end"])
+    yield "undo", "undone 1025"
+    yield "undo", "undone 1024"
+    stubs[7] = "s7. 127.0.0.1@53"
+    yield "servers a.s1023.", "servers . hints"
+    yield "list_stubs", "\n".join(stubs[:-1] + ["end"])
+    yield "redo", "redone 1024"
+    yield "stub_add more. 127.0.0.1", "error too_many"
+    yield "stub_remove s0.", "ok 1026"
+    yield "stub_add more. 127.0.0.1", "ok 1027"
+    yield "list_stubs", "\n".join(stubs[1:] + ["more. 127.0.0.1@53", "end"])
+
+
 def full_records():
     """65,536 records and no more, removed with their zone and taken back. One that is there already is no more."""
     yield "local_zone z. static", "ok 1"
@@ -181,6 +203,7 @@ def main():
     check(checks, escaped_names)
     check(checks, flushed_and_undone_again)
     check(checks, full_zones)
+    check(checks, full_stubs)
     check(checks, full_records)
     check(checks, records_taken_back)
     checks.end()

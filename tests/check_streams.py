@@ -94,8 +94,12 @@ def check_interrupted(checks):
 
 
 def check_refused_write(checks):
-    """A file that may have so many octets and no more gets that front of the replies, and the program says what failed."""
-    text, replies = FIND + LOOK + LOOK, b"taken\n" + FOUND + FOUND
+    """A file that may have so many octets and no more gets that front of the replies, and the program says what failed.
+
+    So where the third octet of the second reply is the last that is written.
+    """
+    text = FIND + LOOK + b"flush a.test.\nlist_commands\n"
+    replies = b"taken\n" + FOUND + b"ok 1\n1 done flush a.test.\nend\n"
     for most in range(len(replies)):
         with tempfile.TemporaryFile() as file:
             done = subprocess.run(
