@@ -3,6 +3,7 @@
 ghost use Rattle.std.specs.Prelude.{◌≡◌, true};
 ghost use Rattle.dns_text.specs.declared.record.Data.{Data};
 ghost use Rattle.dns_text.specs.declared.record.Question.{Question};
+ghost use Rattle.dns_text.specs.declared.record.Record.{Record};
 
 use crate::items::{Items, Octets};
 use crate::ttl::Ttl;
@@ -65,6 +66,8 @@ pub struct Record {
 pub fn equality_law()
     ensures data_exact { (a b : Data) → ⟦<Data as PartialEq>⟧.eq a b ≡ true → a ≡ b }
     ensures questions_exact { (a b : Question) → ⟦<Question as PartialEq>⟧.eq a b ≡ true → a ≡ b }
+    ensures records_exact { (a b : Record) → ⟦<Record as PartialEq>⟧.eq a b ≡ true → a ≡ b }
     ensures data_itself { (a : Data) → ⟦<Data as PartialEq>⟧.eq a a ≡ true }
     ensures question_itself { (a : Question) → ⟦<Question as PartialEq>⟧.eq a a ≡ true }
+    ensures record_itself { (a : Record) → ⟦<Record as PartialEq>⟧.eq a a ≡ true }
 {}

@@ -7,3 +7,5 @@ pub mod Saved
 pub mod Show
 pub mod Shown
 pub mod Answer
+pub mod Equal
+pub mod EqualLaws

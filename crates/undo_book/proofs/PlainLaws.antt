@@ -15,10 +15,11 @@ use Rattle.ranked.specs.Cell.{turns_away}
 use Rattle.ranked.specs.Find.{admission_of}
 use Rattle.dns_name.specs.ListLaws.{all_push}
 use Rattle.undo_book.specs.declared.event.Event.{Event}
-use Rattle.undo_book.specs.declared.event.Event.TheVariants.{Admit, Look, Do, Undo, Redo}
+use Rattle.undo_book.specs.declared.event.Event.TheVariants.{Admit, Look, Sweep, Do, Undo, Redo}
 use Rattle.undo_book.specs.declared.event.Command.{Command}
 use Rattle.undo_book.specs.declared.event.Entry.{Entry}
 use Rattle.undo_book.specs.declared.event.Reason.{Reason}
+use Rattle.undo_book.specs.declared.event.Settings.{Settings}
 use Rattle.undo_book.specs.declared.event.Reply.{Reply}
 use Rattle.undo_book.specs.declared.event.Reply.TheVariants.{Taken, Outranked, Undone, Redone}
 use Rattle.undo_book.specs.declared.log.Logged.{Logged}
@@ -36,6 +37,7 @@ use Rattle.undo_book.proofs.UndoLaw.{struck_now, struck_other}
 pub flag_tells : (marks : Marks) (event : Event) (ticket : Option ℕ) (flag : Bool) → flag ≡ has_struck marks.struck ticket → stands_by (λ t. not flag) event ticket ≡ stands_by (is_unstruck marks) event ticket
 flag_tells marks (Admit m f) ticket flag is = refl
 flag_tells marks (Look m a) ticket flag is = refl
+flag_tells marks (Sweep m) ticket flag is = refl
 flag_tells marks (Do m c) None flag is = refl
 flag_tells marks (Do m c) (Some ticket) flag is = ap not is
 flag_tells marks (Undo m) ticket flag is = refl
@@ -74,12 +76,13 @@ by_redo : (bound : ℕ) (marks : Marks) (o : Option ℕ) → option_map_or (rest
 by_redo bound marks None = refl
 by_redo bound marks (Some ticket) = refl
 
-pub marks_by_reply : (bound : ℕ) (past : Past) (event : Event) → marks_by bound past.marks (reply_of past event) ≡ marks_after bound past.marks event (ticket_for past event)
-marks_by_reply bound past (Admit m f) = by_admission bound past f m f.scope
-marks_by_reply bound past (Look m a) = refl
-marks_by_reply bound past (Do m c) = sym (by_command bound past.marks m c (reason_of past c))
-marks_by_reply bound past (Undo m) = sym (by_undo bound past.marks (last_of past.marks.done))
-marks_by_reply bound past (Redo m) = sym (by_redo bound past.marks (last_of past.marks.undone))
+pub marks_by_reply : (settings : Settings) (past : Past) (event : Event) → marks_by settings.journal past.marks (reply_of settings past event) ≡ marks_after settings.journal past.marks event (ticket_for past event)
+marks_by_reply settings past (Admit m f) = by_admission settings.journal past f m f.scope
+marks_by_reply settings past (Look m a) = refl
+marks_by_reply settings past (Sweep m) = refl
+marks_by_reply settings past (Do m c) = sym (by_command settings.journal past.marks m c (reason_of past c))
+marks_by_reply settings past (Undo m) = sym (by_undo settings.journal past.marks (last_of past.marks.done))
+marks_by_reply settings past (Redo m) = sym (by_redo settings.journal past.marks (last_of past.marks.undone))
 
 -- ---- what a reply tells of the ticket
 
@@ -104,12 +107,13 @@ ticket_by_redo : (o : Option ℕ) → ticket_taken (reply_to_redo o) ≡ None
 ticket_by_redo None = refl
 ticket_by_redo (Some ticket) = refl
 
-pub ticket_by_reply : (past : Past) (event : Event) → ticket_taken (reply_of past event) ≡ ticket_for past event
-ticket_by_reply past (Admit m f) = ticket_by_admission past f m f.scope
-ticket_by_reply past (Look m a) = refl
-ticket_by_reply past (Do m c) = ticket_by_command past.marks (reason_of past c)
-ticket_by_reply past (Undo m) = ticket_by_undo (last_of past.marks.done)
-ticket_by_reply past (Redo m) = ticket_by_redo (last_of past.marks.undone)
+pub ticket_by_reply : (settings : Settings) (past : Past) (event : Event) → ticket_taken (reply_of settings past event) ≡ ticket_for past event
+ticket_by_reply settings past (Admit m f) = ticket_by_admission past f m f.scope
+ticket_by_reply settings past (Look m a) = refl
+ticket_by_reply settings past (Sweep m) = refl
+ticket_by_reply settings past (Do m c) = ticket_by_command past.marks (reason_of past c)
+ticket_by_reply settings past (Undo m) = ticket_by_undo (last_of past.marks.done)
+ticket_by_reply settings past (Redo m) = ticket_by_redo (last_of past.marks.undone)
 
 -- ---- the entries stay, whatever their flags
 
@@ -122,7 +126,7 @@ entries_by (Undone ticket) log = entries_flagged ticket true log
 entries_by (Redone ticket) log = entries_flagged ticket false log
 entries_by reply log = refl
 
-entries_push : (log : List Logged) (l : Logged) → entries_in (log ++ l ∷ []) ≡ entries_in log ++ l.entry ∷ []
+pub entries_push : (log : List Logged) (l : Logged) → entries_in (log ++ l ∷ []) ≡ entries_in log ++ l.entry ∷ []
 entries_push [] l = refl
 entries_push (k ∷ log) l = ap (λ (es : List Entry). k.entry ∷ es) (entries_push log l)
 
@@ -180,7 +184,7 @@ flags_by_reply bound marks (Undone ticket) log h = struck_flags marks.struck tic
 flags_by_reply bound marks (Redone ticket) log h = stands_flags marks.struck ticket log h
 flags_by_reply bound marks reply log h = h
 
-not_struck : (n : ℕ) (xs : List ℕ) → occurs n xs ≡ 0 → list_any (λ s. s == n) xs ≡ false
+pub not_struck : (n : ℕ) (xs : List ℕ) → occurs n xs ≡ 0 → list_any (λ s. s == n) xs ≡ false
 not_struck n [] none = refl
 not_struck n (x ∷ xs) none =
     elim (cases_Bool (x == n)) [
@@ -198,12 +202,13 @@ new_by_reason marks (Some reason) h = refl
 new_ticket : (past : Past) (event : Event) → ((t : ℕ) → InOne past.marks t) → has_struck past.marks.struck (ticket_for past event) ≡ false
 new_ticket past (Admit m f) h = refl
 new_ticket past (Look m a) h = refl
+new_ticket past (Sweep m) h = refl
 new_ticket past (Do m c) h = new_by_reason past.marks (reason_of past c) h
 new_ticket past (Undo m) h = refl
 new_ticket past (Redo m) h = refl
 
-pub flags_after : (bound : ℕ) (past : Past) (event : Event) (log : List Logged) (l : Logged) → ((t : ℕ) → InOne past.marks t) → AreFlagged past.marks.struck log → l.struck ≡ false → l.entry.ticket ≡ ticket_for past event
-    → AreFlagged (marks_by bound past.marks (reply_of past event)).struck (flags_by (reply_of past event) (log ++ l ∷ []))
-flags_after bound past event log l h flags clear ticket =
-    flags_by_reply bound past.marks (reply_of past event) (log ++ l ∷ [])
+pub flags_after : (settings : Settings) (past : Past) (event : Event) (log : List Logged) (l : Logged) → ((t : ℕ) → InOne past.marks t) → AreFlagged past.marks.struck log → l.struck ≡ false → l.entry.ticket ≡ ticket_for past event
+    → AreFlagged (marks_by settings.journal past.marks (reply_of settings past event)).struck (flags_by (reply_of settings past event) (log ++ l ∷ []))
+flags_after settings past event log l h flags clear ticket =
+    flags_by_reply settings.journal past.marks (reply_of settings past event) (log ++ l ∷ [])
     (all_push (IsFlagged past.marks.struck) log l flags (clear ∙ sym (ap (has_struck past.marks.struck) ticket ∙ new_ticket past event h)))

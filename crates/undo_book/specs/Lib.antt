@@ -4,8 +4,13 @@ pub mod Tickets
 pub mod Changes
 pub mod History
 pub mod Cells
+pub mod Flushes
+pub mod Journal
+pub mod Servers
 pub mod Reply
 pub mod Answers
+pub mod Desk
+pub mod Equal
 pub mod Runs
 pub mod Refusal
 pub mod Redo

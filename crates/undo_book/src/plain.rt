@@ -6,15 +6,19 @@ ghost use Rattle.undo_book.specs.History.{tables_of};
 ghost use Rattle.undo_book.specs.PlainPast.{past_in};
 
 use crate::book::{Book, StepFault};
+use crate::closest::servers;
 use crate::event::{Ask, Event, Look, Reply, Seen, Settings};
-use crate::limits::{MOMENT_END, MOST_CELLS, MOST_COMMANDS, MOST_EVENTS};
+use crate::limits::{MOMENT_END, MOST_CELLS, MOST_COMMANDS, MOST_EVENTS, MOST_HINTS};
+use crate::made::Tables;
 use crate::past::PlainPast;
 use crate::replies::reply;
+use crate::servers::Servers;
 use crate::sight::{shared_sight, sight};
-use dns_name::NoMemory;
+use dns_name::{Name, NoMemory};
 use dns_text::Question;
 use local_zone::ZoneTable;
 use std::alloc::Global;
+use stub_table::StubTable;
 use thiserror::Error;
 
 /// Why no book is made.
@@ -28,13 +32,23 @@ pub enum MakeFault {
     NoMemory,
 }
 
-/// A book that keeps its whole history, and answers by a replay. Beside it stands the table that it comes to.
+/// Whether each is in its range.
+fn are_settings(settings: &Settings) -> bool
+    ensures { IsTrue result ↔ AreSettings settings.now }
+{
+    let has_journal = settings.journal >= 1 && settings.journal <= MOST_COMMANDS;
+    let has_cells = settings.cells >= 1 && settings.cells <= MOST_CELLS;
+    let has_hints = settings.hints.as_slice().len() <= MOST_HINTS;
+    has_journal && has_cells && has_hints && settings.server_port >= 1
+}
+
+/// A book that keeps its whole history, and answers by a replay. Beside it stand the tables that it comes to.
 #[derive(Debug, Drop)]
 pub struct PlainBook {
     past: PlainPast,
-    table: ZoneTable,
+    tables: Tables,
     alloc: Global,
-    ghost tabled: { table ≡ tables_of (past_in past) },
+    ghost tabled: { tables ≡ tables_of (past_in past) },
 }
 
 impl PlainBook {
@@ -49,20 +63,19 @@ impl PlainBook {
         ensures refused { IsErrOf result MakeFault.BadSettings ↔ ¬ (AreSettings settings) }
         ensures made { AreSettings settings → IsOk result }
     {
-        let Settings { journal, cells } = settings;
-        if journal < 1 || journal > MOST_COMMANDS || cells < 1 || cells > MOST_CELLS {
+        if !are_settings(&settings) {
             return Err(MakeFault::BadSettings);
         }
         Ok(PlainBook {
             past: PlainPast::new(alloc, settings),
-            table: ZoneTable::new(alloc),
+            tables: Tables::new(alloc),
             alloc,
         })
     }
 
     /// Takes an event. What can fail comes before anything changes.
     fn take_event(&mut self, event: Event) -> Result<Reply, StepFault>
-        ensures answers { AnswersBy self.old.past.settings (length self.old.past.log.items) self.old.past.admissions (reply_of (past_in self.old.past) event) event result }
+        ensures answers { AnswersBy self.old.past.settings (length self.old.past.log.items) self.old.past.admissions (reply_of self.old.past.settings (past_in self.old.past) event) event result }
         ensures taken { OnOk result (past_in self.new.past ≡ followed_by self.old.past.settings.journal (past_in self.old.past) event) }
         ensures unchanged { OnErr result (past_in self.new.past ≡ past_in self.old.past) }
         ensures settings { self.new.past.settings ≡ self.old.past.settings }
@@ -83,7 +96,7 @@ impl PlainBook {
             });
         }
         self.past.make_room()?;
-        let reply = reply(self.alloc, &self.past, &mut self.table, &event)?;
+        let reply = reply(self.alloc, &self.past, &mut self.tables, &event)?;
         self.past.add(event, &reply);
         Ok(reply)
     }
@@ -93,7 +106,7 @@ impl Book for PlainBook {
     ghost use Rattle.std.specs.Prelude.{◌≡◌, ◌↔◌, ℕ, List, length, count_by, IsTrue, OnErr, IsErrOf};
     ghost use Rattle.undo_book.specs.declared.event.Event.{Event};
     ghost use Rattle.undo_book.specs.Event.{is_admission};
-    ghost use Rattle.undo_book.specs.Counts.{stores_admissions};
+    ghost use Rattle.undo_book.specs.Counts.{stores_admissions, same_count};
     ghost use Rattle.undo_book.specs.Answers.{IsTimely, Answers, history_after};
     ghost use Rattle.undo_book.specs.PlainBook.{settings_in, stored_in, StandsFor};
 
@@ -106,6 +119,8 @@ impl Book for PlainBook {
     ghost has_journal = { λ book history is. book.past.in_range.some_commands };
 
     ghost stores_few = { λ book history is. stores_admissions (settings_in book).journal (past_in book.past) history (stored_in book) book.past.counted is };
+
+    ghost one_count = { λ book h k is also. same_count (settings_in book).journal (past_in book.past) h k is also };
 
     fn step(&mut self, event: Event) -> Result<Reply, StepFault>
         ensures answers { (h : List Event) → StandsFor self.old h → Answers (settings_in self.old) h event result }
@@ -121,15 +136,23 @@ impl Book for PlainBook {
     }
 
     fn seen(&self, ask: &Ask, moment: u64) -> Result<Seen, NoMemory> {
-        shared_sight(self.alloc, &self.past, &self.table, ask, moment)
+        shared_sight(self.alloc, &self.past, &self.tables, ask, moment)
     }
 
     fn look<'a>(&'a self, question: &'a Question, moment: u64) -> Look<'a> {
-        sight(&self.past, &self.table, question, moment)
+        sight(&self.past, &self.tables.local, question, moment)
     }
 
     fn zones(&self) -> &ZoneTable {
-        &self.table
+        &self.tables.local
+    }
+
+    fn stubs(&self) -> &StubTable {
+        &self.tables.stubs
+    }
+
+    fn servers(&self, name: &Name, moment: u64) -> Result<Servers, NoMemory> {
+        servers(self.alloc, &self.past, &self.tables.stubs, name, moment)
     }
 
     fn stored(&self) -> usize
