@@ -9,14 +9,14 @@ use neg_rule::negative_of;
 use ranked::{Body, Find, Scope};
 use std::alloc::Global;
 
-fn question_of(alloc: Global, owner: &[u8], kind: &[u8]) -> Result<Question, CallFault> {
+pub fn question_of(alloc: Global, owner: &[u8], kind: &[u8]) -> Result<Question, CallFault> {
     let kind = read_type(kind)?;
     let owner = Name::from_text(alloc, owner)?;
     Ok(Question { owner, kind })
 }
 
 /// Writes ` TYPE`, or nothing where it is every type.
-fn push_scope(scope: Scope, out: &mut Vec<u8>) -> Result<(), NoMemory> {
+pub fn push_scope(scope: Scope, out: &mut Vec<u8>) -> Result<(), NoMemory> {
     match scope {
         Scope::One(kind) => {
             out.push(b' ')?;
@@ -36,7 +36,7 @@ fn soa_of(find: &Find) -> Option<&Record> {
 }
 
 /// `nodata` or `noname`, the rank, the time to live, what is denied, and the record that denies behind a bar.
-fn denial_words(alloc: Global, find: &Find) -> Result<Vec<u8>, NoMemory> {
+pub fn denial_words(alloc: Global, find: &Find) -> Result<Vec<u8>, NoMemory> {
     let word = match find.body {
         Body::NoData(_) => "nodata",
         Body::NoName(_) => "noname",
