@@ -2,7 +2,7 @@
 
 use crate::cells::one;
 use dns_name::Name;
-use dns_text::Question;
+use dns_text::{Items, Question};
 use ranked::{Rank, SharedFind};
 use std::alloc::Global;
 use std::test::*;
@@ -34,7 +34,13 @@ fn flush(alloc: Global, moment: u64) -> Result<Event, Fail> {
 }
 
 fn book(alloc: Global, journal: usize, cells: usize) -> Result<PlainBook, MakeFault> {
-    PlainBook::new(alloc, Settings { journal, cells })
+    let settings = Settings {
+        journal,
+        cells,
+        hints: Items::new(Vec::new(alloc)),
+        server_port: 53,
+    };
+    PlainBook::new(alloc, settings)
 }
 
 /// The seconds that what is held has left.

@@ -19,6 +19,7 @@ use Rattle.undo_book.specs.declared.event.Event.TheVariants.{Admit, Look, Do, Un
 use Rattle.undo_book.specs.declared.event.Command.{Command}
 use Rattle.undo_book.specs.declared.event.Entry.{Entry}
 use Rattle.undo_book.specs.declared.event.Reason.{Reason}
+use Rattle.undo_book.specs.declared.event.Settings.{Settings}
 use Rattle.undo_book.specs.declared.event.Reply.{Reply}
 use Rattle.undo_book.specs.declared.event.Reply.TheVariants.{Taken, Outranked, Undone, Redone}
 use Rattle.undo_book.specs.declared.log.Logged.{Logged}
@@ -73,12 +74,12 @@ by_redo : (bound : ℕ) (marks : Marks) (o : Option ℕ) → option_map_or (rest
 by_redo bound marks None = refl
 by_redo bound marks (Some ticket) = refl
 
-pub marks_by_reply : (bound : ℕ) (past : Past) (event : Event) → marks_by bound past.marks (reply_of past event) ≡ marks_after bound past.marks event (ticket_for past event)
-marks_by_reply bound past (Admit m f) = by_admission bound past f m f.scope
-marks_by_reply bound past (Look m a) = refl
-marks_by_reply bound past (Do m c) = sym (by_command bound past.marks m c (reason_of past c))
-marks_by_reply bound past (Undo m) = sym (by_undo bound past.marks (last_of past.marks.done))
-marks_by_reply bound past (Redo m) = sym (by_redo bound past.marks (last_of past.marks.undone))
+pub marks_by_reply : (settings : Settings) (past : Past) (event : Event) → marks_by settings.journal past.marks (reply_of settings past event) ≡ marks_after settings.journal past.marks event (ticket_for past event)
+marks_by_reply settings past (Admit m f) = by_admission settings.journal past f m f.scope
+marks_by_reply settings past (Look m a) = refl
+marks_by_reply settings past (Do m c) = sym (by_command settings.journal past.marks m c (reason_of past c))
+marks_by_reply settings past (Undo m) = sym (by_undo settings.journal past.marks (last_of past.marks.done))
+marks_by_reply settings past (Redo m) = sym (by_redo settings.journal past.marks (last_of past.marks.undone))
 
 -- ---- what a reply tells of the ticket
 
@@ -102,12 +103,12 @@ ticket_by_redo : (o : Option ℕ) → ticket_taken (reply_to_redo o) ≡ None
 ticket_by_redo None = refl
 ticket_by_redo (Some ticket) = refl
 
-pub ticket_by_reply : (past : Past) (event : Event) → ticket_taken (reply_of past event) ≡ ticket_for past event
-ticket_by_reply past (Admit m f) = ticket_by_admission past f m f.scope
-ticket_by_reply past (Look m a) = refl
-ticket_by_reply past (Do m c) = ticket_by_command past.marks (reason_of past c)
-ticket_by_reply past (Undo m) = ticket_by_undo (last_of past.marks.done)
-ticket_by_reply past (Redo m) = ticket_by_redo (last_of past.marks.undone)
+pub ticket_by_reply : (settings : Settings) (past : Past) (event : Event) → ticket_taken (reply_of settings past event) ≡ ticket_for past event
+ticket_by_reply settings past (Admit m f) = ticket_by_admission past f m f.scope
+ticket_by_reply settings past (Look m a) = refl
+ticket_by_reply settings past (Do m c) = ticket_by_command past.marks (reason_of past c)
+ticket_by_reply settings past (Undo m) = ticket_by_undo (last_of past.marks.done)
+ticket_by_reply settings past (Redo m) = ticket_by_redo (last_of past.marks.undone)
 
 -- ---- the entries stay, whatever their flags
 
@@ -200,8 +201,8 @@ new_ticket past (Do m c) h = new_by_reason past.marks (reason_of past c) h
 new_ticket past (Undo m) h = refl
 new_ticket past (Redo m) h = refl
 
-pub flags_after : (bound : ℕ) (past : Past) (event : Event) (log : List Logged) (l : Logged) → ((t : ℕ) → InOne past.marks t) → AreFlagged past.marks.struck log → l.struck ≡ false → l.entry.ticket ≡ ticket_for past event
-    → AreFlagged (marks_by bound past.marks (reply_of past event)).struck (flags_by (reply_of past event) (log ++ l ∷ []))
-flags_after bound past event log l h flags clear ticket =
-    flags_by_reply bound past.marks (reply_of past event) (log ++ l ∷ [])
+pub flags_after : (settings : Settings) (past : Past) (event : Event) (log : List Logged) (l : Logged) → ((t : ℕ) → InOne past.marks t) → AreFlagged past.marks.struck log → l.struck ≡ false → l.entry.ticket ≡ ticket_for past event
+    → AreFlagged (marks_by settings.journal past.marks (reply_of settings past event)).struck (flags_by (reply_of settings past event) (log ++ l ∷ []))
+flags_after settings past event log l h flags clear ticket =
+    flags_by_reply settings.journal past.marks (reply_of settings past event) (log ++ l ∷ [])
     (all_push (IsFlagged past.marks.struck) log l flags (clear ∙ sym (ap (has_struck past.marks.struck) ticket ∙ new_ticket past event h)))

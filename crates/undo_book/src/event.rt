@@ -5,7 +5,7 @@ ghost use Rattle.std.specs.Option.{option_map};
 ghost use Rattle.local_zone.specs.Answer.{local_now};
 
 use dns_name::{Name, NoMemory};
-use dns_text::{Items, Question, Record, Shared};
+use dns_text::{Addr, Items, Question, Record, Shared};
 use local_zone::{Local, LocalRecord, LocalSet, SeenRecord, Zone, ZoneType};
 use ranked::{Held, SharedFind, Shown};
 use std::alloc::Global;
@@ -220,10 +220,14 @@ pub struct Entry {
 }
 
 /// What a book is made with.
-#[derive(Clone, Copy, Debug, PartialEq, Eq)]
+#[derive(Debug, Drop, PartialEq)]
 pub struct Settings {
     /// How many of the newest commands can be undone, from 1 to `MOST_COMMANDS`.
     pub journal: usize,
     /// How many cells there may be, from 1 to `MOST_CELLS`.
     pub cells: usize,
+    /// The addresses of the root's servers, at most `MOST_HINTS`.
+    pub hints: Items<Addr>,
+    /// The port of the servers whose addresses are in the cache, from 1 to 65,535.
+    pub server_port: u16,
 }

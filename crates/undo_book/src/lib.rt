@@ -25,6 +25,6 @@ pub use laws::{
     clock_is_greatest, done_is_in_order, equality_law, flush_forgets, redo_puts_back,
     refusal_changes_only_the_clock, undo_takes_back,
 };
-pub use limits::{MOMENT_END, MOST_CELLS, MOST_COMMANDS, MOST_EVENTS};
+pub use limits::{MOMENT_END, MOST_CELLS, MOST_COMMANDS, MOST_EVENTS, MOST_HINTS};
 pub use plain::{MakeFault, PlainBook};
 pub use runs::{RunFault, run};

@@ -114,7 +114,7 @@ impl PlainPast {
 
     /// Adds an event to the history, with its reply.
     pub fn add(&mut self, event: Event, reply: &Reply)
-        requires reply { reply.now ≡ reply_of (past_in self.old) event }
+        requires reply { reply.now ≡ reply_of self.old.settings (past_in self.old) event }
         requires room { HasRoom self.old.marks }
         requires log_room { vec_len self.old.log < vec_capacity self.old.log }
         requires few { length self.old.log.items < 2 ^ 62 }

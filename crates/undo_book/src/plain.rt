@@ -7,7 +7,7 @@ ghost use Rattle.undo_book.specs.PlainPast.{past_in};
 
 use crate::book::{Book, StepFault};
 use crate::event::{Ask, Event, Look, Reply, Seen, Settings};
-use crate::limits::{MOMENT_END, MOST_CELLS, MOST_COMMANDS, MOST_EVENTS};
+use crate::limits::{MOMENT_END, MOST_CELLS, MOST_COMMANDS, MOST_EVENTS, MOST_HINTS};
 use crate::past::PlainPast;
 use crate::replies::reply;
 use crate::sight::{shared_sight, sight};
@@ -26,6 +26,16 @@ pub enum MakeFault {
     /// Memory was refused.
     #[error("out of memory")]
     NoMemory,
+}
+
+/// Whether each is in its range.
+fn are_settings(settings: &Settings) -> bool
+    ensures { IsTrue result ↔ AreSettings settings.now }
+{
+    let has_journal = settings.journal >= 1 && settings.journal <= MOST_COMMANDS;
+    let has_cells = settings.cells >= 1 && settings.cells <= MOST_CELLS;
+    let has_hints = settings.hints.as_slice().len() <= MOST_HINTS;
+    has_journal && has_cells && has_hints && settings.server_port >= 1
 }
 
 /// A book that keeps its whole history, and answers by a replay. Beside it stands the table that it comes to.
@@ -49,8 +59,7 @@ impl PlainBook {
         ensures refused { IsErrOf result MakeFault.BadSettings ↔ ¬ (AreSettings settings) }
         ensures made { AreSettings settings → IsOk result }
     {
-        let Settings { journal, cells } = settings;
-        if journal < 1 || journal > MOST_COMMANDS || cells < 1 || cells > MOST_CELLS {
+        if !are_settings(&settings) {
             return Err(MakeFault::BadSettings);
         }
         Ok(PlainBook {
@@ -62,7 +71,7 @@ impl PlainBook {
 
     /// Takes an event. What can fail comes before anything changes.
     fn take_event(&mut self, event: Event) -> Result<Reply, StepFault>
-        ensures answers { AnswersBy self.old.past.settings (length self.old.past.log.items) self.old.past.admissions (reply_of (past_in self.old.past) event) event result }
+        ensures answers { AnswersBy self.old.past.settings (length self.old.past.log.items) self.old.past.admissions (reply_of self.old.past.settings (past_in self.old.past) event) event result }
         ensures taken { OnOk result (past_in self.new.past ≡ followed_by self.old.past.settings.journal (past_in self.old.past) event) }
         ensures unchanged { OnErr result (past_in self.new.past ≡ past_in self.old.past) }
         ensures settings { self.new.past.settings ≡ self.old.past.settings }

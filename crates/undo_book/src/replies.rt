@@ -27,7 +27,7 @@ pub(crate) fn reply(
 ) -> Result<Reply, NoMemory>
     requires tabled { table.old ≡ tables_of (past_in past.now) }
     requires few { past.now.marks.tickets + 1 < 2 ^ 64 }
-    ensures told { IfOk result (λ r. r ≡ reply_of (past_in past.now) event.now) }
+    ensures told { IfOk result (λ r. r ≡ reply_of past.now.settings (past_in past.now) event.now) }
     ensures tabled { OnOk result (table.new ≡ tables_of (followed_by past.now.settings.journal (past_in past.now) event.now)) }
     ensures same { OnErr result (table.new ≡ table.old) }
 {

@@ -42,7 +42,7 @@ pub(crate) fn shared_sight(
     moment: u64,
 ) -> Result<Seen, NoMemory>
     requires tabled { table.now ≡ tables_of (past_in past.now) }
-    ensures { IfOk result (λ s. s ≡ seen_of (past_in past.now) ask.now moment) }
+    ensures { IfOk result (λ s. s ≡ seen_of past.now.settings (past_in past.now) ask.now moment) }
 {
     match ask {
         Ask::Answer(question) => sight(past, table, question, moment).to_seen(alloc),

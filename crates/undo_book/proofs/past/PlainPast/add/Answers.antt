@@ -22,16 +22,16 @@ invariant_of-self c =
     let past : Past = past_in book in
     let event = c.args.event in
     let bound = book.settings.journal in
-    let reply : Reply = reply_of past event in
+    let reply : Reply = reply_of book.settings past event in
     let logged : Logged = record { entry = record { event = event; moment = c.max-moment.result; ticket = c.ticket_taken-ticket.result }; struck = false } in
     let is : c.args.reply.now ≡ reply = c.requires.reply in
-    let ticket : c.ticket_taken-ticket.result ≡ ticket_for past event = c.ticket_taken-ticket.ensures ∙ ap ticket_taken is ∙ ticket_by_reply past event in
+    let ticket : c.ticket_taken-ticket.result ≡ ticket_for past event = c.ticket_taken-ticket.ensures ∙ ap ticket_taken is ∙ ticket_by_reply book.settings past event in
     let marks : marks_in c.mark.new.marks ≡ marks_by bound past.marks reply = c.mark.ensures.marks ∙ ap (λ (r : Reply). marks_by bound past.marks r) is in
     let log : c.set_flags.new.log.items ≡ flags_by reply (book.log.items ++ logged ∷ []) =
     c.set_flags.ensures ∙ ap (λ (l : List Logged). flags_by c.args.reply.now l) c.push_reserved.ensures.items ∙ ap (λ (r : Reply). flags_by r (book.log.items ++ logged ∷ [])) is in
     let size : length c.set_flags.new.log.items ≡ length book.log.items + 1 = ap (λ (l : List Logged). length l) log ∙ length_after reply book.log.items logged in
     let few = book.few_tickets in
-    let flags = flags_after bound past event book.log.items logged book.in_one book.flagged refl ticket in
+    let flags = flags_after book.settings past event book.log.items logged book.in_one book.flagged refl ticket in
     record {
       in_range = book.in_range;
       few_tickets = omega (arith, c.mark.ensures.few);
@@ -40,7 +40,7 @@ invariant_of-self c =
           ∙ ap (λ (n : ℕ). n + cond (is_admission event) 1 0) book.counted
           ∙ sym (count_push past.log logged.entry)
           ∙ sym (ap admissions_in (ap entries_in log ∙ entries_after reply book.log.items logged));
-      in_one = subst (λ (m : Marks). (t : ℕ) → InOne m t) (sym (marks ∙ marks_by_reply bound past event)) (next_in_one bound past event book.in_one);
+      in_one = subst (λ (m : Marks). (t : ℕ) → InOne m t) (sym (marks ∙ marks_by_reply book.settings past event)) (next_in_one bound past event book.in_one);
       flagged =
           subst (λ (m : Marks). AreFlagged m.struck c.set_flags.new.log.items) (sym marks)
           (subst (λ (l : List Logged). AreFlagged (marks_by bound past.marks reply).struck l) (sym log) flags);
@@ -52,13 +52,13 @@ returns-clause-past c =
     let past : Past = past_in book in
     let event = c.args.event in
     let bound = book.settings.journal in
-    let reply : Reply = reply_of past event in
+    let reply : Reply = reply_of book.settings past event in
     let logged : Logged = record { entry = record { event = event; moment = c.max-moment.result; ticket = c.ticket_taken-ticket.result }; struck = false } in
     let is : c.args.reply.now ≡ reply = c.requires.reply in
     let moment : c.max-moment.result ≡ max past.now (moment_of event) = c.max-moment.ensures ∙ ap (λ (n : ℕ). max past.now n) c.moment.ensures in
-    let ticket : c.ticket_taken-ticket.result ≡ ticket_for past event = c.ticket_taken-ticket.ensures ∙ ap ticket_taken is ∙ ticket_by_reply past event in
+    let ticket : c.ticket_taken-ticket.result ≡ ticket_for past event = c.ticket_taken-ticket.ensures ∙ ap ticket_taken is ∙ ticket_by_reply book.settings past event in
     let marks : marks_in c.mark.new.marks ≡ marks_by bound past.marks reply = c.mark.ensures.marks ∙ ap (λ (r : Reply). marks_by bound past.marks r) is in
     let log : c.set_flags.new.log.items ≡ flags_by reply (book.log.items ++ logged ∷ []) =
     c.set_flags.ensures ∙ ap (λ (l : List Logged). flags_by c.args.reply.now l) c.push_reserved.ensures.items ∙ ap (λ (r : Reply). flags_by r (book.log.items ++ logged ∷ [])) is in
-    past_by_parts _ _ _ _ _ _ moment (marks ∙ marks_by_reply bound past event)
+    past_by_parts _ _ _ _ _ _ moment (marks ∙ marks_by_reply book.settings past event)
     (ap entries_in log ∙ entries_after reply book.log.items logged ∙ ap (λ (e : Entry). past.log ++ e ∷ []) (entry_by_parts event _ _ _ _ moment ticket))

@@ -1,0 +1,4 @@
+pub mod ClosestLaws
+pub mod ListLaws
+pub mod ReasonLaws
+pub mod SoundLaws

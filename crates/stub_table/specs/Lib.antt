@@ -1,0 +1,5 @@
+pub mod Stubs
+pub mod Closest
+pub mod Change
+pub mod Reason
+pub mod Saved

@@ -1,0 +1,105 @@
+//! The list of stubs.
+
+ghost use Rattle.std.specs.Prelude.{◌≡◌, [], IfErr, IfOk, OnErr, OnOk, None};
+ghost use Rattle.std.specs.Option.{option_map};
+
+use crate::closest::closest;
+use crate::fault::StubFault;
+use crate::list::{put_stub, stubs_without};
+use crate::reason::reason_of_stub;
+use crate::saved::{SavedList, SavedStubs, take_back};
+use crate::stub::Stub;
+use dns_name::{Name, NoMemory};
+use dns_text::{Items, Shared};
+use std::alloc::Global;
+use std::marker::Model;
+use std::mem;
+
+/// The greatest number of stubs.
+pub const MOST_STUBS: usize = 1024;
+
+/// Stubs, in the order in which they came.
+#[derive(Debug, Drop)]
+pub struct StubTable {
+    stubs: Vec<Shared<Stub>>,
+    alloc: Global,
+}
+
+impl Model for StubTable {
+    ghost use Rattle.stub_table.specs.Stubs.{Stubs, AreStubs};
+
+    ghost Value = { Stubs };
+
+    ghost view = { λ t. t.stubs.items };
+
+    ghost invariant = { λ t. AreStubs t.stubs.items };
+}
+
+impl StubTable {
+    ghost use Rattle.stub_table.specs.Stubs.{AreStubs};
+    ghost use Rattle.stub_table.specs.Closest.{closest_stub};
+    ghost use Rattle.stub_table.specs.Change.{stubs_with, stubs_without};
+    ghost use Rattle.stub_table.specs.Reason.{reason_of_stub, IsFaultFor};
+    ghost use Rattle.stub_table.specs.Saved.{before_of, TakesBack};
+
+    /// A table of no stubs. It takes no memory.
+    pub fn new(alloc: Global) -> StubTable
+        ensures { result ≡ [] }
+    {
+        StubTable {
+            stubs: Vec::new(alloc),
+            alloc,
+        }
+    }
+
+    /// The stubs in order.
+    pub fn stubs(&self) -> &[Shared<Stub>]
+        ensures value { result.now ≡ self.now }
+        ensures sound { AreStubs self.now }
+    {
+        &self.stubs
+    }
+
+    /// The stub with the longest name at or above a name. It takes no memory.
+    pub fn closest(&self, name: &Name) -> Option<&Shared<Stub>>
+        ensures { option_map (λ s. s.now) result ≡ closest_stub self.now name.now }
+    {
+        closest(&self.stubs, name)
+    }
+
+    /// Adds a stub, or gives the stub of this name other addresses.
+    pub fn set(&mut self, stub: Shared<Stub>) -> Result<SavedStubs, StubFault>
+        ensures ok { OnOk result ((reason_of_stub stub self.old ≡ None) × (self.new ≡ stubs_with stub self.old)) }
+        ensures err { IfErr result (λ fault. IsFaultFor (reason_of_stub stub self.old) fault × (self.new ≡ self.old)) }
+        ensures saved { IfOk result (λ saved. TakesBack saved self.new self.old) }
+    {
+        if let Some(reason) = reason_of_stub(&self.stubs, stub.get()) {
+            return Err(reason);
+        }
+        let list = put_stub(self.alloc, &mut self.stubs, stub)?;
+        Ok(SavedStubs { list })
+    }
+
+    /// Removes a stub; where there is none, nothing.
+    pub fn remove(&mut self, name: &Name) -> Result<SavedStubs, NoMemory>
+        ensures ok { OnOk result (self.new ≡ stubs_without name.now self.old) }
+        ensures err { OnErr result (self.new ≡ self.old) }
+        ensures saved { IfOk result (λ saved. TakesBack saved self.new self.old) }
+    {
+        let left = stubs_without(self.alloc, &self.stubs, name)?;
+        let before = mem::replace(&mut self.stubs, left);
+        Ok(SavedStubs {
+            list: SavedList::Whole(Items::new(before)),
+        })
+    }
+
+    /// Takes a change back, where the list is the one that it left. The saved value is used up then.
+    pub fn back(&mut self, saved: &mut SavedStubs) -> Result<(), NoMemory>
+        requires { AreStubs (before_of saved.old self.old) }
+        ensures ok { OnOk result (self.new ≡ before_of saved.old self.old) }
+        ensures err { OnErr result ((self.new ≡ self.old) × (saved.new ≡ saved.old)) }
+    {
+        take_back(&mut self.stubs, saved);
+        Ok(())
+    }
+}
