@@ -1,5 +1,6 @@
 //! The calls by their words.
 
+use crate::denials::denial_in;
 use crate::fault::CallFault;
 use crate::messages::{
     encoding_of, fault_reply_to, is_read_again, reply_octets, reply_over_udp, verdict_on, words_of,
@@ -57,6 +58,7 @@ fn answer(alloc: Global, word: &[u8], arguments: &[Vec<u8>]) -> Result<Vec<u8>, 
         (b"fault", [octets, rcode]) => fault_reply_to(alloc, octets, rcode),
         (b"cut", [query, octets]) => reply_over_udp(alloc, query, octets),
         (b"reply", [query, octets]) => reply_octets(alloc, query, octets),
+        (b"denial", [octets, owner, kind, zone]) => denial_in(alloc, octets, owner, kind, zone),
         _ => Err(CallFault::NoCall),
     }
 }

@@ -5,6 +5,7 @@
 #![tactic(auto)]
 
 mod calls; // each call by its word
+mod denials; // what a message denies
 mod fault; // why a call gives nothing
 mod messages; // messages and queries
 mod names; // names

@@ -41,7 +41,7 @@ pub fn push_question(
 }
 
 /// Writes `NAME TTL CLASS TYPE DATA`.
-fn push_record(
+pub fn push_record(
     alloc: Global,
     record: &Record,
     class: u16,

@@ -13,7 +13,6 @@ pub mod StringLaws
 pub mod DataLaws
 pub mod RecordLaws
 pub mod AddrLaws
-pub mod EqualLaws
 pub mod StringReading
 pub mod FieldReading
 pub mod DataReading

@@ -10,5 +10,6 @@ pub mod Ipv6
 pub mod Addr
 pub mod Data
 pub mod Equal
+pub mod EqualLaws
 pub mod Record
 pub mod Laws

@@ -11,6 +11,8 @@ mod ttl;
 mod items;
 // Values with several owners.
 mod shared;
+// Values again, with memory of their own.
+mod copying;
 // The types that code names, by number.
 pub mod types;
 // The table of types: number, name and form of data.

@@ -8,3 +8,4 @@ pub mod Show
 pub mod Shown
 pub mod Answer
 pub mod Equal
+pub mod EqualLaws

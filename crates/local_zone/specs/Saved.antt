@@ -10,8 +10,11 @@ abbrev pub list_before : {A : Type 0} → SavedList A → List A → List A
 list_before (First count) left = take count left
 list_before (Whole items) left = items
 
--- From the lists that a change left, the saved value takes back to those before it.
+-- the lists before a change, by what the change saved, from those that it left
+abbrev pub before_of : SavedTables → Tables → Tables
+before_of saved left = record { zones = list_before saved.zones left.zones; records = list_before saved.records left.records }
+
+-- From the lists that a change left, the saved value gives those before it.
 pub record TakesBack (saved : SavedTables) (left before : Tables) : Type 0 where
-  pub zones : list_before saved.zones left.zones ≡ before.zones
-  pub records : list_before saved.records left.records ≡ before.records
+  pub gives : before_of saved left ≡ before
   pub sound : AreTables before

@@ -5,6 +5,7 @@ ghost use Rattle.std.specs.List.{list_any};
 ghost use Rattle.std.specs.Option.{option_map};
 ghost use Rattle.local_zone.specs.Answer.{absent_in, absent_or_pass, answer_in, data_or, has_record, has_record_below, local_now, local_of, soa_of};
 ghost use Rattle.local_zone.specs.Show.{data_shown, is_for};
+ghost use Rattle.local_zone.specs.declared.local.Local.TheVariants as local;
 
 use crate::closest::{closest, is_at_or_below};
 use crate::local::{Local, LocalSet};
@@ -50,18 +51,17 @@ fn has_record_below(
     records.iter().any(|r| is_at_or_below(r.owner(), name) && lies_in(zones, &zone.name, r.owner()))
 }
 
-/// The CNAME of an owner, else its set of the type, shown as of the name that is asked for; else what is answered where there is none.
-fn data_or<'a>(
+/// The CNAME of an owner, else its set of the type, shown as of the name that is asked for; nothing where there is neither.
+fn data<'a>(
     records: &'a [LocalRecord],
     asked: &'a Name,
     owner: &'a Name,
     kind: u16,
-    otherwise: Local<LocalSet<'a>, &'a LocalRecord>,
-) -> Local<LocalSet<'a>, &'a LocalRecord>
-    ensures { local_now result ≡ data_or (local_now otherwise.entry) (data_shown asked.now owner.now kind records.now) }
+) -> Option<LocalSet<'a>>
+    ensures { result ≡ data_shown asked.now owner.now kind records.now }
 {
     if has_set(records, owner, CNAME) {
-        return Local::Data(LocalSet {
+        return Some(LocalSet {
             records,
             owner,
             kind: CNAME,
@@ -69,14 +69,27 @@ fn data_or<'a>(
         });
     }
     if has_set(records, owner, kind) {
-        return Local::Data(LocalSet {
+        return Some(LocalSet {
             records,
             owner,
             kind,
             shown: asked,
         });
     }
-    otherwise
+    None
+}
+
+/// The data, or what is answered where there is none.
+fn data_or<'a>(
+    found: Option<LocalSet<'a>>,
+    otherwise: Local<LocalSet<'a>, &'a LocalRecord>,
+) -> Local<LocalSet<'a>, &'a LocalRecord>
+    ensures { local_now result ≡ data_or (local_now otherwise.entry) found.entry }
+{
+    match found {
+        Some(set) => Local::Data(set),
+        None => otherwise,
+    }
 }
 
 /// What is not there in a static zone: data of the type, or the name.
@@ -111,6 +124,51 @@ fn absent_or_pass<'a>(
     }
 }
 
+/// What a static zone answers.
+fn in_static<'a>(
+    zones: &Vec<Shared<Zone>>,
+    records: &'a [LocalRecord],
+    zone: &Zone,
+    question: &'a Question,
+) -> Local<LocalSet<'a>, &'a LocalRecord>
+    ensures { local_now result ≡ data_or (absent_in (record { zones = zones.now.items; records = records.now }) question.now.owner zone.now) (data_shown question.now.owner question.now.owner question.now.kind records.now) }
+{
+    let name = &question.owner;
+    match data(records, name, name, question.kind) {
+        Some(set) => Local::Data(set),
+        None => absent(zones, records, zone, name),
+    }
+}
+
+/// What a transparent zone answers.
+fn in_transparent<'a>(
+    records: &'a [LocalRecord],
+    zone: &Zone,
+    question: &'a Question,
+) -> Local<LocalSet<'a>, &'a LocalRecord>
+    ensures { local_now result ≡ data_or (absent_or_pass records.now question.now.owner zone.now) (data_shown question.now.owner question.now.owner question.now.kind records.now) }
+{
+    let name = &question.owner;
+    match data(records, name, name, question.kind) {
+        Some(set) => Local::Data(set),
+        None => absent_or_pass(records, zone, name),
+    }
+}
+
+/// What a redirect zone answers.
+fn in_redirect<'a>(
+    records: &'a [LocalRecord],
+    zone: &'a Zone,
+    question: &'a Question,
+) -> Local<LocalSet<'a>, &'a LocalRecord>
+    ensures { local_now result ≡ data_or (local.NoData (soa_of zone.now.name records.now)) (data_shown question.now.owner zone.now.name question.now.kind records.now) }
+{
+    match data(records, &question.owner, &zone.name, question.kind) {
+        Some(set) => Local::Data(set),
+        None => Local::NoData(soa_of(records, &zone.name)),
+    }
+}
+
 /// What a zone answers.
 fn answer_in<'a>(
     zones: &'a Vec<Shared<Zone>>,
@@ -123,21 +181,12 @@ fn answer_in<'a>(
     let name = &question.owner;
     let kind = question.kind;
     match zone.kind {
-        ZoneType::Deny => data_or(records, name, name, kind, Local::Drop),
-        ZoneType::Refuse => data_or(records, name, name, kind, Local::Refuse),
-        ZoneType::Static => {
-            let otherwise = absent(zones, records, zone, name);
-            data_or(records, name, name, kind, otherwise)
-        }
-        ZoneType::Transparent => {
-            let otherwise = absent_or_pass(records, zone, name);
-            data_or(records, name, name, kind, otherwise)
-        }
-        ZoneType::TypeTransparent => data_or(records, name, name, kind, Local::Pass),
-        ZoneType::Redirect => {
-            let otherwise = Local::NoData(soa_of(records, &zone.name));
-            data_or(records, name, &zone.name, kind, otherwise)
-        }
+        ZoneType::Deny => data_or(data(records, name, name, kind), Local::Drop),
+        ZoneType::Refuse => data_or(data(records, name, name, kind), Local::Refuse),
+        ZoneType::Static => in_static(zones, records, zone, question),
+        ZoneType::Transparent => in_transparent(records, zone, question),
+        ZoneType::TypeTransparent => data_or(data(records, name, name, kind), Local::Pass),
+        ZoneType::Redirect => in_redirect(records, zone, question),
         ZoneType::AlwaysTransparent => Local::Pass,
         ZoneType::AlwaysRefuse => Local::Refuse,
         ZoneType::AlwaysNxDomain => Local::NoName(None),

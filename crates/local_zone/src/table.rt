@@ -48,7 +48,7 @@ impl ZoneTable {
     ghost use Rattle.local_zone.specs.Answer.{local_now, local_of};
     ghost use Rattle.local_zone.specs.Change.{after_set, after_drop, after_add, after_drop_name};
     ghost use Rattle.local_zone.specs.Reason.{reason_of_set, reason_of_add, IsFaultFor};
-    ghost use Rattle.local_zone.specs.Saved.{TakesBack};
+    ghost use Rattle.local_zone.specs.Saved.{before_of, TakesBack};
 
     /// A table of no zones and no records. It takes no memory.
     pub fn new(alloc: Global) -> ZoneTable
@@ -126,15 +126,11 @@ impl ZoneTable {
         if let Some(reason) = reason_of_add(&self.zones, &self.records, said) {
             return Err(reason);
         }
-        let count = self.zones.len();
-        put_implied(self.alloc, &mut self.zones, &said.owner)?;
+        let mut zones = put_implied(self.alloc, &mut self.zones, &said.owner)?;
         match put_record(self.alloc, &mut self.records, &new) {
-            Ok(records) => Ok(SavedTables {
-                zones: SavedList::First(count),
-                records,
-            }),
+            Ok(records) => Ok(SavedTables { zones, records }),
             Err(_) => {
-                self.zones.truncate(count);
+                take_back(&mut self.zones, &mut zones);
                 Err(TableFault::NoMemory)
             }
         }
@@ -157,7 +153,7 @@ impl ZoneTable {
     /// Takes a change back, where the lists are those that it left. The saved value is used up then.
     pub fn back(&mut self, saved: &mut SavedTables) -> Result<(), NoMemory>
         requires { (before : Tables) × TakesBack saved.old self.old before }
-        ensures ok { OnOk result ((before : Tables) → TakesBack saved.old self.old before → self.new ≡ before) }
+        ensures ok { OnOk result (self.new ≡ before_of saved.old self.old) }
         ensures err { OnErr result ((self.new ≡ self.old) × (saved.new ≡ saved.old)) }
     {
         take_back(&mut self.zones, &mut saved.zones);

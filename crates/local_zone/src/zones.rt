@@ -133,19 +133,21 @@ pub(crate) fn put_implied(
     alloc: Global,
     zones: &mut Vec<Shared<Zone>>,
     owner: &Name,
-) -> Result<(), NoMemory>
+) -> Result<SavedList<Shared<Zone>>, NoMemory>
     ensures ok { OnOk result (zones.new.items ≡ zones_for owner.now zones.old.items) }
     ensures err { OnErr result (zones.new.items ≡ zones.old.items) }
+    ensures saved { IfOk result (λ saved. list_before saved zones.new.items ≡ zones.old.items) }
 {
+    let count = zones.len();
     if closest(zones, owner).is_some() {
-        return Ok(());
+        return Ok(SavedList::First(count));
     }
     let implied = Zone {
         name: owner.clone()?,
         kind: ZoneType::Transparent,
     };
     zones.push(Shared::new(alloc, implied)?)?;
-    Ok(())
+    Ok(SavedList::First(count))
 }
 
 /// The zones but that of this name.

@@ -33,6 +33,7 @@ pub(crate) fn told_again(reply: &Reply, ahead: Option<Seen>) -> Reply
         },
         Reply::Taken => Reply::Taken,
         Reply::Outranked => Reply::Outranked,
+        Reply::Swept => Reply::Swept,
         Reply::Done { ticket } => Reply::Done { ticket: *ticket },
         Reply::Refused(reason) => Reply::Refused(*reason),
         Reply::Undone { ticket } => Reply::Undone { ticket: *ticket },

@@ -1,6 +1,6 @@
 //! What lies under the lock.
 
-ghost use Rattle.std.specs.Prelude.{◌≡◌, ◌+◌, ◌<◌, ◌≤◌, ◌^◌, ◌↔◌, ℕ, List, [], length, IfOk, IfErr, OnOk, OnErr, IsErrOf};
+ghost use Rattle.std.specs.Prelude.{◌≡◌, ◌+◌, ◌<◌, ◌≤◌, ◌^◌, ◌↔◌, ℕ, List, [], length, IfOk, IfErr, OnOk, OnErr, IsOk, IsErrOf};
 ghost use Rattle.undo_book.specs.declared.event.Event.{Event};
 ghost use Rattle.undo_book.specs.Answers.{Answers, IsTimely, history_after};
 ghost use Rattle.shared_book.specs.declared.kept.TheConstants.{MOST_RECORDED};
@@ -59,6 +59,7 @@ impl<B: Book, L: Ledger> Kept<B, L> {
         requires parts { blank.parts ≡ L.parts }
         requires fresh { B.stands_for book [] }
         ensures refused { IsErrOf result MakeFault.BadSettings ↔ ¬ ((1 ≤ blank.parts) × (1 ≤ limit) × (limit ≤ MOST_RECORDED)) }
+        ensures made { 1 ≤ blank.parts → 1 ≤ limit → limit ≤ MOST_RECORDED → IsOk result }
         ensures kept { IfOk result (λ made. made.0 ≡ record { book = book; first = 1; entries = []; limit = limit; total = 0; callers = 1 }) }
         ensures pass { IfOk result (λ made. made.1 ≡ first_pass blank.parts) }
     {

@@ -1,6 +1,6 @@
 //! One lock round the book and its record.
 
-ghost use Rattle.std.specs.Prelude.{◌≡◌, ◌+◌, ◌<◌, ◌≤◌, ◌^◌, ◌/◌, ◌↔◌, max, ℕ, [], Some, None, IfOk, IfErr, OnOk, OnErr, IsErr, IsErrOf, MatchResult};
+ghost use Rattle.std.specs.Prelude.{◌≡◌, ◌+◌, ◌<◌, ◌≤◌, ◌^◌, ◌/◌, ◌↔◌, max, ℕ, [], Some, None, IfOk, IfErr, OnOk, OnErr, IsOk, IsErr, IsErrOf, MatchResult};
 ghost use Rattle.shared_book.specs.declared.kept.TheConstants.{MOST_RECORDED};
 ghost use Rattle.shared_book.specs.Pass.{first_pass, after_call};
 ghost use Rattle.shared_book.specs.Calling.{IsReceiptOf, IsJustified, IsReasonOf};
@@ -37,6 +37,7 @@ impl<B: Book, L: Ledger> SharedBook<B, L> {
         requires parts { blank.parts ≡ L.parts }
         requires fresh { B.stands_for book [] }
         ensures refused { IsErrOf result MakeFault.BadSettings ↔ ¬ ((1 ≤ blank.parts) × (1 ≤ limit) × (limit ≤ MOST_RECORDED)) }
+        ensures made { 1 ≤ blank.parts → 1 ≤ limit → limit ≤ MOST_RECORDED → IsOk result }
         ensures pass { IfOk result (λ made. made.1 ≡ first_pass blank.parts) }
     {
         match Kept::new(alloc, blank, book, limit) {

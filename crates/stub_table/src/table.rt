@@ -36,7 +36,7 @@ impl Model for StubTable {
 }
 
 impl StubTable {
-    ghost use Rattle.stub_table.specs.Stubs.{AreStubs};
+    ghost use Rattle.stub_table.specs.Stubs.{Stubs, AreStubs};
     ghost use Rattle.stub_table.specs.Closest.{closest_stub};
     ghost use Rattle.stub_table.specs.Change.{stubs_with, stubs_without};
     ghost use Rattle.stub_table.specs.Reason.{reason_of_stub, IsFaultFor};
@@ -95,7 +95,7 @@ impl StubTable {
 
     /// Takes a change back, where the list is the one that it left. The saved value is used up then.
     pub fn back(&mut self, saved: &mut SavedStubs) -> Result<(), NoMemory>
-        requires { AreStubs (before_of saved.old self.old) }
+        requires { (before : Stubs) × TakesBack saved.old self.old before }
         ensures ok { OnOk result (self.new ≡ before_of saved.old self.old) }
         ensures err { OnErr result ((self.new ≡ self.old) × (saved.new ≡ saved.old)) }
     {

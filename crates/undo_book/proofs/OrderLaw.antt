@@ -9,7 +9,7 @@ use Rattle.std.proofs.lemmas.List.{take_all, take_more, take-append-drop}
 use Rattle.std.proofs.lemmas.Option.{slice_get_within, get_or_from_slice_get}
 use Rattle.dns_name.specs.ListLaws.{all_push, all_weaker}
 use Rattle.undo_book.specs.declared.event.Event.{Event}
-use Rattle.undo_book.specs.declared.event.Event.TheVariants.{Admit, Look, Do, Undo, Redo}
+use Rattle.undo_book.specs.declared.event.Event.TheVariants.{Admit, Look, Sweep, Do, Undo, Redo}
 use Rattle.undo_book.specs.declared.event.Command.{Command}
 use Rattle.undo_book.specs.declared.event.Reason.{Reason}
 use Rattle.undo_book.specs.Marks.{Marks, AreAscending, last_of, newest, without, in_place, after_command, strike, restore}
@@ -21,7 +21,7 @@ use Rattle.undo_book.specs.History.{Past, past_of, nothing, followed_by, marks_a
 pub tally_same : (x t : ℕ) → (x == t) ≡ true → tally x t ≡ 1
 tally_same x t same = rw same
 
-tally_other : (x t : ℕ) → (x == t) ≡ false → tally x t ≡ 0
+pub tally_other : (x t : ℕ) → (x == t) ≡ false → tally x t ≡ 0
 tally_other x t other = rw other
 
 occurs-append : (t : ℕ) (xs ys : List ℕ) → occurs t (xs ++ ys) ≡ occurs t xs + occurs t ys
@@ -31,7 +31,7 @@ occurs-append t (x ∷ xs) ys = omega (arith, occurs-append t xs ys)
 pub occurs_push : (t : ℕ) (xs : List ℕ) (x : ℕ) → occurs t (xs ++ x ∷ []) ≡ occurs t xs + tally x t
 occurs_push t xs x = omega (arith, occurs-append t xs (x ∷ []))
 
-occurs_newest : (t n : ℕ) (xs : List ℕ) → occurs t (newest n xs) ≤ occurs t xs
+pub occurs_newest : (t n : ℕ) (xs : List ℕ) → occurs t (newest n xs) ≤ occurs t xs
 occurs_newest t n xs =
     let k = length xs - n in
     omega (arith, occurs-append t (take k xs) (drop k xs), ap (λ (l : List ℕ). occurs t l) (take-append-drop k xs))
@@ -49,7 +49,7 @@ occurs_without_other t x (s ∷ xs) ne =
       | inr other ↦ rw other (ap (λ (n : ℕ). tally s t + n) (occurs_without_other t x xs ne))
     ]
 
-occurs_in_place : (t x : ℕ) (xs : List ℕ) → occurs t (in_place x xs) ≡ occurs t xs + tally x t
+pub occurs_in_place : (t x : ℕ) (xs : List ℕ) → occurs t (in_place x xs) ≡ occurs t xs + tally x t
 occurs_in_place t x [] = omega arith
 occurs_in_place t x (s ∷ xs) =
     elim (cases_Bool (nat_lt x s)) [ inl before ↦ rw before (omega arith) | inr not_yet ↦ rw not_yet (omega (arith, occurs_in_place t x xs)) ]
@@ -77,7 +77,7 @@ last_occurs xs x last =
 -- ---- the order of tickets
 
 -- what holds of all tickets of a list holds of one that is in it
-of_one : (P : ℕ → Type 0) (x : ℕ) (xs : List ℕ) → AllByRecursion P xs → 1 ≤ occurs x xs → P x
+pub of_one : (P : ℕ → Type 0) (x : ℕ) (xs : List ℕ) → AllByRecursion P xs → 1 ≤ occurs x xs → P x
 of_one P x [] all some = absurd (omega arith)
 of_one P x (t ∷ xs) all some =
     elim (cases_Bool (t == x)) [
@@ -95,7 +95,7 @@ all_in_place P x [] all one = (one, tt)
 all_in_place P x (t ∷ xs) all one =
     elim (cases_Bool (nat_lt x t)) [ inl before ↦ rw before (one, all) | inr not_yet ↦ rw not_yet (all.0, all_in_place P x xs all.1 one) ]
 
-above_both : (x t : ℕ) (xs : List ℕ) → x < t → AllByRecursion (λ s. t < s) xs → AllByRecursion (λ s. x < s) xs
+pub above_both : (x t : ℕ) (xs : List ℕ) → x < t → AllByRecursion (λ s. t < s) xs → AllByRecursion (λ s. x < s) xs
 above_both x t xs lt = all_weaker (λ s. t < s) (λ s. x < s) (λ s above. omega arith) xs
 
 ascending_without : (x : ℕ) (xs : List ℕ) → AreAscending xs → AreAscending (without x xs)
@@ -132,12 +132,12 @@ ascending_drop zero xs h = h
 ascending_drop (suc k) [] h = tt
 ascending_drop (suc k) (x ∷ xs) h = ascending_drop k xs h.1
 
-ascending_push : (xs : List ℕ) (x : ℕ) → AreAscending xs → AllByRecursion (λ t. t < x) xs → AreAscending (xs ++ x ∷ [])
+pub ascending_push : (xs : List ℕ) (x : ℕ) → AreAscending xs → AllByRecursion (λ t. t < x) xs → AreAscending (xs ++ x ∷ [])
 ascending_push [] x h below = (tt, tt)
 ascending_push (t ∷ xs) x h below = (all_push (λ s. t < s) xs x h.0 below.0, ascending_push xs x h.1 below.1)
 
 -- what is above a ticket is not it
-absent_below : (x : ℕ) (xs : List ℕ) → AllByRecursion (λ t. x < t) xs → occurs x xs ≡ 0
+pub absent_below : (x : ℕ) (xs : List ℕ) → AllByRecursion (λ t. x < t) xs → occurs x xs ≡ 0
 absent_below x [] above = refl
 absent_below x (t ∷ xs) above =
     elim (cases_Bool (t == x)) [
@@ -258,6 +258,7 @@ redo_in_one j (Some x) last h = λ t. restored_one j x t (last_occurs j.undone x
 pub next_in_one : (bound : ℕ) (past : Past) (e : Event) → EachInOne past.marks → EachInOne (followed_by bound past e).marks
 next_in_one bound past (Admit m f) h = h
 next_in_one bound past (Look m a) h = h
+next_in_one bound past (Sweep m) h = h
 next_in_one bound past (Do m c) h = do_in_one bound past.marks m c (reason_of past c) h
 next_in_one bound past (Undo m) h = undo_in_one past.marks (last_of past.marks.done) refl h
 next_in_one bound past (Redo m) h = redo_in_one past.marks (last_of past.marks.undone) refl h
@@ -285,6 +286,7 @@ redo_ascends j (Some x) last h =
 next_ascends : (bound : ℕ) (past : Past) (e : Event) → AreOrderly past.marks → AreAscending (followed_by bound past e).marks.done
 next_ascends bound past (Admit m f) h = h.ascending
 next_ascends bound past (Look m a) h = h.ascending
+next_ascends bound past (Sweep m) h = h.ascending
 next_ascends bound past (Do m c) h = do_ascends bound past.marks m c (reason_of past c) h
 next_ascends bound past (Undo m) h = undo_ascends past.marks (last_of past.marks.done) h
 next_ascends bound past (Redo m) h = redo_ascends past.marks (last_of past.marks.undone) refl h

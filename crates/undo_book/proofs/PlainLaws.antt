@@ -9,13 +9,13 @@ use Rattle.std.proofs.lemmas.Map.Views.{any-filter_same}
 use Rattle.dns_text.specs.declared.record.Question.{Question}
 use Rattle.ranked.specs.declared.find.Find.{Find}
 use Rattle.ranked.specs.declared.find.Scope.{Scope}
-use Rattle.ranked.specs.declared.find.Scope.TheVariants.{One}
+use Rattle.ranked.specs.declared.find.Scope.TheVariants.{One, Whole}
 use Rattle.ranked.specs.declared.cell.Admitted.{Admitted}
 use Rattle.ranked.specs.Cell.{turns_away}
 use Rattle.ranked.specs.Find.{admission_of}
 use Rattle.dns_name.specs.ListLaws.{all_push}
 use Rattle.undo_book.specs.declared.event.Event.{Event}
-use Rattle.undo_book.specs.declared.event.Event.TheVariants.{Admit, Look, Do, Undo, Redo}
+use Rattle.undo_book.specs.declared.event.Event.TheVariants.{Admit, Look, Sweep, Do, Undo, Redo}
 use Rattle.undo_book.specs.declared.event.Command.{Command}
 use Rattle.undo_book.specs.declared.event.Entry.{Entry}
 use Rattle.undo_book.specs.declared.event.Reason.{Reason}
@@ -37,6 +37,7 @@ use Rattle.undo_book.proofs.UndoLaw.{struck_now, struck_other}
 pub flag_tells : (marks : Marks) (event : Event) (ticket : Option ℕ) (flag : Bool) → flag ≡ has_struck marks.struck ticket → stands_by (λ t. not flag) event ticket ≡ stands_by (is_unstruck marks) event ticket
 flag_tells marks (Admit m f) ticket flag is = refl
 flag_tells marks (Look m a) ticket flag is = refl
+flag_tells marks (Sweep m) ticket flag is = refl
 flag_tells marks (Do m c) None flag is = refl
 flag_tells marks (Do m c) (Some ticket) flag is = ap not is
 flag_tells marks (Undo m) ticket flag is = refl
@@ -61,6 +62,7 @@ by_fate bound marks false = refl
 by_admission : (bound : ℕ) (past : Past) (find : Find) (m : ℕ) (scope : Scope) → marks_by bound past.marks (reply_to_admission past find m scope) ≡ past.marks
 by_admission bound past find m (One kind) =
     by_fate bound past.marks (turns_away (cell_of past (record { owner = find.owner; kind = kind })) (admission_of find find (max past.now m)))
+by_admission bound past find m Whole = refl
 
 by_command : (bound : ℕ) (marks : Marks) (m : ℕ) (c : Command) (o : Option Reason) → marks_after bound marks (Do m c) (ticket_unless marks o) ≡ marks_by bound marks (reply_to_command marks o)
 by_command bound marks m c None = refl
@@ -77,6 +79,7 @@ by_redo bound marks (Some ticket) = refl
 pub marks_by_reply : (settings : Settings) (past : Past) (event : Event) → marks_by settings.journal past.marks (reply_of settings past event) ≡ marks_after settings.journal past.marks event (ticket_for past event)
 marks_by_reply settings past (Admit m f) = by_admission settings.journal past f m f.scope
 marks_by_reply settings past (Look m a) = refl
+marks_by_reply settings past (Sweep m) = refl
 marks_by_reply settings past (Do m c) = sym (by_command settings.journal past.marks m c (reason_of past c))
 marks_by_reply settings past (Undo m) = sym (by_undo settings.journal past.marks (last_of past.marks.done))
 marks_by_reply settings past (Redo m) = sym (by_redo settings.journal past.marks (last_of past.marks.undone))
@@ -90,6 +93,7 @@ ticket_by_fate false = refl
 ticket_by_admission : (past : Past) (find : Find) (m : ℕ) (scope : Scope) → ticket_taken (reply_to_admission past find m scope) ≡ None
 ticket_by_admission past find m (One kind) =
     ticket_by_fate (turns_away (cell_of past (record { owner = find.owner; kind = kind })) (admission_of find find (max past.now m)))
+ticket_by_admission past find m Whole = refl
 
 ticket_by_command : (marks : Marks) (o : Option Reason) → ticket_taken (reply_to_command marks o) ≡ ticket_unless marks o
 ticket_by_command marks None = refl
@@ -106,6 +110,7 @@ ticket_by_redo (Some ticket) = refl
 pub ticket_by_reply : (settings : Settings) (past : Past) (event : Event) → ticket_taken (reply_of settings past event) ≡ ticket_for past event
 ticket_by_reply settings past (Admit m f) = ticket_by_admission past f m f.scope
 ticket_by_reply settings past (Look m a) = refl
+ticket_by_reply settings past (Sweep m) = refl
 ticket_by_reply settings past (Do m c) = ticket_by_command past.marks (reason_of past c)
 ticket_by_reply settings past (Undo m) = ticket_by_undo (last_of past.marks.done)
 ticket_by_reply settings past (Redo m) = ticket_by_redo (last_of past.marks.undone)
@@ -121,7 +126,7 @@ entries_by (Undone ticket) log = entries_flagged ticket true log
 entries_by (Redone ticket) log = entries_flagged ticket false log
 entries_by reply log = refl
 
-entries_push : (log : List Logged) (l : Logged) → entries_in (log ++ l ∷ []) ≡ entries_in log ++ l.entry ∷ []
+pub entries_push : (log : List Logged) (l : Logged) → entries_in (log ++ l ∷ []) ≡ entries_in log ++ l.entry ∷ []
 entries_push [] l = refl
 entries_push (k ∷ log) l = ap (λ (es : List Entry). k.entry ∷ es) (entries_push log l)
 
@@ -179,7 +184,7 @@ flags_by_reply bound marks (Undone ticket) log h = struck_flags marks.struck tic
 flags_by_reply bound marks (Redone ticket) log h = stands_flags marks.struck ticket log h
 flags_by_reply bound marks reply log h = h
 
-not_struck : (n : ℕ) (xs : List ℕ) → occurs n xs ≡ 0 → list_any (λ s. s == n) xs ≡ false
+pub not_struck : (n : ℕ) (xs : List ℕ) → occurs n xs ≡ 0 → list_any (λ s. s == n) xs ≡ false
 not_struck n [] none = refl
 not_struck n (x ∷ xs) none =
     elim (cases_Bool (x == n)) [
@@ -197,6 +202,7 @@ new_by_reason marks (Some reason) h = refl
 new_ticket : (past : Past) (event : Event) → ((t : ℕ) → InOne past.marks t) → has_struck past.marks.struck (ticket_for past event) ≡ false
 new_ticket past (Admit m f) h = refl
 new_ticket past (Look m a) h = refl
+new_ticket past (Sweep m) h = refl
 new_ticket past (Do m c) h = new_by_reason past.marks (reason_of past c) h
 new_ticket past (Undo m) h = refl
 new_ticket past (Redo m) h = refl

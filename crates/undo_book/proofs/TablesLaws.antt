@@ -1,4 +1,4 @@
--- Local zones and records after one event more, and by a replay of a log with flags.
+-- Local zones, records and stubs after one event more, and by a replay of a log with flags.
 use Rattle.std.proofs.Common.{◌≡◌, ℕ, Bool, true, false, cond, Option, Some, None, List, [], ◌∷◌, ◌++◌, map, refl, sym, ◌∙◌, ap, inl, inr}
 use Rattle.std.specs.Prelude.{fold, filter, not}
 use Rattle.std.specs.Option.{option_map_or}
@@ -6,9 +6,7 @@ use Rattle.std.proofs.lemmas.Bool.{cases_Bool}
 use Rattle.std.proofs.lemmas.List.{append-nil}
 use Rattle.std.proofs.lemmas.List.Elements.{filter-append}
 use Rattle.std.proofs.lemmas.List.Sums.{fold-append}
-use Rattle.local_zone.specs.declared.fault.TableFault.{TableFault}
-use Rattle.local_zone.specs.Tables.{Tables}
-use Rattle.local_zone.specs.Reason.{IsFaultFor}
+use Rattle.undo_book.specs.declared.made.Tables.{Tables}
 use Rattle.undo_book.specs.declared.event.Event.TheVariants.{Admit, Look, Do, Undo, Redo}
 use Rattle.undo_book.specs.declared.event.Ask.{Ask}
 use Rattle.undo_book.specs.declared.event.Command.{Command}
@@ -19,16 +17,11 @@ use Rattle.ranked.specs.declared.find.Find.{Find}
 use Rattle.undo_book.specs.Marks.{Marks, last_of, strike, restore, after_command}
 use Rattle.undo_book.specs.Tickets.{InOne}
 use Rattle.undo_book.specs.History.{Past, followed_by, marks_after, ticket_unless, reason_of, standing_with, stands_by, is_unstruck, tables_of}
-use Rattle.undo_book.specs.Changes.{no_tables, tables_after, tables_by, unless_refused, reason_in, reason_told}
+use Rattle.undo_book.specs.Changes.{no_tables, tables_after, tables_by, unless_refused}
 use Rattle.undo_book.specs.Reply.{reply_to_undo, reply_to_redo}
 use Rattle.undo_book.specs.Plain.{entries_in, with_flag, AreFlagged, stands}
 use Rattle.undo_book.specs.Replayed.{tables_after_logged, tables_after_flagged, tables_by_reply}
 use Rattle.undo_book.proofs.PlainLaws.{flag_tells, new_by_reason, struck_flags, stands_flags, entries_flagged}
-
--- the reason that a fault tells is the reason that there was
-pub told_reason : (there : Option TableFault) (fault : TableFault) (reason : Reason) → IsFaultFor there fault → reason_told fault ≡ Some reason → reason_in there ≡ Some reason
-told_reason None fault reason is told = let none : reason_told fault ≡ None = ap reason_told is in absurd (cc (none, told))
-told_reason (Some there) fault reason is told = ap reason_told (sym is) ∙ told
 
 -- ---- a replay by the flags
 

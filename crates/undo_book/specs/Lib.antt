@@ -4,10 +4,13 @@ pub mod Tickets
 pub mod Changes
 pub mod History
 pub mod Cells
+pub mod Flushes
+pub mod Journal
 pub mod Reply
 pub mod Answers
 pub mod Desk
 pub mod Equal
+pub mod EqualLaws
 pub mod Runs
 pub mod Refusal
 pub mod Redo

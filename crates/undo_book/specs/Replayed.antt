@@ -1,6 +1,6 @@
--- Local zones and records, by a log with flags.
+-- Local zones, records and stubs, by a log with flags.
 use Rattle.std.specs.Prelude.{ℕ, Bool, true, false, not, List, fold, if◌then◌else◌}
-use Rattle.local_zone.specs.Tables.{Tables}
+use Rattle.undo_book.specs.declared.made.Tables.{Tables}
 use Rattle.undo_book.specs.declared.log.Logged.{Logged}
 use Rattle.undo_book.specs.declared.event.Reply.{Reply}
 use Rattle.undo_book.specs.declared.event.Reply.TheVariants.{Undone, Redone}

@@ -1,86 +1,110 @@
-//! What a command makes of local zones and records.
+//! What a command makes of local zones, records and stubs.
 
 ghost use Rattle.std.specs.Prelude.{◌≡◌, IfOk, OnErr, OnOk, None, Some};
-ghost use Rattle.local_zone.specs.Change.{after_drop, after_drop_name};
-ghost use Rattle.local_zone.specs.Reason.{reason_of_add, reason_of_set};
-ghost use Rattle.undo_book.specs.Changes.{after_command_on, reason_in, reason_on, reason_told, unless_refused};
+ghost use Rattle.undo_book.specs.Changes.{after_command_on, reason_on, reason_told, stub_reason_told, unless_refused};
 
 use crate::event::{Command, Reason};
+use crate::made::Tables;
 use dns_name::{Name, NoMemory};
 use dns_text::{Record, Shared};
-use local_zone::{TableFault, ZoneTable, ZoneType};
+use local_zone::{TableFault, ZoneType};
 use std::alloc::AllocError;
+use stub_table::{Stub, StubFault};
 
 /// Makes the change of a command, or tells why it is refused. Then, and where memory is refused, nothing has changed.
-pub(crate) fn change(table: &mut ZoneTable, command: &Command) -> Result<Option<Reason>, NoMemory>
-    ensures told { IfOk result (λ o. o ≡ reason_on table.old command.now) }
-    ensures changed { IfOk result (λ o. table.new ≡ unless_refused o command.now table.old) }
-    ensures same { OnErr result (table.new ≡ table.old) }
+pub(crate) fn change(tables: &mut Tables, command: &Command) -> Result<Option<Reason>, NoMemory>
+    ensures told { IfOk result (λ o. o ≡ reason_on tables.old command.now) }
+    ensures changed { IfOk result (λ o. tables.new ≡ unless_refused o command.now tables.old) }
+    ensures same { OnErr result (tables.new ≡ tables.old) }
 {
     match command {
-        Command::FlushType(_) => Ok(None),
-        Command::SetZone { name, kind } => set_zone(table, name, *kind),
-        Command::DropZone { name } => drop_zone(table, name),
-        Command::AddRecord { record } => add_record(table, record),
-        Command::DropName { name } => drop_name(table, name),
+        Command::FlushType(_) | Command::Flush { .. } | Command::FlushZone { .. } => Ok(None),
+        Command::SetZone { name, kind } => set_zone(tables, name, *kind),
+        Command::DropZone { name } => drop_zone(tables, name),
+        Command::AddRecord { record } => add_record(tables, record),
+        Command::DropName { name } => drop_name(tables, name),
+        Command::SetStub { stub } => set_stub(tables, stub),
+        Command::DropStub { name } => drop_stub(tables, name),
     }
 }
 
 /// Obeys a command that stands. It was accepted where what stands before it stood, so nothing but memory keeps it from being made.
-pub(crate) fn obey(table: &mut ZoneTable, command: &Command) -> Result<(), NoMemory>
-    ensures { OnOk result (table.new ≡ after_command_on command.now table.old) }
+pub(crate) fn obey(tables: &mut Tables, command: &Command) -> Result<(), NoMemory>
+    ensures { OnOk result (tables.new ≡ after_command_on command.now tables.old) }
 {
-    match change(table, command)? {
+    match change(tables, command)? {
         None => Ok(()),
         Some(_) => Err(AllocError),
     }
 }
 
-fn set_zone(table: &mut ZoneTable, name: &Name, kind: ZoneType) -> Result<Option<Reason>, NoMemory>
-    ensures told { IfOk result (λ o. o ≡ reason_in (reason_of_set (record { name = name.now; kind = kind }) table.old)) }
-    ensures changed { IfOk result (λ o. table.new ≡ unless_refused o (Command.SetZone name.now kind) table.old) }
-    ensures same { OnErr result (table.new ≡ table.old) }
+fn set_zone(tables: &mut Tables, name: &Name, kind: ZoneType) -> Result<Option<Reason>, NoMemory>
+    ensures told { IfOk result (λ o. o ≡ reason_on tables.old (Command.SetZone name.now kind)) }
+    ensures changed { IfOk result (λ o. tables.new ≡ unless_refused o (Command.SetZone name.now kind) tables.old) }
+    ensures same { OnErr result (tables.new ≡ tables.old) }
 {
-    match table.set(name.clone()?, kind) {
+    match tables.local.set(name.clone()?, kind) {
         Ok(_) => Ok(None),
         Err(fault) => Ok(Some(reason(fault)?)),
     }
 }
 
-fn drop_zone(table: &mut ZoneTable, name: &Name) -> Result<Option<Reason>, NoMemory>
+fn drop_zone(tables: &mut Tables, name: &Name) -> Result<Option<Reason>, NoMemory>
     ensures told { IfOk result (λ o. o ≡ None) }
-    ensures changed { OnOk result (table.new ≡ after_drop name.now table.old) }
-    ensures same { OnErr result (table.new ≡ table.old) }
+    ensures changed { OnOk result (tables.new ≡ after_command_on (Command.DropZone name.now) tables.old) }
+    ensures same { OnErr result (tables.new ≡ tables.old) }
 {
-    match table.drop_zone(name) {
+    match tables.local.drop_zone(name) {
         Ok(_) => Ok(None),
         Err(_) => Err(AllocError),
     }
 }
 
-fn add_record(table: &mut ZoneTable, new: &Shared<Record>) -> Result<Option<Reason>, NoMemory>
-    ensures told { IfOk result (λ o. o ≡ reason_in (reason_of_add new.now table.old)) }
-    ensures changed { IfOk result (λ o. table.new ≡ unless_refused o (Command.AddRecord new.now) table.old) }
-    ensures same { OnErr result (table.new ≡ table.old) }
+fn add_record(tables: &mut Tables, new: &Shared<Record>) -> Result<Option<Reason>, NoMemory>
+    ensures told { IfOk result (λ o. o ≡ reason_on tables.old (Command.AddRecord new.now)) }
+    ensures changed { IfOk result (λ o. tables.new ≡ unless_refused o (Command.AddRecord new.now) tables.old) }
+    ensures same { OnErr result (tables.new ≡ tables.old) }
 {
-    match table.add_record(new.share()?) {
+    match tables.local.add_record(new.share()?) {
         Ok(_) => Ok(None),
         Err(fault) => Ok(Some(reason(fault)?)),
     }
 }
 
-fn drop_name(table: &mut ZoneTable, name: &Name) -> Result<Option<Reason>, NoMemory>
+fn drop_name(tables: &mut Tables, name: &Name) -> Result<Option<Reason>, NoMemory>
     ensures told { IfOk result (λ o. o ≡ None) }
-    ensures changed { OnOk result (table.new ≡ after_drop_name name.now table.old) }
-    ensures same { OnErr result (table.new ≡ table.old) }
+    ensures changed { OnOk result (tables.new ≡ after_command_on (Command.DropName name.now) tables.old) }
+    ensures same { OnErr result (tables.new ≡ tables.old) }
 {
-    match table.drop_name(name) {
+    match tables.local.drop_name(name) {
         Ok(_) => Ok(None),
         Err(_) => Err(AllocError),
     }
 }
 
-/// The reason that a fault of the table tells.
+fn set_stub(tables: &mut Tables, new: &Shared<Stub>) -> Result<Option<Reason>, NoMemory>
+    ensures told { IfOk result (λ o. o ≡ reason_on tables.old (Command.SetStub new.now)) }
+    ensures changed { IfOk result (λ o. tables.new ≡ unless_refused o (Command.SetStub new.now) tables.old) }
+    ensures same { OnErr result (tables.new ≡ tables.old) }
+{
+    match tables.stubs.set(new.share()?) {
+        Ok(_) => Ok(None),
+        Err(fault) => Ok(Some(stub_reason(fault)?)),
+    }
+}
+
+fn drop_stub(tables: &mut Tables, name: &Name) -> Result<Option<Reason>, NoMemory>
+    ensures told { IfOk result (λ o. o ≡ None) }
+    ensures changed { OnOk result (tables.new ≡ after_command_on (Command.DropStub name.now) tables.old) }
+    ensures same { OnErr result (tables.new ≡ tables.old) }
+{
+    match tables.stubs.remove(name) {
+        Ok(_) => Ok(None),
+        Err(_) => Err(AllocError),
+    }
+}
+
+/// The reason that a fault of the local tables tells.
 fn reason(fault: TableFault) -> Result<Reason, NoMemory>
     ensures { IfOk result (λ reason. reason_told fault ≡ Some reason) }
 {
@@ -90,5 +114,15 @@ fn reason(fault: TableFault) -> Result<Reason, NoMemory>
         TableFault::CnameClash => Ok(Reason::CnameClash),
         TableFault::TooMany => Ok(Reason::TooMany),
         TableFault::NoMemory => Err(AllocError),
+    }
+}
+
+/// The reason that a fault of the stubs tells.
+fn stub_reason(fault: StubFault) -> Result<Reason, NoMemory>
+    ensures { IfOk result (λ reason. stub_reason_told fault ≡ Some reason) }
+{
+    match fault {
+        StubFault::TooMany => Ok(Reason::TooMany),
+        StubFault::NoMemory => Err(AllocError),
     }
 }

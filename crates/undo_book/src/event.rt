@@ -4,11 +4,13 @@ ghost use Rattle.std.specs.Prelude.{◌≡◌, IfOk};
 ghost use Rattle.std.specs.Option.{option_map};
 ghost use Rattle.local_zone.specs.Answer.{local_now};
 
+use crate::flushes::{is_at_or_below, is_flushed};
 use dns_name::{Name, NoMemory};
 use dns_text::{Addr, Items, Question, Record, Shared};
 use local_zone::{Local, LocalRecord, LocalSet, SeenRecord, Zone, ZoneType};
 use ranked::{Held, SharedFind, Shown};
 use std::alloc::Global;
+use stub_table::Stub;
 
 /// What a book is asked.
 #[derive(Debug, Drop, PartialEq)]
@@ -19,6 +21,10 @@ pub enum Ask {
     Zones,
     /// The local records.
     Records,
+    /// The stubs.
+    Stubs,
+    /// The commands that can be undone or redone.
+    Commands,
 }
 
 /// What the operator gives, and can take back.
@@ -26,6 +32,10 @@ pub enum Ask {
 pub enum Command {
     /// Empties the cell of one question.
     FlushType(Question),
+    /// Empties the cells of a name of the types that `flush` of `unbound-control(8)` names.
+    Flush { name: Name },
+    /// Empties the cells of every name at or below a name, of any type.
+    FlushZone { name: Name },
     /// Adds a local zone, or gives the zone of this name another type.
     SetZone { name: Name, kind: ZoneType },
     /// Removes a local zone, and the records that lie in it.
@@ -34,6 +44,10 @@ pub enum Command {
     AddRecord { record: Shared<Record> },
     /// Removes the local records of an owner.
     DropName { name: Name },
+    /// Adds a stub, or gives the stub of this name other addresses.
+    SetStub { stub: Shared<Stub> },
+    /// Removes a stub.
+    DropStub { name: Name },
 }
 
 impl Command {
@@ -45,6 +59,8 @@ impl Command {
     {
         match self {
             Command::FlushType(target) => target.owner == *owner && target.kind == kind,
+            Command::Flush { name } => *name == *owner && is_flushed(kind),
+            Command::FlushZone { name } => is_at_or_below(owner, name),
             _ => false,
         }
     }
@@ -57,6 +73,8 @@ pub enum Event {
     Admit { moment: u64, find: SharedFind },
     /// Something is asked.
     Look { moment: u64, ask: Ask },
+    /// What can never be shown again may be given up. It changes nothing but the clock.
+    Sweep { moment: u64 },
     /// The operator gives a command.
     Do { moment: u64, command: Command },
     /// The newest command that can be undone is taken back.
@@ -75,6 +93,7 @@ impl Event {
         match self {
             Event::Admit { moment, .. } => *moment,
             Event::Look { moment, .. } => *moment,
+            Event::Sweep { moment } => *moment,
             Event::Do { moment, .. } => *moment,
             Event::Undo { moment } => *moment,
             Event::Redo { moment } => *moment,
@@ -158,6 +177,19 @@ pub enum Seen {
     Zones(Items<Shared<Zone>>),
     /// The local records, in order.
     Records(Items<LocalRecord>),
+    /// The stubs, in order.
+    Stubs(Items<Shared<Stub>>),
+    /// The commands that can be undone or redone, the oldest first.
+    Commands(Items<Journalled>),
+}
+
+/// A command that can be undone or redone, as the journal holds it.
+#[derive(Debug, Drop, PartialEq)]
+pub struct Journalled {
+    pub ticket: u64,
+    /// Whether it can be undone; else it can be redone.
+    pub done: bool,
+    pub command: Command,
 }
 
 /// Why a command is refused.
@@ -169,7 +201,7 @@ pub enum Reason {
     DataBelow,
     /// A CNAME would stand beside other types.
     CnameClash,
-    /// A list would be longer than it may be.
+    /// A list would be longer than it may be, or a stub's addresses are not 1 to 8.
     TooMany,
 }
 
@@ -182,6 +214,8 @@ pub enum Reply {
     Outranked,
     /// What the look sees.
     Seen(Seen),
+    /// What can never be shown again may have been given up.
+    Swept,
     /// The command is accepted, and took this ticket.
     Done { ticket: u64 },
     /// The command is not accepted.

@@ -3,6 +3,7 @@
 
 mod event; // what a book is given and asked, and what it replies
 mod copying; // what is handed in, once more
+mod flushes; // what a flush covers, as tests
 mod limits; // how far moments, counts and settings go
 mod book; // the promise that every book keeps
 mod desk; // what a caller can hand an event to
@@ -12,18 +13,21 @@ mod marks; // the commands that can be undone and redone
 mod log; // each event, and whether its command is struck
 mod replay; // a cell, by a replay of a log
 mod past; // the history of a plain book: its log and its marks
-mod changes; // what a command makes of local zones and records
-mod tables; // local zones and records, by a replay of a log
+mod made; // what the operator's commands make: local zones, records and stubs
+mod changes; // what a command makes of them
+mod tables; // the same, by a replay of a log
 mod sight; // what a look sees, with a share of the data
-mod replies; // what is replied to an event, and the table after it
+mod journal; // the commands that can be undone or redone
+mod replies; // what is replied to an event, and the tables after it
 mod plain; // the book that keeps its history and replays it
 
 pub use book::{Book, StepFault};
 pub use desk::{Desk, DeskFault};
-pub use event::{Ask, Command, Entry, Event, Look, Reason, Reply, Seen, Settings};
+pub use event::{Ask, Command, Entry, Event, Journalled, Look, Reason, Reply, Seen, Settings};
+pub use journal::journal_law;
 pub use laws::{
     clock_is_greatest, done_is_in_order, equality_law, flush_forgets, redo_puts_back,
-    refusal_changes_only_the_clock, undo_takes_back,
+    refusal_changes_only_the_clock, sweep_changes_only_the_clock, undo_takes_back,
 };
 pub use limits::{MOMENT_END, MOST_CELLS, MOST_COMMANDS, MOST_EVENTS, MOST_HINTS};
 pub use plain::{MakeFault, PlainBook};

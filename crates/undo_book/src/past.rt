@@ -104,11 +104,15 @@ impl PlainPast {
     pub fn fate(&self, find: &SharedFind, moment: u64) -> Reply
         ensures { result ≡ reply_to_admission (past_in self.now) find.now moment find.now.scope }
     {
-        let Scope::One(kind) = find.find().scope;
-        let mut cell = self.cell(&find.find().owner, kind);
-        match cell.admit(find.find(), find, self.moment.max(moment)) {
-            Fate::Taken => Reply::Taken,
-            Fate::Outranked => Reply::Outranked,
+        match find.find().scope {
+            Scope::One(kind) => {
+                let mut cell = self.cell(&find.find().owner, kind);
+                match cell.admit(find.find(), find, self.moment.max(moment)) {
+                    Fate::Taken => Reply::Taken,
+                    Fate::Outranked => Reply::Outranked,
+                }
+            }
+            Scope::Whole => Reply::Taken,
         }
     }
 

@@ -8,6 +8,7 @@ ghost use Rattle.undo_book.specs.PlainPast.{past_in};
 use crate::book::{Book, StepFault};
 use crate::event::{Ask, Event, Look, Reply, Seen, Settings};
 use crate::limits::{MOMENT_END, MOST_CELLS, MOST_COMMANDS, MOST_EVENTS, MOST_HINTS};
+use crate::made::Tables;
 use crate::past::PlainPast;
 use crate::replies::reply;
 use crate::sight::{shared_sight, sight};
@@ -15,6 +16,7 @@ use dns_name::NoMemory;
 use dns_text::Question;
 use local_zone::ZoneTable;
 use std::alloc::Global;
+use stub_table::StubTable;
 use thiserror::Error;
 
 /// Why no book is made.
@@ -38,13 +40,13 @@ fn are_settings(settings: &Settings) -> bool
     has_journal && has_cells && has_hints && settings.server_port >= 1
 }
 
-/// A book that keeps its whole history, and answers by a replay. Beside it stands the table that it comes to.
+/// A book that keeps its whole history, and answers by a replay. Beside it stand the tables that it comes to.
 #[derive(Debug, Drop)]
 pub struct PlainBook {
     past: PlainPast,
-    table: ZoneTable,
+    tables: Tables,
     alloc: Global,
-    ghost tabled: { table ≡ tables_of (past_in past) },
+    ghost tabled: { tables ≡ tables_of (past_in past) },
 }
 
 impl PlainBook {
@@ -64,7 +66,7 @@ impl PlainBook {
         }
         Ok(PlainBook {
             past: PlainPast::new(alloc, settings),
-            table: ZoneTable::new(alloc),
+            tables: Tables::new(alloc),
             alloc,
         })
     }
@@ -92,7 +94,7 @@ impl PlainBook {
             });
         }
         self.past.make_room()?;
-        let reply = reply(self.alloc, &self.past, &mut self.table, &event)?;
+        let reply = reply(self.alloc, &self.past, &mut self.tables, &event)?;
         self.past.add(event, &reply);
         Ok(reply)
     }
@@ -132,15 +134,19 @@ impl Book for PlainBook {
     }
 
     fn seen(&self, ask: &Ask, moment: u64) -> Result<Seen, NoMemory> {
-        shared_sight(self.alloc, &self.past, &self.table, ask, moment)
+        shared_sight(self.alloc, &self.past, &self.tables, ask, moment)
     }
 
     fn look<'a>(&'a self, question: &'a Question, moment: u64) -> Look<'a> {
-        sight(&self.past, &self.table, question, moment)
+        sight(&self.past, &self.tables.local, question, moment)
     }
 
     fn zones(&self) -> &ZoneTable {
-        &self.table
+        &self.tables.local
+    }
+
+    fn stubs(&self) -> &StubTable {
+        &self.tables.stubs
     }
 
     fn stored(&self) -> usize

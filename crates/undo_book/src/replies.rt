@@ -1,4 +1,4 @@
-//! What is replied to an event, and the table as it is after it.
+//! What is replied to an event, and the tables as they are after it.
 
 ghost use Rattle.std.specs.Prelude.{◌≡◌, IfOk, OnErr, OnOk, ◌+◌, ◌<◌, ◌^◌};
 ghost use Rattle.undo_book.specs.Changes.{reason_on, unless_refused};
@@ -11,49 +11,50 @@ ghost use Rattle.undo_book.specs.Reply.{reply_of, reply_to_command, reply_to_red
 
 use crate::changes::change;
 use crate::event::{Command, Event, Reply};
+use crate::made::Tables;
 use crate::past::PlainPast;
 use crate::sight::shared_sight;
-use crate::tables::replay_table;
+use crate::tables::replay_tables;
 use dns_name::NoMemory;
-use local_zone::ZoneTable;
 use std::alloc::Global;
 
-/// What is replied to an event. The table is as it is after the event then, and as it was where memory is refused.
+/// What is replied to an event. The tables are as they are after the event then, and as they were where memory is refused.
 pub(crate) fn reply(
     alloc: Global,
     past: &PlainPast,
-    table: &mut ZoneTable,
+    tables: &mut Tables,
     event: &Event,
 ) -> Result<Reply, NoMemory>
-    requires tabled { table.old ≡ tables_of (past_in past.now) }
+    requires tabled { tables.old ≡ tables_of (past_in past.now) }
     requires few { past.now.marks.tickets + 1 < 2 ^ 64 }
     ensures told { IfOk result (λ r. r ≡ reply_of past.now.settings (past_in past.now) event.now) }
-    ensures tabled { OnOk result (table.new ≡ tables_of (followed_by past.now.settings.journal (past_in past.now) event.now)) }
-    ensures same { OnErr result (table.new ≡ table.old) }
+    ensures tabled { OnOk result (tables.new ≡ tables_of (followed_by past.now.settings.journal (past_in past.now) event.now)) }
+    ensures same { OnErr result (tables.new ≡ tables.old) }
 {
     match event {
         Event::Admit { moment, find } => Ok(past.fate(find, *moment)),
         Event::Look { moment, ask } => {
-            let seen = shared_sight(alloc, past, table, ask, *moment)?;
+            let seen = shared_sight(alloc, past, tables, ask, *moment)?;
             Ok(Reply::Seen(seen))
         }
-        Event::Do { command, .. } => reply_to_command(past, table, command),
-        Event::Undo { .. } => reply_to_undo(alloc, past, table),
-        Event::Redo { .. } => reply_to_redo(alloc, past, table),
+        Event::Sweep { .. } => Ok(Reply::Swept),
+        Event::Do { command, .. } => reply_to_command(past, tables, command),
+        Event::Undo { .. } => reply_to_undo(alloc, past, tables),
+        Event::Redo { .. } => reply_to_redo(alloc, past, tables),
     }
 }
 
 fn reply_to_command(
     past: &PlainPast,
-    table: &mut ZoneTable,
+    tables: &mut Tables,
     command: &Command,
 ) -> Result<Reply, NoMemory>
     requires few { past.now.marks.tickets + 1 < 2 ^ 64 }
-    ensures told { IfOk result (λ r. r ≡ reply_to_command (marks_in past.now.marks) (reason_on table.old command.now)) }
-    ensures changed { OnOk result (table.new ≡ unless_refused (reason_on table.old command.now) command.now table.old) }
-    ensures same { OnErr result (table.new ≡ table.old) }
+    ensures told { IfOk result (λ r. r ≡ reply_to_command (marks_in past.now.marks) (reason_on tables.old command.now)) }
+    ensures changed { OnOk result (tables.new ≡ unless_refused (reason_on tables.old command.now) command.now tables.old) }
+    ensures same { OnErr result (tables.new ≡ tables.old) }
 {
-    match change(table, command)? {
+    match change(tables, command)? {
         Some(reason) => Ok(Reply::Refused(reason)),
         None => Ok(Reply::Done {
             ticket: past.marks.tickets + 1,
@@ -61,28 +62,28 @@ fn reply_to_command(
     }
 }
 
-fn reply_to_undo(alloc: Global, past: &PlainPast, table: &mut ZoneTable) -> Result<Reply, NoMemory>
+fn reply_to_undo(alloc: Global, past: &PlainPast, tables: &mut Tables) -> Result<Reply, NoMemory>
     ensures told { IfOk result (λ r. r ≡ reply_to_undo (last_of past.now.marks.done.items)) }
-    ensures changed { IfOk result (λ r. table.new ≡ tables_by_reply r past.now.log.items table.old) }
-    ensures same { OnErr result (table.new ≡ table.old) }
+    ensures changed { IfOk result (λ r. tables.new ≡ tables_by_reply r past.now.log.items tables.old) }
+    ensures same { OnErr result (tables.new ≡ tables.old) }
 {
     match past.marks.last_done() {
         Some(ticket) => {
-            *table = replay_table(alloc, &past.log, ticket, true)?;
+            *tables = replay_tables(alloc, &past.log, ticket, true)?;
             Ok(Reply::Undone { ticket })
         }
         None => Ok(Reply::NothingToUndo),
     }
 }
 
-fn reply_to_redo(alloc: Global, past: &PlainPast, table: &mut ZoneTable) -> Result<Reply, NoMemory>
+fn reply_to_redo(alloc: Global, past: &PlainPast, tables: &mut Tables) -> Result<Reply, NoMemory>
     ensures told { IfOk result (λ r. r ≡ reply_to_redo (last_of past.now.marks.undone.items)) }
-    ensures changed { IfOk result (λ r. table.new ≡ tables_by_reply r past.now.log.items table.old) }
-    ensures same { OnErr result (table.new ≡ table.old) }
+    ensures changed { IfOk result (λ r. tables.new ≡ tables_by_reply r past.now.log.items tables.old) }
+    ensures same { OnErr result (tables.new ≡ tables.old) }
 {
     match past.marks.last_undone() {
         Some(ticket) => {
-            *table = replay_table(alloc, &past.log, ticket, false)?;
+            *tables = replay_tables(alloc, &past.log, ticket, false)?;
             Ok(Reply::Redone { ticket })
         }
         None => Ok(Reply::NothingToRedo),

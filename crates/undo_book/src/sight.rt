@@ -8,11 +8,14 @@ ghost use Rattle.undo_book.specs.Cells.{shows};
 ghost use Rattle.local_zone.specs.Answer.{local_of};
 
 use crate::event::{Ask, Look, Seen};
+use crate::journal::commands;
+use crate::made::Tables;
 use crate::past::PlainPast;
 use dns_name::NoMemory;
 use dns_text::{Items, Question, Shared};
 use local_zone::{Local, LocalRecord, Zone, ZoneTable};
 use std::alloc::Global;
+use stub_table::Stub;
 
 /// What a look at a question sees: what the table answers, and the cell where it says nothing.
 pub(crate) fn sight<'a>(
@@ -37,17 +40,19 @@ pub(crate) fn sight<'a>(
 pub(crate) fn shared_sight(
     alloc: Global,
     past: &PlainPast,
-    table: &ZoneTable,
+    tables: &Tables,
     ask: &Ask,
     moment: u64,
 ) -> Result<Seen, NoMemory>
-    requires tabled { table.now ≡ tables_of (past_in past.now) }
+    requires tabled { tables.now ≡ tables_of (past_in past.now) }
     ensures { IfOk result (λ s. s ≡ seen_of past.now.settings (past_in past.now) ask.now moment) }
 {
     match ask {
-        Ask::Answer(question) => sight(past, table, question, moment).to_seen(alloc),
-        Ask::Zones => Ok(Seen::Zones(Items::new(share_zones(alloc, table.zones())?))),
-        Ask::Records => Ok(Seen::Records(Items::new(share_records(alloc, table.records())?))),
+        Ask::Answer(question) => sight(past, &tables.local, question, moment).to_seen(alloc),
+        Ask::Zones => Ok(Seen::Zones(Items::new(share_zones(alloc, tables.local.zones())?))),
+        Ask::Records => Ok(Seen::Records(Items::new(share_records(alloc, tables.local.records())?))),
+        Ask::Stubs => Ok(Seen::Stubs(Items::new(share_stubs(alloc, tables.stubs.stubs())?))),
+        Ask::Commands => Ok(Seen::Commands(Items::new(commands(alloc, past)?))),
     }
 }
 
@@ -69,6 +74,17 @@ fn share_records(alloc: Global, records: &[LocalRecord]) -> Result<Vec<LocalReco
     let mut shared = Vec::new(alloc);
     for record in records {
         shared.push(record.share()?)?;
+    }
+    Ok(shared)
+}
+
+/// A share of each stub.
+fn share_stubs(alloc: Global, stubs: &[Shared<Stub>]) -> Result<Vec<Shared<Stub>>, NoMemory>
+    ensures { IfOk result (λ v. v.items ≡ stubs.now) }
+{
+    let mut shared = Vec::new(alloc);
+    for stub in stubs {
+        shared.push(stub.share()?)?;
     }
     Ok(shared)
 }

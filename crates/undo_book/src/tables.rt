@@ -1,4 +1,4 @@
-//! Local zones and records, by a replay of a log.
+//! Local zones, records and stubs, by a replay of a log.
 
 ghost use Rattle.std.specs.Prelude.{◌≡◌, ◌&&◌, not, fold, is_some, IfOk, OnOk};
 ghost use Rattle.undo_book.specs.Changes.{no_tables};
@@ -8,39 +8,39 @@ ghost use Rattle.undo_book.specs.Replayed.{tables_after_flagged};
 use crate::changes::obey;
 use crate::event::Event;
 use crate::log::Logged;
+use crate::made::Tables;
 use dns_name::NoMemory;
-use local_zone::ZoneTable;
 use std::alloc::Global;
 
-/// The table of a log in which the command of this ticket has this flag.
-pub(crate) fn replay_table(
+/// The tables of a log in which the command of this ticket has this flag.
+pub(crate) fn replay_tables(
     alloc: Global,
     log: &Vec<Logged>,
     ticket: u64,
     struck: bool,
-) -> Result<ZoneTable, NoMemory>
+) -> Result<Tables, NoMemory>
     ensures { IfOk result (λ t. t ≡ fold (tables_after_flagged ticket struck) no_tables log.now.items) }
 {
-    let mut table = ZoneTable::new(alloc);
+    let mut tables = Tables::new(alloc);
     for logged in log {
-        replay_command(&mut table, logged, ticket, struck)?;
+        replay_command(&mut tables, logged, ticket, struck)?;
     }
-    Ok(table)
+    Ok(tables)
 }
 
 /// Obeys the command of an entry, if that stands.
 fn replay_command(
-    table: &mut ZoneTable,
+    tables: &mut Tables,
     logged: &Logged,
     ticket: u64,
     struck: bool,
 ) -> Result<(), NoMemory>
-    ensures { OnOk result (table.new ≡ tables_after_flagged ticket struck table.old logged.now) }
+    ensures { OnOk result (tables.new ≡ tables_after_flagged ticket struck tables.old logged.now) }
 {
     match &logged.entry.event {
         Event::Do { command, .. } => {
             if stands(logged, ticket, struck) {
-                obey(table, command)
+                obey(tables, command)
             } else {
                 Ok(())
             }

@@ -1,4 +1,4 @@
-use Rattle.dns_text.proofs.EqualLaws.{data_eq_exact, question_eq_exact, record_eq_exact, data_eq_itself, question_eq_itself, record_eq_itself}
+use Rattle.dns_text.specs.EqualLaws.{data_eq_exact, question_eq_exact, record_eq_exact, data_eq_itself, question_eq_itself, record_eq_itself}
 use Rattle.dns_text.proofs.record.equality_law.Goals as goal
 
 pub returns-clause-data_exact : goal.returns-clause-data_exact

@@ -1,8 +1,8 @@
--- The table that each reply leaves is that of the history with the event.
+-- The tables that each reply leaves are those of the history with the event.
 use Rattle.std.proofs.Common.{◌≡◌, sym, ◌∙◌, ap}
 use Rattle.std.specs.Prelude.{OnOk}
 use Rattle.std.proofs.lemmas.Result.{on_ok_weaker}
-use Rattle.local_zone.specs.Tables.{Tables}
+use Rattle.undo_book.specs.declared.made.Tables.{Tables}
 use Rattle.undo_book.specs.declared.event.Event.TheVariants.{Do, Undo, Redo}
 use Rattle.undo_book.specs.declared.event.Reply.{Reply}
 use Rattle.undo_book.specs.Changes.{reason_on, unless_refused}

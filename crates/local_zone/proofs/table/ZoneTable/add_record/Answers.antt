@@ -1,9 +1,9 @@
-use Rattle.std.proofs.Common.{◌≡◌, List, ap, sym, ◌∙◌, subst, take, length, None, arith}
+use Rattle.std.proofs.Common.{◌≡◌, List, ap, sym, ◌∙◌, None}
 use Rattle.dns_text.specs.declared.record.Record.{Record}
-use Rattle.local_zone.specs.Tables.{Tables, AreTables}
+use Rattle.local_zone.specs.Tables.{Tables}
 use Rattle.local_zone.specs.Change.{zones_for}
 use Rattle.local_zone.specs.Reason.{reason_of_add}
-use Rattle.local_zone.proofs.ReasonLaws.{add_is_sound, zones_before}
+use Rattle.local_zone.proofs.ReasonLaws.{add_is_sound}
 use Rattle.local_zone.proofs.table.ZoneTable.add_record.Goals as goal
 
 pub invariant_of-self-in-Ok : goal.invariant_of-self-in-Ok
@@ -11,21 +11,5 @@ invariant_of-self-in-Ok c =
     let with_records : List Record → Tables = λ records. record { zones = c.self.inside.zones.items; records = records } in
     let before : Tables = with_records c.self.inside.records.items in
     let none : reason_of_add c.args.new before ≡ None = ap (λ (new : Record). reason_of_add new before) (sym c.get-said.ensures) ∙ ap (λ (records : List Record). reason_of_add c.get-said.result.now (with_records records)) (sym c.deref.ensures.value) ∙ sym c.reason_of_add.ensures ∙ c.in_default.is in
-    let implied = c.in_ok-put_implied.ensures.ok ∙ ap (λ (new : Record). zones_for new.owner c.self.inside.zones.items) c.get-said.ensures in
+    let implied = c.in_ok-zones.ensures.ok ∙ ap (λ (new : Record). zones_for new.owner c.self.inside.zones.items) c.get-said.ensures in
     rw (implied, c.in-Ok.ensures.ok) (add_is_sound c.args.new before c.self.invariant none)
-
-pub invariant_of-self-in-Err : goal.invariant_of-self-in-Err
-invariant_of-self-in-Err c =
-    let count : c.len-count.result ≡ length c.self.inside.zones.items = omega (arith, c.len-count.ensures) in
-    let zones = c.truncate.ensures.items ∙ ap (take c.len-count.result) c.in_ok-put_implied.ensures.ok ∙ zones_before c.get-said.result.now.owner c.self.inside.zones.items c.len-count.result count in
-    rw (zones, c.in-Err.ensures.err) c.self.invariant
-
-pub returns-in-Ok-clause-saved : goal.returns-in-Ok-clause-saved
-returns-in-Ok-clause-saved c =
-    let count : c.len-count.result ≡ length c.self.inside.zones.items = omega (arith, c.len-count.ensures) in
-    let zones = ap (take c.len-count.result) c.in_ok-put_implied.ensures.ok ∙ zones_before c.get-said.result.now.owner c.self.inside.zones.items c.len-count.result count in
-    record {
-      zones = zones ∙ ap (λ (t : Tables). t.zones) c.self.view_is;
-      records = c.in-Ok.ensures.saved ∙ ap (λ (t : Tables). t.records) c.self.view_is;
-      sound = subst AreTables c.self.view_is c.self.invariant;
-    }

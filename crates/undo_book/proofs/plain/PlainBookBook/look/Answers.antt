@@ -1,7 +1,7 @@
--- The table is that of the history, and so is each cell.
+-- The tables are those of the history, and so is each cell.
 use Rattle.std.proofs.Common.{ap, ◌∙◌}
 use Rattle.local_zone.specs.Answer.{local_of}
-use Rattle.local_zone.specs.Tables.{Tables}
+use Rattle.undo_book.specs.declared.made.Tables.{Tables}
 use Rattle.undo_book.specs.Cells.{shows}
 use Rattle.undo_book.specs.History.{Past, tables_of}
 use Rattle.undo_book.specs.PlainPast.{past_in}
@@ -14,5 +14,5 @@ returns c = λ h is.
     let question = c.args.question.now in
     let moment = c.args.moment in
     c.sight.ensures
-    ∙ ap (λ (t : Tables). seen_first (local_of t question) (seen_by (shows (past_in book.past) question moment))) book.tabled
-    ∙ ap (λ (past : Past). seen_first (local_of (tables_of past) question) (seen_by (shows past question moment))) is
+    ∙ ap (λ (t : Tables). seen_first (local_of t.local question) (seen_by (shows (past_in book.past) question moment))) book.tabled
+    ∙ ap (λ (past : Past). seen_first (local_of (tables_of past).local question) (seen_by (shows past question moment))) is

@@ -1,35 +1,40 @@
--- What `==` calls equal is one event and one reply, and each is equal to itself.
+-- What `==` calls equal is one event and one reply, and each is equal to itself: lemmas for the crates above.
 use Rattle.std.proofs.Common.{◌≡◌, ℕ, true, eqb, eq-eqb, Option, Some, None, List, Decides, refl, ap, sym, ◌∙◌}
 use Rattle.std.proofs.lemmas.Bool.{and_parts, false≢true, eqb-true}
 use Rattle.std.proofs.lemmas.Slice.Eq.{slice_eq-Decides}
 use Rattle.std.specs.Cmp.Derive.{both_true}
+use Rattle.std.specs.Cmp.{booleans_Decides}
 use Rattle.dns_name.specs.Labels.{Labels}
 use Rattle.dns_name.specs.Order.{name_eq_exact, name_eq_itself}
 use Rattle.dns_text.specs.declared.record.Record.{Record}
 use Rattle.dns_text.specs.Equal.{record_eq}
-use Rattle.dns_text.proofs.EqualLaws.{question_eq_exact, question_eq_itself, record_eq_exact, record_eq_itself}
+use Rattle.dns_text.specs.EqualLaws.{question_eq_exact, question_eq_itself, record_eq_exact, record_eq_itself}
 use Rattle.ranked.specs.declared.find.Find.{Find}
 use Rattle.ranked.specs.declared.cell.Shown.{Shown}
-use Rattle.ranked.proofs.EqualLaws.{rank_eq_exact, rank_eq_itself, find_eq_exact, find_eq_itself}
+use Rattle.ranked.specs.EqualLaws.{rank_eq_exact, rank_eq_itself, find_eq_exact, find_eq_itself}
 use Rattle.local_zone.specs.declared.local.Local.{Local}
 use Rattle.local_zone.specs.declared.local.Local.TheVariants as local
 use Rattle.local_zone.specs.declared.zone.Zone.{Zone}
 use Rattle.local_zone.specs.declared.zone_type.ZoneType.{ZoneType}
 use Rattle.local_zone.specs.Equal.{zone_eq}
-use Rattle.local_zone.proofs.EqualLaws.{zone_type_eq_exact, zone_type_eq_itself, zone_eq_exact, zone_eq_itself}
+use Rattle.local_zone.specs.EqualLaws.{zone_type_eq_exact, zone_type_eq_itself, zone_eq_exact, zone_eq_itself}
+use Rattle.stub_table.specs.declared.stub.Stub.{Stub}
+use Rattle.stub_table.specs.Equal.{stub_eq}
+use Rattle.stub_table.specs.EqualLaws.{stub_eq_exact, stub_eq_itself}
 use Rattle.undo_book.specs.declared.event.Ask.{Ask}
 use Rattle.undo_book.specs.declared.event.Ask.TheVariants as ask
 use Rattle.undo_book.specs.declared.event.Command.{Command}
-use Rattle.undo_book.specs.declared.event.Command.TheVariants.{FlushType, SetZone, DropZone, AddRecord, DropName}
+use Rattle.undo_book.specs.declared.event.Command.TheVariants.{FlushType, Flush, FlushZone, SetZone, DropZone, AddRecord, DropName, SetStub, DropStub}
 use Rattle.undo_book.specs.declared.event.Event.{Event}
-use Rattle.undo_book.specs.declared.event.Event.TheVariants.{Admit, Look, Do, Undo, Redo}
+use Rattle.undo_book.specs.declared.event.Event.TheVariants.{Admit, Look, Sweep, Do, Undo, Redo}
+use Rattle.undo_book.specs.declared.event.Journalled.{Journalled}
 use Rattle.undo_book.specs.declared.event.Seen.{Seen as SeenValue}
 use Rattle.undo_book.specs.declared.event.Seen.TheVariants as seen
 use Rattle.undo_book.specs.declared.event.Reason.{Reason}
 use Rattle.undo_book.specs.declared.event.Reason.TheVariants.{BelowRedirect, DataBelow, CnameClash, TooMany}
 use Rattle.undo_book.specs.declared.event.Reply.{Reply}
-use Rattle.undo_book.specs.declared.event.Reply.TheVariants.{Taken, Outranked, Seen, Done, Refused, Undone, Redone, NothingToUndo, NothingToRedo}
-use Rattle.undo_book.specs.Equal.{ask_eq, command_eq, event_eq, seen_eq, reason_eq, reply_eq}
+use Rattle.undo_book.specs.declared.event.Reply.TheVariants.{Taken, Outranked, Seen, Swept, Done, Refused, Undone, Redone, NothingToUndo, NothingToRedo}
+use Rattle.undo_book.specs.Equal.{ask_eq, command_eq, journalled_eq, event_eq, seen_eq, reason_eq, reply_eq}
 
 same : (n : ℕ) → eqb n n ≡ true
 same n = eq-eqb n n refl
@@ -40,12 +45,16 @@ pub ask_eq_exact : (a b : Ask) → ask_eq a b ≡ true → a ≡ b
 ask_eq_exact (ask.Answer q) (ask.Answer r) e = ap ask.Answer (question_eq_exact q r e)
 ask_eq_exact ask.Zones ask.Zones e = refl
 ask_eq_exact ask.Records ask.Records e = refl
+ask_eq_exact ask.Stubs ask.Stubs e = refl
+ask_eq_exact ask.Commands ask.Commands e = refl
 ask_eq_exact _ _ e = absurd (false≢true e)
 
 pub ask_eq_itself : (a : Ask) → ask_eq a a ≡ true
 ask_eq_itself (ask.Answer q) = question_eq_itself q
 ask_eq_itself ask.Zones = refl
 ask_eq_itself ask.Records = refl
+ask_eq_itself ask.Stubs = refl
+ask_eq_itself ask.Commands = refl
 
 -- ---- commands
 
@@ -59,18 +68,38 @@ set_zone_exact name kind _ e = absurd (false≢true e)
 
 pub command_eq_exact : (a b : Command) → command_eq a b ≡ true → a ≡ b
 command_eq_exact (FlushType q) (FlushType r) e = ap FlushType (question_eq_exact q r e)
+command_eq_exact (Flush name) (Flush other) e = ap Flush (name_eq_exact name other e)
+command_eq_exact (FlushZone name) (FlushZone other) e = ap FlushZone (name_eq_exact name other e)
 command_eq_exact (SetZone name kind) b e = set_zone_exact name kind b e
 command_eq_exact (DropZone name) (DropZone other) e = ap DropZone (name_eq_exact name other e)
 command_eq_exact (AddRecord new) (AddRecord other) e = ap AddRecord (record_eq_exact new other e)
 command_eq_exact (DropName name) (DropName other) e = ap DropName (name_eq_exact name other e)
+command_eq_exact (SetStub new) (SetStub other) e = ap SetStub (stub_eq_exact new other e)
+command_eq_exact (DropStub name) (DropStub other) e = ap DropStub (name_eq_exact name other e)
 command_eq_exact _ _ e = absurd (false≢true e)
 
 pub command_eq_itself : (a : Command) → command_eq a a ≡ true
 command_eq_itself (FlushType q) = question_eq_itself q
+command_eq_itself (Flush name) = name_eq_itself name
+command_eq_itself (FlushZone name) = name_eq_itself name
 command_eq_itself (SetZone name kind) = both_true (name_eq_itself name) (zone_type_eq_itself kind)
 command_eq_itself (DropZone name) = name_eq_itself name
 command_eq_itself (AddRecord new) = record_eq_itself new
 command_eq_itself (DropName name) = name_eq_itself name
+command_eq_itself (SetStub new) = stub_eq_itself new
+command_eq_itself (DropStub name) = name_eq_itself name
+
+journalled_eq_exact : (a b : Journalled) → journalled_eq a b ≡ true → a ≡ b
+journalled_eq_exact a b e =
+    let p0 = and_parts _ _ e in
+    let p1 = and_parts _ _ p0.1 in
+    let same_ticket : a.ticket ≡ b.ticket = eqb-true a.ticket b.ticket p0.0 in
+    let same_done : a.done ≡ b.done = (booleans_Decides a.done b.done).0 p1.0 in
+    let same_command : a.command ≡ b.command = command_eq_exact a.command b.command p1.1 in
+    λ i. record { ticket = same_ticket i; done = same_done i; command = same_command i }
+
+journalled_eq_itself : (a : Journalled) → journalled_eq a a ≡ true
+journalled_eq_itself a = both_true (same a.ticket) (both_true ((booleans_Decides a.done a.done).1 refl) (command_eq_itself a.command))
 
 -- ---- events
 
@@ -101,6 +130,7 @@ do_exact m c _ e = absurd (false≢true e)
 pub event_eq_exact : (a b : Event) → event_eq a b ≡ true → a ≡ b
 event_eq_exact (Admit m f) b e = admit_exact m f b e
 event_eq_exact (Look m a) b e = look_exact m a b e
+event_eq_exact (Sweep m) (Sweep n) e = ap Sweep (eqb-true m n e)
 event_eq_exact (Do m c) b e = do_exact m c b e
 event_eq_exact (Undo m) (Undo n) e = ap Undo (eqb-true m n e)
 event_eq_exact (Redo m) (Redo n) e = ap Redo (eqb-true m n e)
@@ -109,6 +139,7 @@ event_eq_exact _ _ e = absurd (false≢true e)
 pub event_eq_itself : (a : Event) → event_eq a a ≡ true
 event_eq_itself (Admit m f) = both_true (same m) (find_eq_itself f)
 event_eq_itself (Look m a) = both_true (same m) (ask_eq_itself a)
+event_eq_itself (Sweep m) = same m
 event_eq_itself (Do m c) = both_true (same m) (command_eq_itself c)
 event_eq_itself (Undo m) = same m
 event_eq_itself (Redo m) = same m
@@ -120,6 +151,12 @@ record_eq-Decides a b = (record_eq_exact a b, λ is. ap (record_eq a) (sym is) �
 
 zone_eq-Decides : (a b : Zone) → Decides (zone_eq a b) (a ≡ b)
 zone_eq-Decides a b = (zone_eq_exact a b, λ is. ap (zone_eq a) (sym is) ∙ zone_eq_itself a)
+
+stub_eq-Decides : (a b : Stub) → Decides (stub_eq a b) (a ≡ b)
+stub_eq-Decides a b = (stub_eq_exact a b, λ is. ap (stub_eq a) (sym is) ∙ stub_eq_itself a)
+
+journalled_eq-Decides : (a b : Journalled) → Decides (journalled_eq a b) (a ≡ b)
+journalled_eq-Decides a b = (journalled_eq_exact a b, λ is. ap (journalled_eq a) (sym is) ∙ journalled_eq_itself a)
 
 held_exact : (s : Shown Find) (b : SeenValue) → seen_eq (seen.Held s) b ≡ true → seen.Held s ≡ b
 held_exact s (seen.Held t) e =
@@ -160,6 +197,8 @@ seen_eq_exact (seen.Held s) b e = held_exact s b e
 seen_eq_exact (seen.Local a) b e = local_exact a b e
 seen_eq_exact (seen.Zones zones) (seen.Zones other) e = ap seen.Zones ((slice_eq-Decides zone_eq-Decides zones other _ refl).0 e)
 seen_eq_exact (seen.Records records) (seen.Records other) e = ap seen.Records ((slice_eq-Decides record_eq-Decides records other _ refl).0 e)
+seen_eq_exact (seen.Stubs stubs) (seen.Stubs other) e = ap seen.Stubs ((slice_eq-Decides stub_eq-Decides stubs other _ refl).0 e)
+seen_eq_exact (seen.Commands commands) (seen.Commands other) e = ap seen.Commands ((slice_eq-Decides journalled_eq-Decides commands other _ refl).0 e)
 seen_eq_exact _ _ e = absurd (false≢true e)
 
 no_data_itself : (a : Option Record) → seen_eq (seen.Local (local.NoData a)) (seen.Local (local.NoData a)) ≡ true
@@ -184,6 +223,8 @@ seen_eq_itself (seen.Held s) = both_true (rank_eq_itself s.rank) (both_true (sam
 seen_eq_itself (seen.Local a) = local_itself a
 seen_eq_itself (seen.Zones zones) = (slice_eq-Decides zone_eq-Decides zones zones _ refl).1 refl
 seen_eq_itself (seen.Records records) = (slice_eq-Decides record_eq-Decides records records _ refl).1 refl
+seen_eq_itself (seen.Stubs stubs) = (slice_eq-Decides stub_eq-Decides stubs stubs _ refl).1 refl
+seen_eq_itself (seen.Commands commands) = (slice_eq-Decides journalled_eq-Decides commands commands _ refl).1 refl
 
 -- ---- replies
 
@@ -204,6 +245,7 @@ pub reply_eq_exact : (a b : Reply) → reply_eq a b ≡ true → a ≡ b
 reply_eq_exact Taken Taken e = refl
 reply_eq_exact Outranked Outranked e = refl
 reply_eq_exact (Seen a) (Seen b) e = ap Seen (seen_eq_exact a b e)
+reply_eq_exact Swept Swept e = refl
 reply_eq_exact (Done t) (Done u) e = ap Done (eqb-true t u e)
 reply_eq_exact (Refused r) (Refused s) e = ap Refused (reason_eq_exact r s e)
 reply_eq_exact (Undone t) (Undone u) e = ap Undone (eqb-true t u e)
@@ -216,6 +258,7 @@ pub reply_eq_itself : (a : Reply) → reply_eq a a ≡ true
 reply_eq_itself Taken = refl
 reply_eq_itself Outranked = refl
 reply_eq_itself (Seen a) = seen_eq_itself a
+reply_eq_itself Swept = refl
 reply_eq_itself (Done t) = same t
 reply_eq_itself (Refused r) = reason_eq_itself r
 reply_eq_itself (Undone t) = same t

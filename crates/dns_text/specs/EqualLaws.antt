@@ -1,4 +1,4 @@
--- What `==` calls equal is one value, and each value is equal to itself.
+-- What `==` calls equal is one value, and each value is equal to itself: lemmas for this crate and those above.
 use Rattle.std.proofs.Common.{◌≡◌, ℕ, true, eqb, eq-eqb, List, refl, ap, ◌∙◌}
 use Rattle.std.proofs.lemmas.Bool.{and_parts, false≢true, eqb-true}
 use Rattle.std.proofs.lemmas.Slice.Eq.{bytes_eq-Decides, slice_eq-Decides}
@@ -9,7 +9,10 @@ use Rattle.dns_text.specs.declared.record.Data.{Data}
 use Rattle.dns_text.specs.declared.record.Data.TheVariants.{A, Aaaa, One, Mx, Soa, Txt, Srv, Opaque}
 use Rattle.dns_text.specs.declared.record.Question.{Question}
 use Rattle.dns_text.specs.declared.record.Record.{Record}
-use Rattle.dns_text.specs.Equal.{data_eq, question_eq, record_eq}
+use Rattle.dns_text.specs.declared.addr.Addr.{Addr}
+use Rattle.dns_text.specs.declared.addr.Ip.{Ip}
+use Rattle.dns_text.specs.declared.addr.Ip.TheVariants.{V4, V6}
+use Rattle.dns_text.specs.Equal.{data_eq, question_eq, record_eq, ip_eq, addr_eq}
 
 a_exact : (x0 : List ℕ) (b : Data) → data_eq (A x0) b ≡ true → A x0 ≡ b
 a_exact x0 (A y0) e = ap A ((bytes_eq-Decides x0 y0).0 e)
@@ -28,7 +31,7 @@ mx_exact x0 x1 (Mx y0 y1) e =
     let p0 = and_parts _ _ e in
     let e0 : x0 ≡ y0 = eqb-true x0 y0 p0.0 in
     let e1 : x1 ≡ y1 = name_eq_exact x1 y1 p0.1 in
-    cc
+    λ i. Mx (e0 i) (e1 i)
 mx_exact x0 x1 _ e = absurd (false≢true e)
 
 soa_exact : (x0 : Labels) (x1 : Labels) (x2 : ℕ) (x3 : ℕ) (x4 : ℕ) (x5 : ℕ) (x6 : ℕ) (b : Data) → data_eq (Soa x0 x1 x2 x3 x4 x5 x6) b ≡ true → Soa x0 x1 x2 x3 x4 x5 x6 ≡ b
@@ -46,7 +49,7 @@ soa_exact x0 x1 x2 x3 x4 x5 x6 (Soa y0 y1 y2 y3 y4 y5 y6) e =
     let p5 = and_parts _ _ p4.1 in
     let e5 : x5 ≡ y5 = eqb-true x5 y5 p5.0 in
     let e6 : x6 ≡ y6 = eqb-true x6 y6 p5.1 in
-    cc
+    λ i. Soa (e0 i) (e1 i) (e2 i) (e3 i) (e4 i) (e5 i) (e6 i)
 soa_exact x0 x1 x2 x3 x4 x5 x6 _ e = absurd (false≢true e)
 
 txt_exact : (x0 : List (List ℕ)) (b : Data) → data_eq (Txt x0) b ≡ true → Txt x0 ≡ b
@@ -62,7 +65,7 @@ srv_exact x0 x1 x2 x3 (Srv y0 y1 y2 y3) e =
     let p2 = and_parts _ _ p1.1 in
     let e2 : x2 ≡ y2 = eqb-true x2 y2 p2.0 in
     let e3 : x3 ≡ y3 = name_eq_exact x3 y3 p2.1 in
-    cc
+    λ i. Srv (e0 i) (e1 i) (e2 i) (e3 i)
 srv_exact x0 x1 x2 x3 _ e = absurd (false≢true e)
 
 opaque_exact : (x0 : List ℕ) (b : Data) → data_eq (Opaque x0) b ≡ true → Opaque x0 ≡ b
@@ -97,6 +100,18 @@ record_eq_exact a b e =
     let e3 : a.body ≡ b.body = data_eq_exact a.body b.body p2.1 in
     λ i. record { owner = e0 i; kind = e1 i; ttl = e2 i; body = e3 i }
 
+pub ip_eq_exact : (a b : Ip) → ip_eq a b ≡ true → a ≡ b
+ip_eq_exact (V4 xs) (V4 ys) e = ap V4 ((bytes_eq-Decides xs ys).0 e)
+ip_eq_exact (V6 xs) (V6 ys) e = ap V6 ((bytes_eq-Decides xs ys).0 e)
+ip_eq_exact _ _ e = absurd (false≢true e)
+
+pub addr_eq_exact : (a b : Addr) → addr_eq a b ≡ true → a ≡ b
+addr_eq_exact a b e =
+    let parts = and_parts _ _ e in
+    let same_ip : a.ip ≡ b.ip = ip_eq_exact a.ip b.ip parts.0 in
+    let same_port : a.port ≡ b.port = eqb-true a.port b.port parts.1 in
+    λ i. record { ip = same_ip i; port = same_port i }
+
 -- ---- each value is equal to itself
 
 same : (n : ℕ) → eqb n n ≡ true
@@ -118,3 +133,10 @@ question_eq_itself a = both_true (name_eq_itself a.owner) (same a.kind)
 
 pub record_eq_itself : (a : Record) → record_eq a a ≡ true
 record_eq_itself a = both_true (name_eq_itself a.owner) (both_true (same a.kind) (both_true (same a.ttl) (data_eq_itself a.body)))
+
+pub ip_eq_itself : (a : Ip) → ip_eq a a ≡ true
+ip_eq_itself (V4 octets) = (bytes_eq-Decides octets octets).1 refl
+ip_eq_itself (V6 octets) = (bytes_eq-Decides octets octets).1 refl
+
+pub addr_eq_itself : (a : Addr) → addr_eq a a ≡ true
+addr_eq_itself a = both_true (ip_eq_itself a.ip) (same a.port)

@@ -1,4 +1,4 @@
--- What `==` calls equal is one find, and each find is equal to itself.
+-- What `==` calls equal is one find, and each find is equal to itself: lemmas for the crates above.
 use Rattle.std.proofs.Common.{◌≡◌, ℕ, ◌≤◌, true, eqb, eq-eqb, refl, ap, sym, ◌∙◌, Decides}
 use Rattle.std.proofs.lemmas.Bool.{and_parts, false≢true, eqb-true}
 use Rattle.std.proofs.lemmas.Slice.Eq.{slice_eq-Decides}
@@ -10,16 +10,15 @@ use native.Mathlib.Bridge.{le_prop}
 use Rattle.dns_name.specs.Order.{name_eq_exact, name_eq_itself}
 use Rattle.dns_text.specs.declared.record.Data.{Data}
 use Rattle.dns_text.specs.Equal.{data_eq}
-use Rattle.dns_text.proofs.EqualLaws.{data_eq_exact, data_eq_itself}
+use Rattle.dns_text.specs.EqualLaws.{data_eq_exact, data_eq_itself, record_eq_exact, record_eq_itself}
 use Rattle.ranked.specs.declared.rank.Rank.{Rank}
 use Rattle.ranked.specs.declared.rank.Rank.TheVariants.{Additional, Answer, Authority, AuthoritativeAnswer}
 use Rattle.ranked.specs.declared.find.Find.{Find}
 use Rattle.ranked.specs.declared.find.Scope.{Scope}
-use Rattle.ranked.specs.declared.find.Scope.TheVariants.{One}
+use Rattle.ranked.specs.declared.find.Scope.TheVariants.{One, Whole}
 use Rattle.ranked.specs.declared.find.Body.{Body}
-use Rattle.ranked.specs.declared.find.Body.TheVariants.{Set}
-use Rattle.ranked.specs.declared.find.TheConstants.{LONGEST_TTL}
-use Rattle.ranked.specs.Body.{has_data, HasForms, HasForms-prop}
+use Rattle.ranked.specs.declared.find.Body.TheVariants.{Set, NoData, NoName}
+use Rattle.ranked.specs.Body.{has_data, has_rank, longest_ttl, HasForms, HasForms-prop}
 use Rattle.ranked.specs.Equal.{rank_eq, scope_eq, body_eq, find_eq}
 
 pub rank_eq_exact : (a b : Rank) → rank_eq a b ≡ true → a ≡ b
@@ -31,12 +30,17 @@ rank_eq_exact _ _ e = absurd (false≢true e)
 
 scope_eq_exact : (a b : Scope) → scope_eq a b ≡ true → a ≡ b
 scope_eq_exact (One kind) (One other) e = ap One (eqb-true kind other e)
+scope_eq_exact Whole Whole e = refl
+scope_eq_exact _ _ e = absurd (false≢true e)
 
 data_eq-Decides : (a b : Data) → Decides (data_eq a b) (a ≡ b)
 data_eq-Decides a b = (data_eq_exact a b, λ same. ap (data_eq a) (sym same) ∙ data_eq_itself a)
 
 body_eq_exact : (a b : Body) → body_eq a b ≡ true → a ≡ b
 body_eq_exact (Set xs) (Set ys) e = ap Set ((slice_eq-Decides data_eq-Decides xs ys _ refl).0 e)
+body_eq_exact (NoData soa) (NoData other) e = ap NoData (record_eq_exact soa other e)
+body_eq_exact (NoName soa) (NoName other) e = ap NoName (record_eq_exact soa other e)
+body_eq_exact _ _ e = absurd (false≢true e)
 
 -- A find with the same fields is the same find: the facts that it carries are true in one way.
 find_path : (a b : Find) → a.owner ≡ b.owner → a.scope ≡ b.scope → a.rank ≡ b.rank → a.ttl ≡ b.ttl → a.body ≡ b.body → a ≡ b
@@ -47,7 +51,8 @@ find_path a b o s r t y = λ i. record {
   ttl = t i;
   body = y i;
   lives = is_prop→PathP (λ j. 1 ≤ t j) (λ j. le_prop) a.lives b.lives i;
-  cut = is_prop→PathP (λ j. t j ≤ LONGEST_TTL) (λ j. le_prop) a.cut b.cut i;
+  cut = is_prop→PathP (λ j. t j ≤ longest_ttl (y j)) (λ j. le_prop) a.cut b.cut i;
+  ranked = is_prop→PathP (λ j. IsTrue (has_rank (y j) (r j))) (λ j. Bool-set (has_rank (y j) (r j)) true) a.ranked b.ranked i;
   found = is_prop→PathP (λ j. IsTrue (has_data (y j))) (λ j. Bool-set (has_data (y j)) true) a.found b.found i;
   formed = is_prop→PathP (λ j. HasForms (s j) (y j)) (λ j. HasForms-prop (s j) (y j)) a.formed b.formed i;
 }
@@ -73,9 +78,12 @@ rank_eq_itself AuthoritativeAnswer = refl
 
 scope_eq_itself : (a : Scope) → scope_eq a a ≡ true
 scope_eq_itself (One kind) = same kind
+scope_eq_itself Whole = refl
 
 body_eq_itself : (a : Body) → body_eq a a ≡ true
 body_eq_itself (Set xs) = (slice_eq-Decides data_eq-Decides xs xs _ refl).1 refl
+body_eq_itself (NoData soa) = record_eq_itself soa
+body_eq_itself (NoName soa) = record_eq_itself soa
 
 pub find_eq_itself : (a : Find) → find_eq a a ≡ true
 find_eq_itself a = both_true (name_eq_itself a.owner) (both_true (scope_eq_itself a.scope) (both_true (rank_eq_itself a.rank) (both_true (same a.ttl) (body_eq_itself a.body))))

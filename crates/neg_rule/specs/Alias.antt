@@ -1,0 +1,56 @@
+-- The name that a question comes to by the CNAME records of an answer section (RFC 1034, section 3.6.2).
+use Rattle.std.specs.Prelude.{◌≡◌, ℕ, zero, suc, ◌≤◌, Bool, ◌&&◌, ◌==◌, List, Option, Some, None, unwrap_or, is_some, if◌then◌else◌}
+use Rattle.std.specs.List.{find}
+use Rattle.dns_name.specs.Labels.{Labels}
+use Rattle.dns_name.specs.Options.{◌>>=◌}
+use Rattle.dns_name.specs.Order.{name_eq}
+use Rattle.dns_text.specs.declared.record.Data.{Data}
+use Rattle.dns_text.specs.declared.record.Data.TheVariants.{One}
+use Rattle.dns_text.specs.declared.record.Question.{Question}
+use Rattle.dns_text.specs.declared.record.Record.{Record}
+use Rattle.dns_text.specs.declared.types.TheConstants.{CNAME}
+use Rattle.dns_wire.specs.declared.message.Classed.{Classed}
+use Rattle.dns_wire.specs.declared.message.TheConstants.{CLASS_IN}
+use Rattle.neg_rule.specs.declared.alias.TheConstants.{MOST_ALIASES}
+
+-- whether a record is of class IN, this owner and this type
+abbrev pub is_for : Labels → ℕ → Classed Record → Bool
+is_for owner kind r = r.class == CLASS_IN && (r.item.kind == kind && name_eq r.item.owner owner)
+
+-- the name in the data of a CNAME
+abbrev pub target_of : Data → Option Labels
+target_of (One name) = Some name
+target_of _ = None
+
+-- the name that an owner is an alias of, by its first CNAME record
+abbrev pub alias_of : List (Classed Record) → Labels → Option Labels
+alias_of answer owner = find (is_for owner CNAME) answer >>= λ r. target_of r.item.body
+
+-- the name that an owner is an alias of, or the owner itself
+abbrev pub next_name : List (Classed Record) → Labels → Labels
+next_name answer owner = unwrap_or (alias_of answer owner) owner
+
+-- the name after so many steps, where a name that is no alias stays
+unfoldable pub name_after : List (Classed Record) → Labels → ℕ → Labels
+name_after answer owner zero = owner
+name_after answer owner (suc n) = next_name answer (name_after answer owner n)
+
+-- a name, unless it is an alias
+abbrev pub unless_alias : List (Classed Record) → Labels → Option Labels
+unless_alias answer owner = if is_some (alias_of answer owner) then None else Some owner
+
+-- The last name of a question: the one that its aliases come to in as many steps as there may be. A question for CNAME asks for the alias itself.
+abbrev pub last_of : List (Classed Record) → Question → Option Labels
+last_of answer question = if question.kind == CNAME then Some question.owner else unless_alias answer (name_after answer question.owner MOST_ALIASES)
+
+-- CNAME records lead from one name to another in so many steps.
+pub data Leads (answer : List (Classed Record)) : Labels → ℕ → Labels → Type 0 where
+  here : {name : Labels} → Leads answer name 0 name
+  alias : {name next last : Labels} {n : ℕ} → alias_of answer name ≡ Some next → Leads answer next n last → Leads answer name (suc n) last
+
+-- CNAME records lead from a name to one that is no alias, in as many steps as there may be.
+pub record IsLast (answer : List (Classed Record)) (name last : Labels) : Type 0 where
+  pub steps : ℕ
+  pub few : steps ≤ MOST_ALIASES
+  pub leads : Leads answer name steps last
+  pub ends : alias_of answer last ≡ None

@@ -1,0 +1,74 @@
+//! What a line asks to change, done.
+
+ghost use Rattle.std.specs.Prelude.{IfOk};
+ghost use Rattle.stub_table.specs.Saved.{TakesBack};
+
+use dns_name::{Name, NoMemory};
+use dns_text::{Addr, Items, Shared, next_word, read_addr};
+use std::alloc::Global;
+use stub_table::{MOST_STUBS, SavedStubs, Stub, StubFault, StubTable};
+
+#[derive(Drop)]
+pub enum Change {
+    Set(Shared<Stub>),
+    Remove(Name),
+}
+
+/// The name that a text begins with.
+pub fn name_in(alloc: Global, text: &[u8]) -> Option<Name> {
+    let (word, _) = next_word(text)?;
+    Name::from_text(alloc, word).ok()
+}
+
+fn addrs_in(alloc: Global, text: &[u8]) -> Option<Vec<Addr>> {
+    let mut addrs = Vec::new(alloc);
+    let mut rest = text;
+    for _ in 0..text.len() {
+        let Some((word, later)) = next_word(rest) else {
+            break;
+        };
+        addrs.push(read_addr(word).ok()?).ok()?;
+        rest = later;
+    }
+    Some(addrs)
+}
+
+fn stub_in(alloc: Global, text: &[u8]) -> Option<Shared<Stub>> {
+    let name = name_in(alloc, text)?;
+    let (_, rest) = next_word(text)?;
+    let addrs = Items::new(addrs_in(alloc, rest)?);
+    Shared::new(alloc, Stub { name, addrs }).ok()
+}
+
+/// The change that a text asks for.
+pub fn change_in(alloc: Global, text: &[u8]) -> Option<Change> {
+    let (word, rest) = next_word(text)?;
+    if word == b"set".as_slice() {
+        return Some(Change::Set(stub_in(alloc, rest)?));
+    }
+    Some(Change::Remove(name_in(alloc, rest)?))
+}
+
+pub fn made(table: &mut StubTable, change: Change) -> Result<SavedStubs, StubFault>
+    ensures saved { IfOk result (λ saved. TakesBack saved table.new table.old) }
+{
+    match change {
+        Change::Set(stub) => table.set(stub),
+        Change::Remove(name) => Ok(table.remove(&name)?),
+    }
+}
+
+/// Sets one stub more than there may be, each of a label that no other has; gives how many were refused.
+pub fn fill(alloc: Global, table: &mut StubTable) -> Result<u32, NoMemory> {
+    let mut refused: u32 = 0;
+    for n in 0..MOST_STUBS as u32 + 1 {
+        let text = format!(in alloc; "set {n}. 192.0.2.1")?;
+        let Some(new) = change_in(alloc, text.as_str().as_bytes()) else {
+            break;
+        };
+        if made(table, new).is_err() {
+            refused = refused.saturating_add(1);
+        }
+    }
+    Ok(refused)
+}

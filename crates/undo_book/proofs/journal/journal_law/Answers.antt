@@ -1,0 +1,8 @@
+use Rattle.undo_book.proofs.JournalLaw.{held_ascend, done_are_held}
+use Rattle.undo_book.proofs.journal.journal_law.Goals as goal
+
+pub returns-clause-order : goal.returns-clause-order
+returns-clause-order c = held_ascend
+
+pub returns-clause-done : goal.returns-clause-done
+returns-clause-done c = done_are_held
