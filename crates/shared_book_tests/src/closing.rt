@@ -75,7 +75,11 @@ fn third_again(receipts: &[Receipt]) -> Result<Receipt, Fail> {
 
 /// A receipt of this number which no book gave.
 fn invented(receipts: &[Receipt], number: u64) -> Result<Receipt, Fail> {
-    receipt(number, receipts.first().ok_or("a first")?, Reply::NothingToRedo)
+    receipt(
+        number,
+        receipts.first().ok_or("a first")?,
+        Reply::NothingToRedo,
+    )
 }
 
 fn changed(case: Case, mut receipts: Vec<Receipt>) -> Result<Vec<Receipt>, Fail> {
