@@ -11,6 +11,7 @@ pub mod Reply
 pub mod Answers
 pub mod Desk
 pub mod Equal
+pub mod EqualLaws
 pub mod Runs
 pub mod Refusal
 pub mod Redo

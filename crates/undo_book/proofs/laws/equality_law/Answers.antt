@@ -1,4 +1,4 @@
-use Rattle.undo_book.proofs.EqualLaws.{event_eq_exact, reply_eq_exact, event_eq_itself, reply_eq_itself}
+use Rattle.undo_book.specs.EqualLaws.{event_eq_exact, reply_eq_exact, event_eq_itself, reply_eq_itself}
 use Rattle.undo_book.proofs.laws.equality_law.Goals as goal
 
 pub returns-clause-events_exact : goal.returns-clause-events_exact

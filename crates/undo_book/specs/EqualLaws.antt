@@ -1,4 +1,4 @@
--- What `==` calls equal is one event and one reply, and each is equal to itself.
+-- What `==` calls equal is one event and one reply, and each is equal to itself: lemmas for the crates above.
 use Rattle.std.proofs.Common.{◌≡◌, ℕ, true, eqb, eq-eqb, Option, Some, None, List, Decides, refl, ap, sym, ◌∙◌}
 use Rattle.std.proofs.lemmas.Bool.{and_parts, false≢true, eqb-true}
 use Rattle.std.proofs.lemmas.Slice.Eq.{slice_eq-Decides}

@@ -1,0 +1,4 @@
+mod ClosingLaws
+mod EqualLaws
+mod OrderLaws
+mod RecordLaws

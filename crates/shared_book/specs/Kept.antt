@@ -1,0 +1,70 @@
+-- What lies under the lock.
+use Rattle.std.specs.Prelude.{◌≡◌, ℕ, ◌+◌, ◌<◌, ◌≤◌, ◌^◌, List, [], ◌∷◌, ◌++◌, length, refl}
+use Rattle.std.specs.Coded.{Coded, code_by, coded×, coded_ℕ, coded_list}
+use Rattle.undo_book.specs.declared.event.Event.{Event}
+use Rattle.undo_book.specs.declared.event.Reply.{Reply}
+use Rattle.undo_book.specs.declared.event.Settings.{Settings}
+use Rattle.undo_book.specs.declared.book.StepFault.{StepFault}
+use Rattle.undo_book.specs.declared.book.StepFault.TheVariants.{BadMoment, CountEnded}
+use Rattle.undo_book.specs.declared.limits.TheConstants.{MOMENT_END, MOST_EVENTS}
+use Rattle.undo_book.specs.Event.{moment_of}
+use Rattle.shared_book.specs.declared.receipt.Receipt.{Receipt}
+use Rattle.shared_book.specs.Pass.{PassState, after_call}
+use Rattle.shared_book.specs.Record.{receipt_for, events_of, IsLegalAfter}
+
+-- the book, the record of its calls, their total, and how many callers were numbered
+pub record KeptState (B : Type 0) : Type 0 where
+  pub book : B
+  pub first : ℕ  -- the number of the first entry
+  pub entries : List Receipt
+  pub limit : ℕ  -- how many calls are recorded
+  pub total : ℕ
+  pub callers : ℕ
+
+-- The record has each call, is legal, and the book stands for its events.
+pub record IsWhole {B : Type 0} (stands_for : B → List Event → Type 0) (settings : B → Settings) (kept : KeptState B) : Type 0 where
+  pub each_call : length kept.entries ≡ kept.total
+  pub legal : IsLegalAfter (settings kept.book) [] kept.entries
+  pub stands : stands_for kept.book (events_of kept.entries)
+
+-- The book stands for a history of as many events as calls were made. Up to the limit they are those of the record, which is legal.
+pub record IsKept {B : Type 0} (stands_for : B → List Event → Type 0) (settings : B → Settings) (kept : KeptState B) : Type 0 where
+  pub history : List Event
+  pub stands : stands_for kept.book history
+  pub counted : length history ≡ kept.total
+  pub few : kept.total < 2 ^ 62
+  pub few_callers : kept.callers ≤ 2 ^ 62
+  pub from_one : kept.first ≡ 1
+  pub recorded : kept.total ≤ kept.limit → (history ≡ events_of kept.entries) × IsLegalAfter (settings kept.book) [] kept.entries
+
+-- One call more was taken and, up to the limit, recorded.
+pub record IsCalled {B : Type 0} (before after : KeptState B) (pass : PassState) (event : Event) (reply : Reply) (pass' : PassState) : Type 0 where
+  pub total : after.total ≡ before.total + 1
+  pub first : after.first ≡ before.first
+  pub limit : after.limit ≡ before.limit
+  pub callers : after.callers ≡ before.callers
+  pub counted : pass' ≡ after_call pass after.total
+  pub recorded : after.total ≤ after.limit → after.entries ≡ before.entries ++ receipt_for after.total pass.caller event reply ∷ []
+  pub full : after.limit < after.total → after.entries ≡ before.entries
+
+-- Nothing but the book may have changed.
+pub record IsSameRecord {B : Type 0} (before after : KeptState B) : Type 0 where
+  pub first : after.first ≡ before.first
+  pub entries : after.entries ≡ before.entries
+  pub limit : after.limit ≡ before.limit
+  pub total : after.total ≡ before.total
+  pub callers : after.callers ≡ before.callers
+
+-- why an event is not taken after so many, whatever it is
+abbrev pub IsUntimely : ℕ → Event → StepFault → Type 0
+IsUntimely count event BadMoment = MOMENT_END ≤ moment_of event
+IsUntimely count event CountEnded = (moment_of event < MOMENT_END) × (MOST_EVENTS ≤ count)
+IsUntimely count event _ = ⊥
+
+-- such a state is stored as the tuple of its fields
+abbrev pub kept_code : {B : Type 0} → Coded B → Coded Receipt → Coded (KeptState B)
+kept_code {B} b r =
+    code_by (B × (ℕ × (List Receipt × (ℕ × (ℕ × ℕ))))) (coded× b (coded× coded_ℕ (coded× (coded_list r) (coded× coded_ℕ (coded× coded_ℕ coded_ℕ)))))
+    (λ k. (k.book, (k.first, (k.entries, (k.limit, (k.total, k.callers))))))
+    (λ p. record { book = p.0; first = p.1.0; entries = p.1.1.0; limit = p.1.1.1.0; total = p.1.1.1.1.0; callers = p.1.1.1.1.1 })
+    (λ _. refl)

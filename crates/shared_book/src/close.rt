@@ -1,0 +1,101 @@
+//! Whether the receipts that are handed in are the record.
+
+ghost use Rattle.std.specs.Prelude.{◌≡◌, ◌+◌, ◌<◌, ◌≤◌, ◌^◌, ◌↔◌, IsTrue, length, slice_get, Some, None, OnOk, IfOk, MatchResult, MatchOption};
+ghost use Rattle.shared_book.specs.Closing.{IsInOrder, IsFirstOther, ClosesAs};
+ghost use Rattle.shared_book.specs.Kept.{IsWhole};
+
+use crate::fault::CloseFault;
+use crate::kept::Kept;
+use crate::pass::Pass;
+use crate::receipt::Receipt;
+use dns_name::NoMemory;
+use std::sync::ledger::Ledger;
+use undo_book::Book;
+
+/// Why a book is not closed, and what lay under its lock, unchanged.
+#[derive(Drop)]
+pub struct NotClosed<B: Book, L: Ledger> {
+    pub fault: CloseFault,
+    pub kept: Kept<B, L>,
+}
+
+impl<B: Book, L: Ledger> Kept<B, L> {
+    /// Whether the receipts, in order of number, are the record. The faults come in their order.
+    pub fn close(
+        mut self,
+        passes: Vec<Pass<L>>,
+        mut receipts: Vec<Receipt>,
+    ) -> Result<Kept<B, L>, NotClosed<B, L>>
+        ensures same { MatchResult result (λ kept. kept ≡ self) (λ not_closed. not_closed.kept ≡ self) }
+        ensures verdict { MatchResult result (λ kept. ClosesAs self passes.items receipts.items None) (λ not_closed. ClosesAs self passes.items receipts.items (Some not_closed.fault)) }
+        ensures whole { IfOk result (λ kept. IsWhole B.stands_for B.settings kept) }
+    {
+        if self.total() > self.limit() {
+            return Err(not_closed(CloseFault::NotWhole, self));
+        }
+        let made = self.gather(passes);
+        let held = made.min(receipts.len() as u64);
+        if held < self.total() {
+            let count = self.total() - held;
+            return Err(not_closed(CloseFault::Missing { count }, self));
+        }
+        match put_in_order(&mut receipts) {
+            Ok(()) => {}
+            Err(_) => return Err(not_closed(CloseFault::NoMemory, self)),
+        }
+        match first_other(self.first(), &receipts, self.entries()) {
+            None => Ok(self),
+            Some(number) => Err(not_closed(CloseFault::Mismatch { number }, self)),
+        }
+    }
+
+    /// The number of the first entry.
+    fn first(&self) -> u64
+        ensures first { result ≡ self.now.first }
+        ensures one { result ≡ 1 }
+    {
+        self.recorded.first
+    }
+}
+
+fn not_closed<B: Book, L: Ledger>(fault: CloseFault, kept: Kept<B, L>) -> NotClosed<B, L>
+    ensures fault { result.fault ≡ fault }
+    ensures kept { result.kept ≡ kept }
+{
+    NotClosed { fault, kept }
+}
+
+/// Puts receipts in order of number, equal numbers as they stood.
+fn put_in_order(receipts: &mut Vec<Receipt>) -> Result<(), NoMemory>
+    ensures order { OnOk result (IsInOrder receipts.old.items receipts.new.items) }
+    ensures len { length receipts.new.items ≡ length receipts.old.items }
+{
+    match receipts.sort_by_key(|receipt| receipt.number) {
+        Ok(()) => Ok(()),
+        Err(fault) => Err(fault),
+    }
+}
+
+/// Whether this entry is the receipt.
+fn is_entry(entries: &[Receipt], i: usize, receipt: &Receipt) -> bool
+    ensures { IsTrue result ↔ (slice_get entries.now i ≡ Some receipt.now) }
+{
+    if i >= entries.len() {
+        return false;
+    }
+    entries[i] == *receipt
+}
+
+/// The number of the first place whose receipt is not that entry, where the entries are numbered from `first`.
+fn first_other(first: u64, receipts: &[Receipt], entries: &[Receipt]) -> Option<u64>
+    requires few { first < 2 ^ 62 }
+    requires each { length entries.now ≤ length receipts.now }
+    ensures { MatchOption result (receipts.now ≡ entries.now) (λ number. IsFirstOther first number receipts.now entries.now) }
+{
+    for (i, receipt) in receipts.iter().enumerate() {
+        if !is_entry(entries, i, receipt) {
+            return Some(first + i as u64);
+        }
+    }
+    None
+}

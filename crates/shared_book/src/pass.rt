@@ -1,0 +1,157 @@
+//! A caller's right to call.
+
+ghost use Rattle.std.specs.Prelude.{◌≡◌, ◌+◌, ◌<◌, ◌≤◌, ◌^◌, ◌/◌, max};
+
+use std::marker::Model;
+use std::sync::ledger::{Book as Calls, Ledger, Share};
+
+/// What a caller holds: its number, what it has seen, and its share of the calls.
+#[derive(Drop)]
+pub struct Pass<L: Ledger> {
+    caller: u64,
+    seen: u64,
+    made: u64,
+    parts: u64,
+    share: Share<L>,
+}
+
+impl<L: Ledger> Model for Pass<L> {
+    ghost use Rattle.std.specs.Prelude.{◌≡◌, ◌<◌, ◌≤◌};
+    ghost use Rattle.shared_book.specs.Pass.{PassState};
+
+    ghost Value = { PassState };
+
+    ghost view = { λ p. record { caller = p.caller; seen = p.seen; made = p.made; parts = p.parts } };
+
+    ghost invariant = { λ p. (p.made ≡ p.share.amount) × ((p.parts ≤ p.share.parts) × (0 < p.parts)) };
+}
+
+impl<L: Ledger> Pass<L> {
+    ghost use Rattle.shared_book.specs.Pass.{PassState, first_pass, after_call};
+
+    /// The first pass of a ledger, with all its parts.
+    pub(crate) fn first(share: Share<L>, parts: u64) -> Pass<L>
+        requires amount { share.amount ≡ 0 }
+        requires parts { parts ≡ share.parts }
+        requires some { 0 < parts }
+        ensures { result ≡ first_pass parts }
+    {
+        Pass {
+            caller: 0,
+            seen: 0,
+            made: 0,
+            parts,
+            share,
+        }
+    }
+
+    /// The caller's number.
+    pub fn caller(&self) -> u64
+        ensures { result ≡ self.now.caller }
+    {
+        self.caller
+    }
+
+    /// The number of the latest call that it knows of.
+    pub fn seen(&self) -> u64
+        ensures { result ≡ self.now.seen }
+    {
+        self.seen
+    }
+
+    /// How many calls were made with it.
+    pub fn made(&self) -> u64
+        ensures { result ≡ self.now.made }
+    {
+        self.made
+    }
+
+    /// Into how many passes it can still be split.
+    pub fn parts(&self) -> u64
+        ensures parts { result ≡ self.now.parts }
+        ensures some { 0 < result }
+    {
+        self.parts
+    }
+
+    /// Counts a call of this number.
+    pub(crate) fn count(&mut self, calls: &mut Calls<L>, number: u64)
+        requires { calls.old.total < 2 ^ 62 }
+        ensures total { calls.new.total ≡ calls.old.total + 1 }
+        ensures pass { self.new ≡ after_call self.old number }
+    {
+        calls.audit(&mut self.share);
+        calls.add(&mut self.share, 1);
+        self.made += 1;
+        self.seen = number;
+    }
+
+    /// Half of the parts, with a caller number of its own.
+    pub(crate) fn halve(&mut self, caller: u64) -> Pass<L>
+        requires { 2 ≤ self.old.parts }
+        ensures told { (result.seen ≡ self.old.seen) × ((result.made ≡ 0) × (result.caller ≡ caller)) }
+        ensures same { (self.new.seen ≡ self.old.seen) × ((self.new.made ≡ self.old.made) × (self.new.caller ≡ self.old.caller)) }
+        ensures parts { self.new.parts + result.parts ≡ self.old.parts }
+        ensures half { result.parts ≡ self.old.parts / 2 }
+    {
+        let half = self.parts / 2;
+        let share = self.share.split_off(half, 0);
+        self.parts -= half;
+        Pass {
+            caller,
+            seen: self.seen,
+            made: 0,
+            parts: half,
+            share,
+        }
+    }
+
+    /// Both in one, under the first one's number.
+    pub(crate) fn joined(first: Pass<L>, second: Pass<L>, calls: &mut Calls<L>) -> Pass<L>
+        requires { calls.old.total < 2 ^ 62 }
+        ensures caller { result.caller ≡ first.caller }
+        ensures seen { result.seen ≡ max first.seen second.seen }
+        ensures made { result.made ≡ first.made + second.made }
+        ensures parts { first.parts + second.parts < 2 ^ 64 → result.parts ≡ first.parts + second.parts }
+        ensures same { calls.new.total ≡ calls.old.total }
+    {
+        let Pass {
+            caller,
+            seen,
+            made,
+            parts,
+            mut share,
+        } = first;
+        let Pass {
+            caller: _,
+            seen: also,
+            made: more,
+            parts: others,
+            share: other,
+        } = second;
+        share.merge(other);
+        calls.audit(&mut share);
+        Pass {
+            caller,
+            seen: seen.max(also),
+            made: made + more,
+            parts: parts.saturating_add(others),
+            share,
+        }
+    }
+
+    /// The calls that were made with it, and its share of them.
+    pub(crate) fn into_share(self) -> (u64, Share<L>)
+        ensures made { result.0 ≡ self.made }
+        ensures amount { result.1.amount ≡ self.made }
+    {
+        let Pass {
+            caller: _,
+            seen: _,
+            made,
+            parts: _,
+            share,
+        } = self;
+        (made, share)
+    }
+}

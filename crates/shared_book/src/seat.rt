@@ -1,0 +1,83 @@
+//! A shared book with a pass, as a desk.
+
+ghost use Rattle.std.specs.Prelude.{◌≡◌};
+ghost use Rattle.shared_book.specs.Calling.{SeatCall};
+
+use crate::fault::CallFault;
+use crate::pass::Pass;
+use crate::receipt::Receipt;
+use crate::shared::SharedBook;
+use dns_text::Shared;
+use std::alloc::Global;
+use std::sync::Wait;
+use std::sync::ledger::Ledger;
+use undo_book::{Book, Desk, DeskFault, Event, Reply, StepFault};
+
+/// A caller's place at a shared book.
+#[derive(Drop)]
+pub struct Seat<'a, B: Book, L: Ledger, R: Wait> {
+    rt: &'a R,
+    alloc: Global,
+    book: &'a SharedBook<B, L>,
+    pass: Pass<L>,
+}
+
+impl<'a, B: Book, L: Ledger, R: Wait> Seat<'a, B, L, R> {
+    /// The place of this pass.
+    pub fn new(
+        rt: &'a R,
+        alloc: Global,
+        book: &'a SharedBook<B, L>,
+        pass: Pass<L>,
+    ) -> Seat<'a, B, L, R>
+        ensures { result.pass ≡ pass }
+    {
+        Seat {
+            rt,
+            alloc,
+            book,
+            pass,
+        }
+    }
+
+    /// The pass.
+    pub fn into_pass(self) -> Pass<L>
+        ensures { result ≡ self.entry.pass }
+    {
+        let Seat {
+            rt: _,
+            alloc: _,
+            book: _,
+            pass,
+        } = self;
+        pass
+    }
+}
+
+impl<'a, B: Book, L: Ledger, R: Wait> Desk for Seat<'a, B, L, R> {
+    ghost calls = { λ before event answer after. SeatCall before.pass event answer after.pass };
+
+    fn call(&mut self, event: Event) -> Result<Reply, DeskFault> {
+        let Ok(event) = Shared::new(self.alloc, event) else {
+            return Err(DeskFault::Step(StepFault::NoMemory));
+        };
+        match self.book.call(self.rt, &mut self.pass, event) {
+            Ok(receipt) => Ok(reply_of(receipt)),
+            Err(CallFault::Step(fault)) => Err(DeskFault::Step(fault)),
+            Err(CallFault::Behind { at }) => Err(DeskFault::Behind { at }),
+        }
+    }
+}
+
+/// The reply of a receipt.
+fn reply_of(receipt: Receipt) -> Reply
+    ensures { result ≡ receipt.reply }
+{
+    let Receipt {
+        number: _,
+        caller: _,
+        event: _,
+        reply,
+    } = receipt;
+    reply
+}

@@ -1,0 +1,133 @@
+//! One lock round the book and its record.
+
+ghost use Rattle.std.specs.Prelude.{◌≡◌, ◌+◌, ◌<◌, ◌≤◌, ◌^◌, ◌/◌, ◌↔◌, max, ℕ, [], Some, None, IfOk, IfErr, OnOk, OnErr, IsOk, IsErr, IsErrOf, MatchResult};
+ghost use Rattle.shared_book.specs.declared.kept.TheConstants.{MOST_RECORDED};
+ghost use Rattle.shared_book.specs.Pass.{first_pass, after_call};
+ghost use Rattle.shared_book.specs.Calling.{IsReceiptOf, IsJustified, IsReasonOf};
+ghost use Rattle.shared_book.specs.Closing.{ClosesAs};
+ghost use Rattle.shared_book.specs.Kept.{IsWhole};
+
+use crate::blank::Blank;
+use crate::close::NotClosed;
+use crate::fault::{CallFault, SplitFault};
+use crate::kept::Kept;
+use crate::pass::Pass;
+use crate::receipt::Receipt;
+use dns_text::Shared;
+use std::alloc::Global;
+use std::sync::ledger::Ledger;
+use std::sync::{Mutex, Wait};
+use undo_book::{Book, Event, MakeFault, Reply, StepFault};
+
+/// A book that many callers share, each with a pass.
+#[derive(Drop)]
+pub struct SharedBook<B: Book, L: Ledger> {
+    kept: Mutex<Kept<B, L>>,
+}
+
+impl<B: Book, L: Ledger> SharedBook<B, L> {
+    /// A book that has taken no event, with a record of no calls, which takes so many, and the first pass.
+    pub fn new(
+        alloc: Global,
+        blank: Blank,
+        book: B,
+        limit: u64,
+    ) -> Result<(SharedBook<B, L>, Pass<L>), MakeFault>
+        requires name { blank.name ≡ L.name }
+        requires parts { blank.parts ≡ L.parts }
+        requires fresh { B.stands_for book [] }
+        ensures refused { IsErrOf result MakeFault.BadSettings ↔ ¬ ((1 ≤ blank.parts) × (1 ≤ limit) × (limit ≤ MOST_RECORDED)) }
+        ensures made { 1 ≤ blank.parts → 1 ≤ limit → limit ≤ MOST_RECORDED → IsOk result }
+        ensures pass { IfOk result (λ made. made.1 ≡ first_pass blank.parts) }
+    {
+        match Kept::new(alloc, blank, book, limit) {
+            Ok((kept, pass)) => Ok((
+                SharedBook {
+                    kept: Mutex::new(kept),
+                },
+                pass,
+            )),
+            Err(fault) => Err(fault),
+        }
+    }
+
+    /// Half of a pass's parts, in a pass with a caller number of its own, which has seen as much.
+    pub fn split<R: Wait>(&self, rt: &R, pass: &mut Pass<L>) -> Result<Pass<L>, SplitFault>
+        ensures told { IfOk result (λ new. (new.seen ≡ pass.old.seen) × (new.made ≡ 0)) }
+        ensures same { OnOk result ((pass.new.seen ≡ pass.old.seen) × ((pass.new.made ≡ pass.old.made) × (pass.new.caller ≡ pass.old.caller))) }
+        ensures parts { IfOk result (λ new. (new.parts ≡ pass.old.parts / 2) × (pass.new.parts + new.parts ≡ pass.old.parts)) }
+        ensures err { OnErr result (pass.new ≡ pass.old) }
+        ensures one_part { pass.old.parts ≡ 1 → IsErr result }
+    {
+        self.kept.lock(rt).split(pass)
+    }
+
+    /// Both passes in one, under the first one's number, which has seen what either had.
+    pub fn join<R: Wait>(&self, rt: &R, first: Pass<L>, second: Pass<L>) -> Pass<L>
+        ensures caller { result.caller ≡ first.caller }
+        ensures seen { result.seen ≡ max first.seen second.seen }
+        ensures made { result.made ≡ first.made + second.made }
+        ensures parts { first.parts + second.parts < 2 ^ 64 → result.parts ≡ first.parts + second.parts }
+    {
+        self.kept.lock(rt).join(first, second)
+    }
+
+    /// Takes an event, and gives a receipt for the call.
+    pub fn call<R: Wait>(
+        &self,
+        rt: &R,
+        pass: &mut Pass<L>,
+        event: Shared<Event>,
+    ) -> Result<Receipt, CallFault>
+        ensures receipt { IfOk result (λ r. IsReceiptOf pass.old event r pass.new) }
+        ensures justified { IfOk result (λ r. IsJustified r.number event r.reply) }
+        ensures reason { IfErr result (λ fault. IsReasonOf event fault) }
+        ensures fault { OnErr result (pass.new ≡ pass.old) }
+        ensures behind { (at : ℕ) → IsErrOf result (CallFault.Behind at) → at < pass.old.seen }
+    {
+        let (Ok(recorded), Ok(copy)) = (event.share(), event.get().copy()) else {
+            return Err(CallFault::Step(StepFault::NoMemory));
+        };
+        match self.step(rt, pass, recorded, copy) {
+            Ok(reply) => Ok(Receipt {
+                number: pass.seen(),
+                caller: pass.caller(),
+                event,
+                reply,
+            }),
+            Err(fault) => Err(fault),
+        }
+    }
+
+    /// The step, which alone is done under the lock.
+    fn step<R: Wait>(
+        &self,
+        rt: &R,
+        pass: &mut Pass<L>,
+        event: Shared<Event>,
+        copy: Event,
+    ) -> Result<Reply, CallFault>
+        requires same { copy ≡ event }
+        ensures counted { OnOk result (pass.new ≡ after_call pass.old pass.new.seen) }
+        ensures later { OnOk result (pass.old.seen < pass.new.seen) }
+        ensures justified { IfOk result (λ reply. IsJustified pass.new.seen event reply) }
+        ensures reason { IfErr result (λ fault. IsReasonOf event fault) }
+        ensures fault { OnErr result (pass.new ≡ pass.old) }
+        ensures behind { (at : ℕ) → IsErrOf result (CallFault.Behind at) → at < pass.old.seen }
+    {
+        self.kept.lock(rt).call(pass, event, copy)
+    }
+
+    /// Whether the receipts, in order of number, are the record. The faults come in their order, and hand back what lay under the lock.
+    pub fn close(
+        self,
+        passes: Vec<Pass<L>>,
+        receipts: Vec<Receipt>,
+    ) -> Result<Kept<B, L>, NotClosed<B, L>>
+        ensures verdict { MatchResult result (λ kept. ClosesAs kept passes.items receipts.items None) (λ not_closed. ClosesAs not_closed.kept passes.items receipts.items (Some not_closed.fault)) }
+        ensures whole { IfOk result (λ kept. IsWhole B.stands_for B.settings kept) }
+    {
+        let SharedBook { kept } = self;
+        kept.into_inner().close(passes, receipts)
+    }
+}

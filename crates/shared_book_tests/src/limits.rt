@@ -1,0 +1,80 @@
+//! What a book is made with, and a record that is full.
+
+ghost use Rattle.std.specs.Prelude.{◌≡◌};
+
+use crate::callers::{call_all, plain};
+use crate::events::of_the_second;
+use shared_book::{Blank, CloseFault, MOST_RECORDED, SharedBook, SplitFault};
+use std::alloc::Global;
+use std::marker::Brand;
+use std::process::Abort;
+use std::sync::Wait;
+use std::sync::ledger::Ledger;
+use std::test::*;
+use undo_book::{MakeFault, PlainBook};
+
+/// One call more than is recorded.
+fn past_the_record<L: Ledger, R: Wait + Abort>(
+    rt: &R,
+    alloc: Global,
+    blank: Blank,
+) -> Result<Option<CloseFault>, Fail>
+    requires name { blank.name ≡ L.name }
+    requires parts { blank.parts ≡ L.parts }
+{
+    let (book, pass) = SharedBook::<PlainBook, L>::new(alloc, blank, plain(alloc)?, 1)?;
+    let (pass, receipts) = call_all(rt, alloc, &book, pass, of_the_second(alloc)?)?;
+    assert_eq!(rt; receipts.len(), 2);
+    match book.close(vec![in alloc; pass]?, receipts) {
+        Ok(_) => Ok(None),
+        Err(not_closed) => Ok(Some(not_closed.fault)),
+    }
+}
+
+fn past_the_record_as<R: Wait + Abort>(rt: &R, alloc: Global) -> Result<Option<CloseFault>, Fail> {
+    past_the_record::<Brand, R>(rt, alloc, Blank::new(1))
+}
+
+#[test]
+fn a_record_is_not_whole(rt: HostRuntime) -> Result<(), Fail> {
+    let told = past_the_record_as(&rt, rt.alloc())?;
+    assert_eq!(rt; told, Some(CloseFault::NotWhole));
+    Ok(())
+}
+
+/// Whether a book is refused that is made with these, and whether its first pass can be split.
+fn made<L: Ledger, R: Wait>(
+    rt: &R,
+    alloc: Global,
+    blank: Blank,
+    limit: u64,
+) -> Result<Option<SplitFault>, MakeFault>
+    requires name { blank.name ≡ L.name }
+    requires parts { blank.parts ≡ L.parts }
+{
+    let (book, mut pass) = SharedBook::<PlainBook, L>::new(alloc, blank, plain(alloc)?, limit)?;
+    Ok(book.split(rt, &mut pass).err())
+}
+
+fn made_as<R: Wait>(
+    rt: &R,
+    alloc: Global,
+    parts: u64,
+    limit: u64,
+) -> Result<Option<SplitFault>, MakeFault> {
+    made::<Brand, R>(rt, alloc, Blank::new(parts), limit)
+}
+
+#[test]
+fn settings_have_ranges(rt: HostRuntime) {
+    let alloc = rt.alloc();
+    for (parts, limit) in [(2, 0), (2, MOST_RECORDED + 1), (0, 1)] {
+        assert!(rt; made_as(&rt, alloc, parts, limit) == Err(MakeFault::BadSettings));
+    }
+    assert!(rt; made_as(&rt, alloc, 2, MOST_RECORDED) == Ok(None));
+}
+
+#[test]
+fn one_part_is_not_split(rt: HostRuntime) {
+    assert!(rt; made_as(&rt, rt.alloc(), 1, 1) == Ok(Some(SplitFault::CountEnded)));
+}
