@@ -71,7 +71,7 @@ set_zone_exact name kind (SetZone other type) e =
     let parts = and_parts _ _ e in
     let same_name : name ≡ other = name_eq_exact name other parts.0 in
     let same_kind : kind ≡ type = zone_type_eq_exact kind type parts.1 in
-    cc
+    λ i. SetZone (same_name i) (same_kind i)
 set_zone_exact name kind _ e = absurd (false≢true e)
 
 pub command_eq_exact : (a b : Command) → command_eq a b ≡ true → a ≡ b
@@ -116,7 +116,7 @@ admit_exact m f (Admit n g) e =
     let parts = and_parts _ _ e in
     let same_moment : m ≡ n = eqb-true m n parts.0 in
     let same_find : f ≡ g = find_eq_exact f g parts.1 in
-    cc
+    λ i. Admit (same_moment i) (same_find i)
 admit_exact m f _ e = absurd (false≢true e)
 
 look_exact : (m : ℕ) (a : Ask) (b : Event) → event_eq (Look m a) b ≡ true → Look m a ≡ b
@@ -124,7 +124,7 @@ look_exact m a (Look n b) e =
     let parts = and_parts _ _ e in
     let same_moment : m ≡ n = eqb-true m n parts.0 in
     let same_ask : a ≡ b = ask_eq_exact a b parts.1 in
-    cc
+    λ i. Look (same_moment i) (same_ask i)
 look_exact m a _ e = absurd (false≢true e)
 
 do_exact : (m : ℕ) (c : Command) (b : Event) → event_eq (Do m c) b ≡ true → Do m c ≡ b
@@ -132,7 +132,7 @@ do_exact m c (Do n d) e =
     let parts = and_parts _ _ e in
     let same_moment : m ≡ n = eqb-true m n parts.0 in
     let same_command : c ≡ d = command_eq_exact c d parts.1 in
-    cc
+    λ i. Do (same_moment i) (same_command i)
 do_exact m c _ e = absurd (false≢true e)
 
 pub event_eq_exact : (a b : Event) → event_eq a b ≡ true → a ≡ b
