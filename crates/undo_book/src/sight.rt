@@ -52,7 +52,10 @@ pub(crate) fn shared_sight(
     match ask {
         Ask::Answer(question) => sight(past, &tables.local, question, moment).to_seen(alloc),
         Ask::Zones => Ok(Seen::Zones(Items::new(share_zones(alloc, tables.local.zones())?))),
-        Ask::Records => Ok(Seen::Records(Items::new(share_records(alloc, tables.local.records())?))),
+        Ask::Records => Ok(Seen::Records(Items::new(share_records(
+            alloc,
+            tables.local.records(),
+        )?))),
         Ask::Stubs => Ok(Seen::Stubs(Items::new(share_stubs(alloc, tables.stubs.stubs())?))),
         Ask::Commands => Ok(Seen::Commands(Items::new(commands(alloc, past)?))),
         Ask::Servers(name) => seen_servers(alloc, past, &tables.stubs, name, moment),
