@@ -4,7 +4,7 @@ import os
 
 from checks import Checks, difference, short
 from made_rows import every_octet
-from programs import CALLS, DRAWN, RESOLVER, TOP, ZONES, read, run, scripts
+from programs import CALLS, DRAWN, RESOLVER, STUBS, ZONES, read, run, scripts
 from rowfile import ROWS, call, read_rows
 
 # More growths than this have no run and no call here.
@@ -118,12 +118,12 @@ def check_start_of_rows(checks):
     checks.equal("the first growth of the calls", (refusals(done), done.status, done.out), (1, 1, b""))
 
 
-# ---- changes of local zones, each with its way back
+# ---- changes of local zones and of stubs, each with its way back
 
-def zone_runs(lines):
+def table_runs(program, lines):
     """What may be written where one growth is refused: all, or all without one line, which finds no memory or is not read."""
     def written(some):
-        return run([ZONES], b"".join(line + b"\n" for line in some)).out
+        return run([program], b"".join(line + b"\n" for line in some)).out
 
     may = {written(lines)}
     for place in range(len(lines)):
@@ -133,20 +133,20 @@ def zone_runs(lines):
     return may
 
 
-def check_zones(checks):
-    """A refused growth leaves both lists as they were, or ends the program behind a whole line."""
-    text = read(os.path.join(TOP, "crates/local_zone_tests/stdin"))
+def check_tables(checks, name, program):
+    """A refused growth leaves the lists as they were, or ends the program behind a whole line."""
+    text = read(os.path.join(os.path.dirname(program), "../stdin"))
     lines = [line for line in text.splitlines() if not line.startswith((b"fill", b"#"))]
     text = b"".join(line + b"\n" for line in lines)
-    whole = run([ZONES], text).out
-    may = zone_runs(lines)
+    whole = run([program], text).out
+    may = table_runs(program, lines)
     for nth in range(1, MOST):
-        done = run([ZONES], text, preload="refuse", REFUSE_NTH=nth)
+        done = run([program], text, preload="refuse", REFUSE_NTH=nth)
         if not refusals(done):
             break
         good = done.out in may if done.status == 0 else whole.startswith(done.out)
-        checks.tell(f"local zones, growth {nth} refused", None if good else f"status {done.status}, {short(done.out)}")
-    checks.tell("local zones, growths refused", None if nth > 1 else "none was")
+        checks.tell(f"{name}, growth {nth} refused", None if good else f"status {done.status}, {short(done.out)}")
+    checks.tell(f"{name}, growths refused", None if nth > 1 else "none was")
 
 
 # ---- messages that are drawn
@@ -179,7 +179,8 @@ def main():
         check_rows(checks, file, read_rows(os.path.join(ROWS, file))[0])
     check_rows(checks, "every octet", list(every_octet()))
     check_start_of_rows(checks)
-    check_zones(checks)
+    check_tables(checks, "local zones", ZONES)
+    check_tables(checks, "stubs", STUBS)
     check_drawn(checks)
     check_counts(checks)
     checks.end()

@@ -1,3 +1,2 @@
-pub mod BelowLaws
 pub mod AliasLaws
 pub mod NegativeLaws

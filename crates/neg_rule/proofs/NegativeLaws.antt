@@ -20,7 +20,7 @@ use Rattle.ranked.specs.Body.{IsSoa}
 use Rattle.neg_rule.specs.Alias.{last_of}
 use Rattle.neg_rule.specs.Below.{is_at_or_below}
 use Rattle.neg_rule.specs.Negative.{may_deny, denies, soa_for, has_answer, denied_by, denied_in, denied_for, minimum_of, denial, negative_in, Said, IsDeniedWithin}
-use Rattle.neg_rule.proofs.BelowLaws.{fact_from_below}
+use Rattle.neg_rule.specs.BelowLaws.{fact_from_below}
 
 -- ---- what a step gave
 
@@ -52,7 +52,7 @@ found_passes {A} test (y ∷ ys) x e =
 
 -- ---- the record that denies
 
-pub record IsDenying (zone name : Labels) (soa : Record) : Type 0 where
+record IsDenying (zone name : Labels) (soa : Record) : Type 0 where
   pub kind : soa.kind ≡ SOA
   pub above : is_at_or_below name soa.owner ≡ true
   pub within : is_at_or_below soa.owner zone ≡ true
@@ -70,7 +70,7 @@ soa_denies message zone name soa e =
     subst (λ (x : Record). IsDenying zone name x) r.1.1 (denying zone name r.0 (found_passes (denies zone name) message.authority r.0 r.1.0))
 
 -- what is denied is denied by such a record
-pub denied_denies : (message : Message) (question : Question) (zone : Labels) (found : Labels × Record) → denied_in message question zone ≡ Some found → IsDenying zone found.0 found.1
+denied_denies : (message : Message) (question : Question) (zone : Labels) (found : Labels × Record) → denied_in message question zone ≡ Some found → IsDenying zone found.0 found.1
 denied_denies message question zone found e =
     let chosen = then_some (may_deny message) (last_of message.answer question >>= denied_by message question zone) found e in
     let last = bound_some (last_of message.answer question) (denied_by message question zone) found chosen in
@@ -90,8 +90,9 @@ minimum_formed (Txt strings) ttl some = absurd (some (omega arith))
 minimum_formed (Srv priority weight port target) ttl some = absurd (some (omega arith))
 minimum_formed (Opaque octets) ttl some = absurd (some (omega arith))
 
-pub denying_is_soa : (zone name : Labels) (soa : Record) → IsDenying zone name soa → denied_for soa ≢ 0 → IsSoa soa
-denying_is_soa zone name soa h some = (h.kind, minimum_formed soa.body soa.ttl some)
+-- what is denied for a time is denied by an SOA record with data of its form
+pub denied_is_soa : (message : Message) (question : Question) (zone : Labels) (found : Labels × Record) → denied_in message question zone ≡ Some found → denied_for found.1 ≢ 0 → IsSoa found.1
+denied_is_soa message question zone found e some = ((denied_denies message question zone found e).kind, minimum_formed found.1.body found.1.ttl some)
 
 -- ---- what is said
 

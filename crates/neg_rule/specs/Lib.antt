@@ -1,3 +1,4 @@
 pub mod Below
+pub mod BelowLaws
 pub mod Alias
 pub mod Negative

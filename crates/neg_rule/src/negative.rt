@@ -1,9 +1,9 @@
 //! What a response denies, and for how long.
 
-ghost use Rattle.std.specs.Prelude.{◌≡◌, min, IfOk, OnErr, IsSome};
+ghost use Rattle.std.specs.Prelude.{◌≡◌, IfOk, OnErr, IsSome};
 ghost use Rattle.std.specs.Option.{option_map};
 ghost use Rattle.neg_rule.specs.Below.{is_at_or_below};
-ghost use Rattle.neg_rule.specs.Negative.{denied_for, denied_in, denies, denial, has_answer, may_deny, minimum_of, negative_in, said_by, soa_for};
+ghost use Rattle.neg_rule.specs.Negative.{denied_for, denied_in, denies, has_answer, may_deny, negative_in, said_by, soa_for};
 
 use crate::alias::{is_for, last_of};
 use dns_name::{Name, NoMemory};

@@ -1,12 +1,13 @@
--- The commands that the journal holds stand in the order of tickets, and those that are done are those that can be undone.
+-- The commands that the journal holds stand in the order of tickets, those that are done are those that can be undone, and the others those that can be redone.
 use Rattle.std.proofs.Common.{◌≡◌, ℕ, ◌+◌, ◌<◌, ◌≤◌, Bool, true, false, cond, Option, Some, None, List, [], ◌∷◌, ◌++◌, refl, sym, ◌∙◌, ap, subst, inl, inr, arith}
-use Rattle.std.specs.Prelude.{fold, filter, filter_map, map, ◌==◌, ◌||◌}
-use Rattle.std.specs.List.{AllByRecursion, list_any, cons_option}
+use Rattle.std.specs.Prelude.{fold, filter, filter_map, not, ◌==◌, ◌||◌, ◌&&◌}
+use Rattle.std.specs.List.{AllByRecursion, cons_option}
 use Rattle.std.specs.Option.{option_map, option_map_or}
-use Rattle.std.proofs.lemmas.Bool.{cases_Bool, eq-eqb, eqb-true}
+use Rattle.std.proofs.lemmas.Bool.{cases_Bool, eq-eqb, eqb-true, false≢true}
 use Rattle.std.proofs.lemmas.Bool.Decides.{nat_tests}
 use Rattle.std.proofs.lemmas.List.{append-nil}
 use Rattle.std.proofs.lemmas.List.Elements.{filter_map-append}
+use Rattle.std.proofs.lemmas.Map.Views.{any-filter_same}
 use Rattle.dns_name.specs.ListLaws.{all_push, all_weaker}
 use Rattle.undo_book.specs.declared.event.Event.{Event}
 use Rattle.undo_book.specs.declared.event.Event.TheVariants.{Admit, Look, Sweep, Do, Undo, Redo}
@@ -14,11 +15,11 @@ use Rattle.undo_book.specs.declared.event.Command.{Command}
 use Rattle.undo_book.specs.declared.event.Entry.{Entry}
 use Rattle.undo_book.specs.declared.event.Journalled.{Journalled}
 use Rattle.undo_book.specs.declared.event.Reason.{Reason}
-use Rattle.undo_book.specs.Marks.{Marks, AreAscending, last_of, newest, without, in_place, strike, restore, after_command}
+use Rattle.undo_book.specs.Marks.{Marks, AreAscending, last_of, without, strike, restore, after_command}
 use Rattle.undo_book.specs.Tickets.{tally, occurs}
 use Rattle.undo_book.specs.History.{Past, past_of, nothing, followed_by, marks_after, ticket_unless, reason_of}
-use Rattle.undo_book.specs.Journal.{is_among, held_as, journalled_of, commands_of, tickets_of}
-use Rattle.undo_book.proofs.OrderLaw.{tally_same, tally_other, occurs_push, occurs_newest, occurs_in_place, last_occurs, of_one, above_both, absent_below, ascending_push, done_ascends}
+use Rattle.undo_book.specs.Journal.{is_among, journalled_of, commands_of, tickets_of}
+use Rattle.undo_book.proofs.OrderLaw.{tally_same, tally_other, occurs_push, occurs_newest, occurs_in_place, last_occurs, of_one, above_both, absent_below, ascending_push, done_ascends, orderly}
 use Rattle.undo_book.proofs.PlainLaws.{not_struck}
 
 -- ---- what is picked of an ascending list
@@ -42,9 +43,9 @@ picks (x ∷ xs) (y ∷ ys) up down has =
           let is : y ≡ x = eqb-true y x same in
           let above : AllByRecursion (λ t. y < t) xs = subst (λ (n : ℕ). AllByRecursion (λ t. n < t) xs) (sym is) up.0 in
           let rest : (t : ℕ) → 1 ≤ occurs t ys → 1 ≤ occurs t xs = λ t some.
-              let lt : y < t = of_one (λ s. y < s) t ys down.0 some in
-              let zero = tally_other x t (grind (arith, nat_tests)) in
-              let there = has t (omega arith) in omega arith
+          let lt : y < t = of_one (λ s. y < s) t ys down.0 some in
+          let zero = tally_other x t (grind (arith, nat_tests)) in
+          let there = has t (omega arith) in omega arith
           in
           rw same (ap (λ (l : List ℕ). x ∷ l) (past_first y ys xs above ∙ picks xs ys up.1 down.1 rest) ∙ ap (λ (n : ℕ). n ∷ ys) (sym is))
       | inr other ↦
@@ -55,9 +56,9 @@ picks (x ∷ xs) (y ∷ ys) up down has =
           let all : AllByRecursion (λ s. x < s) (y ∷ ys) = (lt, above_both x y ys lt down.0) in
           let out : is_among (y ∷ ys) x ≡ false = not_struck x (y ∷ ys) (absent_below x (y ∷ ys) all) in
           let rest : (t : ℕ) → 1 ≤ occurs t (y ∷ ys) → 1 ≤ occurs t xs = λ t some.
-              let later : x < t = of_one (λ s. x < s) t (y ∷ ys) all some in
-              let apart = tally_other x t (grind (arith, nat_tests)) in
-              let found = has t some in omega arith
+          let later : x < t = of_one (λ s. x < s) t (y ∷ ys) all some in
+          let apart = tally_other x t (grind (arith, nat_tests)) in
+          let found = has t some in omega arith
           in
           rw out (picks xs (y ∷ ys) up.1 down rest)
     ]
@@ -247,3 +248,79 @@ done_are_held bound history =
     let past = past_of bound history in
     let h = of_history bound history in
     done_picked past.marks past.log h.taken ∙ picks (tickets_in past.log) past.marks.done h.ascending (done_ascends bound history) (λ t some. h.held t (omega arith))
+
+-- ---- those that can be redone
+
+undone_alone : (done undone : Bool) (t : ℕ) (c : Command) (js : List Journalled)
+    → tickets_of (filter (λ j. not j.done) (cons_option (option_map (λ d. record { ticket = t; done = d; command = c }) (cond done (Some true) (cond undone (Some false) None))) js))
+    ≡ cond (not done && undone) (t ∷ tickets_of (filter (λ j. not j.done) js)) (tickets_of (filter (λ j. not j.done) js))
+undone_alone true undone t c js = refl
+undone_alone false true t c js = refl
+undone_alone false false t c js = refl
+
+one_undone : (marks : Marks) (e : Event) (ticket : Option ℕ) (js : List Journalled) (ts : List ℕ) → IsTaken e ticket → tickets_of (filter (λ j. not j.done) js) ≡ filter (λ t. not (is_among marks.done t) && is_among marks.undone t) ts
+    → tickets_of (filter (λ j. not j.done) (cons_option (journalled_of marks e ticket) js)) ≡ filter (λ t. not (is_among marks.done t) && is_among marks.undone t) (cons_option ticket ts)
+one_undone marks (Do m c) (Some t) js ts h is =
+    undone_alone (is_among marks.done t) (is_among marks.undone t) t c js ∙ ap (λ (l : List ℕ). cond (not (is_among marks.done t) && is_among marks.undone t) (t ∷ l) l) is
+one_undone marks (Do m c) None js ts h is = is
+one_undone marks (Admit m f) None js ts h is = is
+one_undone marks (Admit m f) (Some t) js ts h is = absurd h
+one_undone marks (Look m a) None js ts h is = is
+one_undone marks (Look m a) (Some t) js ts h is = absurd h
+one_undone marks (Sweep m) None js ts h is = is
+one_undone marks (Sweep m) (Some t) js ts h is = absurd h
+one_undone marks (Undo m) None js ts h is = is
+one_undone marks (Undo m) (Some t) js ts h is = absurd h
+one_undone marks (Redo m) None js ts h is = is
+one_undone marks (Redo m) (Some t) js ts h is = absurd h
+
+undone_picked : (marks : Marks) (log : List Entry) → AreTaken log
+    → tickets_of (filter (λ j. not j.done) (filter_map (λ entry. journalled_of marks entry.event entry.ticket) log)) ≡ filter (λ t. not (is_among marks.done t) && is_among marks.undone t) (tickets_in log)
+undone_picked marks [] h = refl
+undone_picked marks (e ∷ log) h = one_undone marks e.event e.ticket _ (tickets_in log) h.0 (undone_picked marks log h.1)
+
+-- a ticket is in a list where it occurs there
+among_occurs : (t : ℕ) (xs : List ℕ) → 1 ≤ occurs t xs → is_among xs t ≡ true
+among_occurs t [] some = absurd (omega arith)
+among_occurs t (x ∷ xs) some =
+    elim (cases_Bool (x == t)) [
+      | inl same ↦ rw same refl
+      | inr other ↦ let zero = tally_other x t other in rw other (among_occurs t xs (omega arith))
+    ]
+
+occurs_among : (t : ℕ) (xs : List ℕ) → is_among xs t ≡ true → 1 ≤ occurs t xs
+occurs_among t [] is = absurd (false≢true is)
+occurs_among t (x ∷ xs) is =
+    elim (cases_Bool (x == t)) [
+      | inl same ↦ let one = tally_same x t same in omega arith
+      | inr other ↦ let more = occurs_among t xs (sym (ap (λ b. b || is_among xs t) other) ∙ is) in omega arith
+    ]
+
+-- in an ascending list whose tickets pass a test just where they are in another list, which has no more
+among_picked : (p : ℕ → Bool) (t : ℕ) (xs ys : List ℕ) → (is_among ys t ≡ true → (p t ≡ true) × (1 ≤ occurs t xs)) → (is_among ys t ≡ false → p t ≡ false) → is_among (filter p xs) t ≡ is_among ys t
+among_picked p t xs ys here out =
+    elim (cases_Bool (is_among ys t)) [
+      | inl there ↦ any-filter_same (λ s. s == t) p true (λ k same. ap p (eqb-true k t same) ∙ (here there).0) xs ∙ among_occurs t xs (here there).1 ∙ sym there
+      | inr none ↦ any-filter_same (λ s. s == t) p false (λ k same. ap p (eqb-true k t same) ∙ out none) xs ∙ sym none
+    ]
+
+not_both : (done : Bool) → (not done && false) ≡ false
+not_both true = refl
+not_both false = refl
+
+pub undone_are_held : (bound : ℕ) (history : List Event) (t : ℕ)
+    → is_among (tickets_of (filter (λ j. not j.done) (commands_of (past_of bound history)))) t ≡ is_among (past_of bound history).marks.undone t
+undone_are_held bound history t =
+    let past = past_of bound history in
+    let marks = past.marks in
+    let h = of_history bound history in
+    let one = (orderly bound history).in_one t in
+    ap (λ (l : List ℕ). is_among l t) (undone_picked marks past.log h.taken)
+    ∙ among_picked (λ s. not (is_among marks.done s) && is_among marks.undone s) t (tickets_in past.log) marks.undone
+    (λ there.
+    let some = occurs_among t marks.undone there in
+    let once = one.once in
+    let few = one.undone in
+    let not_done : is_among marks.done t ≡ false = not_struck t marks.done (omega arith) in
+    (rw (not_done, there) refl, h.held t (omega arith)))
+    (λ none. rw none (not_both (is_among marks.done t)))

@@ -5,7 +5,7 @@ use Rattle.std.proofs.lemmas.Slice.Eq.{slice_eq-Decides}
 use Rattle.std.specs.Cmp.Derive.{both_true}
 use Rattle.std.specs.Cmp.{booleans_Decides}
 use Rattle.dns_name.specs.Labels.{Labels}
-use Rattle.dns_name.specs.Order.{name_eq_exact, name_eq_itself}
+use Rattle.dns_name.specs.Order.{name_eq, name_eq_exact, name_eq_itself}
 use Rattle.dns_text.specs.declared.record.Record.{Record}
 use Rattle.dns_text.specs.Equal.{record_eq}
 use Rattle.dns_text.specs.EqualLaws.{question_eq_exact, question_eq_itself, record_eq_exact, record_eq_itself}
@@ -21,6 +21,12 @@ use Rattle.local_zone.specs.EqualLaws.{zone_type_eq_exact, zone_type_eq_itself, 
 use Rattle.stub_table.specs.declared.stub.Stub.{Stub}
 use Rattle.stub_table.specs.Equal.{stub_eq}
 use Rattle.stub_table.specs.EqualLaws.{stub_eq_exact, stub_eq_itself}
+use Rattle.dns_text.specs.declared.addr.Addr.{Addr}
+use Rattle.dns_text.specs.Equal.{addr_eq}
+use Rattle.dns_text.specs.EqualLaws.{addr_eq_exact, addr_eq_itself}
+use Rattle.undo_book.specs.declared.servers.Servers.{Servers}
+use Rattle.undo_book.specs.declared.servers.Source.{Source}
+use Rattle.undo_book.specs.declared.servers.Source.TheVariants.{Hints, Stub as FromStub, Cache}
 use Rattle.undo_book.specs.declared.event.Ask.{Ask}
 use Rattle.undo_book.specs.declared.event.Ask.TheVariants as ask
 use Rattle.undo_book.specs.declared.event.Command.{Command}
@@ -34,7 +40,7 @@ use Rattle.undo_book.specs.declared.event.Reason.{Reason}
 use Rattle.undo_book.specs.declared.event.Reason.TheVariants.{BelowRedirect, DataBelow, CnameClash, TooMany}
 use Rattle.undo_book.specs.declared.event.Reply.{Reply}
 use Rattle.undo_book.specs.declared.event.Reply.TheVariants.{Taken, Outranked, Seen, Swept, Done, Refused, Undone, Redone, NothingToUndo, NothingToRedo}
-use Rattle.undo_book.specs.Equal.{ask_eq, command_eq, journalled_eq, event_eq, seen_eq, reason_eq, reply_eq}
+use Rattle.undo_book.specs.Equal.{source_eq, servers_eq, ask_eq, command_eq, journalled_eq, event_eq, seen_eq, reason_eq, reply_eq}
 
 same : (n : ℕ) → eqb n n ≡ true
 same n = eq-eqb n n refl
@@ -47,6 +53,7 @@ ask_eq_exact ask.Zones ask.Zones e = refl
 ask_eq_exact ask.Records ask.Records e = refl
 ask_eq_exact ask.Stubs ask.Stubs e = refl
 ask_eq_exact ask.Commands ask.Commands e = refl
+ask_eq_exact (ask.Servers name) (ask.Servers other) e = ap ask.Servers (name_eq_exact name other e)
 ask_eq_exact _ _ e = absurd (false≢true e)
 
 pub ask_eq_itself : (a : Ask) → ask_eq a a ≡ true
@@ -55,6 +62,7 @@ ask_eq_itself ask.Zones = refl
 ask_eq_itself ask.Records = refl
 ask_eq_itself ask.Stubs = refl
 ask_eq_itself ask.Commands = refl
+ask_eq_itself (ask.Servers name) = name_eq_itself name
 
 -- ---- commands
 
@@ -158,6 +166,39 @@ stub_eq-Decides a b = (stub_eq_exact a b, λ is. ap (stub_eq a) (sym is) ∙ stu
 journalled_eq-Decides : (a b : Journalled) → Decides (journalled_eq a b) (a ≡ b)
 journalled_eq-Decides a b = (journalled_eq_exact a b, λ is. ap (journalled_eq a) (sym is) ∙ journalled_eq_itself a)
 
+addr_eq-Decides : (a b : Addr) → Decides (addr_eq a b) (a ≡ b)
+addr_eq-Decides a b = (addr_eq_exact a b, λ is. ap (addr_eq a) (sym is) ∙ addr_eq_itself a)
+
+name_eq-Decides : (a b : Labels) → Decides (name_eq a b) (a ≡ b)
+name_eq-Decides a b = (name_eq_exact a b, λ is. ap (name_eq a) (sym is) ∙ name_eq_itself a)
+
+source_eq_exact : (a b : Source) → source_eq a b ≡ true → a ≡ b
+source_eq_exact Hints Hints e = refl
+source_eq_exact FromStub FromStub e = refl
+source_eq_exact Cache Cache e = refl
+source_eq_exact _ _ e = absurd (false≢true e)
+
+source_eq_itself : (a : Source) → source_eq a a ≡ true
+source_eq_itself Hints = refl
+source_eq_itself FromStub = refl
+source_eq_itself Cache = refl
+
+servers_eq_exact : (a b : Servers) → servers_eq a b ≡ true → a ≡ b
+servers_eq_exact a b e =
+    let p0 = and_parts _ _ e in
+    let p1 = and_parts _ _ p0.1 in
+    let p2 = and_parts _ _ p1.1 in
+    let same_zone : a.zone ≡ b.zone = name_eq_exact a.zone b.zone p0.0 in
+    let same_source : a.source ≡ b.source = source_eq_exact a.source b.source p1.0 in
+    let same_addrs : a.addrs ≡ b.addrs = (slice_eq-Decides addr_eq-Decides a.addrs b.addrs _ refl).0 p2.0 in
+    let same_missing : a.missing ≡ b.missing = (slice_eq-Decides name_eq-Decides a.missing b.missing _ refl).0 p2.1 in
+    λ i. record { zone = same_zone i; source = same_source i; addrs = same_addrs i; missing = same_missing i }
+
+servers_eq_itself : (a : Servers) → servers_eq a a ≡ true
+servers_eq_itself a =
+    both_true (name_eq_itself a.zone) (both_true (source_eq_itself a.source)
+      (both_true ((slice_eq-Decides addr_eq-Decides a.addrs a.addrs _ refl).1 refl) ((slice_eq-Decides name_eq-Decides a.missing a.missing _ refl).1 refl)))
+
 held_exact : (s : Shown Find) (b : SeenValue) → seen_eq (seen.Held s) b ≡ true → seen.Held s ≡ b
 held_exact s (seen.Held t) e =
     let p0 = and_parts _ _ e in
@@ -199,6 +240,7 @@ seen_eq_exact (seen.Zones zones) (seen.Zones other) e = ap seen.Zones ((slice_eq
 seen_eq_exact (seen.Records records) (seen.Records other) e = ap seen.Records ((slice_eq-Decides record_eq-Decides records other _ refl).0 e)
 seen_eq_exact (seen.Stubs stubs) (seen.Stubs other) e = ap seen.Stubs ((slice_eq-Decides stub_eq-Decides stubs other _ refl).0 e)
 seen_eq_exact (seen.Commands commands) (seen.Commands other) e = ap seen.Commands ((slice_eq-Decides journalled_eq-Decides commands other _ refl).0 e)
+seen_eq_exact (seen.Servers servers) (seen.Servers other) e = ap seen.Servers (servers_eq_exact servers other e)
 seen_eq_exact _ _ e = absurd (false≢true e)
 
 no_data_itself : (a : Option Record) → seen_eq (seen.Local (local.NoData a)) (seen.Local (local.NoData a)) ≡ true
@@ -224,6 +266,7 @@ seen_eq_itself (seen.Local a) = local_itself a
 seen_eq_itself (seen.Zones zones) = (slice_eq-Decides zone_eq-Decides zones zones _ refl).1 refl
 seen_eq_itself (seen.Records records) = (slice_eq-Decides record_eq-Decides records records _ refl).1 refl
 seen_eq_itself (seen.Stubs stubs) = (slice_eq-Decides stub_eq-Decides stubs stubs _ refl).1 refl
+seen_eq_itself (seen.Servers servers) = servers_eq_itself servers
 seen_eq_itself (seen.Commands commands) = (slice_eq-Decides journalled_eq-Decides commands commands _ refl).1 refl
 
 -- ---- replies

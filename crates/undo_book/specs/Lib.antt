@@ -6,6 +6,7 @@ pub mod History
 pub mod Cells
 pub mod Flushes
 pub mod Journal
+pub mod Servers
 pub mod Reply
 pub mod Answers
 pub mod Desk

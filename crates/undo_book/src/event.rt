@@ -5,6 +5,7 @@ ghost use Rattle.std.specs.Option.{option_map};
 ghost use Rattle.local_zone.specs.Answer.{local_now};
 
 use crate::flushes::{is_at_or_below, is_flushed};
+use crate::servers::Servers;
 use dns_name::{Name, NoMemory};
 use dns_text::{Addr, Items, Question, Record, Shared};
 use local_zone::{Local, LocalRecord, LocalSet, SeenRecord, Zone, ZoneType};
@@ -25,6 +26,8 @@ pub enum Ask {
     Stubs,
     /// The commands that can be undone or redone.
     Commands,
+    /// The servers to ask about a name.
+    Servers(Name),
 }
 
 /// What the operator gives, and can take back.
@@ -181,6 +184,8 @@ pub enum Seen {
     Stubs(Items<Shared<Stub>>),
     /// The commands that can be undone or redone, the oldest first.
     Commands(Items<Journalled>),
+    /// The servers that are closest to a name.
+    Servers(Shared<Servers>),
 }
 
 /// A command that can be undone or redone, as the journal holds it.

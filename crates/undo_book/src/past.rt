@@ -76,19 +76,18 @@ impl PlainPast {
         cell
     }
 
-    /// What the cell of a question shows.
-    fn shows<'a>(&'a self, question: &Question, moment: u64) -> Option<Held<'a>>
-        ensures { option_map shown_now result ≡ shows (past_in self.now) question.now moment }
+    /// What the cell of a question shows, of any rank.
+    pub fn shows<'a>(&'a self, owner: &Name, kind: u16, moment: u64) -> Option<Held<'a>>
+        ensures { option_map shown_now result ≡ shows (past_in self.now) (record { owner = owner.now; kind = kind }) moment }
     {
-        self.cell(&question.owner, question.kind)
-            .at(self.moment.max(moment))
+        self.cell(owner, kind).at(self.moment.max(moment))
     }
 
     /// What a look at a question sees of it.
     pub fn sight<'a>(&'a self, question: &Question, moment: u64) -> Look<'a>
         ensures { look_seen result ≡ seen_by (shows (past_in self.now) question.now moment) }
     {
-        match self.shows(question, moment) {
+        match self.shows(&question.owner, question.kind, moment) {
             Some(shown) => {
                 if shown.rank.level() < 2 {
                     Look::Unknown

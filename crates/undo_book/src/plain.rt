@@ -6,13 +6,15 @@ ghost use Rattle.undo_book.specs.History.{tables_of};
 ghost use Rattle.undo_book.specs.PlainPast.{past_in};
 
 use crate::book::{Book, StepFault};
+use crate::closest::servers;
 use crate::event::{Ask, Event, Look, Reply, Seen, Settings};
 use crate::limits::{MOMENT_END, MOST_CELLS, MOST_COMMANDS, MOST_EVENTS, MOST_HINTS};
 use crate::made::Tables;
 use crate::past::PlainPast;
 use crate::replies::reply;
+use crate::servers::Servers;
 use crate::sight::{shared_sight, sight};
-use dns_name::NoMemory;
+use dns_name::{Name, NoMemory};
 use dns_text::Question;
 use local_zone::ZoneTable;
 use std::alloc::Global;
@@ -147,6 +149,10 @@ impl Book for PlainBook {
 
     fn stubs(&self) -> &StubTable {
         &self.tables.stubs
+    }
+
+    fn servers(&self, name: &Name, moment: u64) -> Result<Servers, NoMemory> {
+        servers(self.alloc, &self.past, &self.tables.stubs, name, moment)
     }
 
     fn stored(&self) -> usize

@@ -1,21 +1,23 @@
 //! What a look sees, with a share of the data.
 
 ghost use Rattle.std.specs.Prelude.{◌≡◌, IfOk};
-ghost use Rattle.undo_book.specs.History.{tables_of};
+ghost use Rattle.undo_book.specs.History.{stubs_of, tables_of};
 ghost use Rattle.undo_book.specs.PlainPast.{past_in};
 ghost use Rattle.undo_book.specs.Reply.{look_seen, seen_by, seen_first, seen_of};
 ghost use Rattle.undo_book.specs.Cells.{shows};
+ghost use Rattle.undo_book.specs.Servers.{servers_of};
 ghost use Rattle.local_zone.specs.Answer.{local_of};
 
+use crate::closest::servers;
 use crate::event::{Ask, Look, Seen};
 use crate::journal::commands;
 use crate::made::Tables;
 use crate::past::PlainPast;
-use dns_name::NoMemory;
+use dns_name::{Name, NoMemory};
 use dns_text::{Items, Question, Shared};
 use local_zone::{Local, LocalRecord, Zone, ZoneTable};
 use std::alloc::Global;
-use stub_table::Stub;
+use stub_table::{Stub, StubTable};
 
 /// What a look at a question sees: what the table answers, and the cell where it says nothing.
 pub(crate) fn sight<'a>(
@@ -53,7 +55,23 @@ pub(crate) fn shared_sight(
         Ask::Records => Ok(Seen::Records(Items::new(share_records(alloc, tables.local.records())?))),
         Ask::Stubs => Ok(Seen::Stubs(Items::new(share_stubs(alloc, tables.stubs.stubs())?))),
         Ask::Commands => Ok(Seen::Commands(Items::new(commands(alloc, past)?))),
+        Ask::Servers(name) => seen_servers(alloc, past, &tables.stubs, name, moment),
     }
+}
+
+/// The servers that are closest to a name.
+fn seen_servers(
+    alloc: Global,
+    past: &PlainPast,
+    stubs: &StubTable,
+    name: &Name,
+    moment: u64,
+) -> Result<Seen, NoMemory>
+    requires stubbed { stubs.now ≡ stubs_of (past_in past.now) }
+    ensures { IfOk result (λ s. s ≡ Seen.Servers (servers_of past.now.settings (past_in past.now) name.now moment)) }
+{
+    let found = servers(alloc, past, stubs, name, moment)?;
+    Ok(Seen::Servers(Shared::new(alloc, found)?))
 }
 
 /// A share of each zone.

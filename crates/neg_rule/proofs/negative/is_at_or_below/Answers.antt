@@ -1,4 +1,4 @@
-use Rattle.neg_rule.proofs.BelowLaws.{test_is}
+use Rattle.neg_rule.specs.BelowLaws.{test_is}
 use Rattle.neg_rule.proofs.negative.is_at_or_below.Goals as goal
 
 pub returns : goal.returns

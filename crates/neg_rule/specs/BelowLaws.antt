@@ -1,4 +1,4 @@
--- At or below, as a test and as a fact.
+-- At or below, as a test and as a fact: lemmas for the proofs here and in the crates above.
 use Rattle.std.proofs.Common.{◌≡◌, Bool, true, false, [], ◌∷◌, ◌++◌, refl, sym, ap, inl, inr, ◌↔◌}
 use Rattle.std.specs.Prelude.{IsTrue}
 use Rattle.std.proofs.lemmas.Bool.{cases_Bool, or_cases, or_left, or_right, false≢true}

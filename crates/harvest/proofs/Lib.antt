@@ -1,0 +1,5 @@
+pub mod CountedLaws
+pub mod SetLaws
+pub mod GatheringLaws
+pub mod LoopLaws
+pub mod ZoneLaws

@@ -1,0 +1,12 @@
+use Rattle.std.proofs.Common.{◌≡◌, ◌++◌, drop}
+use Rattle.std.specs.List.{AllByRecursion}
+use Rattle.dns_wire.specs.WellFormed.{HasItsForm}
+use Rattle.harvest.specs.Counted.{answer_rank, ranked_in}
+use Rattle.harvest.proofs.counted.count_answer.Given as goal
+
+-- those so far, and those to come
+abbrev pub invariant-loop-r : goal.invariant-loop-r
+invariant-loop-r l = record {
+  so_far : l.out.items ++ ranked_in l.zone (answer_rank l.aa l.asked) (drop l.r-index l.section) ≡ l.initial.out.items ++ ranked_in l.zone (answer_rank l.aa l.asked) l.section;
+  forms : AllByRecursion HasItsForm (drop l.r-index l.section);
+}

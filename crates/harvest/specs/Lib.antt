@@ -1,0 +1,4 @@
+pub mod Counted
+pub mod Sets
+pub mod Learnt
+pub mod Harvest

@@ -1,0 +1,81 @@
+//! The records of one owner, type and rank.
+
+ghost use Rattle.std.specs.Prelude.{◌≡◌, IfOk, OnOk, min};
+ghost use Rattle.harvest.specs.Sets.{begun, is_of_set, joined};
+
+use crate::counted::Counted;
+use dns_name::{Name, NoMemory};
+use dns_text::{Data, Ttl};
+use ranked::{LONGEST_TTL, Rank};
+use std::alloc::Global;
+use std::marker::Model;
+
+/// A set as far as it has come. Its data are lent, each once.
+#[derive(Drop)]
+pub(crate) struct Gathering<'a> {
+    pub(crate) owner: &'a Name,
+    pub(crate) kind: u16,
+    pub(crate) rank: Rank,
+    pub(crate) ttl: u32,
+    pub(crate) data: Vec<&'a Data>,
+}
+
+impl<'a> Model for Gathering<'a> {
+    ghost use Rattle.std.specs.Prelude.{map};
+    ghost use Rattle.harvest.specs.Sets.{Set, IsGathered};
+
+    ghost Value = { Set };
+
+    ghost view = { λ g. record { key = record { owner = g.owner.now; kind = g.kind; rank = g.rank }; ttl = g.ttl; data_in = map (λ d. d.now) g.data.items } };
+
+    ghost invariant = { λ g. IsGathered g.kind g.ttl (map (λ d. d.now) g.data.items) };
+}
+
+/// The lesser of two times to live.
+fn least(ttl: u32, other: Ttl) -> u32
+    ensures { result ≡ min ttl other }
+{
+    ttl.min(other.seconds())
+}
+
+impl<'a> Gathering<'a> {
+    /// The set that a record begins.
+    pub(crate) fn new(alloc: Global, first: &Counted<'a>) -> Result<Gathering<'a>, NoMemory>
+        ensures { IfOk result (λ g. g ≡ begun first.now) }
+    {
+        let said = first.said;
+        let mut data = Vec::new(alloc);
+        data.push(&said.body)?;
+        Ok(Gathering {
+            owner: &said.owner,
+            kind: said.kind,
+            rank: first.rank,
+            ttl: least(LONGEST_TTL, said.ttl),
+            data,
+        })
+    }
+
+    /// Whether a record is of this set.
+    pub(crate) fn has(&self, r: &Counted<'a>) -> bool
+        ensures { result ≡ is_of_set r.now self.now }
+    {
+        self.rank.level() == r.rank.level()
+            && self.kind == r.said.kind
+            && *self.owner == r.said.owner
+    }
+
+    /// Takes a record, if it is of this set, and tells whether it is.
+    pub(crate) fn join(&mut self, r: &Counted<'a>) -> Result<bool, NoMemory>
+        ensures set { OnOk result (self.new ≡ joined r.now self.old) }
+        ensures told { IfOk result (λ told. told ≡ is_of_set r.now self.old) }
+    {
+        if !self.has(r) {
+            return Ok(false);
+        }
+        self.ttl = least(self.ttl, r.said.ttl);
+        if !self.data.contains(&&r.said.body) {
+            self.data.push(&r.said.body)?;
+        }
+        Ok(true)
+    }
+}

@@ -1,0 +1,123 @@
+//! What is learnt from a message.
+
+ghost use Rattle.std.specs.Prelude.{◌≡◌, ◌≤◌, ◌++◌, IfOk, OnOk, filter, map};
+ghost use Rattle.std.specs.Option.{option_to_list};
+ghost use Rattle.dns_wire.specs.WellFormed.{HasForms};
+ghost use Rattle.neg_rule.specs.Negative.{negative_in, said_by};
+ghost use Rattle.harvest.specs.Learnt.{said_of, set_of};
+ghost use Rattle.harvest.specs.Harvest.{finds_in, lives, passes, passing_in};
+
+use crate::counted::records_of;
+use crate::gathering::Gathering;
+use crate::learnt::Harvest;
+use crate::passing::PassingSet;
+use crate::sets::sets_of;
+use dns_name::{Name, NoMemory};
+use dns_text::{Data, Items, Question};
+use dns_wire::Message;
+use neg_rule::negative_of;
+use ranked::{Find, SharedFind};
+use std::alloc::Global;
+
+/// Copies of data that are lent.
+fn copy_all(alloc: Global, lent: &[&Data]) -> Result<Items<Data>, NoMemory>
+    ensures { IfOk result (λ copies. copies ≡ map (λ d. d.now) lent.now) }
+{
+    let mut copies = Vec::new(alloc);
+    for datum in lent {
+        copies.push(datum.copy(alloc)?)?;
+    }
+    Ok(Items::new(copies))
+}
+
+/// The find that a set is.
+fn find_of(alloc: Global, set: &Gathering<'_>) -> Result<SharedFind, NoMemory>
+    requires { 1 ≤ set.now.ttl }
+    ensures { IfOk result (λ find. said_by find ≡ said_of set.now) }
+{
+    let owner = set.owner.clone()?;
+    let data = copy_all(alloc, set.data.as_slice())?;
+    let find = Find::new(owner, set.kind, set.rank, set.ttl, data).unwrap();
+    SharedFind::new(alloc, find)
+}
+
+/// A set that passes.
+fn passing_set(alloc: Global, set: &Gathering<'_>) -> Result<PassingSet, NoMemory>
+    requires { set.now.ttl ≡ 0 }
+    ensures { IfOk result (λ passing. set_of passing ≡ set.now) }
+{
+    Ok(PassingSet {
+        owner: set.owner.clone()?,
+        kind: set.kind,
+        rank: set.rank,
+        data: copy_all(alloc, set.data.as_slice())?,
+    })
+}
+
+/// The sets that live, as finds.
+fn finds_of(alloc: Global, sets: &[Gathering<'_>]) -> Result<Vec<SharedFind>, NoMemory>
+    ensures { IfOk result (λ finds. map said_by finds.items ≡ map said_of (filter lives sets.now)) }
+{
+    let mut finds = Vec::new(alloc);
+    for set in sets {
+        if set.ttl != 0 {
+            finds.push(find_of(alloc, set)?)?;
+        }
+    }
+    Ok(finds)
+}
+
+/// The sets that pass.
+fn passing_of(alloc: Global, sets: &[Gathering<'_>]) -> Result<Items<PassingSet>, NoMemory>
+    ensures { IfOk result (λ passing. map set_of passing ≡ filter passes sets.now) }
+{
+    let mut passing = Vec::new(alloc);
+    for set in sets {
+        if set.ttl == 0 {
+            passing.push(passing_set(alloc, set)?)?;
+        }
+    }
+    Ok(Items::new(passing))
+}
+
+/// Adds what a message denies.
+fn push_negative(
+    alloc: Global,
+    message: &Message,
+    question: &Question,
+    zone: &Name,
+    finds: &mut Vec<SharedFind>,
+) -> Result<(), NoMemory>
+    ensures { OnOk result (map said_by finds.new.items ≡ map said_by finds.old.items ++ option_to_list (negative_in message.now question.now zone.now)) }
+{
+    match negative_of(alloc, message, question, zone)? {
+        None => Ok(()),
+        Some(find) => {
+            finds.push(SharedFind::new(alloc, find)?)?;
+            Ok(())
+        }
+    }
+}
+
+/// What a message is believed to say of a question that a server of `zone` was asked: each set of the records that count, as a
+/// find, or as a passing set where its time to live is 0, and last what it denies.
+pub fn harvest(
+    alloc: Global,
+    message: &Message,
+    question: &Question,
+    zone: &Name,
+) -> Result<Harvest, NoMemory>
+    requires { HasForms message.now }
+    ensures finds { IfOk result (λ harvest. map said_by harvest.finds ≡ finds_in message.now question.now zone.now) }
+    ensures passing { IfOk result (λ harvest. map set_of harvest.passing ≡ passing_in message.now question.now zone.now) }
+{
+    let records = records_of(alloc, message, question, zone)?;
+    let sets = sets_of(alloc, &records)?;
+    let passing = passing_of(alloc, &sets)?;
+    let mut finds = finds_of(alloc, &sets)?;
+    push_negative(alloc, message, question, zone, &mut finds)?;
+    Ok(Harvest {
+        finds: Items::new(finds),
+        passing,
+    })
+}

@@ -1,0 +1,13 @@
+use Rattle.std.proofs.Common.{◌≡◌, take}
+use Rattle.std.specs.Prelude.{filter}
+use Rattle.std.specs.List.{flat_map}
+use Rattle.undo_book.specs.PlainPast.{past_in}
+use Rattle.undo_book.specs.Servers.{addrs_at, has_no_addr}
+use Rattle.undo_book.proofs.delegation.servers_named.Given as goal
+
+-- those of the names so far
+abbrev pub invariant-loop-target : goal.invariant-loop-target
+invariant-loop-target l = record {
+  addrs : l.addrs.items ≡ flat_map (addrs_at l.past.settings (past_in l.past) l.moment) (take l.target-index l.targets.items);
+  missing : l.missing.items ≡ filter (has_no_addr l.past.settings (past_in l.past) l.moment) (take l.target-index l.targets.items);
+}
