@@ -9,7 +9,7 @@ use Rattle.undo_book.specs.declared.desk.DeskFault.{DeskFault}
 use Rattle.undo_book.specs.declared.desk.DeskFault.TheVariants.{Step, Behind}
 use Rattle.undo_book.specs.declared.limits.TheConstants.{MOMENT_END}
 use Rattle.undo_book.specs.Event.{moment_of, is_admission}
-use Rattle.undo_book.specs.Answers.{Answers}
+use Rattle.undo_book.specs.Answers.{Answers, IsTimely}
 use Rattle.undo_book.specs.History.{past_of}
 use Rattle.undo_book.specs.Reply.{reply_of}
 use Rattle.shared_book.specs.declared.fault.CallFault.{CallFault}
@@ -24,11 +24,12 @@ pub record IsReceiptOf (pass : PassState) (event : Event) (receipt : Receipt) (p
   pub later : pass.seen < receipt.number
   pub counted : pass' ≡ after_call pass receipt.number
 
--- A reply is that of the replay of some history of as many events as there were calls before it.
+-- A reply is that of the replay of some history of as many events as there were calls before it, behind which the event is timely.
 pub record IsJustified (number : ℕ) (event : Event) (reply : Reply) : Type 0 where
   pub settings : Settings
   pub history : List Event
   pub place : number ≡ length history + 1
+  pub timely : IsTimely (length history) event
   pub reply_is : reply ≡ reply_of settings (past_of settings.journal history) event
 
 -- why the book does not take an event

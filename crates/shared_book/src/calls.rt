@@ -1,6 +1,7 @@
 //! What callers do with what lies under the lock.
 
 ghost use Rattle.std.specs.Prelude.{◌≡◌, ◌+◌, ◌<◌, ◌≤◌, ◌^◌, ◌/◌, ◌↔◌, ◌⊎◌, max, ℕ, IfOk, IfErr, OnOk, OnErr, IsErrOf, IsErr};
+ghost use Rattle.undo_book.specs.declared.limits.TheConstants.{MOST_EVENTS};
 ghost use Rattle.shared_book.specs.Pass.{calls_of};
 ghost use Rattle.shared_book.specs.Kept.{IsCalled, IsSameRecord};
 ghost use Rattle.shared_book.specs.Calling.{IsJustified, IsReasonOf};
@@ -28,6 +29,8 @@ impl<B: Book, L: Ledger> Kept<B, L> {
         ensures fault { OnErr result (pass.new ≡ pass.old) }
         ensures behind { (at : ℕ) → IsErrOf result (CallFault.Behind at) → (at ≡ self.old.total) × (at < pass.old.seen) }
         ensures ahead { self.old.total < pass.old.seen → IsErrOf result (CallFault.Behind self.old.total) }
+        ensures ended { IsErrOf result (CallFault.Step StepFault.CountEnded) → MOST_EVENTS ≤ self.old.total }
+        ensures full { (n : ℕ) → IsErrOf result (CallFault.Step (StepFault.Full n)) → B.stored self.old.book ≡ n }
         ensures same_record { OnErr result (IsSameRecord self.old self.new) }
     {
         if self.total < pass.seen() {
