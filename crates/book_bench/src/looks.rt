@@ -4,19 +4,19 @@ ghost use Rattle.std.specs.Prelude.{◌≡◌};
 
 use crate::events::{admission, look, plain, seen_in};
 use anyhow::anyhow;
-use dns_text::Shared;
-use shared_book::{Blank, Kept, SharedBook};
+use shared_book::{Blank, SharedBook};
 use std::alloc::Global;
 use std::marker::Brand;
 use std::sync::Wait;
 use std::sync::ledger::Ledger;
-use undo_book::{Book, Event, PlainBook};
+use undo_book::{Book, PlainBook};
 
 /// How often one book is asked.
 const LOOKS: u32 = 16;
 
 /// Looks at a book that one caller has alone.
-fn alone(alloc: Global, event: &Shared<Event>) -> anyhow::Result<u32> {
+fn alone(alloc: Global) -> anyhow::Result<u32> {
+    let event = look(alloc)?;
     let mut book = plain(alloc)?;
     book.step(admission(alloc)?.get().copy()?)?;
     let mut seen = 0u32;
@@ -27,41 +27,18 @@ fn alone(alloc: Global, event: &Shared<Event>) -> anyhow::Result<u32> {
     Ok(seen)
 }
 
-/// Looks at what lies under the lock, with a record of so many calls.
-fn kept<L: Ledger>(
+/// Looks through the lock, with a record of so many calls.
+fn shared<L: Ledger, R: Wait>(
+    rt: &R,
     alloc: Global,
     blank: Blank,
-    event: &Shared<Event>,
     limit: u64,
 ) -> anyhow::Result<u32>
     requires name { blank.name ≡ L.name }
     requires parts { blank.parts ≡ L.parts }
 {
-    let (mut kept, mut pass) = Kept::<PlainBook, L>::new(alloc, blank, plain(alloc)?, limit)?;
-    kept.step(&mut pass, admission(alloc)?)?;
-    let mut seen = 0u32;
-    for _ in 0..LOOKS {
-        let reply = kept.step(&mut pass, event.share()?)?;
-        seen = seen.wrapping_add(seen_in(&reply));
-    }
-    Ok(seen)
-}
-
-fn kept_as(alloc: Global, event: &Shared<Event>, limit: u64) -> anyhow::Result<u32> {
-    kept::<Brand>(alloc, Blank::new(1), event, limit)
-}
-
-/// Looks through the lock, with a record of one call.
-fn shared<L: Ledger, R: Wait>(
-    rt: &R,
-    alloc: Global,
-    blank: Blank,
-    event: &Shared<Event>,
-) -> anyhow::Result<u32>
-    requires name { blank.name ≡ L.name }
-    requires parts { blank.parts ≡ L.parts }
-{
-    let (book, mut pass) = SharedBook::<PlainBook, L>::new(alloc, blank, plain(alloc)?, 1)?;
+    let event = look(alloc)?;
+    let (book, mut pass) = SharedBook::<PlainBook, L>::new(alloc, blank, plain(alloc)?, limit)?;
     book.call(rt, &mut pass, admission(alloc)?)?;
     let mut seen = 0u32;
     for _ in 0..LOOKS {
@@ -71,27 +48,25 @@ fn shared<L: Ledger, R: Wait>(
     Ok(seen)
 }
 
-fn shared_as<R: Wait>(rt: &R, alloc: Global, event: &Shared<Event>) -> anyhow::Result<u32> {
-    shared::<Brand, R>(rt, alloc, Blank::new(1), event)
+fn shared_as<R: Wait>(rt: &R, alloc: Global, limit: u64) -> anyhow::Result<u32> {
+    shared::<Brand, R>(rt, alloc, Blank::new(1), limit)
 }
 
 /// Looks at one book.
-fn some<R: Wait>(rt: &R, alloc: Global, call: &str, event: &Shared<Event>) -> anyhow::Result<u32> {
+fn some<R: Wait>(rt: &R, alloc: Global, call: &str) -> anyhow::Result<u32> {
     match call {
-        "alone" => alone(alloc, event),
-        "kept" => kept_as(alloc, event, 1),
-        "recorded" => kept_as(alloc, event, 1_000),
-        "shared" => shared_as(rt, alloc, event),
+        "alone" => alone(alloc),
+        "shared" => shared_as(rt, alloc, 1),
+        "recorded" => shared_as(rt, alloc, 1_000),
         _ => Err(anyhow!("there is no such call")),
     }
 }
 
 /// So many looks, rounded up, and how many saw the set.
 pub fn run<R: Wait>(rt: &R, alloc: Global, call: &str, count: u32) -> anyhow::Result<u32> {
-    let event = look(alloc)?;
     let mut seen = 0u32;
     for _ in 0..count.div_ceil(LOOKS) {
-        seen = seen.wrapping_add(some(rt, alloc, call, &event)?);
+        seen = seen.wrapping_add(some(rt, alloc, call)?);
     }
     Ok(seen)
 }

@@ -11,7 +11,7 @@ use looks::run;
 use std::env;
 
 /// Every call, in the order in which it is shown.
-const CALLS: [&str; 4] = ["alone", "kept", "recorded", "shared"];
+const CALLS: [&str; 3] = ["alone", "shared", "recorded"];
 
 fn main(rt: HostRuntime) -> anyhow::Result<()> {
     let words: Vec<String> = env::args(&rt)?.collect(rt.alloc())?;

@@ -1,0 +1,179 @@
+//! Events by chance, about four names and a few moments.
+
+ghost use Rattle.std.specs.Prelude.{◌<◌};
+
+use dns_name::Name;
+use dns_text::types::A;
+use dns_text::{Addr, Ip, Items, Question, Shared, read_record};
+use local_zone::ZoneType;
+use rand_core::Rng;
+use rand_pcg::Pcg32;
+use ranked::{Find, Rank, SharedFind};
+use std::alloc::{AllocError, Global};
+use stub_table::Stub;
+use undo_book::{Ask, Command, Event};
+
+const NAMES: [&[u8]; 4] = [b"a", b"b.a", b"c", b"d.c"];
+
+const RECORDS: [&[u8]; 4] = [
+    b"a 60 A 192.0.2.1",
+    b"b.a 60 A 192.0.2.2",
+    b"c 60 A 192.0.2.3",
+    b"d.c 60 A 192.0.2.4",
+];
+
+const RANKS: [Rank; 4] = [
+    Rank::Additional,
+    Rank::Answer,
+    Rank::Authority,
+    Rank::AuthoritativeAnswer,
+];
+
+const TYPES: [ZoneType; 4] = [
+    ZoneType::Deny,
+    ZoneType::Static,
+    ZoneType::Transparent,
+    ZoneType::Redirect,
+];
+
+fn below(rng: &mut Pcg32, end: u32) -> u32
+    requires { 0 < end }
+    ensures { result < end }
+{
+    rng.next_u32() % end
+}
+
+fn place(rng: &mut Pcg32) -> usize
+    ensures { result < 4 }
+{
+    below(rng, 4) as usize
+}
+
+fn name(rng: &mut Pcg32, alloc: Global) -> Result<Name, AllocError> {
+    match Name::from_text(alloc, NAMES[place(rng)]) {
+        Ok(name) => Ok(name),
+        Err(_) => Err(AllocError),
+    }
+}
+
+fn question(rng: &mut Pcg32, alloc: Global) -> Result<Question, AllocError> {
+    Ok(Question {
+        owner: name(rng, alloc)?,
+        kind: A,
+    })
+}
+
+fn find(rng: &mut Pcg32, alloc: Global) -> Result<SharedFind, AllocError> {
+    let Ok(record) = read_record(alloc, RECORDS[place(rng)]) else {
+        return Err(AllocError);
+    };
+    let mut data = Vec::new(alloc);
+    data.push(record.body)?;
+    let rank = RANKS[place(rng)];
+    let ttl = below(rng, 30) + 1;
+    match Find::new(record.owner, record.kind, rank, ttl, Items::new(data)) {
+        Some(find) => SharedFind::new(alloc, find),
+        None => Err(AllocError),
+    }
+}
+
+fn ask(rng: &mut Pcg32, alloc: Global) -> Result<Ask, AllocError> {
+    match below(rng, 8) {
+        0 => Ok(Ask::Zones),
+        1 => Ok(Ask::Records),
+        2 => Ok(Ask::Stubs),
+        3 => Ok(Ask::Commands),
+        4 => Ok(Ask::Servers(name(rng, alloc)?)),
+        _ => Ok(Ask::Answer(question(rng, alloc)?)),
+    }
+}
+
+fn flush(rng: &mut Pcg32, alloc: Global) -> Result<Command, AllocError> {
+    match below(rng, 3) {
+        0 => Ok(Command::FlushType(question(rng, alloc)?)),
+        1 => Ok(Command::Flush {
+            name: name(rng, alloc)?,
+        }),
+        _ => Ok(Command::FlushZone {
+            name: name(rng, alloc)?,
+        }),
+    }
+}
+
+fn set_zone(rng: &mut Pcg32, alloc: Global) -> Result<Command, AllocError> {
+    Ok(Command::SetZone {
+        name: name(rng, alloc)?,
+        kind: TYPES[place(rng)],
+    })
+}
+
+fn add_record(rng: &mut Pcg32, alloc: Global) -> Result<Command, AllocError> {
+    match read_record(alloc, RECORDS[place(rng)]) {
+        Ok(record) => Ok(Command::AddRecord {
+            record: Shared::new(alloc, record)?,
+        }),
+        Err(_) => Err(AllocError),
+    }
+}
+
+/// A stub of one address.
+fn set_stub(rng: &mut Pcg32, alloc: Global) -> Result<Command, AllocError> {
+    let name = name(rng, alloc)?;
+    let mut addrs = Vec::new(alloc);
+    addrs.push(Addr {
+        ip: Ip::V4([192, 0, 2, 53]),
+        port: 53,
+    })?;
+    let addrs = Items::new(addrs);
+    Ok(Command::SetStub {
+        stub: Shared::new(alloc, Stub { name, addrs })?,
+    })
+}
+
+fn removal(rng: &mut Pcg32, alloc: Global) -> Result<Command, AllocError> {
+    match below(rng, 3) {
+        0 => Ok(Command::DropZone {
+            name: name(rng, alloc)?,
+        }),
+        1 => Ok(Command::DropName {
+            name: name(rng, alloc)?,
+        }),
+        _ => Ok(Command::DropStub {
+            name: name(rng, alloc)?,
+        }),
+    }
+}
+
+fn command(rng: &mut Pcg32, alloc: Global) -> Result<Command, AllocError> {
+    match below(rng, 5) {
+        0 => flush(rng, alloc),
+        1 => set_zone(rng, alloc),
+        2 => add_record(rng, alloc),
+        3 => set_stub(rng, alloc),
+        _ => removal(rng, alloc),
+    }
+}
+
+fn given(rng: &mut Pcg32, alloc: Global, moment: u64) -> Result<Event, AllocError> {
+    let command = command(rng, alloc)?;
+    Ok(Event::Do { moment, command })
+}
+
+/// An event of any kind.
+pub fn event(rng: &mut Pcg32, alloc: Global) -> Result<Event, AllocError> {
+    let moment = u64::from(below(rng, 100));
+    match below(rng, 9) {
+        0 => Ok(Event::Undo { moment }),
+        1 => Ok(Event::Redo { moment }),
+        2 => Ok(Event::Sweep { moment }),
+        3 | 4 => given(rng, alloc, moment),
+        5 => Ok(Event::Admit {
+            moment,
+            find: find(rng, alloc)?,
+        }),
+        _ => Ok(Event::Look {
+            moment,
+            ask: ask(rng, alloc)?,
+        }),
+    }
+}
