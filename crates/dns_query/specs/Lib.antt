@@ -1,0 +1,5 @@
+pub mod Query
+pub mod Response
+pub mod Believed
+pub mod Referral
+pub mod Verdict

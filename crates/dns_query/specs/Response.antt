@@ -1,0 +1,30 @@
+-- Which octets respond to a query (RFC 1034, section 5.3.3, step 4; RFC 1035, section 7.3).
+use Rattle.std.specs.Prelude.{◌≡◌, ℕ, ◌⊎◌, true, false, List, [], ◌∷◌}
+use Rattle.dns_text.specs.declared.record.Question.{Question}
+use Rattle.dns_wire.specs.declared.message.Message.{Message}
+use Rattle.dns_wire.specs.Read.Message.{SpelledMessage}
+use Rattle.dns_wire.specs.Write.Question.{in_class_in}
+use Rattle.dns_query.specs.declared.over.Over.{Over}
+use Rattle.dns_query.specs.declared.over.Over.TheVariants.{Udp}
+
+-- A message responds to the query of this identifier and question.
+pub record Meets (id : ℕ) (question : Question) (v : Message) : Type 0 where
+  pub response : v.head.qr ≡ true
+  pub standard : v.head.opcode ≡ 0
+  pub same_id : v.head.id ≡ id
+  pub same_question : v.questions ≡ in_class_in question ∷ []
+
+-- The octets are such a message.
+pub record IsResponse (id : ℕ) (question : Question) (octets : List ℕ) (v : Message) : Type 0 where
+  pub spelled : SpelledMessage octets v
+  pub meets : Meets id question v
+
+-- It is whole, and says that the name is there or that it is not.
+pub record IsWhole (v : Message) : Type 0 where
+  pub whole : v.head.tc ≡ false
+  pub rcode : (v.head.rcode ≡ 0) ⊎ (v.head.rcode ≡ 3)
+
+-- It was cut to fit a datagram, and may be had whole over TCP (RFC 2181, section 9).
+pub record IsCut (over : Over) (v : Message) : Type 0 where
+  pub cut : v.head.tc ≡ true
+  pub udp : over ≡ Udp
