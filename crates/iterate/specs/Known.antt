@@ -1,5 +1,5 @@
 -- What may be believed after some exchanges, and why.
-use Rattle.std.specs.Prelude.{◌≡◌, ℕ, List}
+use Rattle.std.specs.Prelude.{ℕ, List}
 use Rattle.std.specs.List.{Contains}
 use Rattle.dns_name.specs.Labels.{Labels, IsAtOrBelow}
 use Rattle.dns_text.specs.declared.addr.Addr.{Addr}

@@ -68,3 +68,10 @@ left_of_path path looks = weight (digits_of_path path 0 0 no_depths looks)
 
 abbrev pub left_of_search : Search → ℕ → ℕ
 left_of_search search looks = weight (digits_of_search search looks)
+
+-- how much is left where a query of this path is out, and where a response to it is heard, of which so many finds were not yet handed to the book
+abbrev pub left_of_sending : Path → ℕ
+left_of_sending path = weight (digits_of_path path 1 2 no_depths 0)
+
+abbrev pub left_of_hearing : Path → ℕ → ℕ
+left_of_hearing path finds = weight (digits_of_path path 0 1 no_depths finds)

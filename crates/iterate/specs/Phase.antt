@@ -1,6 +1,5 @@
 -- Where a task stands: what is remembered in each phase, and what a step has to bring.
-use Rattle.std.specs.Prelude.{◌≡◌, ℕ, ◌+◌, ◌<◌, ◌≤◌, List, [], ◌∷◌, ◌++◌, length, map, drop}
-use Rattle.std.specs.List.{AllByRecursion, Contains}
+use Rattle.std.specs.Prelude.{◌≡◌, ℕ, ◌<◌, ◌≤◌, List, [], ◌∷◌, ◌++◌, length, map, drop}
 use Rattle.dns_name.specs.Labels.{Labels}
 use Rattle.dns_text.specs.declared.addr.Addr.{Addr}
 use Rattle.dns_text.specs.declared.record.Question.{Question}
@@ -33,7 +32,6 @@ use Rattle.iterate.specs.Known.{Known, Responds}
 use Rattle.iterate.specs.Measure.{left_in}
 use Rattle.iterate.specs.Resolved.{Sought}
 use Rattle.iterate.specs.Searching.{IsPath, IsSearch, IsNext, hunt_of, question_of}
-use Rattle.iterate.specs.Told.{IsFit}
 use Rattle.iterate.specs.Wanted.{MayWant}
 
 -- ---- what comes next
@@ -125,14 +123,8 @@ Fits port question log want (Admitting search heard next) = IsHearing port quest
 Fits port question log want Ended = (answer : Answer) × (want ≡ Finish answer) × (count_sends log ≤ 64)
 Fits port question log want Broken = ⊥
 
--- What is wanted can be written, where it is an answer.
-abbrev pub IsWrit : Want → Type 0
-IsWrit (Finish answer) = IsFit answer
-IsWrit want = Unit {0}
-
 -- A step is well made, by the exchanges so far, and less is left than was.
 pub record Goes (port : ℕ) (question : Question) (log : List Exchange) (moment id left : ℕ) (phase : Phase) (want : Want) : Type 0 where
   pub wants : MayWant port question log moment id want
-  pub fit : IsWrit want
   pub fits : Fits port question log want phase
   pub falls : left_in phase < left
