@@ -1,6 +1,8 @@
 -- Sections whose records are lent, part by part, and the messages that they make (RFC 1035, section 4.1).
-use Rattle.std.specs.Prelude.{ℕ, List, [], ◌∷◌, get_or}
+use Rattle.std.specs.Prelude.{ℕ, List, [], ◌∷◌, get_or, map}
 use Rattle.std.specs.List.{flat_map}
+use Rattle.dns_name.specs.Labels.{Labels}
+use Rattle.dns_text.specs.declared.record.Data.{Data}
 use Rattle.dns_text.specs.declared.record.Question.{Question}
 use Rattle.dns_text.specs.declared.record.Record.{Record}
 use Rattle.dns_wire.specs.declared.message.Classed.{Classed}
@@ -19,6 +21,10 @@ part_at parts i = get_or parts i []
 -- all records, in order
 abbrev pub in_order : Parts → List (Classed Record)
 in_order parts = flat_map (λ part. part) parts
+
+-- the records of a set of one owner, type and time to live (RFC 2181, section 5)
+abbrev pub set_records : Labels → ℕ → ℕ → List Data → List (Classed Record)
+set_records owner kind ttl bodies = map (λ body. in_class_in (record { owner = owner; kind = kind; ttl = ttl; body = body })) bodies
 
 -- The records of each section.
 pub record Records : Type 0 where

@@ -57,7 +57,7 @@ impl<'a> LentRecord<'a> {
 }
 
 /// A section of a message that lends its records, part by part: a part is a set of records (RFC 2181, section 5), one
-/// record, or whatever else its holder has in one piece. Each method is called twice for what it lends.
+/// record, or whatever else its holder has in one piece. What is written is asked for twice or more.
 pub trait Section {
     ghost parts: { Self → Parts };
 
