@@ -9,9 +9,7 @@ use crate::messages::query_in;
 use crate::names::digits;
 use dns_name::Name;
 use dns_text::{Data, Ttl, read_data, read_type};
-use dns_wire::{
-    Head, LentRecord, NoRecords, Opcode, Query, Rcode, Reserved, Section, encode_lent,
-};
+use dns_wire::{Head, LentRecord, NoRecords, Opcode, Query, Rcode, Reserved, Section, encode_lent};
 use std::alloc::Global;
 
 /// A set of one owner, type and time to live.
