@@ -1,12 +1,13 @@
 -- Referrals: responses that say no more of a question than which servers are nearer (RFC 1034, section 5.3.3, step 4b).
-use Rattle.std.specs.Prelude.{◌≡◌, ℕ, ◌==◌, ◌&&◌, ◌||◌, Bool, not, true, false, List, [], ◌∷◌, ◌++◌, length, filter, if◌then◌else◌}
-use Rattle.std.specs.List.{flat_map, list_any, list_all}
+use Rattle.std.specs.Prelude.{◌≡◌, ℕ, ◌==◌, ◌&&◌, ◌||◌, Bool, not, true, false, List, [], ◌∷◌, ◌++◌, length, filter, Option, Some, None, if◌then◌else◌}
+use Rattle.std.specs.List.{filter_map, find, flat_map, list_any, list_all}
+use Rattle.std.specs.Option.{option_map}
 use Rattle.dns_name.specs.Labels.{Labels, IsAtOrBelow}
 use Rattle.dns_name.specs.Order.{name_eq}
 use Rattle.dns_text.specs.declared.addr.Addr.{Addr}
 use Rattle.dns_text.specs.declared.addr.Ip.TheVariants.{V4, V6}
 use Rattle.dns_text.specs.declared.record.Data.{Data}
-use Rattle.dns_text.specs.declared.record.Data.TheVariants.{A, Aaaa, One}
+use Rattle.dns_text.specs.declared.record.Data.TheVariants.{A, Aaaa}
 use Rattle.dns_text.specs.declared.record.Question.{Question}
 use Rattle.dns_text.specs.declared.record.Record.{Record}
 use Rattle.dns_text.specs.declared.types.TheConstants as types
@@ -16,6 +17,7 @@ use Rattle.dns_wire.specs.declared.message.TheConstants.{CLASS_IN}
 use Rattle.ranked.specs.Body.{data_of}
 use Rattle.ranked.specs.Find.{has_kind}
 use Rattle.ranked.specs.Set.{each_once}
+use Rattle.neg_rule.specs.Alias.{target_of}
 use Rattle.neg_rule.specs.Negative.{Said}
 use Rattle.harvest.specs.Harvest.{finds_in, passing_in}
 use Rattle.harvest.specs.Sets.{Set}
@@ -35,36 +37,39 @@ is_of kind r = is_in r && r.item.kind == kind
 abbrev pub is_own : Labels → Classed Record → Bool
 is_own name r = not (is_of types.NS r) || name_eq r.item.owner name
 
+-- the owner of the first NS record of a section
+abbrev pub ns_owner : List (Classed Record) → Option Labels
+ns_owner section = option_map (λ r. r.item.owner) (find (is_of types.NS) section)
+
+-- The response is not authoritative, and has no error, no answer and no SOA.
+pub record MayRefer (v : Message) : Type 0 where
+  pub no_error : v.head.rcode ≡ 0
+  pub not_authoritative : v.head.aa ≡ false
+  pub no_answer : list_any is_in v.answer ≡ false
+  pub no_soa : list_any (is_of types.SOA) v.authority ≡ false
+
 -- A zone is strictly below the one asked, and at or above the name.
 pub record IsNearer (asked name zone : Labels) : Type 0 where
   pub below : IsAtOrBelow zone asked
   pub strictly : ¬ (zone ≡ asked)
   pub above : IsAtOrBelow name zone
 
--- The response is not authoritative, has no error, no answer and no SOA, and all its NS records are those of one nearer zone.
+-- The response may refer, and its NS records, one or more, are those of one nearer zone.
 pub record RefersTo (asked name : Labels) (v : Message) (zone : Labels) : Type 0 where
-  pub no_error : v.head.rcode ≡ 0
-  pub not_authoritative : v.head.aa ≡ false
-  pub no_answer : list_any is_in v.answer ≡ false
-  pub no_soa : list_any (is_of types.SOA) v.authority ≡ false
-  pub some : list_any (is_of types.NS) v.authority ≡ true
+  pub may_refer : MayRefer v
+  pub owner : ns_owner v.authority ≡ Some zone
   pub one_owner : list_all (is_own zone) v.authority ≡ true
   pub nearer : IsNearer asked name zone
 
 -- ---- its servers
 
--- the server that a datum of an NS record names
-abbrev pub target_of : Data → List Labels
-target_of (One name) = name ∷ []
-target_of _ = []
-
 -- the server that a record names, if it is an NS record
-abbrev pub target_in : Classed Record → List Labels
-target_in r = if is_of types.NS r then target_of r.item.body else []
+abbrev pub target_in : Classed Record → Option Labels
+target_in r = if is_of types.NS r then target_of r.item.body else None
 
 -- the servers that a section names, each once (RFC 2181, section 5)
 abbrev pub targets_in : List (Classed Record) → List Labels
-targets_in section = each_once name_eq (flat_map target_in section)
+targets_in section = each_once name_eq (filter_map target_in section)
 
 -- the address that a datum of an A or AAAA record has, with this port
 abbrev pub addr_of : ℕ → Data → List Addr

@@ -12,7 +12,7 @@ use dns_text::{Question, Shared};
 use harvest::{Harvest, PassingSet};
 use ranked::{Body, Find, Scope, SharedFind};
 
-fn is_same(name: &Name, other: &Name) -> bool
+pub(crate) fn is_same(name: &Name, other: &Name) -> bool
     ensures { IsTrue result ↔ (name.now ≡ other.now) }
 {
     name == other
