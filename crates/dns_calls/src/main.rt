@@ -11,6 +11,7 @@ mod harvests; // what a message is believed to say
 mod messages; // messages and queries
 mod names; // names
 mod texts; // records, types and addresses as text
+mod verdicts; // queries, and what came of them
 mod words; // a message in words
 
 use calls::call;
