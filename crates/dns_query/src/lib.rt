@@ -7,16 +7,20 @@
 mod asking;
 // Which octets are a response to it.
 mod response;
-// The sets of a harvest that may be answered.
-mod believing;
+// A set that a harvest has.
 mod sets;
-// Servers nearer to a name: their zone, their addresses, and both.
+// Which sets of a harvest may be answered.
+mod believing;
+// The zone to which a response refers.
 mod nearer;
-mod referral;
+// The servers that it names, and the addresses that it gives of them.
 mod servers;
-// What came of a query.
-mod judging;
+// Both.
+mod referral;
+// What a response says of the question.
 mod verdict;
+// What octets say that came of a query.
+mod judging;
 
 pub use asking::query;
 pub use believing::believed;
