@@ -11,6 +11,7 @@ use crate::names::{
     is_below, labels_of, length_of, name_of_labels, name_text, order_of, parent_of, spelling_of,
 };
 use crate::texts::{addr_text, data_text, record_text, type_text};
+use crate::verdicts::{query_octets, verdict_in};
 use dns_text::next_word;
 use hex::FromHexError;
 use std::alloc::{AllocError, Global};
@@ -65,6 +66,10 @@ fn answer(alloc: Global, word: &[u8], arguments: &[Vec<u8>]) -> Result<Vec<u8>, 
         }
         (b"denial", [octets, owner, kind, zone]) => denial_in(alloc, octets, owner, kind, zone),
         (b"harvest", [octets, owner, kind, zone]) => harvest_in(alloc, octets, owner, kind, zone),
+        (b"query", [id, owner, kind]) => query_octets(alloc, id, owner, kind),
+        (b"judge", [octets, over, id, zone, owner, kind]) => {
+            verdict_in(alloc, octets, (over, id), zone, owner, kind)
+        }
         _ => Err(CallFault::NoCall),
     }
 }

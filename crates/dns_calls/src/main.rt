@@ -12,6 +12,7 @@ mod lent; // replies whose records are lent
 mod messages; // messages and queries
 mod names; // names
 mod texts; // records, types and addresses as text
+mod verdicts; // queries, and what came of them
 mod words; // a message in words
 
 use calls::call;
