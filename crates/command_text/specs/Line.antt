@@ -7,11 +7,12 @@ use Rattle.dns_text.specs.Number.{number_in}
 use Rattle.undo_book.specs.declared.event.Ask.TheVariants.{Answer, Servers as ServersAsk, Zones, Records, Stubs, Commands as CommandsAsk}
 use Rattle.undo_book.specs.declared.event.Command.TheVariants.{Flush as FlushCommand, FlushType as FlushTypeCommand, FlushZone as FlushZoneCommand}
 use Rattle.command_text.specs.declared.line.Line.{Line}
-use Rattle.command_text.specs.declared.line.Line.TheVariants.{Silent, At as AtLine, Admit as AdmitLine, Deny as DenyLine, Look as LookLine, Sweep as SweepLine, Do as DoLine, Undo as UndoLine, Redo as RedoLine}
+use Rattle.command_text.specs.declared.line.Line.TheVariants.{Silent, At as AtLine, Admit as AdmitLine, Deny as DenyLine, Request as RequestLine, Stop as StopLine}
+use Rattle.command_text.specs.declared.request.Request.TheVariants.{Look as LookRequest, Sweep as SweepRequest, Do as DoRequest, Undo as UndoRequest, Redo as RedoRequest}
 use Rattle.command_text.specs.declared.fault.LineFault.{LineFault}
 use Rattle.command_text.specs.declared.fault.LineFault.TheVariants.{Unknown, BadData, TooLong}
 use Rattle.command_text.specs.declared.words.Verb.{Verb}
-use Rattle.command_text.specs.declared.words.Verb.TheVariants.{At, Admit, NoData, NoName, Look, Servers, Sweep, Flush, FlushType, FlushZone, LocalZone, LocalZoneRemove, LocalData, LocalDataRemove, StubAdd, StubRemove, ListLocalZones, ListLocalData, ListStubs, ListCommands, Undo, Redo}
+use Rattle.command_text.specs.declared.words.Verb.TheVariants.{At, Admit, NoData, NoName, Look, Servers, Sweep, Flush, FlushType, FlushZone, LocalZone, LocalZoneRemove, LocalData, LocalDataRemove, StubAdd, StubRemove, ListLocalZones, ListLocalData, ListStubs, ListCommands, Undo, Redo, Stop}
 use Rattle.command_text.specs.declared.words.Channel.{Channel}
 use Rattle.command_text.specs.Words.{verb_in}
 use Rattle.command_text.specs.Parts.{word_in, ends, question_words, question_in, only_name}
@@ -54,92 +55,97 @@ no_name_in text = do
 unfoldable pub look_in : List ℕ → Result Line LineFault
 look_in text = do
   question ← question_in text
-  Ok (LookLine (Answer question))
+  Ok (RequestLine (LookRequest (Answer question)))
 
 unfoldable pub servers_in : List ℕ → Result Line LineFault
 servers_in text = do
   name ← only_name text
-  Ok (LookLine (ServersAsk name))
+  Ok (RequestLine (LookRequest (ServersAsk name)))
 
 unfoldable pub sweep_in : List ℕ → Result Line LineFault
 sweep_in text = do
   end ← ends text
-  Ok SweepLine
+  Ok (RequestLine SweepRequest)
 
 unfoldable pub flush_in : List ℕ → Result Line LineFault
 flush_in text = do
   name ← only_name text
-  Ok (DoLine (FlushCommand name))
+  Ok (RequestLine (DoRequest (FlushCommand name)))
 
 unfoldable pub flush_type_in : List ℕ → Result Line LineFault
 flush_type_in text = do
   question ← question_in text
-  Ok (DoLine (FlushTypeCommand question))
+  Ok (RequestLine (DoRequest (FlushTypeCommand question)))
 
 unfoldable pub flush_zone_in : List ℕ → Result Line LineFault
 flush_zone_in text = do
   name ← only_name text
-  Ok (DoLine (FlushZoneCommand name))
+  Ok (RequestLine (DoRequest (FlushZoneCommand name)))
 
 unfoldable pub local_zone_in : List ℕ → Result Line LineFault
 local_zone_in text = do
   command ← set_zone_in text
-  Ok (DoLine command)
+  Ok (RequestLine (DoRequest command))
 
 unfoldable pub local_zone_remove_in : List ℕ → Result Line LineFault
 local_zone_remove_in text = do
   command ← drop_zone_in text
-  Ok (DoLine command)
+  Ok (RequestLine (DoRequest command))
 
 unfoldable pub local_data_in : List ℕ → Result Line LineFault
 local_data_in text = do
   command ← add_record_in text
-  Ok (DoLine command)
+  Ok (RequestLine (DoRequest command))
 
 unfoldable pub local_data_remove_in : List ℕ → Result Line LineFault
 local_data_remove_in text = do
   command ← drop_name_in text
-  Ok (DoLine command)
+  Ok (RequestLine (DoRequest command))
 
 unfoldable pub stub_add_in : List ℕ → Result Line LineFault
 stub_add_in text = do
   command ← set_stub_in text
-  Ok (DoLine command)
+  Ok (RequestLine (DoRequest command))
 
 unfoldable pub stub_remove_in : List ℕ → Result Line LineFault
 stub_remove_in text = do
   command ← drop_stub_in text
-  Ok (DoLine command)
+  Ok (RequestLine (DoRequest command))
 
 unfoldable pub list_local_zones_in : List ℕ → Result Line LineFault
 list_local_zones_in text = do
   end ← ends text
-  Ok (LookLine Zones)
+  Ok (RequestLine (LookRequest Zones))
 
 unfoldable pub list_local_data_in : List ℕ → Result Line LineFault
 list_local_data_in text = do
   end ← ends text
-  Ok (LookLine Records)
+  Ok (RequestLine (LookRequest Records))
 
 unfoldable pub list_stubs_in : List ℕ → Result Line LineFault
 list_stubs_in text = do
   end ← ends text
-  Ok (LookLine Stubs)
+  Ok (RequestLine (LookRequest Stubs))
 
 unfoldable pub list_commands_in : List ℕ → Result Line LineFault
 list_commands_in text = do
   end ← ends text
-  Ok (LookLine CommandsAsk)
+  Ok (RequestLine (LookRequest CommandsAsk))
 
 unfoldable pub undo_in : List ℕ → Result Line LineFault
 undo_in text = do
   end ← ends text
-  Ok UndoLine
+  Ok (RequestLine UndoRequest)
 
 unfoldable pub redo_in : List ℕ → Result Line LineFault
 redo_in text = do
   end ← ends text
-  Ok RedoLine
+  Ok (RequestLine RedoRequest)
+
+unfoldable pub stop_in : List ℕ → Result Line LineFault
+stop_in text = do
+  end ← ends text
+  Ok StopLine
 
 -- what a command says with the text after its word
 abbrev pub said_by : Verb → List ℕ → Result Line LineFault
@@ -165,6 +171,7 @@ said_by ListStubs text = list_stubs_in text
 said_by ListCommands text = list_commands_in text
 said_by Undo text = undo_in text
 said_by Redo text = redo_in text
+said_by Stop text = stop_in text
 
 -- A line of blanks has no word, and a word that is no command where the line comes from is none.
 abbrev pub read_of : Channel → List ℕ → Result Line LineFault
@@ -201,6 +208,7 @@ takes_by ListStubs text = false
 takes_by ListCommands text = false
 takes_by Undo text = false
 takes_by Redo text = false
+takes_by Stop text = false
 
 abbrev takes_if : Option Verb → List ℕ → Bool
 takes_if None text = false

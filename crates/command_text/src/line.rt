@@ -3,7 +3,7 @@
 ghost use Rattle.std.specs.Prelude.{◌≡◌, IsTrue, IsErrOf, is_ok};
 ghost use Rattle.command_text.specs.declared.fault.LineFault.TheVariants.{NoMemory};
 ghost use Rattle.command_text.specs.Fault.{Gives};
-ghost use Rattle.command_text.specs.Line.{is_silent, at_in, admit_in, no_data_in, no_name_in, look_in, servers_in, sweep_in, flush_in, flush_type_in, flush_zone_in, local_zone_in, local_zone_remove_in, local_data_in, local_data_remove_in, stub_add_in, stub_remove_in, list_local_zones_in, list_local_data_in, list_stubs_in, list_commands_in, undo_in, redo_in, said_by, takes_by, read_of, takes_memory};
+ghost use Rattle.command_text.specs.Line.{is_silent, at_in, admit_in, no_data_in, no_name_in, look_in, servers_in, sweep_in, flush_in, flush_type_in, flush_zone_in, local_zone_in, local_zone_remove_in, local_data_in, local_data_remove_in, stub_add_in, stub_remove_in, list_local_zones_in, list_local_data_in, list_stubs_in, list_commands_in, undo_in, redo_in, stop_in, said_by, takes_by, read_of, takes_memory};
 
 use crate::admission::Admission;
 use crate::admit::{admit_words, read_admission};
@@ -12,6 +12,7 @@ use crate::deny::{no_data_words, no_name_words, read_no_data, read_no_name};
 use crate::fault::LineFault;
 use crate::local::{read_add_record, read_drop_name, read_drop_zone, read_set_zone};
 use crate::parts::{read_end, read_only_name, read_question, read_word};
+use crate::request::Request;
 use crate::stubs::{read_drop_stub, read_set_stub};
 use crate::words::{Channel, Verb, verb_in};
 use dns_text::{next_word, read_number};
@@ -30,16 +31,10 @@ pub enum Line {
     Admit(Admission),
     /// Something was found not to be.
     Deny(Denial),
-    /// Something is asked.
-    Look(Ask),
-    /// What can never be shown again may be given up.
-    Sweep,
-    /// The operator gives a command.
-    Do(Command),
-    /// The newest command is taken back.
-    Undo,
-    /// The command that was undone last is put back.
-    Redo,
+    /// Something is handed in, at the moment that it is then.
+    Request(Request),
+    /// No line after it is obeyed.
+    Stop,
 }
 
 /// Whether a line is empty or a comment.
@@ -99,7 +94,7 @@ fn read_look(alloc: Global, text: &[u8]) -> Result<Line, LineFault>
     ensures no_memory { IsErrOf result NoMemory → IsTrue (takes_by Verb.Look text.now) }
 {
     let question = read_question(alloc, text)?;
-    Ok(Line::Look(Ask::Answer(question)))
+    Ok(Line::Request(Request::Look(Ask::Answer(question))))
 }
 
 #[tactic(auto, unfolding(crate::specs::Line::servers_in))]
@@ -108,7 +103,7 @@ fn read_servers(alloc: Global, text: &[u8]) -> Result<Line, LineFault>
     ensures no_memory { IsErrOf result NoMemory → IsTrue (takes_by Verb.Servers text.now) }
 {
     let name = read_only_name(alloc, text)?;
-    Ok(Line::Look(Ask::Servers(name)))
+    Ok(Line::Request(Request::Look(Ask::Servers(name))))
 }
 
 #[tactic(auto, unfolding(crate::specs::Line::sweep_in))]
@@ -117,7 +112,7 @@ fn read_sweep(text: &[u8]) -> Result<Line, LineFault>
     ensures no_memory { IsErrOf result NoMemory → IsTrue (takes_by Verb.Sweep text.now) }
 {
     read_end(text)?;
-    Ok(Line::Sweep)
+    Ok(Line::Request(Request::Sweep))
 }
 
 #[tactic(auto, unfolding(crate::specs::Line::flush_in))]
@@ -126,7 +121,7 @@ fn read_flush(alloc: Global, text: &[u8]) -> Result<Line, LineFault>
     ensures no_memory { IsErrOf result NoMemory → IsTrue (takes_by Verb.Flush text.now) }
 {
     let name = read_only_name(alloc, text)?;
-    Ok(Line::Do(Command::Flush { name }))
+    Ok(Line::Request(Request::Do(Command::Flush { name })))
 }
 
 #[tactic(auto, unfolding(crate::specs::Line::flush_type_in))]
@@ -135,7 +130,7 @@ fn read_flush_type(alloc: Global, text: &[u8]) -> Result<Line, LineFault>
     ensures no_memory { IsErrOf result NoMemory → IsTrue (takes_by Verb.FlushType text.now) }
 {
     let question = read_question(alloc, text)?;
-    Ok(Line::Do(Command::FlushType(question)))
+    Ok(Line::Request(Request::Do(Command::FlushType(question))))
 }
 
 #[tactic(auto, unfolding(crate::specs::Line::flush_zone_in))]
@@ -144,7 +139,7 @@ fn read_flush_zone(alloc: Global, text: &[u8]) -> Result<Line, LineFault>
     ensures no_memory { IsErrOf result NoMemory → IsTrue (takes_by Verb.FlushZone text.now) }
 {
     let name = read_only_name(alloc, text)?;
-    Ok(Line::Do(Command::FlushZone { name }))
+    Ok(Line::Request(Request::Do(Command::FlushZone { name })))
 }
 
 #[tactic(auto, unfolding(crate::specs::Line::local_zone_in))]
@@ -153,7 +148,7 @@ fn read_local_zone(alloc: Global, text: &[u8]) -> Result<Line, LineFault>
     ensures no_memory { IsErrOf result NoMemory → IsTrue (takes_by Verb.LocalZone text.now) }
 {
     let command = read_set_zone(alloc, text)?;
-    Ok(Line::Do(command))
+    Ok(Line::Request(Request::Do(command)))
 }
 
 #[tactic(auto, unfolding(crate::specs::Line::local_zone_remove_in))]
@@ -162,7 +157,7 @@ fn read_local_zone_remove(alloc: Global, text: &[u8]) -> Result<Line, LineFault>
     ensures no_memory { IsErrOf result NoMemory → IsTrue (takes_by Verb.LocalZoneRemove text.now) }
 {
     let command = read_drop_zone(alloc, text)?;
-    Ok(Line::Do(command))
+    Ok(Line::Request(Request::Do(command)))
 }
 
 #[tactic(auto, unfolding(crate::specs::Line::local_data_in))]
@@ -171,7 +166,7 @@ fn read_local_data(alloc: Global, text: &[u8]) -> Result<Line, LineFault>
     ensures no_memory { IsErrOf result NoMemory → IsTrue (takes_by Verb.LocalData text.now) }
 {
     let command = read_add_record(alloc, text)?;
-    Ok(Line::Do(command))
+    Ok(Line::Request(Request::Do(command)))
 }
 
 #[tactic(auto, unfolding(crate::specs::Line::local_data_remove_in))]
@@ -180,7 +175,7 @@ fn read_local_data_remove(alloc: Global, text: &[u8]) -> Result<Line, LineFault>
     ensures no_memory { IsErrOf result NoMemory → IsTrue (takes_by Verb.LocalDataRemove text.now) }
 {
     let command = read_drop_name(alloc, text)?;
-    Ok(Line::Do(command))
+    Ok(Line::Request(Request::Do(command)))
 }
 
 #[tactic(auto, unfolding(crate::specs::Line::stub_add_in))]
@@ -189,7 +184,7 @@ fn read_stub_add(alloc: Global, text: &[u8]) -> Result<Line, LineFault>
     ensures no_memory { IsErrOf result NoMemory → IsTrue (takes_by Verb.StubAdd text.now) }
 {
     let command = read_set_stub(alloc, text)?;
-    Ok(Line::Do(command))
+    Ok(Line::Request(Request::Do(command)))
 }
 
 #[tactic(auto, unfolding(crate::specs::Line::stub_remove_in))]
@@ -198,7 +193,7 @@ fn read_stub_remove(alloc: Global, text: &[u8]) -> Result<Line, LineFault>
     ensures no_memory { IsErrOf result NoMemory → IsTrue (takes_by Verb.StubRemove text.now) }
 {
     let command = read_drop_stub(alloc, text)?;
-    Ok(Line::Do(command))
+    Ok(Line::Request(Request::Do(command)))
 }
 
 #[tactic(auto, unfolding(crate::specs::Line::list_local_zones_in))]
@@ -207,7 +202,7 @@ fn read_list_local_zones(text: &[u8]) -> Result<Line, LineFault>
     ensures no_memory { IsErrOf result NoMemory → IsTrue (takes_by Verb.ListLocalZones text.now) }
 {
     read_end(text)?;
-    Ok(Line::Look(Ask::Zones))
+    Ok(Line::Request(Request::Look(Ask::Zones)))
 }
 
 #[tactic(auto, unfolding(crate::specs::Line::list_local_data_in))]
@@ -216,7 +211,7 @@ fn read_list_local_data(text: &[u8]) -> Result<Line, LineFault>
     ensures no_memory { IsErrOf result NoMemory → IsTrue (takes_by Verb.ListLocalData text.now) }
 {
     read_end(text)?;
-    Ok(Line::Look(Ask::Records))
+    Ok(Line::Request(Request::Look(Ask::Records)))
 }
 
 #[tactic(auto, unfolding(crate::specs::Line::list_stubs_in))]
@@ -225,7 +220,7 @@ fn read_list_stubs(text: &[u8]) -> Result<Line, LineFault>
     ensures no_memory { IsErrOf result NoMemory → IsTrue (takes_by Verb.ListStubs text.now) }
 {
     read_end(text)?;
-    Ok(Line::Look(Ask::Stubs))
+    Ok(Line::Request(Request::Look(Ask::Stubs)))
 }
 
 #[tactic(auto, unfolding(crate::specs::Line::list_commands_in))]
@@ -234,7 +229,7 @@ fn read_list_commands(text: &[u8]) -> Result<Line, LineFault>
     ensures no_memory { IsErrOf result NoMemory → IsTrue (takes_by Verb.ListCommands text.now) }
 {
     read_end(text)?;
-    Ok(Line::Look(Ask::Commands))
+    Ok(Line::Request(Request::Look(Ask::Commands)))
 }
 
 #[tactic(auto, unfolding(crate::specs::Line::undo_in))]
@@ -243,7 +238,7 @@ fn read_undo(text: &[u8]) -> Result<Line, LineFault>
     ensures no_memory { IsErrOf result NoMemory → IsTrue (takes_by Verb.Undo text.now) }
 {
     read_end(text)?;
-    Ok(Line::Undo)
+    Ok(Line::Request(Request::Undo))
 }
 
 #[tactic(auto, unfolding(crate::specs::Line::redo_in))]
@@ -252,7 +247,16 @@ fn read_redo(text: &[u8]) -> Result<Line, LineFault>
     ensures no_memory { IsErrOf result NoMemory → IsTrue (takes_by Verb.Redo text.now) }
 {
     read_end(text)?;
-    Ok(Line::Redo)
+    Ok(Line::Request(Request::Redo))
+}
+
+#[tactic(auto, unfolding(crate::specs::Line::stop_in))]
+fn read_stop(text: &[u8]) -> Result<Line, LineFault>
+    ensures value { Gives result (stop_in text.now) }
+    ensures no_memory { IsErrOf result NoMemory → IsTrue (takes_by Verb.Stop text.now) }
+{
+    read_end(text)?;
+    Ok(Line::Stop)
 }
 
 /// What a command says with the text after its word.
@@ -283,6 +287,7 @@ fn read_command(alloc: Global, verb: Verb, text: &[u8]) -> Result<Line, LineFaul
         Verb::ListCommands => read_list_commands(text),
         Verb::Undo => read_undo(text),
         Verb::Redo => read_redo(text),
+        Verb::Stop => read_stop(text),
     }
 }
 
