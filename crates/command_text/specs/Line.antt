@@ -26,6 +26,12 @@ abbrev pub is_silent : List ℕ → Bool
 is_silent [] = true
 is_silent (octet ∷ octets) = octet == 35
 
+-- nothing behind the word
+unfoldable pub alone : Line → List ℕ → Result Line LineFault
+alone line text = do
+  end ← ends text
+  Ok line
+
 -- N: from 0 to 2^64 - 1
 unfoldable pub at_in : List ℕ → Result Line LineFault
 at_in text = do
@@ -61,11 +67,6 @@ unfoldable pub servers_in : List ℕ → Result Line LineFault
 servers_in text = do
   name ← only_name text
   Ok (RequestLine (LookRequest (ServersAsk name)))
-
-unfoldable pub sweep_in : List ℕ → Result Line LineFault
-sweep_in text = do
-  end ← ends text
-  Ok (RequestLine SweepRequest)
 
 unfoldable pub flush_in : List ℕ → Result Line LineFault
 flush_in text = do
@@ -112,41 +113,6 @@ stub_remove_in text = do
   command ← drop_stub_in text
   Ok (RequestLine (DoRequest command))
 
-unfoldable pub list_local_zones_in : List ℕ → Result Line LineFault
-list_local_zones_in text = do
-  end ← ends text
-  Ok (RequestLine (LookRequest Zones))
-
-unfoldable pub list_local_data_in : List ℕ → Result Line LineFault
-list_local_data_in text = do
-  end ← ends text
-  Ok (RequestLine (LookRequest Records))
-
-unfoldable pub list_stubs_in : List ℕ → Result Line LineFault
-list_stubs_in text = do
-  end ← ends text
-  Ok (RequestLine (LookRequest Stubs))
-
-unfoldable pub list_commands_in : List ℕ → Result Line LineFault
-list_commands_in text = do
-  end ← ends text
-  Ok (RequestLine (LookRequest CommandsAsk))
-
-unfoldable pub undo_in : List ℕ → Result Line LineFault
-undo_in text = do
-  end ← ends text
-  Ok (RequestLine UndoRequest)
-
-unfoldable pub redo_in : List ℕ → Result Line LineFault
-redo_in text = do
-  end ← ends text
-  Ok (RequestLine RedoRequest)
-
-unfoldable pub stop_in : List ℕ → Result Line LineFault
-stop_in text = do
-  end ← ends text
-  Ok StopLine
-
 -- what a command says with the text after its word
 abbrev pub said_by : Verb → List ℕ → Result Line LineFault
 said_by At text = at_in text
@@ -155,7 +121,7 @@ said_by NoData text = no_data_in text
 said_by NoName text = no_name_in text
 said_by Look text = look_in text
 said_by Servers text = servers_in text
-said_by Sweep text = sweep_in text
+said_by Sweep text = alone (RequestLine SweepRequest) text
 said_by Flush text = flush_in text
 said_by FlushType text = flush_type_in text
 said_by FlushZone text = flush_zone_in text
@@ -165,13 +131,13 @@ said_by LocalData text = local_data_in text
 said_by LocalDataRemove text = local_data_remove_in text
 said_by StubAdd text = stub_add_in text
 said_by StubRemove text = stub_remove_in text
-said_by ListLocalZones text = list_local_zones_in text
-said_by ListLocalData text = list_local_data_in text
-said_by ListStubs text = list_stubs_in text
-said_by ListCommands text = list_commands_in text
-said_by Undo text = undo_in text
-said_by Redo text = redo_in text
-said_by Stop text = stop_in text
+said_by ListLocalZones text = alone (RequestLine (LookRequest Zones)) text
+said_by ListLocalData text = alone (RequestLine (LookRequest Records)) text
+said_by ListStubs text = alone (RequestLine (LookRequest Stubs)) text
+said_by ListCommands text = alone (RequestLine (LookRequest CommandsAsk)) text
+said_by Undo text = alone (RequestLine UndoRequest) text
+said_by Redo text = alone (RequestLine RedoRequest) text
+said_by Stop text = alone StopLine text
 
 -- A line of blanks has no word, and a word that is no command where the line comes from is none.
 abbrev pub read_of : Channel → List ℕ → Result Line LineFault

@@ -1,9 +1,9 @@
 //! What a line says.
 
-ghost use Rattle.std.specs.Prelude.{◌≡◌, IsTrue, IsErrOf, is_ok};
-ghost use Rattle.command_text.specs.declared.fault.LineFault.TheVariants.{NoMemory};
+ghost use Rattle.std.specs.Prelude.{◌≡◌, IsTrue, IfErr, IsErrOf, is_ok};
+ghost use Rattle.command_text.specs.declared.fault.LineFault.TheVariants.{BadData, NoMemory};
 ghost use Rattle.command_text.specs.Fault.{Gives};
-ghost use Rattle.command_text.specs.Line.{is_silent, at_in, admit_in, no_data_in, no_name_in, look_in, servers_in, sweep_in, flush_in, flush_type_in, flush_zone_in, local_zone_in, local_zone_remove_in, local_data_in, local_data_remove_in, stub_add_in, stub_remove_in, list_local_zones_in, list_local_data_in, list_stubs_in, list_commands_in, undo_in, redo_in, stop_in, said_by, takes_by, read_of, takes_memory};
+ghost use Rattle.command_text.specs.Line.{is_silent, alone, at_in, admit_in, no_data_in, no_name_in, look_in, servers_in, flush_in, flush_type_in, flush_zone_in, local_zone_in, local_zone_remove_in, local_data_in, local_data_remove_in, stub_add_in, stub_remove_in, said_by, takes_by, read_of, takes_memory};
 
 use crate::admission::Admission;
 use crate::admit::{admit_words, read_admission};
@@ -106,15 +106,6 @@ fn read_servers(alloc: Global, text: &[u8]) -> Result<Line, LineFault>
     Ok(Line::Request(Request::Look(Ask::Servers(name))))
 }
 
-#[tactic(auto, unfolding(crate::specs::Line::sweep_in))]
-fn read_sweep(text: &[u8]) -> Result<Line, LineFault>
-    ensures value { Gives result (sweep_in text.now) }
-    ensures no_memory { IsErrOf result NoMemory → IsTrue (takes_by Verb.Sweep text.now) }
-{
-    read_end(text)?;
-    Ok(Line::Request(Request::Sweep))
-}
-
 #[tactic(auto, unfolding(crate::specs::Line::flush_in))]
 fn read_flush(alloc: Global, text: &[u8]) -> Result<Line, LineFault>
     ensures value { Gives result (flush_in text.now) }
@@ -196,67 +187,14 @@ fn read_stub_remove(alloc: Global, text: &[u8]) -> Result<Line, LineFault>
     Ok(Line::Request(Request::Do(command)))
 }
 
-#[tactic(auto, unfolding(crate::specs::Line::list_local_zones_in))]
-fn read_list_local_zones(text: &[u8]) -> Result<Line, LineFault>
-    ensures value { Gives result (list_local_zones_in text.now) }
-    ensures no_memory { IsErrOf result NoMemory → IsTrue (takes_by Verb.ListLocalZones text.now) }
+/// A command whose word stands alone.
+#[tactic(auto, unfolding(crate::specs::Line::alone))]
+fn read_alone(line: Line, text: &[u8]) -> Result<Line, LineFault>
+    ensures value { result ≡ alone line text.now }
+    ensures fault { IfErr result (λ e. e ≡ BadData) }
 {
     read_end(text)?;
-    Ok(Line::Request(Request::Look(Ask::Zones)))
-}
-
-#[tactic(auto, unfolding(crate::specs::Line::list_local_data_in))]
-fn read_list_local_data(text: &[u8]) -> Result<Line, LineFault>
-    ensures value { Gives result (list_local_data_in text.now) }
-    ensures no_memory { IsErrOf result NoMemory → IsTrue (takes_by Verb.ListLocalData text.now) }
-{
-    read_end(text)?;
-    Ok(Line::Request(Request::Look(Ask::Records)))
-}
-
-#[tactic(auto, unfolding(crate::specs::Line::list_stubs_in))]
-fn read_list_stubs(text: &[u8]) -> Result<Line, LineFault>
-    ensures value { Gives result (list_stubs_in text.now) }
-    ensures no_memory { IsErrOf result NoMemory → IsTrue (takes_by Verb.ListStubs text.now) }
-{
-    read_end(text)?;
-    Ok(Line::Request(Request::Look(Ask::Stubs)))
-}
-
-#[tactic(auto, unfolding(crate::specs::Line::list_commands_in))]
-fn read_list_commands(text: &[u8]) -> Result<Line, LineFault>
-    ensures value { Gives result (list_commands_in text.now) }
-    ensures no_memory { IsErrOf result NoMemory → IsTrue (takes_by Verb.ListCommands text.now) }
-{
-    read_end(text)?;
-    Ok(Line::Request(Request::Look(Ask::Commands)))
-}
-
-#[tactic(auto, unfolding(crate::specs::Line::undo_in))]
-fn read_undo(text: &[u8]) -> Result<Line, LineFault>
-    ensures value { Gives result (undo_in text.now) }
-    ensures no_memory { IsErrOf result NoMemory → IsTrue (takes_by Verb.Undo text.now) }
-{
-    read_end(text)?;
-    Ok(Line::Request(Request::Undo))
-}
-
-#[tactic(auto, unfolding(crate::specs::Line::redo_in))]
-fn read_redo(text: &[u8]) -> Result<Line, LineFault>
-    ensures value { Gives result (redo_in text.now) }
-    ensures no_memory { IsErrOf result NoMemory → IsTrue (takes_by Verb.Redo text.now) }
-{
-    read_end(text)?;
-    Ok(Line::Request(Request::Redo))
-}
-
-#[tactic(auto, unfolding(crate::specs::Line::stop_in))]
-fn read_stop(text: &[u8]) -> Result<Line, LineFault>
-    ensures value { Gives result (stop_in text.now) }
-    ensures no_memory { IsErrOf result NoMemory → IsTrue (takes_by Verb.Stop text.now) }
-{
-    read_end(text)?;
-    Ok(Line::Stop)
+    Ok(line)
 }
 
 /// What a command says with the text after its word.
@@ -271,7 +209,7 @@ fn read_command(alloc: Global, verb: Verb, text: &[u8]) -> Result<Line, LineFaul
         Verb::NoName => read_no_name_line(alloc, text),
         Verb::Look => read_look(alloc, text),
         Verb::Servers => read_servers(alloc, text),
-        Verb::Sweep => read_sweep(text),
+        Verb::Sweep => read_alone(Line::Request(Request::Sweep), text),
         Verb::Flush => read_flush(alloc, text),
         Verb::FlushType => read_flush_type(alloc, text),
         Verb::FlushZone => read_flush_zone(alloc, text),
@@ -281,13 +219,13 @@ fn read_command(alloc: Global, verb: Verb, text: &[u8]) -> Result<Line, LineFaul
         Verb::LocalDataRemove => read_local_data_remove(alloc, text),
         Verb::StubAdd => read_stub_add(alloc, text),
         Verb::StubRemove => read_stub_remove(alloc, text),
-        Verb::ListLocalZones => read_list_local_zones(text),
-        Verb::ListLocalData => read_list_local_data(text),
-        Verb::ListStubs => read_list_stubs(text),
-        Verb::ListCommands => read_list_commands(text),
-        Verb::Undo => read_undo(text),
-        Verb::Redo => read_redo(text),
-        Verb::Stop => read_stop(text),
+        Verb::ListLocalZones => read_alone(Line::Request(Request::Look(Ask::Zones)), text),
+        Verb::ListLocalData => read_alone(Line::Request(Request::Look(Ask::Records)), text),
+        Verb::ListStubs => read_alone(Line::Request(Request::Look(Ask::Stubs)), text),
+        Verb::ListCommands => read_alone(Line::Request(Request::Look(Ask::Commands)), text),
+        Verb::Undo => read_alone(Line::Request(Request::Undo), text),
+        Verb::Redo => read_alone(Line::Request(Request::Redo), text),
+        Verb::Stop => read_alone(Line::Stop, text),
     }
 }
 
