@@ -1,5 +1,5 @@
 -- What a line says: its first word is a command, and the words after it are the command's.
-use Rattle.std.specs.Prelude.{ℕ, ◌-◌, ◌^◌, Bool, true, false, nat_lt, ◌==◌, Option, Some, None, Result, Ok, Err, is_ok, List, [], ◌∷◌, length, if◌then◌else◌}
+use Rattle.std.specs.Prelude.{◌≡◌, ◌≤◌, ℕ, ◌-◌, ◌^◌, Bool, true, false, nat_lt, ◌==◌, Option, Some, None, Result, Ok, Err, is_ok, List, [], ◌∷◌, length, if◌then◌else◌}
 use Rattle.streams.specs.declared.held_line.TheConstants.{LONGEST_LINE}
 use Rattle.dns_name.specs.Results.{◌>>=◌, or_fault}
 use Rattle.dns_text.specs.Word.{next_word}
@@ -145,6 +145,11 @@ read_of channel line =
     if nat_lt LONGEST_LINE (length line) then Err TooLong
     else if is_silent line then Ok Silent
     else (or_fault Unknown (next_word line) >>= λ first. or_fault Unknown (verb_in channel first.0) >>= λ verb. said_by verb first.1)
+
+-- A line whose first word is this is no command where it comes from there, whatever stands behind the word.
+abbrev pub IsUnknown : Channel → List ℕ → Type 0
+IsUnknown channel word =
+    (line rest : List ℕ) → length line ≤ LONGEST_LINE → is_silent line ≡ false → next_word line ≡ Some (word, rest) → read_of channel line ≡ Err Unknown
 
 -- Lines are taken with those that say nothing as such, however long they are.
 abbrev pub says : Channel → List ℕ → Result Line LineFault

@@ -33,7 +33,7 @@ pub use command_words::push_command;
 pub use control::serve_control;
 pub use denial::Denial;
 pub use fault::LineFault;
-pub use laws::{bars_are, commands_are_read_back, words_are};
+pub use laws::{bars_are, channels_are_apart, commands_are_read_back, words_are};
 pub use line::{Line, read_line};
 pub use request::Request;
 pub use script::run_script;
