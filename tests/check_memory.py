@@ -4,7 +4,7 @@ import os
 
 from checks import Checks, difference, short
 from made_rows import every_octet
-from programs import CALLS, DRAWN, RESOLVER, STUBS, ZONES, read, run, scripts
+from programs import CALLS, CONTROL, DRAWN, RESOLVER, STUBS, ZONES, read, run, scripts
 from rowfile import ROWS, call, read_rows
 
 # More growths than this have no run and no call here.
@@ -49,13 +49,13 @@ def replies_to(lines, told):
     return None if rest else replies
 
 
-def fault_of_script(command, lines, done):
+def fault_of_script(command, lines, done, start):
     """What is wrong with a run of a script in which a growth was refused.
 
-    Memory was refused at the start: status 1, `resolver: no memory` and no reply. Or the script ran to its end, and is
+    Memory was refused at the start: no reply, and the status and the words that say so. Or the script ran to its end, and is
     answered as though the lines that found no memory had not been given, while those whose reply was lost stand.
     """
-    if done.status == 1 and not done.out and done.err == b"resolver: no memory\n":
+    if not done.out and (done.status, done.err) == start:
         return None
     if done.status != 0:
         return f"status {done.status}, {done.err!r}"
@@ -76,14 +76,31 @@ def fault_of_script(command, lines, done):
     return None
 
 
-def check_script(checks, name, arguments, text):
-    command = [RESOLVER, "script"] + arguments
+# Lines of control, which end at the end of the input.
+CONTROL_TEXT = b"""at 5
+local_zone a. static
+local_data b.a. 60 A 192.0.2.1
+look b.a. A
+stub_add a. 192.0.2.1 192.0.2.2
+servers b.a.
+flush_type a. A
+undo
+list_commands
+list_local_zones
+redo
+stop now
+undo
+list_stubs
+"""
+
+
+def check_script(checks, name, command, text, start):
     lines = replied_lines(text)
     for nth in range(1, MOST):
         done = run(command, text, preload="refuse", REFUSE_NTH=nth)
         if not refusals(done):
             break
-        checks.tell(f"{name}, growth {nth} refused", fault_of_script(command, lines, done))
+        checks.tell(f"{name}, growth {nth} refused", fault_of_script(command, lines, done, start))
     checks.tell(f"{name}, growths refused", None if nth > 1 else "none was")
 
 
@@ -174,7 +191,8 @@ def check_counts(checks):
 def main():
     checks = Checks()
     for name, arguments, text, _ in scripts():
-        check_script(checks, name, arguments, text)
+        check_script(checks, name, [RESOLVER, "script"] + arguments, text, (1, b"resolver: no memory\n"))
+    check_script(checks, "control", [CONTROL], CONTROL_TEXT, (5, b""))
     for file in sorted(os.listdir(ROWS)):
         check_rows(checks, file, read_rows(os.path.join(ROWS, file))[0])
     check_rows(checks, "every octet", list(every_octet()))
