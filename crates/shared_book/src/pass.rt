@@ -144,6 +144,7 @@ impl<L: Ledger> Pass<L> {
     pub(crate) fn into_share(self) -> (u64, Share<L>)
         ensures made { result.0 ≡ self.made }
         ensures amount { result.1.amount ≡ self.made }
+        ensures parts { self.parts ≤ result.1.parts }
     {
         let Pass {
             caller: _,
