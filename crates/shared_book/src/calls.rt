@@ -70,6 +70,7 @@ impl<B: Book, L: CallLedger> Kept<B, L> {
         ensures seen { result.seen ≡ max first.seen second.seen }
         ensures made { result.made ≡ first.made + second.made }
         ensures parts { first.parts + second.parts < 2 ^ 64 → result.parts ≡ first.parts + second.parts }
+        ensures within { first.parts + second.parts ≤ L.parts }
         ensures same { self.new ≡ self.old }
     {
         Pass::joined(first, second, &mut self.calls)

@@ -113,6 +113,7 @@ impl<L: Ledger> Pass<L> {
         ensures seen { result.seen ≡ max first.seen second.seen }
         ensures made { result.made ≡ first.made + second.made }
         ensures parts { first.parts + second.parts < 2 ^ 64 → result.parts ≡ first.parts + second.parts }
+        ensures within { first.parts + second.parts ≤ L.parts }
         ensures same { calls.new.total ≡ calls.old.total }
     {
         let Pass {

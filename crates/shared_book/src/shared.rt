@@ -69,6 +69,7 @@ impl<B: Book, L: CallLedger> SharedBook<B, L> {
         ensures seen { result.seen ≡ max first.seen second.seen }
         ensures made { result.made ≡ first.made + second.made }
         ensures parts { first.parts + second.parts < 2 ^ 64 → result.parts ≡ first.parts + second.parts }
+        ensures within { first.parts + second.parts ≤ L.parts }
     {
         self.kept.lock(rt).join(first, second)
     }
