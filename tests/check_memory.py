@@ -1,10 +1,11 @@
 """Every growth of memory is refused in turn: want of memory is told, only where memory was refused, and does no harm."""
 
 import os
+import re
 
 from checks import Checks, difference, short
 from made_rows import every_octet
-from programs import CALLS, CONTROL, DRAWN, RESOLVER, STUBS, ZONES, read, run, scripts
+from programs import BOOKS, CALLS, CONTROL, DRAWN, RESOLVER, STUBS, ZONES, read, run, scripts
 from rowfile import ROWS, call, read_rows
 
 # More growths than this have no run and no call here.
@@ -166,6 +167,55 @@ def check_tables(checks, name, program):
     checks.tell(f"{name}, growths refused", None if nth > 1 else "none was")
 
 
+# ---- calls of a book, each recorded
+
+# Every kind of event, of command and of what is asked has to occur.
+KINDS = """
+Admit Do Undo Redo Sweep Look
+FlushType Flush FlushZone SetZone AddRecord SetStub DropZone DropName DropStub
+Answer Zones Records Stubs Commands Servers
+""".split()
+
+UNTOUCHED = b"0 entries, 0 calls, 0 cells, seen 0, made 0"
+WANT = b"out of memory"
+
+
+def fault_of_steps(whole, done):
+    """What is wrong with a run in which a growth was refused.
+
+    The program ended before its first call. Or one call found no memory and left what there was, and all else is as though
+    it had not been made.
+    """
+    if done.status == 1 and not done.out:
+        return None
+    lines = done.out.split(b"\n")
+    wants = [place for place, line in enumerate(lines) if line.endswith(b": " + WANT)]
+    if done.status != 0 or len(wants) > refusals(done):
+        return f"status {done.status}, {refusals(done)} growths refused, {len(wants)} calls want memory"
+    for place in wants:
+        before = lines[place - 1].split(b": ")[0] if place else UNTOUCHED
+        after = lines.pop(place).split(b": ")[0]
+        if after != before:
+            return f"after {before!r} a call finds no memory, and leaves {after!r}"
+    again = b"\n".join(lines)
+    return None if again == whole else difference(again, whole)
+
+
+def check_steps(checks):
+    """A call that finds no memory leaves the record, the totals and the pass as they were, and is made again."""
+    whole = run([BOOKS, "steps"]).out
+    for kind in KINDS:
+        checks.tell(f"the kind {kind}", None if re.search(rb"\b%s\b" % kind.encode(), whole) else "was never drawn")
+    wants = 0
+    for nth in range(1, MOST):
+        done = run([BOOKS, "steps"], preload="refuse", REFUSE_NTH=nth)
+        if not refusals(done):
+            break
+        wants += done.out.count(b": " + WANT + b"\n")
+        checks.tell(f"recorded calls, growth {nth} refused", fault_of_steps(whole, done))
+    checks.tell("recorded calls that find no memory", None if wants > 100 else f"are {wants}")
+
+
 # ---- messages that are drawn
 
 def check_drawn(checks):
@@ -199,6 +249,7 @@ def main():
     check_start_of_rows(checks)
     check_tables(checks, "local zones", ZONES)
     check_tables(checks, "stubs", STUBS)
+    check_steps(checks)
     check_drawn(checks)
     check_counts(checks)
     checks.end()

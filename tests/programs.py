@@ -13,6 +13,7 @@ RESOLVER = os.path.join(TOP, "crates/resolver_cli/out/resolver_cli")
 CONTROL = os.path.join(TOP, "crates/control_tests/out/control_tests")
 CALLS = os.path.join(TOP, "crates/dns_calls/out/dns_calls")
 DRAWN = os.path.join(TOP, "crates/dns_wire_drawn/out/dns_wire_drawn")
+BOOKS = os.path.join(TOP, "crates/shared_book_drawn/out/shared_book_drawn")
 ZONES = os.path.join(TOP, "crates/local_zone_tests/out/local_zone_tests")
 STUBS = os.path.join(TOP, "crates/stub_table_tests/out/stub_table_tests")
 

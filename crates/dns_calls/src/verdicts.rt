@@ -8,6 +8,7 @@ use dns_name::{Name, NoMemory};
 use dns_query::{Believed, Heard, Over, Referral, Says, Verdict, believed, judge, query};
 use dns_text::types::CNAME;
 use dns_text::{Question, push_addr};
+use dns_wire::Rcode;
 use ranked::SharedFind;
 use std::alloc::Global;
 
@@ -67,9 +68,10 @@ fn answer_words(alloc: Global, heard: &Heard, question: &Question) -> Result<Vec
 /// `denies`, the RCODE, and what is denied or `none`.
 fn denied_words(
     alloc: Global,
-    rcode: u8,
+    rcode: Rcode,
     negative: &Option<SharedFind>,
 ) -> Result<Vec<u8>, NoMemory> {
+    let rcode = rcode.number();
     let mut told = format!(in alloc; "denies {rcode} ")?.into_bytes();
     match negative {
         Some(find) => told.extend_from_slice(&denial_words(alloc, find.find())?)?,
