@@ -106,7 +106,7 @@ fn verdict_words(
         Verdict::Cut => Ok(Vec::from_slice(alloc, b"cut")?),
         Verdict::Heard(heard) => match &heard.says {
             Says::Answers => answer_words(alloc, heard, question),
-            Says::Denies { rcode, negative } => Ok(denied_words(alloc, *rcode, negative)?),
+            Says::Denies { rcode, negative } => Ok(denied_words(alloc, rcode.number(), negative)?),
             Says::Refers(referral) => Ok(referral_words(alloc, referral)?),
         },
     }

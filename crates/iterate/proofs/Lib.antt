@@ -1,0 +1,4 @@
+pub mod Growing
+pub mod Falling
+pub mod FitLaws
+pub mod DueLaws

@@ -1,0 +1,10 @@
+pub mod Exchanges
+pub mod Told
+pub mod Known
+pub mod Shown
+pub mod Resolved
+pub mod Wanted
+pub mod Searching
+pub mod Phase
+pub mod Measure
+pub mod Task

@@ -1,0 +1,130 @@
+-- Where a task stands: what is remembered in each phase, and what a step has to bring.
+use Rattle.std.specs.Prelude.{◌≡◌, ℕ, ◌<◌, ◌≤◌, List, [], ◌∷◌, ◌++◌, length, map, drop}
+use Rattle.dns_name.specs.Labels.{Labels}
+use Rattle.dns_text.specs.declared.addr.Addr.{Addr}
+use Rattle.dns_text.specs.declared.record.Question.{Question}
+use Rattle.dns_wire.specs.declared.message.Message.{Message}
+use Rattle.dns_query.specs.declared.over.Over.{Over}
+use Rattle.dns_query.specs.declared.verdict.Heard.{Heard}
+use Rattle.dns_query.specs.Query.{IsQuery, address_question, alias_question}
+use Rattle.dns_query.specs.Verdict.{IsSaid}
+use Rattle.dns_query.specs.Response.{IsWhole}
+use Rattle.harvest.specs.Harvest.{finds_in, passing_in}
+use Rattle.harvest.specs.Learnt.{set_of}
+use Rattle.neg_rule.specs.Negative.{said_by}
+use Rattle.ranked.specs.declared.find.Find.{Find}
+use Rattle.undo_book.specs.declared.event.Ask.{Ask}
+use Rattle.undo_book.specs.declared.event.Ask.TheVariants.{Answer as Asked, Servers as ServersFor}
+use Rattle.undo_book.specs.declared.event.Event.TheVariants.{Admit, Look}
+use Rattle.iterate.specs.declared.answer.Answer.{Answer}
+use Rattle.iterate.specs.declared.phase.Phase.{Phase}
+use Rattle.iterate.specs.declared.phase.Phase.TheVariants.{Fresh, First, Aliasing, Looking, Listing, Seeking, Sent, Admitting, Ended, Broken}
+use Rattle.iterate.specs.declared.phase.Stage.{Stage}
+use Rattle.iterate.specs.declared.phase.Stage.TheVariants.{Address, Alias, Servers}
+use Rattle.iterate.specs.declared.search.Search.{Search}
+use Rattle.iterate.specs.declared.want.Input.{Input}
+use Rattle.iterate.specs.declared.want.Input.TheVariants.{Begin, Reply, Refused, Came, Failed}
+use Rattle.iterate.specs.declared.want.Step.{Step}
+use Rattle.iterate.specs.declared.want.Want.{Want}
+use Rattle.iterate.specs.declared.want.Want.TheVariants.{Book, Send, Finish}
+use Rattle.iterate.specs.Exchanges.{Exchange, exchange, Adds, last_behind, count_sends}
+use Rattle.iterate.specs.Known.{Known, Responds}
+use Rattle.iterate.specs.Measure.{left_in}
+use Rattle.iterate.specs.Resolved.{Sought}
+use Rattle.iterate.specs.Searching.{IsPath, IsSearch, IsNext, hunt_of, question_of}
+use Rattle.iterate.specs.Wanted.{MayWant}
+
+-- ---- what comes next
+
+-- What may come of a want.
+abbrev pub Suits : Want → Input → Type 0
+Suits (Book event) (Reply reply) = Unit {0}
+Suits (Book event) (Refused fault) = Unit {0}
+Suits (Send server over bytes) (Came octets) = Unit {0}
+Suits (Send server over bytes) Failed = Unit {0}
+Suits want input = ⊥
+
+-- What may come behind these steps: the beginning first, and nothing after the answer.
+abbrev pub IsDue : List Step → Input → Type 0
+IsDue [] Begin = Unit {0}
+IsDue [] input = ⊥
+IsDue (step ∷ steps) input = Suits (last_behind step.want steps) input
+
+-- ---- what a phase remembers
+
+-- A look is open.
+pub record IsLook (want : Want) (ask : Ask) : Type 0 where
+  pub moment : ℕ
+  pub wanted : want ≡ Book (Look moment ask)
+
+-- An admission is open.
+pub record IsAdmission (want : Want) : Type 0 where
+  pub moment : ℕ
+  pub find : Find
+  pub wanted : want ≡ Book (Admit moment find)
+
+-- what is asked of a book about a server without an address
+abbrev pub ask_at : Stage → Labels → Ask
+ask_at Address target = Asked (address_question target)
+ask_at Alias target = Asked (alias_question target)
+ask_at Servers target = ServersFor target
+
+-- What was looked for already of the next server without an address.
+abbrev pub IsSought : Stage → List Exchange → Labels → Type 0
+IsSought Address since target = Unit {0}
+IsSought stage since target = Sought since target
+
+-- A server without an address is being looked for.
+pub record IsSeeking (port : ℕ) (question : Question) (log : List Exchange) (search : Search) (target : Labels) (stage : Stage) : Type 0 where
+  pub is_search : IsSearch port question log search
+  pub shallow : length search.frames.items < 8
+  pub next : IsNext (hunt_of search) target
+  pub sought : IsSought stage is_search.since target
+
+-- The next server is being asked.
+pub record IsWaiting (port : ℕ) (question : Question) (log : List Exchange) (want : Want) (search : Search) (server : Addr) (id : ℕ) (over : Over) : Type 0 where
+  pub is_search : IsSearch port question log search
+  pub some : search.path.sent < 64
+  pub rest : List Addr
+  pub next : drop (hunt_of search).asked (hunt_of search).addrs.items ≡ server ∷ rest
+  pub bytes : List ℕ
+  pub wanted : want ≡ Send server over bytes
+  pub query : IsQuery bytes id (question_of search)
+
+-- A response was heard: it came of a query of the innermost question, and this is what it says.
+pub record IsHearing (port : ℕ) (question : Question) (log : List Exchange) (search : Search) (heard : Heard) : Type 0 where
+  pub is_search : IsSearch port question log search
+  pub message : Message
+  pub before : List Exchange
+  pub upto : List Exchange
+  pub since : List Exchange
+  pub server : Addr
+  pub over : Over
+  pub bytes : List ℕ
+  pub octets : List ℕ
+  pub came : Adds before (exchange (Send server over bytes) (Came octets)) upto
+  pub split : log ≡ before ++ exchange (Send server over bytes) (Came octets) ∷ since
+  pub responds : Known port upto (Responds (hunt_of search).servers.zone (question_of search) message)
+  pub whole : IsWhole message
+  pub finds : map said_by heard.harvest.finds ≡ finds_in message (question_of search) (hunt_of search).servers.zone
+  pub passing : map set_of heard.harvest.passing ≡ passing_in message (question_of search) (hunt_of search).servers.zone
+  pub says : IsSaid port (hunt_of search).servers.zone (question_of search) message heard.says
+
+-- what is remembered where this is open
+abbrev pub Fits : ℕ → Question → List Exchange → Want → Phase → Type 0
+Fits port question log want Fresh = ⊥
+Fits port question log want First = (log ≡ []) × IsLook want (Asked question)
+Fits port question log want (Aliasing path) = IsPath port question log path × IsLook want (Asked (alias_question path.last.owner))
+Fits port question log want (Looking path) = IsPath port question log path × (1 ≤ length path.sets.items) × IsLook want (Asked path.last)
+Fits port question log want (Listing path) = IsPath port question log path × IsLook want (ServersFor path.last.owner)
+Fits port question log want (Seeking search target stage) = IsSeeking port question log search target stage × IsLook want (ask_at stage target)
+Fits port question log want (Sent search server id over) = IsWaiting port question log want search server id over
+Fits port question log want (Admitting search heard next) = IsHearing port question log search heard × (next < length heard.harvest.finds) × IsAdmission want
+Fits port question log want Ended = (answer : Answer) × (want ≡ Finish answer) × (count_sends log ≤ 64)
+Fits port question log want Broken = ⊥
+
+-- A step is well made, by the exchanges so far, and less is left than was.
+pub record Goes (port : ℕ) (question : Question) (log : List Exchange) (moment id left : ℕ) (phase : Phase) (want : Want) : Type 0 where
+  pub wants : MayWant port question log moment id want
+  pub fits : Fits port question log want phase
+  pub falls : left_in phase < left

@@ -1,0 +1,179 @@
+-- When an answer resolves a question.
+use Rattle.std.specs.Prelude.{◌≡◌, ℕ, ◌≤◌, Bool, true, false, List, [], ◌∷◌, ◌++◌, length, Option, None}
+use Rattle.std.specs.List.{Contains}
+use Rattle.std.specs.Option.{option_map, option_to_list}
+use Rattle.dns_name.specs.Labels.{Labels, IsAtOrBelow}
+use Rattle.dns_text.specs.declared.addr.Addr.{Addr}
+use Rattle.dns_text.specs.declared.record.Question.{Question}
+use Rattle.dns_wire.specs.declared.message.Message.{Message}
+use Rattle.dns_query.specs.declared.over.Over.{Over}
+use Rattle.dns_query.specs.declared.verdict.Referral.{Referral}
+use Rattle.dns_query.specs.Query.{IsQuery, address_question, alias_question}
+use Rattle.dns_query.specs.Referral.{IsReferral}
+use Rattle.dns_query.specs.Verdict.{IsDenial, IsUseless}
+use Rattle.local_zone.specs.declared.local.Local.TheVariants as local
+use Rattle.neg_rule.specs.Negative.{said_by, negative_in}
+use Rattle.ranked.specs.declared.find.Find.{Find}
+use Rattle.undo_book.specs.declared.event.Ask.TheVariants.{Answer as Asked, Servers as ServersFor}
+use Rattle.undo_book.specs.declared.event.Event.{Event}
+use Rattle.undo_book.specs.declared.event.Event.TheVariants.{Look}
+use Rattle.undo_book.specs.declared.event.Reply.TheVariants.{Seen}
+use Rattle.undo_book.specs.declared.event.Seen.{Seen as SeenValue}
+use Rattle.undo_book.specs.declared.event.Seen.TheVariants.{Held, Local as LocalSeen, Servers as SeenServers}
+use Rattle.undo_book.specs.declared.servers.Servers.{Servers}
+use Rattle.iterate.specs.declared.answer.Answer.{Answer}
+use Rattle.iterate.specs.declared.answer.Answer.TheVariants.{Reply as Replies, Silent}
+use Rattle.iterate.specs.declared.answer.Soa.{Soa}
+use Rattle.iterate.specs.declared.answer.Told.{Told}
+use Rattle.iterate.specs.declared.want.Input.{Input}
+use Rattle.iterate.specs.declared.want.Input.TheVariants.{Reply, Came, Failed}
+use Rattle.iterate.specs.declared.want.Want.TheVariants.{Book, Send}
+use Rattle.iterate.specs.Exchanges.{Exchange, exchange, Adds, Happened, count_sends}
+use Rattle.iterate.specs.Known.{Known, Had, Responds, servers_referred}
+use Rattle.iterate.specs.Shown.{IsShownFor, IsLocalFor, IsMisanswered, Ends}
+use Rattle.iterate.specs.Told.{IsTarget, soa_whole}
+
+-- ---- the first look
+
+-- The first exchange is a look at the question, and this came of it.
+pub record Began (question : Question) (input : Input) (log : List Exchange) : Type 0 where
+  pub moment : ℕ
+  pub rest : List Exchange
+  pub begins : log ≡ exchange (Book (Look moment (Asked question))) input ∷ rest
+
+-- It got neither a find nor a local answer of the question.
+abbrev pub IsNoAnswer : Question → Input → Type 0
+IsNoAnswer question (Reply (Seen (Held shown))) = ¬ (IsShownFor question shown)
+IsNoAnswer question (Reply (Seen (LocalSeen answer))) = ¬ (IsLocalFor question answer)
+IsNoAnswer question input = Unit {0}
+
+pub record BeganUnanswered (question : Question) (log : List Exchange) : Type 0 where
+  pub input : Input
+  pub began : Began question input log
+  pub no_answer : IsNoAnswer question input
+
+-- whether local data or a local zone answered
+abbrev pub is_local : SeenValue → Bool
+is_local (LocalSeen answer) = true
+is_local seen = false
+
+-- ---- the chain of aliases (RFC 1034, section 3.6.2)
+
+-- From a name these sets, each a CNAME set of the name before, lead to a name.
+pub data Chain (port : ℕ) (log : List Exchange) : Labels → List Told → Labels → Type 0 where
+  start : {name : Labels} → Chain port log name [] name
+  alias : {name mid to : Labels} {front sets : List Told} {told : Told}
+      → Chain port log name front mid → Known port log (Had (alias_question mid) told) → IsTarget told to
+      → sets ≡ front ++ told ∷ [] → Chain port log name sets to
+
+-- ---- what a response denies (RFC 2308)
+
+-- An authoritative response has neither the set nor an alias; its SOA record is that of what it denies, if it gives one.
+pub record IsDenied (port : ℕ) (log : List Exchange) (question : Question) (rcode : ℕ) (authority : Option Soa) : Type 0 where
+  pub zone : Labels
+  pub message : Message
+  pub responds : Known port log (Responds zone question message)
+  pub denial : IsDenial zone question message
+  pub same : rcode ≡ message.head.rcode
+  pub negative : Option Find
+  pub said : option_map said_by negative ≡ negative_in message question zone
+  pub soa : authority ≡ option_map soa_whole negative
+
+-- ---- why a question fails
+
+-- What came of a query is of no use.
+abbrev pub CameUseless : ℕ → Over → Labels → ℕ → Question → Input → Type 0
+CameUseless port over zone id question (Came octets) = IsUseless port over zone id question octets
+CameUseless port over zone id question Failed = Unit {0}
+CameUseless port over zone id question input = ⊥
+
+-- A server was asked the question, in vain.
+pub record Struck (port : ℕ) (log : List Exchange) (zone : Labels) (question : Question) (server : Addr) : Type 0 where
+  pub over : Over
+  pub bytes : List ℕ
+  pub id : ℕ
+  pub input : Input
+  pub asked : Happened log (exchange (Send server over bytes) input)
+  pub query : IsQuery bytes id question
+  pub useless : CameUseless port over zone id question input
+
+-- The exchanges since a list of servers was reached for a question.
+pub data ReachedFor (port : ℕ) (log : List Exchange) (question : Question) (servers : Servers) (since : List Exchange) : Type 0 where
+  by_book : (before : List Exchange) (moment : ℕ)
+      → log ≡ before ++ exchange (Book (Look moment (ServersFor question.owner))) (Reply (Seen (SeenServers servers))) ∷ since
+      → ReachedFor port log question servers since
+  by_referral : (before upto : List Exchange) (server : Addr) (over : Over) (bytes octets : List ℕ) {zone : Labels} {v : Message} {referral : Referral}
+      → log ≡ before ++ exchange (Send server over bytes) (Came octets) ∷ since
+      → Adds before (exchange (Send server over bytes) (Came octets)) upto
+      → Known port upto (Responds zone question v) → IsReferral port zone question v referral → servers ≡ servers_referred referral
+      → ReachedFor port log question servers since
+
+-- A server without an address that may be looked for: it does not lie in the zone, and is not what is asked already.
+pub record MaySeek (question : Question) (servers : Servers) (target : Labels) : Type 0 where
+  pub among : Contains servers.missing target
+  pub outside : ¬ (IsAtOrBelow target servers.zone)
+  pub other : ¬ (address_question target ≡ question)
+
+-- Its address was looked for.
+pub record Sought (log : List Exchange) (target : Labels) : Type 0 where
+  pub moment : ℕ
+  pub input : Input
+  pub looked : Happened log (exchange (Book (Look moment (Asked (address_question target)))) input)
+
+-- A list of servers was reached for the question; since then each address was asked in vain, and each server without one was looked for.
+pub record Exhausted (port : ℕ) (log : List Exchange) (question : Question) : Type 0 where
+  pub servers : Servers
+  pub since : List Exchange
+  pub reached : ReachedFor port log question servers since
+  pub vain : (server : Addr) → Contains servers.addrs server → Struck port since servers.zone question server
+  pub sought : (target : Labels) → MaySeek question servers target → Sought since target
+
+-- the look got what ends a question behind an alias, and answers nothing
+pub data IsBarred : SeenValue → Type 0 where
+  refused : IsBarred (LocalSeen local.Refuse)
+  dropped : IsBarred (LocalSeen local.Drop)
+
+-- Behind so many aliases the question fails.
+pub data Fails (port : ℕ) (log : List Exchange) (question : Question) (aliases : ℕ) : Type 0 where
+  misanswered : {event : Event} {input : Input} → Happened log (exchange (Book event) input) → IsMisanswered event input → Fails port log question aliases
+  spent : count_sends log ≡ 64 → Fails port log question aliases
+  long : aliases ≡ 17 → Fails port log question aliases
+  barred : {moment : ℕ} {seen : SeenValue} → 1 ≤ aliases → Happened log (exchange (Book (Look moment (Asked question))) (Reply (Seen seen))) → IsBarred seen → Fails port log question aliases
+  exhausted : Exhausted port log question → Fails port log question aliases
+
+-- ---- the answer
+
+-- the question of a name, of the type asked
+abbrev pub question_at : Question → Labels → Question
+question_at question name = record { owner = name; kind = question.kind }
+
+-- A question is answered with this RCODE, whether with authority, these sets and this SOA record. It is authoritative where local data or a local zone answered the first look.
+pub data ResolvedAs (port : ℕ) (question : Question) (log : List Exchange) : ℕ → Bool → List Told → Option Soa → Type 0 where
+  -- The first look ends it.
+  at_once : {seen : SeenValue} {rcode : ℕ} {sets : List Told} {last : Option Told} {authority : Option Soa}
+      → Began question (Reply (Seen seen)) log → Ends question seen rcode last authority → sets ≡ option_to_list last
+      → ResolvedAs port question log rcode (is_local seen) sets authority
+  -- A chain of aliases ends in what a look says.
+  looked : {name : Labels} {front sets : List Told} {moment : ℕ} {seen : SeenValue} {rcode : ℕ} {last : Option Told} {authority : Option Soa}
+      → BeganUnanswered question log → Chain port log question.owner front name → length front ≤ 16
+      → Happened log (exchange (Book (Look moment (Asked (question_at question name)))) (Reply (Seen seen))) → Ends (question_at question name) seen rcode last authority
+      → sets ≡ front ++ option_to_list last → ResolvedAs port question log rcode false sets authority
+  -- A chain ends in a set.
+  found : {name : Labels} {front sets : List Told} {told : Told}
+      → BeganUnanswered question log → Chain port log question.owner front name → length front ≤ 16
+      → Known port log (Had (question_at question name) told) → sets ≡ front ++ told ∷ [] → ResolvedAs port question log 0 false sets None
+  -- A chain ends where a response denies.
+  denied : {name : Labels} {sets : List Told} {rcode : ℕ} {authority : Option Soa}
+      → BeganUnanswered question log → Chain port log question.owner sets name → length sets ≤ 16
+      → IsDenied port log (question_at question name) rcode authority → ResolvedAs port question log rcode false sets authority
+  -- The first look was refused by a local zone.
+  refused : Began question (Reply (Seen (LocalSeen local.Refuse))) log → ResolvedAs port question log 5 true [] None
+  -- A chain ends where nothing more can be had: SERVFAIL.
+  failed : {name : Labels} {front : List Told}
+      → BeganUnanswered question log → Chain port log question.owner front name → Fails port log (question_at question name) (length front)
+      → ResolvedAs port question log 2 false [] None
+
+-- The answer resolves the question, by the exchanges so far.
+abbrev pub IsResolved : ℕ → Question → List Exchange → Answer → Type 0
+IsResolved port question log (Replies rcode aa aliases last authority) = ResolvedAs port question log rcode aa (aliases ++ option_to_list last) authority
+IsResolved port question log Silent = Began question (Reply (Seen (LocalSeen local.Drop))) log

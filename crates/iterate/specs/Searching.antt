@@ -1,0 +1,79 @@
+-- What a task remembers, and why it holds of the exchanges so far.
+use Rattle.std.specs.Prelude.{◌≡◌, ℕ, ◌^◌, ◌<◌, ◌≤◌, List, [], ◌∷◌, length, take, drop}
+use Rattle.std.specs.List.{AllByRecursion, Contains}
+use Rattle.dns_name.specs.Labels.{Labels, IsAtOrBelow}
+use Rattle.dns_text.specs.declared.addr.Addr.{Addr}
+use Rattle.dns_text.specs.declared.record.Question.{Question}
+use Rattle.dns_query.specs.Query.{address_question}
+use Rattle.iterate.specs.declared.path.Path.{Path}
+use Rattle.iterate.specs.declared.search.Frame.{Frame}
+use Rattle.iterate.specs.declared.search.Hunt.{Hunt}
+use Rattle.iterate.specs.declared.search.Search.{Search}
+use Rattle.iterate.specs.Exchanges.{Exchange, count_sends}
+use Rattle.iterate.specs.Known.{Known, Listed, Serves}
+use Rattle.iterate.specs.Resolved.{BeganUnanswered, Chain, ReachedFor, Struck, MaySeek, Sought}
+
+-- The aliases so far, and the question to which they lead, behind a first look that was no answer.
+pub record IsPath (port : ℕ) (question : Question) (log : List Exchange) (path : Path) : Type 0 where
+  pub began : BeganUnanswered question log
+  pub chain : Chain port log question.owner path.sets.items path.last.owner
+  pub kind : path.last.kind ≡ question.kind
+  pub short : length path.sets.items ≤ 16
+  pub counted : path.sent ≡ count_sends log
+  pub few : path.sent ≤ 64
+
+-- Servers that are asked about a name.
+pub record IsHunt (port : ℕ) (log : List Exchange) (name : Labels) (hunt : Hunt) : Type 0 where
+  pub listed : Known port log (Listed hunt.servers)
+  pub zone : IsAtOrBelow name hunt.servers.zone
+  pub serve : AllByRecursion (λ addr. Known port log (Serves hunt.servers.zone addr)) hunt.addrs.items
+  pub asked : hunt.asked ≤ length hunt.addrs.items
+  pub sought : hunt.sought ≤ length hunt.servers.missing
+  pub countable : length hunt.servers.missing < 2 ^ 64
+
+-- A server without an address is the next one to be looked for.
+pub record IsNext (hunt : Hunt) (target : Labels) : Type 0 where
+  pub rest : List Labels
+  pub next : drop hunt.sought hunt.servers.missing ≡ target ∷ rest
+
+-- The servers that are asked for the last question, since they were reached: so many of them in vain, and of those without an address so many were looked for.
+pub record IsBase (port : ℕ) (log : List Exchange) (question : Question) (since : List Exchange) (hunt : Hunt) : Type 0 where
+  pub is_hunt : IsHunt port log question.owner hunt
+  pub reached : ReachedFor port log question hunt.servers since
+  pub all : (addr : Addr) → Contains hunt.servers.addrs addr → Contains hunt.addrs.items addr
+  pub vain : (addr : Addr) → Contains (take hunt.asked hunt.addrs.items) addr → Struck port since hunt.servers.zone question addr
+  pub sought : (target : Labels) → Contains (take hunt.sought hunt.servers.missing) target → MaySeek question hunt.servers target → Sought since target
+
+-- the servers of the question behind these
+abbrev pub hunt_behind : List Frame → Hunt → Hunt
+hunt_behind [] base = base
+hunt_behind (frame ∷ frames) base = frame.hunt
+
+-- A question inside another asks for the next server that the one behind it lacks, whose address was looked for.
+pub record IsFrame (port : ℕ) (log : List Exchange) (since : List Exchange) (behind : Hunt) (frame : Frame) : Type 0 where
+  pub next : IsNext behind frame.target
+  pub sought : Sought since frame.target
+  pub hunt : IsHunt port log frame.target frame.hunt
+
+abbrev pub AreFrames : ℕ → List Exchange → List Exchange → Hunt → List Frame → Type 0
+AreFrames port log since base [] = Unit {0}
+AreFrames port log since base (frame ∷ frames) = IsFrame port log since (hunt_behind frames base) frame × AreFrames port log since base frames
+
+-- the innermost question, and the servers that are asked about it
+abbrev pub hunt_of : Search → Hunt
+hunt_of search = hunt_behind search.frames.items search.base
+
+abbrev pub question_behind : List Frame → Question → Question
+question_behind [] last = last
+question_behind (frame ∷ frames) last = address_question frame.target
+
+abbrev pub question_of : Search → Question
+question_of search = question_behind search.frames.items search.path.last
+
+-- What a search remembers: the path, the servers asked for its last question, and the questions inside it, at most eight deep.
+pub record IsSearch (port : ℕ) (question : Question) (log : List Exchange) (search : Search) : Type 0 where
+  pub path : IsPath port question log search.path
+  pub since : List Exchange
+  pub base : IsBase port log search.path.last since search.base
+  pub frames : AreFrames port log since search.base search.frames.items
+  pub deep : length search.frames.items ≤ 8

@@ -1,0 +1,28 @@
+//! The resolution of a question, as a machine that is handed what came and says what it wants (RFC 1034, section 5.3.3).
+//! It owns no socket, clock, lock or book.
+#![tactic(auto)]
+
+// In the order in which to read them.
+
+// What a question is answered.
+mod answer;
+// What comes to a task, and what it wants.
+mod want;
+// The aliases so far, and the question to which they lead.
+mod path;
+// Servers that are asked in turn, and the questions for their addresses.
+mod search;
+// Where a task stands.
+mod phase;
+// The task.
+mod task;
+
+// What the definitions come to.
+mod laws;
+
+pub use answer::{Answer, Soa, Told};
+pub use laws::{due_law, resolved_law};
+pub use path::Path;
+pub use phase::{Phase, Stage};
+pub use search::{Frame, Hunt, Search};
+pub use want::{Input, Step, Want};

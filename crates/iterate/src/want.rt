@@ -1,0 +1,43 @@
+//! What comes to a task, and what it wants.
+
+use crate::answer::Answer;
+use dns_query::Over;
+use dns_text::{Addr, Octets, Shared};
+use undo_book::{DeskFault, Event, Reply};
+
+/// What comes to a task.
+#[derive(Debug, Drop)]
+pub enum Input {
+    /// It begins.
+    Begin,
+    /// The book replied.
+    Reply(Reply),
+    /// The book did not take the event.
+    Refused(DeskFault),
+    /// These octets came from the server.
+    Came(Octets),
+    /// Nothing came.
+    Failed,
+}
+
+/// What a task wants.
+#[derive(Debug, Drop)]
+pub enum Want {
+    /// That a book takes an event.
+    Book(Event),
+    /// That a query goes out.
+    Send {
+        server: Addr,
+        over: Over,
+        bytes: Shared<Octets>,
+    },
+    /// Nothing more: this is the answer.
+    Finish(Answer),
+}
+
+/// What came, and what was wanted then.
+#[derive(Debug, Drop)]
+pub struct Step {
+    pub input: Input,
+    pub want: Want,
+}
