@@ -31,6 +31,8 @@ mod opaque;
 mod string;
 // Data of every form.
 mod data;
+// Whether data has the form of a type.
+mod formed;
 // Whole records.
 mod record_text;
 // Addresses of servers.

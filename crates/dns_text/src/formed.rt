@@ -1,0 +1,61 @@
+//! Whether data has the form of a type.
+
+ghost use Rattle.std.specs.Prelude.{◌≡◌, ◌<◌, ◌+◌, ◌↔◌, length, IsTrue};
+ghost use Rattle.std.specs.List.{AllByRecursion};
+ghost use Rattle.dns_text.specs.declared.string.TheConstants.{MOST_STRING};
+ghost use Rattle.dns_text.specs.Data.{form_in, IsSized, HasForm};
+
+use crate::items::Octets;
+use crate::kind::{Form, form_of};
+use crate::number::MOST_16;
+use crate::record::Data;
+use crate::string::MOST_STRING;
+
+/// Whether the length of each string fits into one octet.
+fn are_short(strings: &[Octets]) -> bool
+    ensures { IsTrue result ↔ AllByRecursion (λ octets. length octets < MOST_STRING + 1) strings.now }
+{
+    strings
+        .iter()
+        .all(|string| string.as_slice().len() <= MOST_STRING)
+}
+
+impl Data {
+    /// How it is laid out.
+    fn form(&self) -> Form
+        ensures { result ≡ form_in self.now }
+    {
+        match self {
+            Data::A(_) => Form::A,
+            Data::Aaaa(_) => Form::Aaaa,
+            Data::One(_) => Form::Name,
+            Data::Mx { .. } => Form::Mx,
+            Data::Soa { .. } => Form::Soa,
+            Data::Txt(_) => Form::Txt,
+            Data::Srv { .. } => Form::Srv,
+            Data::Opaque(_) => Form::Opaque,
+        }
+    }
+
+    /// Whether it has as many strings and octets as it may have.
+    fn is_sized(&self) -> bool
+        ensures { IsTrue result ↔ IsSized self.now }
+    {
+        match self {
+            // True of every array.
+            Data::A(octets) => octets.as_slice().len() == 4,
+            Data::Aaaa(octets) => octets.as_slice().len() == 16,
+            Data::Txt(strings) => !strings.as_slice().is_empty() && are_short(strings.as_slice()),
+            Data::Opaque(octets) => octets.as_slice().len() as u64 <= MOST_16,
+            _ => true,
+        }
+    }
+
+    /// Whether it has the form of a type, in which it can be written into a message: what its variant is, and how many
+    /// strings and octets there are.
+    pub fn has_form(&self, kind: u16) -> bool
+        ensures { IsTrue result ↔ HasForm kind self.now }
+    {
+        form_of(kind) == self.form() && self.is_sized()
+    }
+}
