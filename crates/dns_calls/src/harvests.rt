@@ -60,7 +60,7 @@ fn harvest_words(alloc: Global, harvest: &Harvest) -> Result<Vec<u8>, NoMemory> 
         push_part(&find_words(alloc, find.find())?, &mut told)?;
     }
     for set in harvest.passing.as_slice() {
-        push_part(&passing_words(alloc, set)?, &mut told)?;
+        push_part(&passing_words(alloc, set.get())?, &mut told)?;
     }
     if told.is_empty() {
         told.extend_from_slice(b"none")?;

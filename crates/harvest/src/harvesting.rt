@@ -13,7 +13,7 @@ use crate::learnt::Harvest;
 use crate::passing::PassingSet;
 use crate::sets::sets_of;
 use dns_name::{Name, NoMemory};
-use dns_text::{Data, Items, Question};
+use dns_text::{Data, Items, Question, Shared};
 use dns_wire::Message;
 use neg_rule::negative_of;
 use ranked::{Find, SharedFind};
@@ -42,16 +42,17 @@ fn find_of(alloc: Global, set: &Gathering<'_>) -> Result<SharedFind, NoMemory>
 }
 
 /// A set that passes.
-fn passing_set(alloc: Global, set: &Gathering<'_>) -> Result<PassingSet, NoMemory>
+fn passing_set(alloc: Global, set: &Gathering<'_>) -> Result<Shared<PassingSet>, NoMemory>
     requires { set.now.ttl ≡ 0 }
     ensures { IfOk result (λ passing. set_of passing ≡ set.now) }
 {
-    Ok(PassingSet {
+    let passing = PassingSet {
         owner: set.owner.clone()?,
         kind: set.kind,
         rank: set.rank,
         data: copy_all(alloc, set.data.as_slice())?,
-    })
+    };
+    Shared::new(alloc, passing)
 }
 
 /// The sets that live, as finds.
@@ -68,7 +69,7 @@ fn finds_of(alloc: Global, sets: &[Gathering<'_>]) -> Result<Vec<SharedFind>, No
 }
 
 /// The sets that pass.
-fn passing_of(alloc: Global, sets: &[Gathering<'_>]) -> Result<Items<PassingSet>, NoMemory>
+fn passing_of(alloc: Global, sets: &[Gathering<'_>]) -> Result<Items<Shared<PassingSet>>, NoMemory>
     ensures { IfOk result (λ passing. map set_of passing ≡ filter passes sets.now) }
 {
     let mut passing = Vec::new(alloc);

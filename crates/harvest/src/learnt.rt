@@ -1,13 +1,13 @@
 //! What is learnt from a message.
 
 use crate::passing::PassingSet;
-use dns_text::Items;
+use dns_text::{Items, Shared};
 use ranked::SharedFind;
 
 /// What a message is believed to say.
 #[derive(Debug, Drop, PartialEq)]
 pub struct Harvest {
     pub finds: Items<SharedFind>,
-    /// The sets that may be told and not kept.
-    pub passing: Items<PassingSet>,
+    /// The sets that may be told and not kept, which an answer shares.
+    pub passing: Items<Shared<PassingSet>>,
 }
