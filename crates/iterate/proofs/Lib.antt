@@ -1,3 +1,4 @@
 pub mod Growing
 pub mod Falling
 pub mod FitLaws
+pub mod PathTurns
