@@ -2,3 +2,4 @@ pub mod Growing
 pub mod Falling
 pub mod FitLaws
 pub mod PathTurns
+pub mod DueLaws

@@ -23,7 +23,11 @@ mod phase;
 // The task.
 mod task;
 
+// What the definitions come to.
+mod laws;
+
 pub use answer::{Answer, Soa, Told};
+pub use laws::{due_law, resolved_law};
 pub use path::Path;
 pub use phase::{Phase, Stage};
 pub use search::{Frame, Hunt, Search};
