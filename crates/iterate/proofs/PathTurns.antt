@@ -19,7 +19,7 @@ use Rattle.iterate.specs.declared.answer.Soa.{Soa}
 use Rattle.iterate.specs.declared.answer.Told.{Told}
 use Rattle.iterate.specs.declared.path.Path.{Path}
 use Rattle.iterate.specs.declared.phase.Phase.{Phase}
-use Rattle.iterate.specs.declared.phase.Phase.TheVariants.{Fresh, First, Ended}
+use Rattle.iterate.specs.declared.phase.Phase.TheVariants.{First, Ended}
 use Rattle.iterate.specs.declared.want.Input.{Input}
 use Rattle.iterate.specs.declared.want.Input.TheVariants.{Begin, Reply, Refused, Came, Failed}
 use Rattle.iterate.specs.declared.want.Want.{Want}
@@ -48,7 +48,7 @@ less_left h g = record { wants = g.wants; fits = g.fits; falls = omega (arith, g
 
 -- ---- the measure
 
-path_looks : (path : Path) (looks : ℕ) → looks ≤ top → Digits (digits_of_path path 0 0 no_depths looks)
+pub path_looks : (path : Path) (looks : ℕ) → looks ≤ top → Digits (digits_of_path path 0 0 no_depths looks)
 path_looks path looks few = path_digits path 0 0 looks no_depths (omega arith) (digits_replicated 9) few
 
 pub looks_less : (path : Path) (looks more : ℕ) → looks < more → looks ≤ top → left_of_path path looks < left_of_path path more

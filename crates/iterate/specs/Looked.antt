@@ -1,5 +1,5 @@
 -- What a look was answered, as the code tells it.
-use Rattle.std.specs.Prelude.{◌≡◌, false, List}
+use Rattle.std.specs.Prelude.{◌≡◌, false}
 use Rattle.dns_text.specs.declared.record.Question.{Question}
 use Rattle.local_zone.specs.declared.local.Local.TheVariants.{Data as LocalData}
 use Rattle.ranked.specs.Body.{is_negative}

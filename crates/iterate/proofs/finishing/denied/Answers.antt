@@ -1,4 +1,4 @@
-use Rattle.std.proofs.Common.{◌≡◌, false, None, Option, ap, ◌∙◌}
+use Rattle.std.proofs.Common.{false, None, Option, ap, ◌∙◌}
 use Rattle.iterate.specs.declared.answer.Answer.TheVariants.{Reply}
 use Rattle.iterate.specs.declared.answer.Soa.{Soa}
 use Rattle.iterate.specs.declared.want.Want.TheVariants.{Finish}

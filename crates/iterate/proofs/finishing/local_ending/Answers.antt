@@ -1,4 +1,4 @@
-use Rattle.std.proofs.Common.{◌≡◌, ℕ, List, Option, Some, None, sym, subst}
+use Rattle.std.proofs.Common.{◌≡◌, List, Some, None, sym, subst}
 use Rattle.std.specs.Option.{option_map}
 use Rattle.dns_text.specs.declared.record.Record.{Record}
 use Rattle.local_zone.specs.declared.local.Local.{Local}

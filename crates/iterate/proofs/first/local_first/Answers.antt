@@ -1,4 +1,4 @@
-use Rattle.std.proofs.Common.{◌≡◌, true, [], List, ap, ◌∙◌}
+use Rattle.std.proofs.Common.{true, List, ap, ◌∙◌}
 use Rattle.undo_book.specs.declared.event.Seen.TheVariants.{Local}
 use Rattle.iterate.specs.declared.answer.Answer.TheVariants.{Reply}
 use Rattle.iterate.specs.declared.answer.Told.{Told}

@@ -1,4 +1,4 @@
-use Rattle.std.proofs.Common.{◌≡◌, ◌≤◌, false, [], List, ap, ◌∙◌, subst, arith}
+use Rattle.std.proofs.Common.{false, [], List, ap, ◌∙◌, subst, arith}
 use Rattle.std.proofs.lemmas.Result.{IfOk-weaker}
 use Rattle.undo_book.specs.declared.event.Ask.TheVariants.{Answer as Asked}
 use Rattle.undo_book.specs.declared.event.Event.TheVariants.{Look}

@@ -1,4 +1,4 @@
-use Rattle.std.proofs.Common.{◌≤◌, arith}
+use Rattle.std.proofs.Common.{arith}
 use Rattle.std.proofs.lemmas.Result.{IfOk-weaker}
 use Rattle.iterate.proofs.PathTurns.{less_left, looks_less}
 use Rattle.iterate.proofs.path.alias.Goals as goal

@@ -1,4 +1,4 @@
-use Rattle.std.proofs.Common.{◌≤◌, arith}
+use Rattle.std.proofs.Common.{arith}
 use Rattle.std.proofs.lemmas.Result.{IfOk-weaker}
 use Rattle.iterate.proofs.PathTurns.{turned, less_left, longer_less, longer_path, longer_some, failing_long, path_some}
 use Rattle.iterate.proofs.path.go_behind.Goals as goal

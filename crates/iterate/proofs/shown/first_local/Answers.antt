@@ -1,4 +1,4 @@
-use Rattle.std.proofs.Common.{◌≡◌, ℕ, [], ◌∷◌, List, Some, map, refl}
+use Rattle.std.proofs.Common.{◌≡◌, [], ◌∷◌, List, Some, map}
 use Rattle.std.specs.List.{slice_get}
 use Rattle.dns_text.specs.declared.record.Data.{Data}
 use Rattle.dns_text.specs.declared.record.Record.{Record}
