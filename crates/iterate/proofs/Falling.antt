@@ -77,31 +77,31 @@ pub alias_falls : (p q : Path) (s t h k l m : ℕ) (ds es : List ℕ) → 64 - (
     → Digits (digits_of_path p s h ds l) → weight (digits_of_path p s h ds l) < weight (digits_of_path q t k es m)
 alias_falls p q s t h k l m ds es equal less same all =
     subst (λ (n : ℕ). weight (digits_of_path p s h ds l) < weight (n ∷ (17 - length q.sets.items) ∷ k ∷ (es ++ m ∷ []))) equal
-      (weight_falls (Falls.there (Falls.here {xs = h ∷ (ds ++ l ∷ [])} {ys = k ∷ (es ++ m ∷ [])} less (ap (λ (n : ℕ). suc n) (same_length ds es l m same)))) all)
+    (weight_falls (Falls.there (Falls.here {xs = h ∷ (ds ++ l ∷ [])} {ys = k ∷ (es ++ m ∷ [])} less (ap (λ (n : ℕ). suc n) (same_length ds es l m same)))) all)
 
 -- a response brings less
 pub hearing_falls : (p q : Path) (s t h k l m : ℕ) (ds es : List ℕ) → 64 - (p.sent + s) ≡ 64 - (q.sent + t) → length p.sets.items ≡ length q.sets.items → h < k → length ds ≡ length es
     → Digits (digits_of_path p s h ds l) → weight (digits_of_path p s h ds l) < weight (digits_of_path q t k es m)
 hearing_falls p q s t h k l m ds es equal aliases less same all =
     subst (λ (n : ℕ). weight (digits_of_path p s h ds l) < weight (n ∷ (17 - length q.sets.items) ∷ k ∷ (es ++ m ∷ []))) equal
-      (subst (λ (n : ℕ). weight (digits_of_path p s h ds l) < weight ((64 - (p.sent + s)) ∷ (17 - n) ∷ k ∷ (es ++ m ∷ []))) aliases
-        (weight_falls (Falls.there (Falls.there (Falls.here {xs = ds ++ l ∷ []} {ys = es ++ m ∷ []} less (same_length ds es l m same)))) all))
+    (subst (λ (n : ℕ). weight (digits_of_path p s h ds l) < weight ((64 - (p.sent + s)) ∷ (17 - n) ∷ k ∷ (es ++ m ∷ []))) aliases
+    (weight_falls (Falls.there (Falls.there (Falls.here {xs = ds ++ l ∷ []} {ys = es ++ m ∷ []} less (same_length ds es l m same)))) all))
 
 -- less is left at some depth
 pub depths_fall : (p q : Path) (s t h l m : ℕ) {ds es : List ℕ} → 64 - (p.sent + s) ≡ 64 - (q.sent + t) → length p.sets.items ≡ length q.sets.items → Falls ds es
     → Digits (digits_of_path p s h ds l) → weight (digits_of_path p s h ds l) < weight (digits_of_path q t h es m)
 depths_fall p q s t h l m {ds} {es} equal aliases less all =
     subst (λ (n : ℕ). weight (digits_of_path p s h ds l) < weight (n ∷ (17 - length q.sets.items) ∷ h ∷ (es ++ m ∷ []))) equal
-      (subst (λ (n : ℕ). weight (digits_of_path p s h ds l) < weight ((64 - (p.sent + s)) ∷ (17 - n) ∷ h ∷ (es ++ m ∷ []))) aliases
-        (weight_falls (Falls.there (Falls.there (Falls.there (falls_before l m less)))) all))
+    (subst (λ (n : ℕ). weight (digits_of_path p s h ds l) < weight ((64 - (p.sent + s)) ∷ (17 - n) ∷ h ∷ (es ++ m ∷ []))) aliases
+    (weight_falls (Falls.there (Falls.there (Falls.there (falls_before l m less)))) all))
 
 -- one look less is left
 pub looks_fall : (p q : Path) (s t h l m : ℕ) (ds : List ℕ) → 64 - (p.sent + s) ≡ 64 - (q.sent + t) → length p.sets.items ≡ length q.sets.items → l < m
     → Digits (digits_of_path p s h ds l) → weight (digits_of_path p s h ds l) < weight (digits_of_path q t h ds m)
 looks_fall p q s t h l m ds equal aliases less all =
     subst (λ (n : ℕ). weight (digits_of_path p s h ds l) < weight (n ∷ (17 - length q.sets.items) ∷ h ∷ (ds ++ m ∷ []))) equal
-      (subst (λ (n : ℕ). weight (digits_of_path p s h ds l) < weight ((64 - (p.sent + s)) ∷ (17 - n) ∷ h ∷ (ds ++ m ∷ []))) aliases
-        (weight_falls (Falls.there (Falls.there (Falls.there (falls_behind ds (Falls.here less refl))))) all))
+    (subst (λ (n : ℕ). weight (digits_of_path p s h ds l) < weight ((64 - (p.sent + s)) ∷ (17 - n) ∷ h ∷ (ds ++ m ∷ []))) aliases
+    (weight_falls (Falls.there (Falls.there (Falls.there (falls_behind ds (Falls.here less refl))))) all))
 
 -- Nothing is left of an answer, and an alias always may be.
 abbrev pub nothing : List ℕ

@@ -30,7 +30,6 @@ use Rattle.iterate.specs.Resolved.{Chain, IsDenied, ResolvedAs, IsResolved, ques
 use Rattle.iterate.specs.Shown.{IsLocalRecord, IsSoaFormed, Ends}
 use Rattle.iterate.specs.Told.{IsFormed, IsFit, records_of_find, records_of_passing, records_told, records_of_soa, kinds_of, soa_in, soa_whole, told_of}
 
-
 -- ---- sets
 
 data_formed : (owner : Labels) (kind ttl : ℕ) (data_in : List Data) → AllByRecursion (HasForm kind) data_in
@@ -101,7 +100,6 @@ soa_formed ttl (One kind) (NoData soa) forms = (subst (λ (k : ℕ). HasForm k s
 soa_formed ttl Whole (NoData soa) forms = absurd forms
 soa_formed ttl Whole (NoName soa) forms = (subst (λ (k : ℕ). HasForm k soa.body) (sym forms.0) forms.1, tt)
 soa_formed ttl (One kind) (NoName soa) forms = absurd forms
-
 
 find_soa_formed : (ttl : ℕ) (find : Find) → AllByRecursion IsFormed (map (λ (soa : Record). record soa { ttl = ttl }) (soa_in find.body) ++ [])
 find_soa_formed ttl find = subst (λ (records : List Record). AllByRecursion IsFormed records) (sym (append-nil (map (λ (soa : Record). record soa { ttl = ttl }) (soa_in find.body)))) (soa_formed ttl find.scope find.body find.formed)

@@ -35,9 +35,9 @@ use Rattle.iterate.specs.Told.{told_of, told_whole, IsAddressIn}
 
 -- what an answer may rest on
 pub data Fact : Type 0 where
-  Had : Question → Told → Fact                   -- the question is answered by this set
-  Listed : Servers → Fact                        -- these are the servers of their zone, some still without an address
-  Serves : Labels → Addr → Fact                  -- this address is a server of this zone
+  Had : Question → Told → Fact  -- the question is answered by this set
+  Listed : Servers → Fact  -- these are the servers of their zone, some still without an address
+  Serves : Labels → Addr → Fact  -- this address is a server of this zone
   Responds : Labels → Question → Message → Fact  -- a server of this zone says this of the question
 
 -- the servers to which a response refers

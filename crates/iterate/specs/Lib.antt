@@ -2,6 +2,7 @@ pub mod Exchanges
 pub mod Told
 pub mod Known
 pub mod Shown
+pub mod Looked
 pub mod Resolved
 pub mod Wanted
 pub mod Searching

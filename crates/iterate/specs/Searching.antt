@@ -1,10 +1,11 @@
 -- What a task remembers, and why it holds of the exchanges so far.
-use Rattle.std.specs.Prelude.{◌≡◌, ℕ, ◌^◌, ◌<◌, ◌≤◌, List, [], ◌∷◌, length, take, drop}
+use Rattle.std.specs.Prelude.{◌≡◌, ℕ, ◌^◌, ◌<◌, ◌≤◌, List, [], ◌∷◌, ◌++◌, length, take, drop}
 use Rattle.std.specs.List.{AllByRecursion, Contains}
 use Rattle.dns_name.specs.Labels.{Labels, IsAtOrBelow}
 use Rattle.dns_text.specs.declared.addr.Addr.{Addr}
 use Rattle.dns_text.specs.declared.record.Question.{Question}
 use Rattle.dns_query.specs.Query.{address_question}
+use Rattle.iterate.specs.declared.answer.Told.{Told}
 use Rattle.iterate.specs.declared.path.Path.{Path}
 use Rattle.iterate.specs.declared.search.Frame.{Frame}
 use Rattle.iterate.specs.declared.search.Hunt.{Hunt}
@@ -21,6 +22,13 @@ pub record IsPath (port : ℕ) (question : Question) (log : List Exchange) (path
   pub short : length path.sets.items ≤ 16
   pub counted : path.sent ≡ count_sends log
   pub few : path.sent ≤ 64
+
+-- A path with one alias more, which leads to this name.
+pub record IsLonger (path : Path) (told : Told) (to : Labels) (next : Path) : Type 0 where
+  pub sets : next.sets.items ≡ path.sets.items ++ told ∷ []
+  pub last : next.last ≡ record { owner = to; kind = path.last.kind }
+  pub sent : next.sent ≡ path.sent
+  pub short : length next.sets.items ≤ 16
 
 -- Servers that are asked about a name.
 pub record IsHunt (port : ℕ) (log : List Exchange) (name : Labels) (hunt : Hunt) : Type 0 where

@@ -1,10 +1,14 @@
 //! What a question is answered.
 
+ghost use Rattle.std.specs.Prelude.{◌≡◌, IfOk};
+
+use dns_name::NoMemory;
 use dns_text::{Items, Shared};
 use dns_wire::Rcode;
 use harvest::PassingSet;
 use local_zone::{LocalRecord, SeenRecord};
 use ranked::SharedFind;
+use std::alloc::Global;
 
 /// A set of an answer.
 #[derive(Debug, Drop)]
@@ -42,4 +46,87 @@ pub enum Answer {
     },
     /// No reply.
     Silent,
+}
+
+impl Told {
+    /// The same set, of which there is one owner more. It takes no memory; there can be too many owners to count.
+    pub fn copy(&self) -> Result<Told, NoMemory>
+        ensures { IfOk result (λ x. x ≡ self.now) }
+    {
+        match self {
+            Told::Find { ttl, find } => Ok(Told::Find {
+                ttl: *ttl,
+                find: find.share()?,
+            }),
+            Told::Local(records) => Ok(Told::Local(records.share()?)),
+            Told::Passing(set) => Ok(Told::Passing(set.share()?)),
+        }
+    }
+}
+
+impl Soa {
+    /// The same record, of which there is one owner more. It takes no memory; there can be too many owners to count.
+    pub fn copy(&self) -> Result<Soa, NoMemory>
+        ensures { IfOk result (λ x. x ≡ self.now) }
+    {
+        match self {
+            Soa::Find { ttl, find } => Ok(Soa::Find {
+                ttl: *ttl,
+                find: find.share()?,
+            }),
+            Soa::Local(record) => Ok(Soa::Local(record.share()?)),
+        }
+    }
+}
+
+fn copy_aliases(alloc: Global, aliases: &[Told]) -> Result<Items<Told>, NoMemory>
+    ensures { IfOk result (λ x. x ≡ aliases.now) }
+{
+    let mut copies = Vec::new(alloc);
+    for told in aliases {
+        copies.push(told.copy()?)?;
+    }
+    Ok(Items::new(copies))
+}
+
+fn copy_last(last: &Option<Told>) -> Result<Option<Told>, NoMemory>
+    ensures { IfOk result (λ x. x ≡ last.now) }
+{
+    match last {
+        Some(told) => Ok(Some(told.copy()?)),
+        None => Ok(None),
+    }
+}
+
+fn copy_authority(authority: &Option<Soa>) -> Result<Option<Soa>, NoMemory>
+    ensures { IfOk result (λ x. x ≡ authority.now) }
+{
+    match authority {
+        Some(soa) => Ok(Some(soa.copy()?)),
+        None => Ok(None),
+    }
+}
+
+impl Answer {
+    /// The same answer. What it tells is shared, so that an answer without aliases takes no memory.
+    pub fn copy(&self, alloc: Global) -> Result<Answer, NoMemory>
+        ensures { IfOk result (λ x. x ≡ self.now) }
+    {
+        match self {
+            Answer::Reply {
+                rcode,
+                aa,
+                aliases,
+                last,
+                authority,
+            } => Ok(Answer::Reply {
+                rcode: *rcode,
+                aa: *aa,
+                aliases: copy_aliases(alloc, aliases.as_slice())?,
+                last: copy_last(last)?,
+                authority: copy_authority(authority)?,
+            }),
+            Answer::Silent => Ok(Answer::Silent),
+        }
+    }
 }

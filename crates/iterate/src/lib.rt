@@ -8,8 +8,14 @@
 mod answer;
 // What comes to a task, and what it wants.
 mod want;
+// What a look was answered, of what may be replied to it.
+mod shown;
+// How a question ends.
+mod finishing;
 // The aliases so far, and the question to which they lead.
 mod path;
+// The first look, at the question itself.
+mod first;
 // Servers that are asked in turn, and the questions for their addresses.
 mod search;
 // Where a task stands.

@@ -2,6 +2,7 @@
 
 use crate::path::Path;
 use crate::search::Search;
+use crate::want::Want;
 use dns_name::Name;
 use dns_query::{Heard, Over};
 use dns_text::Addr;
@@ -25,11 +26,17 @@ pub enum Phase {
     /// It looks at the question.
     First,
     /// It looks for an alias of the last name.
-    Aliasing { path: Path },
+    Aliasing {
+        path: Path,
+    },
     /// It looks at the question behind an alias.
-    Looking { path: Path },
+    Looking {
+        path: Path,
+    },
     /// It looks for the servers of the last name.
-    Listing { path: Path },
+    Listing {
+        path: Path,
+    },
     /// It looks for a server without an address.
     Seeking {
         search: Search,
@@ -53,4 +60,10 @@ pub enum Phase {
     Ended,
     /// It found no memory.
     Broken,
+}
+
+/// How a task goes on.
+pub(crate) struct Turn {
+    pub(crate) phase: Phase,
+    pub(crate) want: Want,
 }

@@ -1,8 +1,12 @@
 //! What comes to a task, and what it wants.
 
+ghost use Rattle.std.specs.Prelude.{◌≡◌, IfOk};
+
 use crate::answer::Answer;
+use dns_name::NoMemory;
 use dns_query::Over;
 use dns_text::{Addr, Octets, Shared};
+use std::alloc::Global;
 use undo_book::{DeskFault, Event, Reply};
 
 /// What comes to a task.
@@ -40,4 +44,25 @@ pub enum Want {
 pub struct Step {
     pub input: Input,
     pub want: Want,
+}
+
+impl Want {
+    /// The same want. Finds, records and octets are shared.
+    pub fn copy(&self, alloc: Global) -> Result<Want, NoMemory>
+        ensures { IfOk result (λ x. x ≡ self.now) }
+    {
+        match self {
+            Want::Book(event) => Ok(Want::Book(event.copy()?)),
+            Want::Send {
+                server,
+                over,
+                bytes,
+            } => Ok(Want::Send {
+                server: *server,
+                over: *over,
+                bytes: bytes.share()?,
+            }),
+            Want::Finish(answer) => Ok(Want::Finish(answer.copy(alloc)?)),
+        }
+    }
 }

@@ -1,0 +1,18 @@
+use Rattle.std.proofs.Common.{[], List, subst}
+use Rattle.dns_text.specs.declared.record.Record.{Record}
+use Rattle.local_zone.specs.declared.local.Local.{Local}
+use Rattle.undo_book.specs.declared.event.Ask.TheVariants.{Answer as Asked}
+use Rattle.undo_book.specs.declared.event.Event.TheVariants.{Look}
+use Rattle.undo_book.specs.declared.event.Reply.TheVariants.{Seen}
+use Rattle.undo_book.specs.declared.event.Seen.TheVariants.{Local as LocalSeen}
+use Rattle.iterate.specs.declared.want.Input.TheVariants.{Reply}
+use Rattle.iterate.specs.declared.want.Want.TheVariants.{Book}
+use Rattle.iterate.specs.Exchanges.{exchange, Adds}
+use Rattle.iterate.proofs.PathTurns.{turned, first_refusing, barred_refused}
+use Rattle.iterate.proofs.first.barred.Goals as goal
+
+pub returns-in_default : goal.returns-in_default
+returns-in_default c = λ port m moment id question log is adds.
+    let refuses = barred_refused is c.in_default.not-Drop in
+    turned c.refused.ensures.phase c.refused.ensures.want
+    (first_refusing (subst (λ (a : Local (List Record) Record). Adds [] (exchange (Book (Look m (Asked question))) (Reply (Seen (LocalSeen a)))) log) refuses adds))

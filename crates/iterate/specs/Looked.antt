@@ -1,0 +1,39 @@
+-- What a look was answered, as the code tells it.
+use Rattle.std.specs.Prelude.{◌≡◌, false}
+use Rattle.dns_text.specs.declared.record.Question.{Question}
+use Rattle.local_zone.specs.declared.local.Local.TheVariants.{Data as LocalData}
+use Rattle.ranked.specs.Body.{is_negative}
+use Rattle.undo_book.specs.declared.event.Ask.TheVariants.{Answer as Asked}
+use Rattle.undo_book.specs.declared.event.Reply.TheVariants.{Seen}
+use Rattle.undo_book.specs.declared.event.Seen.{Seen as SeenValue}
+use Rattle.undo_book.specs.declared.event.Seen.TheVariants.{Unknown as SeenUnknown, Held as SeenHeld, Local as SeenLocal}
+use Rattle.iterate.specs.declared.answer.Told.{Told}
+use Rattle.iterate.specs.declared.answer.Told.TheVariants.{Local as LocalTold}
+use Rattle.iterate.specs.declared.shown.Looked.{Looked}
+use Rattle.iterate.specs.declared.shown.Looked.TheVariants.{Unknown, Held, Local}
+use Rattle.iterate.specs.declared.want.Input.{Input}
+use Rattle.iterate.specs.declared.want.Input.TheVariants.{Reply}
+use Rattle.iterate.specs.Shown.{IsReplyTo}
+use Rattle.iterate.specs.Told.{told_of}
+
+-- what was seen
+abbrev pub seen_of : Looked → SeenValue
+seen_of Unknown = SeenUnknown
+seen_of (Held shown) = SeenHeld shown.now
+seen_of (Local answer) = SeenLocal answer.now
+
+-- A look at the question was replied to, as it may be.
+pub record IsReplied (question : Question) (input : Input) (seen : SeenValue) : Type 0 where
+  pub replied : input ≡ Reply (Seen seen)
+  pub lawful : IsReplyTo (Asked question) (Seen seen)
+
+-- Nothing was seen.
+abbrev pub IsUnseen : Input → Type 0
+IsUnseen (Reply (Seen seen)) = ⊥
+IsUnseen input = Unit {0}
+
+-- What was seen is this set.
+abbrev pub IsSetSeen : SeenValue → Told → Type 0
+IsSetSeen (SeenHeld shown) told = (is_negative shown.body.body ≡ false) × (told ≡ told_of shown)
+IsSetSeen (SeenLocal (LocalData records)) told = told ≡ LocalTold records
+IsSetSeen seen told = ⊥

@@ -1,0 +1,195 @@
+//! How a question ends.
+
+ghost use Rattle.std.specs.Prelude.{◌≡◌, ◌<◌, ◌≤◌, [], true, false, ℕ, List, Some, None, IfOk, MatchOption};
+ghost use Rattle.std.specs.Option.{option_map};
+ghost use Rattle.dns_text.specs.declared.record.Question.{Question};
+ghost use Rattle.undo_book.specs.declared.event.Seen.TheVariants.{Held as SeenHeld, Local as SeenLocal};
+ghost use Rattle.iterate.specs.declared.answer.Soa.TheVariants.{Find as FindSoa, Local as LocalSoa};
+ghost use Rattle.iterate.specs.Exchanges.{Exchange};
+ghost use Rattle.iterate.specs.Known.{Known, Had};
+ghost use Rattle.iterate.specs.Measure.{left_in};
+ghost use Rattle.iterate.specs.Phase.{Goes};
+ghost use Rattle.iterate.specs.Resolved.{IsBarred, IsDenied};
+ghost use Rattle.iterate.specs.Searching.{IsPath};
+ghost use Rattle.iterate.specs.Shown.{Ends, IsShownFor, IsLocalFor};
+ghost use Rattle.iterate.specs.Told.{soa_whole};
+
+use crate::answer::{Answer, Soa, Told};
+use crate::path::Path;
+use crate::phase::{Phase, Turn};
+use crate::shown::{copy_set, held_set};
+use crate::want::Want;
+use dns_name::NoMemory;
+use dns_text::Items;
+use dns_wire::Rcode;
+use local_zone::{Local, LocalRecord, SeenRecord};
+use ranked::{Body, SharedFind, Shown};
+use std::alloc::Global;
+
+fn finished(
+    rcode: Rcode,
+    aa: bool,
+    aliases: Vec<Told>,
+    last: Option<Told>,
+    authority: Option<Soa>,
+) -> Turn
+    ensures phase { result.phase ≡ Phase.Ended }
+    ensures want { result.want ≡ Want.Finish (Answer.Reply rcode aa aliases.items last authority) }
+{
+    Turn {
+        phase: Phase::Ended,
+        want: Want::Finish(Answer::Reply {
+            rcode,
+            aa,
+            aliases: Items::new(aliases),
+            last,
+            authority,
+        }),
+    }
+}
+
+/// The question fails (SERVFAIL; RFC 1035, section 4.1.1).
+pub(crate) fn failed(alloc: Global) -> Turn
+    ensures phase { result.phase ≡ Phase.Ended }
+    ensures want { result.want ≡ Want.Finish (Answer.Reply 2 false [] None None) }
+{
+    finished(Rcode::SERVER_FAILURE, false, Vec::new(alloc), None, None)
+}
+
+/// A local zone refuses the question (REFUSED; RFC 1035, section 4.1.1).
+pub(crate) fn refused(alloc: Global) -> Turn
+    ensures phase { result.phase ≡ Phase.Ended }
+    ensures want { result.want ≡ Want.Finish (Answer.Reply 5 true [] None None) }
+{
+    finished(Rcode::REFUSED, true, Vec::new(alloc), None, None)
+}
+
+/// A local zone drops the question.
+pub(crate) fn silent() -> Turn
+    ensures phase { result.phase ≡ Phase.Ended }
+    ensures want { result.want ≡ Want.Finish Answer.Silent }
+{
+    Turn {
+        phase: Phase::Ended,
+        want: Want::Finish(Answer::Silent),
+    }
+}
+
+/// A set ends the path.
+pub(crate) fn found(path: Path, told: Told) -> Turn
+    ensures { (port moment id left : ℕ) (question : Question) (log : List Exchange) → left_in Phase.Ended < left → IsPath port question log path
+        → Known port log (Had path.last told) → Goes port question log moment id left result.phase result.want }
+{
+    let Path { sets, .. } = path;
+    finished(Rcode::NO_ERROR, false, sets, Some(told), None)
+}
+
+/// The SOA record by which a find denies, as a response tells it.
+fn soa_told(negative: Option<SharedFind>) -> Option<Soa>
+    ensures { result ≡ option_map soa_whole negative }
+{
+    match negative {
+        Some(find) => Some(Soa::Find {
+            ttl: find.find().ttl,
+            find,
+        }),
+        None => None,
+    }
+}
+
+/// A response denies what the path leads to.
+pub(crate) fn denied(path: Path, rcode: Rcode, negative: Option<SharedFind>) -> Turn
+    ensures { (port moment id left : ℕ) (question : Question) (log : List Exchange) → left_in Phase.Ended < left → IsPath port question log path
+        → IsDenied port log path.last rcode (option_map soa_whole negative) → Goes port question log moment id left result.phase result.want }
+{
+    let Path { sets, .. } = path;
+    finished(rcode, false, sets, None, soa_told(negative))
+}
+
+/// What ends a question, of a reply.
+pub(crate) struct Ending {
+    rcode: Rcode,
+    last: Option<Told>,
+    authority: Option<Soa>,
+}
+
+fn soa_held(shown: &Shown<SharedFind>) -> Result<Soa, NoMemory>
+    ensures { IfOk result (λ soa. soa ≡ FindSoa shown.now.left shown.now.body) }
+{
+    Ok(Soa::Find {
+        ttl: shown.left,
+        find: shown.body.share()?,
+    })
+}
+
+fn set_ending(told: Told) -> Ending
+    ensures { result ≡ record { rcode = 0; last = Some told; authority = None } }
+{
+    Ending {
+        rcode: Rcode::NO_ERROR,
+        last: Some(told),
+        authority: None,
+    }
+}
+
+/// What denies ends a question with this RCODE.
+fn denial(rcode: Rcode, authority: Option<Soa>) -> Ending
+    ensures { result ≡ record { rcode = rcode; last = None; authority = authority } }
+{
+    Ending {
+        rcode,
+        last: None,
+        authority,
+    }
+}
+
+/// How a find that is held ends the question that it is about.
+pub(crate) fn held_ending(shown: &Shown<SharedFind>) -> Result<Ending, NoMemory>
+    ensures { (question : Question) → IsShownFor question shown.now → IfOk result (λ e. Ends question (SeenHeld shown.now) e.rcode e.last e.authority) }
+{
+    match &shown.body.find().body {
+        Body::Set(_) => Ok(set_ending(held_set(shown)?)),
+        Body::NoData(_) => Ok(denial(Rcode::NO_ERROR, Some(soa_held(shown)?))),
+        Body::NoName(_) => Ok(denial(Rcode::NAME_ERROR, Some(soa_held(shown)?))),
+    }
+}
+
+fn soa_local(soa: &Option<LocalRecord>) -> Result<Option<Soa>, NoMemory>
+    ensures { IfOk result (λ x. x ≡ option_map LocalSoa soa.now) }
+{
+    match soa {
+        Some(record) => Ok(Some(Soa::Local(record.share()?))),
+        None => Ok(None),
+    }
+}
+
+/// How what local zones answer a question ends it. None where they refuse or drop it.
+pub(crate) fn local_ending(
+    alloc: Global,
+    answer: &Local<Items<SeenRecord>, LocalRecord>,
+) -> Result<Option<Ending>, NoMemory>
+    ensures { (question : Question) → IsLocalFor question answer.now
+        → IfOk result (λ ending. MatchOption ending (IsBarred (SeenLocal answer.now)) (λ e. Ends question (SeenLocal answer.now) e.rcode e.last e.authority)) }
+{
+    match answer {
+        Local::Data(records) => Ok(Some(set_ending(copy_set(alloc, records)?))),
+        Local::NoData(soa) => Ok(Some(denial(Rcode::NO_ERROR, soa_local(soa)?))),
+        Local::NoName(soa) => Ok(Some(denial(Rcode::NAME_ERROR, soa_local(soa)?))),
+        Local::Refuse => Ok(None),
+        Local::Drop => Ok(None),
+        Local::Pass => Ok(None),
+    }
+}
+
+/// What a look says ends a question behind these aliases.
+pub(crate) fn ended(aa: bool, aliases: Vec<Told>, ending: Ending) -> Turn
+    ensures phase { result.phase ≡ Phase.Ended }
+    ensures want { result.want ≡ Want.Finish (Answer.Reply ending.rcode aa aliases.items ending.last ending.authority) }
+{
+    let Ending {
+        rcode,
+        last,
+        authority,
+    } = ending;
+    finished(rcode, aa, aliases, last, authority)
+}

@@ -1,0 +1,270 @@
+//! What a look was answered, of what may be replied to it.
+
+ghost use Rattle.std.specs.Prelude.{◌≡◌, ◌↔◌, ◌∷◌, [], ℕ, List, map, IfOk, IsTrue, MatchOption};
+ghost use Rattle.std.specs.List.{AllByRecursion};
+ghost use Rattle.dns_text.specs.declared.record.Data.{Data};
+ghost use Rattle.dns_text.specs.declared.record.Data.TheVariants.{One};
+ghost use Rattle.dns_name.specs.Labels.{Labels};
+ghost use Rattle.ranked.specs.Body.{data_of};
+ghost use Rattle.iterate.specs.declared.answer.Told.{Told};
+ghost use Rattle.iterate.specs.declared.answer.Told.TheVariants.{Local as LocalTold};
+ghost use Rattle.undo_book.specs.declared.event.Ask.TheVariants.{Answer as Asked};
+ghost use Rattle.undo_book.specs.declared.event.Event.TheVariants.{Look};
+ghost use Rattle.undo_book.specs.declared.event.Reply.TheVariants.{Seen as SeenReply};
+ghost use Rattle.undo_book.specs.declared.event.Seen.TheVariants.{Held as SeenHeld, Local as SeenLocal};
+ghost use Rattle.iterate.specs.declared.want.Input.TheVariants.{Reply as Replied};
+ghost use Rattle.iterate.specs.declared.want.Want.TheVariants.{Book};
+ghost use Rattle.iterate.specs.Phase.{Suits};
+ghost use Rattle.iterate.specs.Shown.{IsShownFor, IsLocalRecord, IsLocalSet, IsSoaFormed, IsLocalFor, IsReplyTo, IsMisanswered};
+ghost use Rattle.iterate.specs.Told.{data_told, told_of, IsTarget};
+ghost use Rattle.iterate.specs.Looked.{seen_of, IsReplied, IsSetSeen, IsUnseen};
+
+use crate::answer::Told;
+use crate::want::Input;
+use dns_name::{Name, NoMemory};
+use dns_text::types::CNAME;
+use dns_text::{Data, Items, Shared};
+use local_zone::{Local, LocalRecord, SeenRecord};
+use ranked::{Body, SharedFind, Shown};
+use std::alloc::Global;
+use undo_book::{Reply, Seen};
+
+/// What a look at a question was answered.
+#[derive(Clone, Copy, Debug)]
+pub(crate) enum Looked<'a> {
+    /// Nothing that may be shown.
+    Unknown,
+    /// A find that is about the question, and may be answered.
+    Held(&'a Shown<SharedFind>),
+    /// What local zones answer the question.
+    Local(&'a Local<Items<SeenRecord>, LocalRecord>),
+}
+
+/// Whether a find is about the question of this name and type, and its rank allows that it is answered (RFC 2181, section 5.4.1).
+pub(crate) fn is_shown_for(shown: &Shown<SharedFind>, owner: &Name, kind: u16) -> bool
+    ensures { IsTrue result ↔ IsShownFor (record { owner = owner.now; kind = kind }) shown.now }
+{
+    let find = shown.body.find();
+    find.touches(owner, kind) && find.rank.level() >= 2
+}
+
+fn is_same(name: &Name, other: &Name) -> bool
+    ensures { IsTrue result ↔ (name.now ≡ other.now) }
+{
+    name == other
+}
+
+fn is_local_record(r: &SeenRecord, owner: &Name, kind: u16) -> bool
+    ensures { IsTrue result ↔ IsLocalRecord (record { owner = owner.now; kind = kind }) r.now }
+{
+    (r.kind() == kind || r.kind() == CNAME)
+        && r.body().has_form(r.kind())
+        && is_same(r.owner(), owner)
+}
+
+fn are_local(records: &[SeenRecord], owner: &Name, kind: u16) -> bool
+    ensures { IsTrue result ↔ AllByRecursion (IsLocalRecord (record { owner = owner.now; kind = kind })) records.now }
+{
+    for r in records {
+        if !is_local_record(r, owner, kind) {
+            return false;
+        }
+    }
+    true
+}
+
+fn is_local_set(records: &[SeenRecord], owner: &Name, kind: u16) -> bool
+    ensures { IsTrue result ↔ IsLocalSet (record { owner = owner.now; kind = kind }) records.now }
+{
+    !records.is_empty() && are_local(records, owner, kind)
+}
+
+fn is_soa_formed(soa: &Option<LocalRecord>) -> bool
+    ensures { IsTrue result ↔ IsSoaFormed soa.now }
+{
+    match soa {
+        Some(record) => record.body().has_form(record.kind()),
+        None => true,
+    }
+}
+
+/// Whether local zones may answer the question of this name and type so.
+pub(crate) fn is_local_for(
+    answer: &Local<Items<SeenRecord>, LocalRecord>,
+    owner: &Name,
+    kind: u16,
+) -> bool
+    ensures { IsTrue result ↔ IsLocalFor (record { owner = owner.now; kind = kind }) answer.now }
+{
+    match answer {
+        Local::Data(records) => is_local_set(records.as_slice(), owner, kind),
+        Local::NoData(soa) => is_soa_formed(soa),
+        Local::NoName(soa) => is_soa_formed(soa),
+        Local::Refuse => true,
+        Local::Drop => true,
+        Local::Pass => false,
+    }
+}
+
+/// What was seen, of what may be replied.
+fn looked_in<'a>(seen: &'a Seen, owner: &Name, kind: u16) -> Option<Looked<'a>>
+    ensures { MatchOption result (¬ (IsReplyTo (Asked (record { owner = owner.now; kind = kind })) (SeenReply seen.now)))
+        (λ what. (seen.now ≡ seen_of what) × IsReplyTo (Asked (record { owner = owner.now; kind = kind })) (SeenReply (seen_of what))) }
+{
+    match seen {
+        Seen::Unknown => Some(Looked::Unknown),
+        Seen::Held(shown) => {
+            if is_shown_for(shown, owner, kind) {
+                Some(Looked::Held(shown))
+            } else {
+                None
+            }
+        }
+        Seen::Local(answer) => {
+            if is_local_for(answer, owner, kind) {
+                Some(Looked::Local(answer))
+            } else {
+                None
+            }
+        }
+        _ => None,
+    }
+}
+
+fn seen_in(input: &Input) -> Option<&Seen>
+    ensures { MatchOption result (IsUnseen input.now) (λ seen. input.now ≡ Replied (SeenReply seen.now)) }
+{
+    match input {
+        Input::Reply(Reply::Seen(seen)) => Some(seen),
+        _ => None,
+    }
+}
+
+/// What a look at the question of this name and type was answered. None where that may not be replied to it.
+pub(crate) fn replied<'a>(input: &'a Input, owner: &Name, kind: u16) -> Option<Looked<'a>>
+    ensures { (m : ℕ) → Suits (Book (Look m (Asked (record { owner = owner.now; kind = kind })))) input.now
+        → MatchOption result (IsMisanswered (Look m (Asked (record { owner = owner.now; kind = kind }))) input.now)
+        (λ what. IsReplied (record { owner = owner.now; kind = kind }) input.now (seen_of what)) }
+{
+    match seen_in(input) {
+        Some(seen) => looked_in(seen, owner, kind),
+        None => None,
+    }
+}
+
+fn share_records(alloc: Global, records: &[SeenRecord]) -> Result<Items<SeenRecord>, NoMemory>
+    ensures { IfOk result (λ x. x ≡ records.now) }
+{
+    let mut shares = Vec::new(alloc);
+    for r in records {
+        shares.push(r.share()?)?;
+    }
+    Ok(Items::new(shares))
+}
+
+/// A set of a local zone, as an answer tells it.
+pub(crate) fn copy_set(alloc: Global, records: &Items<SeenRecord>) -> Result<Told, NoMemory>
+    ensures { IfOk result (λ told. told ≡ LocalTold records.now) }
+{
+    let shares = share_records(alloc, records.as_slice())?;
+    Ok(Told::Local(Shared::new(alloc, shares)?))
+}
+
+/// A set that is held, with the seconds left.
+pub(crate) fn held_set(shown: &Shown<SharedFind>) -> Result<Told, NoMemory>
+    ensures { IfOk result (λ told. told ≡ told_of shown.now) }
+{
+    Ok(Told::Find {
+        ttl: shown.left,
+        find: shown.body.share()?,
+    })
+}
+
+/// A set that is held, unless the find denies.
+fn set_held(shown: &Shown<SharedFind>) -> Result<Option<Told>, NoMemory>
+    ensures { IfOk result (λ told. MatchOption told ((t : Told) → ¬ (IsSetSeen (SeenHeld shown.now) t)) (IsSetSeen (SeenHeld shown.now))) }
+{
+    match &shown.body.find().body {
+        Body::Set(_) => Ok(Some(held_set(shown)?)),
+        _ => Ok(None),
+    }
+}
+
+fn local_set(
+    alloc: Global,
+    answer: &Local<Items<SeenRecord>, LocalRecord>,
+) -> Result<Option<Told>, NoMemory>
+    ensures { IfOk result (λ told. MatchOption told ((t : Told) → ¬ (IsSetSeen (SeenLocal answer.now) t)) (IsSetSeen (SeenLocal answer.now))) }
+{
+    match answer {
+        Local::Data(records) => Ok(Some(copy_set(alloc, records)?)),
+        _ => Ok(None),
+    }
+}
+
+/// The set that a look was answered, where it was one.
+pub(crate) fn set_in(alloc: Global, what: Looked<'_>) -> Result<Option<Told>, NoMemory>
+    ensures { IfOk result (λ told. MatchOption told ((t : Told) → ¬ (IsSetSeen (seen_of what.entry) t)) (IsSetSeen (seen_of what.entry))) }
+{
+    match what {
+        Looked::Unknown => Ok(None),
+        Looked::Held(shown) => set_held(shown),
+        Looked::Local(answer) => local_set(alloc, answer),
+    }
+}
+
+fn first_of(items: &[Data]) -> Option<&Data>
+    ensures { MatchOption result (items.now ≡ []) (λ datum. (rest : List Data) × (items.now ≡ datum.now ∷ rest)) }
+{
+    items.first()
+}
+
+/// The first datum of a find, unless it denies.
+fn first_found(body: &Body) -> Option<&Data>
+    ensures { MatchOption result (data_of body.now ≡ []) (λ datum. (rest : List Data) × (data_of body.now ≡ datum.now ∷ rest)) }
+{
+    match body {
+        Body::Set(data) => first_of(data.as_slice()),
+        _ => None,
+    }
+}
+
+fn first_local(records: &[SeenRecord]) -> Option<&Data>
+    ensures { MatchOption result (map (λ r. r.body) records.now ≡ []) (λ datum. (rest : List Data) × (map (λ r. r.body) records.now ≡ datum.now ∷ rest)) }
+{
+    match records.first() {
+        Some(record) => Some(record.body()),
+        None => None,
+    }
+}
+
+/// The first datum of a set.
+fn first_datum(told: &Told) -> Option<&Data>
+    ensures { MatchOption result (data_told told.now ≡ []) (λ datum. (rest : List Data) × (data_told told.now ≡ datum.now ∷ rest)) }
+{
+    match told {
+        Told::Find { find, .. } => first_found(&find.find().body),
+        Told::Local(records) => first_local(records.get().as_slice()),
+        Told::Passing(set) => first_of(set.get().data.as_slice()),
+    }
+}
+
+/// The name that a datum is, where it is one.
+fn name_in(datum: &Data) -> Result<Option<Name>, NoMemory>
+    ensures { IfOk result (λ to. MatchOption to ((name : Labels) → ¬ (datum.now ≡ One name)) (λ name. datum.now ≡ One name)) }
+{
+    match datum {
+        Data::One(name) => Ok(Some(name.clone()?)),
+        _ => Ok(None),
+    }
+}
+
+/// The first target of a set of aliases.
+pub(crate) fn first_target(told: &Told) -> Result<Option<Name>, NoMemory>
+    ensures { IfOk result (λ to. MatchOption to ((name : Labels) → ¬ (IsTarget told.now name)) (IsTarget told.now)) }
+{
+    match first_datum(told) {
+        Some(datum) => name_in(datum),
+        None => Ok(None),
+    }
+}
