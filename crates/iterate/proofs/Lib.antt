@@ -3,3 +3,8 @@ pub mod Falling
 pub mod FitLaws
 pub mod PathTurns
 pub mod DueLaws
+pub mod Depths
+pub mod Asking
+pub mod Supplying
+pub mod Finding
+pub mod Telling

@@ -18,6 +18,16 @@ mod path;
 mod first;
 // Servers that are asked in turn, and the questions for their addresses.
 mod search;
+// The innermost question of a search.
+mod innermost;
+// Queries go out.
+mod sending;
+// The addresses in a set.
+mod addresses;
+// The servers that a book names.
+mod listing;
+// Servers without an address are looked for.
+mod seeking;
 // Where a task stands.
 mod phase;
 // The task.
