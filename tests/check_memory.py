@@ -1,10 +1,11 @@
 """Every growth of memory is refused in turn: want of memory is told, only where memory was refused, and does no harm."""
 
 import os
+import re
 
 from checks import Checks, difference, short
 from made_rows import every_octet
-from programs import CALLS, DRAWN, RESOLVER, STUBS, ZONES, read, run, scripts
+from programs import BOOKS, CALLS, CONTROL, DRAWN, RESOLVER, STUBS, ZONES, read, run, scripts
 from rowfile import ROWS, call, read_rows
 
 # More growths than this have no run and no call here.
@@ -49,13 +50,13 @@ def replies_to(lines, told):
     return None if rest else replies
 
 
-def fault_of_script(command, lines, done):
+def fault_of_script(command, lines, done, start):
     """What is wrong with a run of a script in which a growth was refused.
 
-    Memory was refused at the start: status 1, `resolver: no memory` and no reply. Or the script ran to its end, and is
+    Memory was refused at the start: no reply, and the status and the words that say so. Or the script ran to its end, and is
     answered as though the lines that found no memory had not been given, while those whose reply was lost stand.
     """
-    if done.status == 1 and not done.out and done.err == b"resolver: no memory\n":
+    if not done.out and (done.status, done.err) == start:
         return None
     if done.status != 0:
         return f"status {done.status}, {done.err!r}"
@@ -76,14 +77,31 @@ def fault_of_script(command, lines, done):
     return None
 
 
-def check_script(checks, name, arguments, text):
-    command = [RESOLVER, "script"] + arguments
+# Lines of control, which end at the end of the input.
+CONTROL_TEXT = b"""at 5
+local_zone a. static
+local_data b.a. 60 A 192.0.2.1
+look b.a. A
+stub_add a. 192.0.2.1 192.0.2.2
+servers b.a.
+flush_type a. A
+undo
+list_commands
+list_local_zones
+redo
+stop now
+undo
+list_stubs
+"""
+
+
+def check_script(checks, name, command, text, start):
     lines = replied_lines(text)
     for nth in range(1, MOST):
         done = run(command, text, preload="refuse", REFUSE_NTH=nth)
         if not refusals(done):
             break
-        checks.tell(f"{name}, growth {nth} refused", fault_of_script(command, lines, done))
+        checks.tell(f"{name}, growth {nth} refused", fault_of_script(command, lines, done, start))
     checks.tell(f"{name}, growths refused", None if nth > 1 else "none was")
 
 
@@ -149,6 +167,55 @@ def check_tables(checks, name, program):
     checks.tell(f"{name}, growths refused", None if nth > 1 else "none was")
 
 
+# ---- calls of a book, each recorded
+
+# Every kind of event, of command and of what is asked has to occur.
+KINDS = """
+Admit Do Undo Redo Sweep Look
+FlushType Flush FlushZone SetZone AddRecord SetStub DropZone DropName DropStub
+Answer Zones Records Stubs Commands Servers
+""".split()
+
+UNTOUCHED = b"0 entries, 0 calls, 0 cells, seen 0, made 0"
+WANT = b"out of memory"
+
+
+def fault_of_steps(whole, done):
+    """What is wrong with a run in which a growth was refused.
+
+    The program ended before its first call. Or one call found no memory and left what there was, and all else is as though
+    it had not been made.
+    """
+    if done.status == 1 and not done.out:
+        return None
+    lines = done.out.split(b"\n")
+    wants = [place for place, line in enumerate(lines) if line.endswith(b": " + WANT)]
+    if done.status != 0 or len(wants) > refusals(done):
+        return f"status {done.status}, {refusals(done)} growths refused, {len(wants)} calls want memory"
+    for place in wants:
+        before = lines[place - 1].split(b": ")[0] if place else UNTOUCHED
+        after = lines.pop(place).split(b": ")[0]
+        if after != before:
+            return f"after {before!r} a call finds no memory, and leaves {after!r}"
+    again = b"\n".join(lines)
+    return None if again == whole else difference(again, whole)
+
+
+def check_steps(checks):
+    """A call that finds no memory leaves the record, the totals and the pass as they were, and is made again."""
+    whole = run([BOOKS, "steps"]).out
+    for kind in KINDS:
+        checks.tell(f"the kind {kind}", None if re.search(rb"\b%s\b" % kind.encode(), whole) else "was never drawn")
+    wants = 0
+    for nth in range(1, MOST):
+        done = run([BOOKS, "steps"], preload="refuse", REFUSE_NTH=nth)
+        if not refusals(done):
+            break
+        wants += done.out.count(b": " + WANT + b"\n")
+        checks.tell(f"recorded calls, growth {nth} refused", fault_of_steps(whole, done))
+    checks.tell("recorded calls that find no memory", None if wants > 100 else f"are {wants}")
+
+
 # ---- messages that are drawn
 
 def check_drawn(checks):
@@ -174,13 +241,15 @@ def check_counts(checks):
 def main():
     checks = Checks()
     for name, arguments, text, _ in scripts():
-        check_script(checks, name, arguments, text)
+        check_script(checks, name, [RESOLVER, "script"] + arguments, text, (1, b"resolver: no memory\n"))
+    check_script(checks, "control", [CONTROL], CONTROL_TEXT, (5, b""))
     for file in sorted(os.listdir(ROWS)):
         check_rows(checks, file, read_rows(os.path.join(ROWS, file))[0])
     check_rows(checks, "every octet", list(every_octet()))
     check_start_of_rows(checks)
     check_tables(checks, "local zones", ZONES)
     check_tables(checks, "stubs", STUBS)
+    check_steps(checks)
     check_drawn(checks)
     check_counts(checks)
     checks.end()

@@ -1,15 +1,12 @@
 """Lines and replies as they come and go: promptly, in few reads, and in spite of signals and of pieces of one octet."""
 
 import os
-import pty
-import resource
 import select
 import subprocess
 import tempfile
-import tty
 
 from checks import Checks
-from programs import PATIENCE, RESOLVER, run, scripts
+from programs import RESOLVER, run, run_to_hangup, run_to_most, scripts
 
 # So many seconds a reply may take; it takes far less.
 SECONDS = 20
@@ -101,26 +98,15 @@ def check_refused_write(checks):
     text = FIND + LOOK + b"flush a.test.\nlist_commands\n"
     replies = b"taken\n" + FOUND + b"ok 1\n1 done flush a.test.\nend\n"
     for most in range(len(replies)):
-        with tempfile.TemporaryFile() as file:
-            done = subprocess.run(
-                [RESOLVER, "script"], input=text, stdout=file, stderr=subprocess.PIPE, timeout=PATIENCE,
-                restore_signals=False, preexec_fn=lambda: resource.setrlimit(resource.RLIMIT_FSIZE, (most, most)),
-            )
-            file.seek(0)
-            told = (file.read(), done.stderr, done.returncode)
+        told = run_to_most([RESOLVER, "script"], text, most)
         checks.equal(f"a file of at most {most} octets", told, (replies[:most], b"resolver: write failed\n", 1))
 
 
 def check_failed_read(checks):
     """A terminal that hangs up: the whole lines that came are obeyed and told, and of a begun one nothing."""
     for text, wanted in ((b"", b""), (b"at 1\nloo", b"ok\n"), (b"at 1\nundo\n", b"ok\nerror nothing_to_undo\n")):
-        reader, terminal = pty.openpty()
-        tty.setraw(terminal)
-        os.write(terminal, text)
-        os.close(terminal)
-        done = subprocess.run([RESOLVER, "script"], stdin=reader, capture_output=True, timeout=PATIENCE)
-        os.close(reader)
-        checks.equal(f"{text!r} and a failed read", (done.stdout, done.stderr, done.returncode), (wanted, b"resolver: read failed\n", 1))
+        told = run_to_hangup([RESOLVER, "script"], text)
+        checks.equal(f"{text!r} and a failed read", told, (wanted, b"resolver: read failed\n", 1))
 
 
 def main():

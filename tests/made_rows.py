@@ -108,6 +108,22 @@ def longest():
     yield call("encode", response(*names)), b"fault TooLong"
 
 
+def longest_lent():
+    """244 strings of 255 octets and one that fills 65,535 octets are written as they are lent; with an octet more they are too long."""
+    query = number(0x1234) + number(0x0100) + number(1) + number(0) * 3 + QUESTION[:-4] + number(TXT) + number(1)
+    strings = [b"x" * 255] * 244
+
+    def lent(*strings):
+        return call("lent", query, b"a.test.", b"TXT", number(60, 4), *strings)
+
+    header = query[:2] + number(0x8180) + number(1) + number(len(strings) + 1) + number(0) * 2
+    front = header + query[12:] + b"".join(record(TXT, bytes([255]) + string) for string in strings)
+    fill = 65_535 - len(front + record(TXT, b"\0"))
+    last = record(TXT, bytes([fill]) + b"y" * fill)
+    yield lent(*strings, b"y" * fill), (front + last).hex().encode()
+    yield lent(*strings, b"y" * (fill + 1)), b"fault TooLong"
+
+
 def pointer_chains():
     """2,900 owners, each of them 8,000 pointers away from its label."""
     begin = len(response()) + 12
@@ -141,6 +157,7 @@ def made_files():
         "many strings": many_strings(),
         "long names": long_names(),
         "longest": longest(),
+        "longest that is lent": longest_lent(),
         "pointer chains": pointer_chains(),
         "questions with much behind": questions_of_many(),
     }

@@ -1,14 +1,19 @@
 """Runs the finished programs, with a library in front of the C library where that is wanted."""
 
 import os
+import pty
+import resource
 import subprocess
 import tempfile
+import tty
 from dataclasses import dataclass
 
 TOP = os.path.dirname(os.path.dirname(os.path.abspath(__file__)))
 RESOLVER = os.path.join(TOP, "crates/resolver_cli/out/resolver_cli")
+CONTROL = os.path.join(TOP, "crates/control_tests/out/control_tests")
 CALLS = os.path.join(TOP, "crates/dns_calls/out/dns_calls")
 DRAWN = os.path.join(TOP, "crates/dns_wire_drawn/out/dns_wire_drawn")
+BOOKS = os.path.join(TOP, "crates/shared_book_drawn/out/shared_book_drawn")
 ZONES = os.path.join(TOP, "crates/local_zone_tests/out/local_zone_tests")
 STUBS = os.path.join(TOP, "crates/stub_table_tests/out/stub_table_tests")
 
@@ -53,6 +58,30 @@ def run(command, text=b"", preload=None, **settings):
         with os.fdopen(reading, "rb") as pipe:
             told = pipe.read().decode().splitlines()
     return Run(done.returncode, done.stdout, done.stderr, told)
+
+
+def run_to_most(command, text, most):
+    """Runs a command over a text, where its output is a file that takes so many octets and no more. What the file has, and how it ended."""
+    with tempfile.TemporaryFile() as file:
+        done = subprocess.run(
+            command, input=text, stdout=file, stderr=subprocess.PIPE, timeout=PATIENCE,
+            restore_signals=False, preexec_fn=lambda: resource.setrlimit(resource.RLIMIT_FSIZE, (most, most)),
+        )
+        file.seek(0)
+        return file.read(), done.stderr, done.returncode
+
+
+def run_to_hangup(command, text):
+    """Runs a command over a terminal that gives a text and then hangs up, so that the next read fails. What it wrote, and how it ended."""
+    reader, terminal = pty.openpty()
+    try:
+        tty.setraw(terminal)
+        os.write(terminal, text)
+        os.close(terminal)
+        done = subprocess.run(command, stdin=reader, capture_output=True, timeout=PATIENCE)
+    finally:
+        os.close(reader)
+    return done.stdout, done.stderr, done.returncode
 
 
 def scripts():

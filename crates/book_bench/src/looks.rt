@@ -1,14 +1,13 @@
 //! Looks of each kind, many times. A book that replays looks at all that it was given, so each book is asked few times.
 
-ghost use Rattle.std.specs.Prelude.{◌≡◌};
+ghost use Rattle.std.specs.Prelude.{◌≡◌, []};
 
 use crate::events::{admission, look, plain, seen_in};
 use anyhow::anyhow;
-use shared_book::{Blank, SharedBook};
+use shared_book::{Blank, CallLedger, SharedBook};
 use std::alloc::Global;
 use std::marker::Brand;
 use std::sync::Wait;
-use std::sync::ledger::Ledger;
 use undo_book::{Book, PlainBook};
 
 /// How often one book is asked.
@@ -28,17 +27,21 @@ fn alone(alloc: Global) -> anyhow::Result<u32> {
 }
 
 /// Looks through the lock, with a record of so many calls.
-fn shared<L: Ledger, R: Wait>(
+fn shared<L: CallLedger, R: Wait>(
     rt: &R,
     alloc: Global,
     blank: Blank,
+    book: PlainBook,
     limit: u64,
 ) -> anyhow::Result<u32>
     requires name { blank.name ≡ L.name }
     requires parts { blank.parts ≡ L.parts }
+    requires limit { limit ≡ L.limit }
+    requires settings { ⟦<PlainBook as Book>⟧.settings book ≡ L.settings }
+    requires fresh { ⟦<PlainBook as Book>⟧.stands_for book [] }
 {
     let event = look(alloc)?;
-    let (book, mut pass) = SharedBook::<PlainBook, L>::new(alloc, blank, plain(alloc)?, limit)?;
+    let (book, mut pass) = SharedBook::<PlainBook, L>::new(alloc, blank, book, limit)?;
     book.call(rt, &mut pass, admission(alloc)?)?;
     let mut seen = 0u32;
     for _ in 0..LOOKS {
@@ -49,7 +52,7 @@ fn shared<L: Ledger, R: Wait>(
 }
 
 fn shared_as<R: Wait>(rt: &R, alloc: Global, limit: u64) -> anyhow::Result<u32> {
-    shared::<Brand, R>(rt, alloc, Blank::new(1), limit)
+    shared::<Brand, R>(rt, alloc, Blank::new(1), plain(alloc)?, limit)
 }
 
 /// Looks at one book.

@@ -50,7 +50,7 @@ quotes-cond true e h = cc
 quotes-cond false true h = cc
 quotes-cond false false h = cc
 
-end-is-blank : (w : Within) (c : ℕ) → after_octet w c ≡ None → is_blank c ≡ true
+pub end-is-blank : (w : Within) (c : ℕ) → after_octet w c ≡ None → is_blank c ≡ true
 end-is-blank Plain c h = end-cond (is_blank c) (nat_eq c 92) (nat_eq c 34) Escape Quotes h
 end-is-blank Quotes c h = absurd (quotes-cond (nat_eq c 92) (nat_eq c 34) h)
 end-is-blank Escape c h = escape-cond (is_blank c) h
@@ -98,7 +98,7 @@ end-only [] h = refl
 end-only (d ∷ text) h = no-more-step d text (after_octet Plain d) (end-is-blank Plain d) h
 
 -- a text that begins with no blank
-abbrev begins-word : List ℕ → Type 0
+abbrev pub begins-word : List ℕ → Type 0
 begins-word [] = Unit {0}
 begins-word (c ∷ text) = is_blank c ≡ false
 
@@ -135,11 +135,11 @@ begins-by : (b : Bool) (c : ℕ) (text : List ℕ) → is_blank c ≡ b → begi
 begins-by true c text is more = more
 begins-by false c text is more = is
 
-skip-begins : (text : List ℕ) → begins-word (skip_blanks text)
+pub skip-begins : (text : List ℕ) → begins-word (skip_blanks text)
 skip-begins [] = tt
 skip-begins (c ∷ text) = begins-by (is_blank c) c text refl (skip-begins text)
 
-some-cut : (cut : List ℕ × List ℕ) (word after : List ℕ) → Some cut ≡ Some (word, after) → (cut.0 ≡ word) × (cut.1 ≡ after)
+pub some-cut : (cut : List ℕ × List ℕ) (word after : List ℕ) → Some cut ≡ Some (word, after) → (cut.0 ≡ word) × (cut.1 ≡ after)
 some-cut cut word after h = let e : cut ≡ (word, after) = cc in (ap (λ (r : List ℕ × List ℕ). r.0) e, ap (λ (r : List ℕ × List ℕ). r.1) e)
 
 not-empty-by : (c : ℕ) (text : List ℕ) (o : Option Within) → (o ≡ None → is_blank c ≡ true) → is_blank c ≡ false → 0 < length (goes_on c text (λ w. cut_word w text) o).0

@@ -15,7 +15,8 @@ use Rattle.local_zone.specs.declared.zone_type.ZoneType.{ZoneType}
 use Rattle.local_zone.specs.declared.zone_type.ZoneType.TheVariants.{Deny, Refuse, Static, Transparent, TypeTransparent, Redirect, AlwaysTransparent, AlwaysRefuse, AlwaysNxDomain, AlwaysNoData}
 use Rattle.local_zone.specs.ZoneType.{word_of, zone_type_in}
 use Rattle.undo_book.specs.declared.event.Command.TheVariants.{Flush as FlushCommand, FlushType as FlushTypeCommand, FlushZone as FlushZoneCommand, SetZone, DropZone, AddRecord, DropName, SetStub, DropStub}
-use Rattle.command_text.specs.declared.line.Line.TheVariants.{Do}
+use Rattle.command_text.specs.declared.line.Line.TheVariants.{Request as RequestLine}
+use Rattle.command_text.specs.declared.request.Request.TheVariants.{Do}
 use Rattle.command_text.specs.declared.words.Verb.{Verb}
 use Rattle.command_text.specs.declared.words.Verb.TheVariants.{Flush, FlushType, FlushZone, LocalZone, LocalZoneRemove, LocalData, LocalDataRemove, StubAdd, StubRemove}
 use Rattle.command_text.specs.declared.words.Channel.{Channel}
@@ -99,18 +100,18 @@ unfolding only_name name_of
 name_read w name h = let written = w.names name h in rw (written.0.last, written.1) refl
 
 flush_type_read : Written → (question : Question) → IsName question.owner → question.kind < 2 ^ 16 → is_excluded question.kind ≡ false
-    → flush_type_in (32 ∷ (text_of question.owner ++ 32 ∷ type_text question.kind)) ≡ Ok (Do (FlushTypeCommand question))
+    → flush_type_in (32 ∷ (text_of question.owner ++ 32 ∷ type_text question.kind)) ≡ Ok (RequestLine (Do (FlushTypeCommand question)))
 unfolding flush_type_in question_in question_words question_of
 flush_type_read w question h small known =
     let name = w.names question.owner h in
     let kind = w.types question.kind small in
     rw (name.0.first (type_text question.kind), kind.0.last, name.1, kind.1 known) refl
 
-flush_read : Written → (name : Labels) → IsName name → flush_in (32 ∷ text_of name) ≡ Ok (Do (FlushCommand name))
+flush_read : Written → (name : Labels) → IsName name → flush_in (32 ∷ text_of name) ≡ Ok (RequestLine (Do (FlushCommand name)))
 unfolding flush_in
 flush_read w name h = rw (name_read w name h) refl
 
-flush_zone_read : Written → (name : Labels) → IsName name → flush_zone_in (32 ∷ text_of name) ≡ Ok (Do (FlushZoneCommand name))
+flush_zone_read : Written → (name : Labels) → IsName name → flush_zone_in (32 ∷ text_of name) ≡ Ok (RequestLine (Do (FlushZoneCommand name)))
 unfolding flush_zone_in
 flush_zone_read w name h = rw (name_read w name h) refl
 
@@ -131,27 +132,27 @@ zone_type_read AlwaysRefuse = record { word = refl; value = refl }
 zone_type_read AlwaysNxDomain = record { word = refl; value = refl }
 zone_type_read AlwaysNoData = record { word = refl; value = refl }
 
-local_zone_read : Written → (name : Labels) (kind : ZoneType) → IsName name → local_zone_in (32 ∷ (text_of name ++ 32 ∷ word_of kind)) ≡ Ok (Do (SetZone name kind))
+local_zone_read : Written → (name : Labels) (kind : ZoneType) → IsName name → local_zone_in (32 ∷ (text_of name ++ 32 ∷ word_of kind)) ≡ Ok (RequestLine (Do (SetZone name kind)))
 unfolding local_zone_in set_zone_in question_words zone_of
 local_zone_read w name kind h =
     let written = w.names name h in
     let type = zone_type_read kind in
     rw (written.0.first (word_of kind), type.word, written.1, type.value) refl
 
-local_zone_remove_read : Written → (name : Labels) → IsName name → local_zone_remove_in (32 ∷ text_of name) ≡ Ok (Do (DropZone name))
+local_zone_remove_read : Written → (name : Labels) → IsName name → local_zone_remove_in (32 ∷ text_of name) ≡ Ok (RequestLine (Do (DropZone name)))
 unfolding local_zone_remove_in drop_zone_in
 local_zone_remove_read w name h = rw (name_read w name h) refl
 
-local_data_remove_read : Written → (name : Labels) → IsName name → local_data_remove_in (32 ∷ text_of name) ≡ Ok (Do (DropName name))
+local_data_remove_read : Written → (name : Labels) → IsName name → local_data_remove_in (32 ∷ text_of name) ≡ Ok (RequestLine (Do (DropName name)))
 unfolding local_data_remove_in drop_name_in
 local_data_remove_read w name h = rw (name_read w name h) refl
 
-stub_remove_read : Written → (name : Labels) → IsName name → stub_remove_in (32 ∷ text_of name) ≡ Ok (Do (DropStub name))
+stub_remove_read : Written → (name : Labels) → IsName name → stub_remove_in (32 ∷ text_of name) ≡ Ok (RequestLine (Do (DropStub name)))
 unfolding stub_remove_in drop_stub_in
 stub_remove_read w name h = rw (name_read w name h) refl
 
 stub_add_by : Written → (name : Labels) (addrs : List Addr) → IsName name → 0 < length addrs → AllByRecursion IsAddr addrs
-    → stub_add_in (32 ∷ (text_of name ++ addrs_text addrs)) ≡ Ok (Do (SetStub (record { name = name; addrs = addrs })))
+    → stub_add_in (32 ∷ (text_of name ++ addrs_text addrs)) ≡ Ok (RequestLine (Do (SetStub (record { name = name; addrs = addrs }))))
 unfolding stub_add_in set_stub_in stub_words stub_of
 stub_add_by w name [] h some each = absurd (omega arith)
 stub_add_by w name (addr ∷ addrs) h some each =
@@ -174,17 +175,17 @@ unfolding record_in
 record_behind text = refl
 
 local_data_read : Written → (r : Record) → IsName r.owner → r.kind < 2 ^ 16 → is_excluded r.kind ≡ false → r.ttl < 2 ^ 31 → data_in r.kind (data_text r.body) ≡ Some r.body
-    → local_data_in (32 ∷ record_text r) ≡ Ok (Do (AddRecord r))
+    → local_data_in (32 ∷ record_text r) ≡ Ok (RequestLine (Do (AddRecord r)))
 unfolding local_data_in add_record_in
 local_data_read w r h small known ttl again =
     rw (has_words w r h small ttl, record_behind (record_text r), w.records r h small known ttl again) refl
 
 stub_add_said_by : Written → (channel : Channel) (name : Labels) (addrs : List Addr) → IsName name → 0 < length addrs → AllByRecursion IsAddr addrs → length (codes "stub_add " ++ text_of name ++ addrs_text addrs) ≤ LONGEST_LINE
-    → read_of channel (codes "stub_add " ++ text_of name ++ addrs_text addrs) ≡ Ok (Do (SetStub (record { name = name; addrs = addrs })))
+    → read_of channel (codes "stub_add " ++ text_of name ++ addrs_text addrs) ≡ Ok (RequestLine (Do (SetStub (record { name = name; addrs = addrs }))))
 stub_add_said_by w channel name addrs h some each short = said channel (codes "stub_add") (text_of name ++ addrs_text addrs) StubAdd stub_add_commands short ∙ stub_add_by w name addrs h some each
 
 stub_add_said : Written → (channel : Channel) (stub : Stub) → IsName stub.name → 0 < length stub.addrs → AllByRecursion IsAddr stub.addrs → length (command_words (SetStub stub)) ≤ LONGEST_LINE
-    → read_of channel (command_words (SetStub stub)) ≡ Ok (Do (SetStub stub))
+    → read_of channel (command_words (SetStub stub)) ≡ Ok (RequestLine (Do (SetStub stub)))
 stub_add_said w channel stub h some each short = stub_add_said_by w channel stub.name stub.addrs h some each short
 
 pub reads_commands : Written → ReadsCommands

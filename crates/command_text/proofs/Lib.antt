@@ -4,3 +4,4 @@ mod Commands
 mod Heard
 mod Scripts
 mod Sets
+mod WordList

@@ -1,25 +1,30 @@
 -- ADDR..: addresses of servers, each a word.
-use Rattle.std.specs.Prelude.{ℕ, zero, suc, Option, Some, None, Result, List, [], ◌∷◌, length, flat_map}
+use Rattle.std.specs.Prelude.{ℕ, Option, Some, None, Result, List, [], ◌∷◌, flat_map, if◌then◌else◌}
 use Rattle.dns_name.specs.Results.{or_fault}
 use Rattle.dns_text.specs.declared.addr.Addr.{Addr}
-use Rattle.dns_text.specs.Word.{next_word}
+use Rattle.dns_text.specs.declared.word.Within.{Within}
+use Rattle.dns_text.specs.declared.word.Within.TheVariants.{Plain}
+use Rattle.dns_text.specs.Word.{is_blank, after_octet}
 use Rattle.dns_text.specs.Addr.{addr_in, addr_text}
 use Rattle.command_text.specs.declared.fault.LineFault.{LineFault}
 use Rattle.command_text.specs.declared.fault.LineFault.TheVariants.{BadAddress}
+use Rattle.command_text.specs.Bar.{onto}
 use Rattle.command_text.specs.Parts.{each_in}
 
-abbrev pub before_words : (List ℕ → List (List ℕ)) → Option (List ℕ × List ℕ) → List (List ℕ)
-before_words go None = []
-before_words go (Some first) = first.0 ∷ go first.1
+-- the words where one may end with this octet, or have it and go on
+abbrev pub words_with : ℕ → (Option Within → List (List ℕ)) → Option Within → List (List ℕ)
+words_with c go None = [] ∷ go None
+words_with c go (Some within) = onto (c ∷ []) (go (Some within))
 
--- the first words of a text, so many at most
-unfoldable pub first_words : ℕ → List ℕ → List (List ℕ)
-first_words zero text = []
-first_words (suc more) text = before_words (λ rest. first_words more rest) (next_word text)
+-- the words of a text, by where one stands, if one does
+unfoldable pub words_from : Option Within → List ℕ → List (List ℕ)
+words_from None [] = []
+words_from (Some within) [] = [] ∷ []
+words_from None (c ∷ text) = if is_blank c then words_from None text else words_with c (λ w. words_from w text) (after_octet Plain c)
+words_from (Some within) (c ∷ text) = words_with c (λ w. words_from w text) (after_octet within c)
 
--- the words of a text, which are no more than its octets
 abbrev pub words_of : List ℕ → List (List ℕ)
-words_of text = first_words (length text) text
+words_of text = words_from None text
 
 -- the addresses that the words of a text stand for
 abbrev pub addrs_in : List ℕ → Result (List Addr) LineFault

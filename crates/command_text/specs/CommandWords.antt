@@ -12,7 +12,8 @@ use Rattle.dns_text.specs.Written.{IsIp}
 use Rattle.local_zone.specs.ZoneType.{word_of}
 use Rattle.undo_book.specs.declared.event.Command.{Command}
 use Rattle.undo_book.specs.declared.event.Command.TheVariants.{Flush, FlushType, FlushZone, SetZone, DropZone, AddRecord, DropName, SetStub, DropStub}
-use Rattle.command_text.specs.declared.line.Line.TheVariants.{Do}
+use Rattle.command_text.specs.declared.line.Line.TheVariants.{Request as RequestLine}
+use Rattle.command_text.specs.declared.request.Request.TheVariants.{Do}
 use Rattle.command_text.specs.declared.words.Channel.{Channel}
 use Rattle.command_text.specs.Addrs.{addrs_text}
 use Rattle.command_text.specs.Line.{read_of}
@@ -48,4 +49,4 @@ IsGivable (DropStub name) = IsName name
 -- The words of a command are read back as that command, wherever lines come from.
 abbrev pub ReadsCommands : Type 0
 ReadsCommands =
-    (channel : Channel) (command : Command) → IsGivable command → length (command_words command) ≤ LONGEST_LINE → read_of channel (command_words command) ≡ Ok (Do command)
+    (channel : Channel) (command : Command) → IsGivable command → length (command_words command) ≤ LONGEST_LINE → read_of channel (command_words command) ≡ Ok (RequestLine (Do command))

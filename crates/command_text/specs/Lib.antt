@@ -9,8 +9,10 @@ pub mod Denial
 pub mod Deny
 pub mod Addrs
 pub mod Stubs
+pub mod Request
 pub mod Line
 pub mod CommandWords
 pub mod Text
 pub mod Obeying
 pub mod Script
+pub mod Control

@@ -1,5 +1,5 @@
 -- What a line says: its first word is a command, and the words after it are the command's.
-use Rattle.std.specs.Prelude.{ℕ, ◌-◌, ◌^◌, Bool, true, false, nat_lt, ◌==◌, Option, Some, None, Result, Ok, Err, is_ok, List, [], ◌∷◌, length, if◌then◌else◌}
+use Rattle.std.specs.Prelude.{◌≡◌, ◌≤◌, ℕ, ◌-◌, ◌^◌, Bool, true, false, nat_lt, ◌==◌, Option, Some, None, Result, Ok, Err, is_ok, List, [], ◌∷◌, length, if◌then◌else◌}
 use Rattle.streams.specs.declared.held_line.TheConstants.{LONGEST_LINE}
 use Rattle.dns_name.specs.Results.{◌>>=◌, or_fault}
 use Rattle.dns_text.specs.Word.{next_word}
@@ -7,11 +7,12 @@ use Rattle.dns_text.specs.Number.{number_in}
 use Rattle.undo_book.specs.declared.event.Ask.TheVariants.{Answer, Servers as ServersAsk, Zones, Records, Stubs, Commands as CommandsAsk}
 use Rattle.undo_book.specs.declared.event.Command.TheVariants.{Flush as FlushCommand, FlushType as FlushTypeCommand, FlushZone as FlushZoneCommand}
 use Rattle.command_text.specs.declared.line.Line.{Line}
-use Rattle.command_text.specs.declared.line.Line.TheVariants.{Silent, At as AtLine, Admit as AdmitLine, Deny as DenyLine, Look as LookLine, Sweep as SweepLine, Do as DoLine, Undo as UndoLine, Redo as RedoLine}
+use Rattle.command_text.specs.declared.line.Line.TheVariants.{Silent, At as AtLine, Admit as AdmitLine, Deny as DenyLine, Request as RequestLine, Stop as StopLine}
+use Rattle.command_text.specs.declared.request.Request.TheVariants.{Look as LookRequest, Sweep as SweepRequest, Do as DoRequest, Undo as UndoRequest, Redo as RedoRequest}
 use Rattle.command_text.specs.declared.fault.LineFault.{LineFault}
 use Rattle.command_text.specs.declared.fault.LineFault.TheVariants.{Unknown, BadData, TooLong}
 use Rattle.command_text.specs.declared.words.Verb.{Verb}
-use Rattle.command_text.specs.declared.words.Verb.TheVariants.{At, Admit, NoData, NoName, Look, Servers, Sweep, Flush, FlushType, FlushZone, LocalZone, LocalZoneRemove, LocalData, LocalDataRemove, StubAdd, StubRemove, ListLocalZones, ListLocalData, ListStubs, ListCommands, Undo, Redo}
+use Rattle.command_text.specs.declared.words.Verb.TheVariants.{At, Admit, NoData, NoName, Look, Servers, Sweep, Flush, FlushType, FlushZone, LocalZone, LocalZoneRemove, LocalData, LocalDataRemove, StubAdd, StubRemove, ListLocalZones, ListLocalData, ListStubs, ListCommands, Undo, Redo, Stop}
 use Rattle.command_text.specs.declared.words.Channel.{Channel}
 use Rattle.command_text.specs.Words.{verb_in}
 use Rattle.command_text.specs.Parts.{word_in, ends, question_words, question_in, only_name}
@@ -24,6 +25,12 @@ use Rattle.command_text.specs.Local.{set_zone_in, drop_zone_in, record_words, ad
 abbrev pub is_silent : List ℕ → Bool
 is_silent [] = true
 is_silent (octet ∷ octets) = octet == 35
+
+-- nothing behind the word
+unfoldable pub alone : Line → List ℕ → Result Line LineFault
+alone line text = do
+  end ← ends text
+  Ok line
 
 -- N: from 0 to 2^64 - 1
 unfoldable pub at_in : List ℕ → Result Line LineFault
@@ -54,92 +61,57 @@ no_name_in text = do
 unfoldable pub look_in : List ℕ → Result Line LineFault
 look_in text = do
   question ← question_in text
-  Ok (LookLine (Answer question))
+  Ok (RequestLine (LookRequest (Answer question)))
 
 unfoldable pub servers_in : List ℕ → Result Line LineFault
 servers_in text = do
   name ← only_name text
-  Ok (LookLine (ServersAsk name))
-
-unfoldable pub sweep_in : List ℕ → Result Line LineFault
-sweep_in text = do
-  end ← ends text
-  Ok SweepLine
+  Ok (RequestLine (LookRequest (ServersAsk name)))
 
 unfoldable pub flush_in : List ℕ → Result Line LineFault
 flush_in text = do
   name ← only_name text
-  Ok (DoLine (FlushCommand name))
+  Ok (RequestLine (DoRequest (FlushCommand name)))
 
 unfoldable pub flush_type_in : List ℕ → Result Line LineFault
 flush_type_in text = do
   question ← question_in text
-  Ok (DoLine (FlushTypeCommand question))
+  Ok (RequestLine (DoRequest (FlushTypeCommand question)))
 
 unfoldable pub flush_zone_in : List ℕ → Result Line LineFault
 flush_zone_in text = do
   name ← only_name text
-  Ok (DoLine (FlushZoneCommand name))
+  Ok (RequestLine (DoRequest (FlushZoneCommand name)))
 
 unfoldable pub local_zone_in : List ℕ → Result Line LineFault
 local_zone_in text = do
   command ← set_zone_in text
-  Ok (DoLine command)
+  Ok (RequestLine (DoRequest command))
 
 unfoldable pub local_zone_remove_in : List ℕ → Result Line LineFault
 local_zone_remove_in text = do
   command ← drop_zone_in text
-  Ok (DoLine command)
+  Ok (RequestLine (DoRequest command))
 
 unfoldable pub local_data_in : List ℕ → Result Line LineFault
 local_data_in text = do
   command ← add_record_in text
-  Ok (DoLine command)
+  Ok (RequestLine (DoRequest command))
 
 unfoldable pub local_data_remove_in : List ℕ → Result Line LineFault
 local_data_remove_in text = do
   command ← drop_name_in text
-  Ok (DoLine command)
+  Ok (RequestLine (DoRequest command))
 
 unfoldable pub stub_add_in : List ℕ → Result Line LineFault
 stub_add_in text = do
   command ← set_stub_in text
-  Ok (DoLine command)
+  Ok (RequestLine (DoRequest command))
 
 unfoldable pub stub_remove_in : List ℕ → Result Line LineFault
 stub_remove_in text = do
   command ← drop_stub_in text
-  Ok (DoLine command)
-
-unfoldable pub list_local_zones_in : List ℕ → Result Line LineFault
-list_local_zones_in text = do
-  end ← ends text
-  Ok (LookLine Zones)
-
-unfoldable pub list_local_data_in : List ℕ → Result Line LineFault
-list_local_data_in text = do
-  end ← ends text
-  Ok (LookLine Records)
-
-unfoldable pub list_stubs_in : List ℕ → Result Line LineFault
-list_stubs_in text = do
-  end ← ends text
-  Ok (LookLine Stubs)
-
-unfoldable pub list_commands_in : List ℕ → Result Line LineFault
-list_commands_in text = do
-  end ← ends text
-  Ok (LookLine CommandsAsk)
-
-unfoldable pub undo_in : List ℕ → Result Line LineFault
-undo_in text = do
-  end ← ends text
-  Ok UndoLine
-
-unfoldable pub redo_in : List ℕ → Result Line LineFault
-redo_in text = do
-  end ← ends text
-  Ok RedoLine
+  Ok (RequestLine (DoRequest command))
 
 -- what a command says with the text after its word
 abbrev pub said_by : Verb → List ℕ → Result Line LineFault
@@ -149,7 +121,7 @@ said_by NoData text = no_data_in text
 said_by NoName text = no_name_in text
 said_by Look text = look_in text
 said_by Servers text = servers_in text
-said_by Sweep text = sweep_in text
+said_by Sweep text = alone (RequestLine SweepRequest) text
 said_by Flush text = flush_in text
 said_by FlushType text = flush_type_in text
 said_by FlushZone text = flush_zone_in text
@@ -159,12 +131,13 @@ said_by LocalData text = local_data_in text
 said_by LocalDataRemove text = local_data_remove_in text
 said_by StubAdd text = stub_add_in text
 said_by StubRemove text = stub_remove_in text
-said_by ListLocalZones text = list_local_zones_in text
-said_by ListLocalData text = list_local_data_in text
-said_by ListStubs text = list_stubs_in text
-said_by ListCommands text = list_commands_in text
-said_by Undo text = undo_in text
-said_by Redo text = redo_in text
+said_by ListLocalZones text = alone (RequestLine (LookRequest Zones)) text
+said_by ListLocalData text = alone (RequestLine (LookRequest Records)) text
+said_by ListStubs text = alone (RequestLine (LookRequest Stubs)) text
+said_by ListCommands text = alone (RequestLine (LookRequest CommandsAsk)) text
+said_by Undo text = alone (RequestLine UndoRequest) text
+said_by Redo text = alone (RequestLine RedoRequest) text
+said_by Stop text = alone StopLine text
 
 -- A line of blanks has no word, and a word that is no command where the line comes from is none.
 abbrev pub read_of : Channel → List ℕ → Result Line LineFault
@@ -172,6 +145,11 @@ read_of channel line =
     if nat_lt LONGEST_LINE (length line) then Err TooLong
     else if is_silent line then Ok Silent
     else (or_fault Unknown (next_word line) >>= λ first. or_fault Unknown (verb_in channel first.0) >>= λ verb. said_by verb first.1)
+
+-- A line whose first word is this is no command where it comes from there, whatever stands behind the word.
+abbrev pub IsUnknown : Channel → List ℕ → Type 0
+IsUnknown channel word =
+    (line rest : List ℕ) → length line ≤ LONGEST_LINE → is_silent line ≡ false → next_word line ≡ Some (word, rest) → read_of channel line ≡ Err Unknown
 
 -- Lines are taken with those that say nothing as such, however long they are.
 abbrev pub says : Channel → List ℕ → Result Line LineFault
@@ -201,6 +179,7 @@ takes_by ListStubs text = false
 takes_by ListCommands text = false
 takes_by Undo text = false
 takes_by Redo text = false
+takes_by Stop text = false
 
 abbrev takes_if : Option Verb → List ℕ → Bool
 takes_if None text = false

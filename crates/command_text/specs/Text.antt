@@ -33,6 +33,8 @@ use Rattle.undo_book.specs.declared.event.Reply.{Reply}
 use Rattle.undo_book.specs.declared.event.Reply.TheVariants.{Taken, Outranked, Swept, Seen, Done, Refused, Undone, Redone, NothingToUndo, NothingToRedo}
 use Rattle.undo_book.specs.declared.book.StepFault.{StepFault}
 use Rattle.undo_book.specs.declared.book.StepFault.TheVariants.{BadMoment, CountEnded, Full, NoMemory as StepNoMemory}
+use Rattle.undo_book.specs.declared.desk.DeskFault.{DeskFault}
+use Rattle.undo_book.specs.declared.desk.DeskFault.TheVariants.{Step, Behind}
 use Rattle.command_text.specs.declared.fault.LineFault.{LineFault}
 use Rattle.command_text.specs.declared.fault.LineFault.TheVariants.{Unknown, Missing, BadName, BadType, BadData, BadAddress, TooLong, NoMemory}
 use Rattle.command_text.specs.Addrs.{addrs_text}
@@ -165,6 +167,11 @@ fault_text BadMoment = with_end (codes "fault bad_moment")
 fault_text CountEnded = with_end (codes "fault count_ended")
 fault_text (Full stored) = with_end (codes "fault full " ++ decimal stored)
 fault_text StepNoMemory = with_end (codes "fault no_memory")
+
+-- why a desk gives no reply: its book takes no such event, or the book is behind
+abbrev pub desk_fault_text : DeskFault → List ℕ
+desk_fault_text (Step fault) = fault_text fault
+desk_fault_text (Behind at) = with_end (codes "fault behind " ++ decimal at)
 
 abbrev pub line_fault_text : LineFault → List ℕ
 line_fault_text Unknown = with_end (codes "error unknown")

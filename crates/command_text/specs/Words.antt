@@ -3,7 +3,7 @@ use Rattle.std.specs.Prelude.{ℕ, Bool, true, false, List, [], ◌∷◌, ◌++
 use Rattle.std.specs.Str.{bytes_eq}
 use Rattle.dns_name.specs.Options.{◌>>=◌}
 use Rattle.command_text.specs.declared.words.Verb.{Verb}
-use Rattle.command_text.specs.declared.words.Verb.TheVariants.{At, Admit, NoData, NoName, Look, Servers, Sweep, Flush, FlushType, FlushZone, LocalZone, LocalZoneRemove, LocalData, LocalDataRemove, StubAdd, StubRemove, ListLocalZones, ListLocalData, ListStubs, ListCommands, Undo, Redo}
+use Rattle.command_text.specs.declared.words.Verb.TheVariants.{At, Admit, NoData, NoName, Look, Servers, Sweep, Flush, FlushType, FlushZone, LocalZone, LocalZoneRemove, LocalData, LocalDataRemove, StubAdd, StubRemove, ListLocalZones, ListLocalData, ListStubs, ListCommands, Undo, Redo, Stop}
 use Rattle.command_text.specs.declared.words.Channel.{Channel}
 use Rattle.command_text.specs.declared.words.Channel.TheVariants.{Script, Control}
 use Rattle.command_text.specs.declared.words.Usage.{Usage}
@@ -21,6 +21,9 @@ script_only verb word form = record { verb = verb; word = word; form = form; in_
 
 abbrev anywhere : Verb → List ℕ → List ℕ → Row
 anywhere verb word form = record { verb = verb; word = word; form = form; in_script = true; in_control = true }
+
+abbrev control_only : Verb → List ℕ → List ℕ → Row
+control_only verb word form = record { verb = verb; word = word; form = form; in_script = false; in_control = true }
 
 -- the commands, each with its word and the form of what follows it
 abbrev pub commands : List Row
@@ -47,6 +50,7 @@ commands =
     ∷ anywhere ListCommands (codes "list_commands") []
     ∷ anywhere Undo (codes "undo") []
     ∷ anywhere Redo (codes "redo") []
+    ∷ control_only Stop (codes "stop") []
     ∷ []
 
 -- a row as the code has it

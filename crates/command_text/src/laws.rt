@@ -1,9 +1,13 @@
 //! What the definitions come to, by themselves.
 
 ghost use Rattle.std.specs.Prelude.{◌≡◌, ◌≢◌, ℕ, List, [], ◌∷◌, ◌++◌, Some, None, map, codes};
-ghost use Rattle.dns_text.specs.Word.{next_word};
+ghost use Rattle.std.specs.List.{AllByRecursion};
+ghost use Rattle.dns_text.specs.Word.{next_word, AreWords};
+ghost use Rattle.command_text.specs.Addrs.{words_of};
 ghost use Rattle.command_text.specs.Bar.{onto, pieces};
 ghost use Rattle.command_text.specs.CommandWords.{ReadsCommands};
+ghost use Rattle.command_text.specs.Line.{IsUnknown};
+ghost use Rattle.command_text.specs.declared.words.Channel.TheVariants.{Script, Control};
 
 use dns_text::written_law;
 
@@ -14,6 +18,19 @@ pub fn bars_are()
         → (first : List ℕ) × (text ≡ first ++ codes "|" ++ after) × (pieces text ≡ first ∷ pieces after) }
     ensures word { (text word after : List ℕ) → next_word text ≡ Some (word, after) → word ≢ codes "|"
         → (first : List ℕ) × (text ≡ first ++ after) × (pieces text ≡ onto first (pieces after)) }
+{}
+
+/// The words that addresses are read from are those of the text, and no other.
+pub fn words_are()
+    ensures only { (text : List ℕ) (words : List (List ℕ)) → AreWords text words → words_of text ≡ words }
+    ensures some { (text : List ℕ) → AreWords text (words_of text) }
+{}
+
+/// A line that a script alone has is no command of control, and `stop` is none of a script, also where what stands behind
+/// the word is wrong.
+pub fn channels_are_apart()
+    ensures control { AllByRecursion (IsUnknown Control) (codes "at" ∷ codes "admit" ∷ codes "nodata" ∷ codes "noname" ∷ []) }
+    ensures script { IsUnknown Script (codes "stop") }
 {}
 
 /// The words of a command are read back as that command, wherever lines come from.

@@ -1,9 +1,9 @@
 //! What a line says.
 
-ghost use Rattle.std.specs.Prelude.{◌≡◌, IsTrue, IsErrOf, is_ok};
-ghost use Rattle.command_text.specs.declared.fault.LineFault.TheVariants.{NoMemory};
+ghost use Rattle.std.specs.Prelude.{◌≡◌, IsTrue, IfErr, IsErrOf, is_ok};
+ghost use Rattle.command_text.specs.declared.fault.LineFault.TheVariants.{BadData, NoMemory};
 ghost use Rattle.command_text.specs.Fault.{Gives};
-ghost use Rattle.command_text.specs.Line.{is_silent, at_in, admit_in, no_data_in, no_name_in, look_in, servers_in, sweep_in, flush_in, flush_type_in, flush_zone_in, local_zone_in, local_zone_remove_in, local_data_in, local_data_remove_in, stub_add_in, stub_remove_in, list_local_zones_in, list_local_data_in, list_stubs_in, list_commands_in, undo_in, redo_in, said_by, takes_by, read_of, takes_memory};
+ghost use Rattle.command_text.specs.Line.{is_silent, alone, at_in, admit_in, no_data_in, no_name_in, look_in, servers_in, flush_in, flush_type_in, flush_zone_in, local_zone_in, local_zone_remove_in, local_data_in, local_data_remove_in, stub_add_in, stub_remove_in, said_by, takes_by, read_of, takes_memory};
 
 use crate::admission::Admission;
 use crate::admit::{admit_words, read_admission};
@@ -12,6 +12,7 @@ use crate::deny::{no_data_words, no_name_words, read_no_data, read_no_name};
 use crate::fault::LineFault;
 use crate::local::{read_add_record, read_drop_name, read_drop_zone, read_set_zone};
 use crate::parts::{read_end, read_only_name, read_question, read_word};
+use crate::request::Request;
 use crate::stubs::{read_drop_stub, read_set_stub};
 use crate::words::{Channel, Verb, verb_in};
 use dns_text::{next_word, read_number};
@@ -30,16 +31,10 @@ pub enum Line {
     Admit(Admission),
     /// Something was found not to be.
     Deny(Denial),
-    /// Something is asked.
-    Look(Ask),
-    /// What can never be shown again may be given up.
-    Sweep,
-    /// The operator gives a command.
-    Do(Command),
-    /// The newest command is taken back.
-    Undo,
-    /// The command that was undone last is put back.
-    Redo,
+    /// Something is handed in, at the moment that it is then.
+    Request(Request),
+    /// No line after it is obeyed.
+    Stop,
 }
 
 /// Whether a line is empty or a comment.
@@ -99,7 +94,7 @@ fn read_look(alloc: Global, text: &[u8]) -> Result<Line, LineFault>
     ensures no_memory { IsErrOf result NoMemory → IsTrue (takes_by Verb.Look text.now) }
 {
     let question = read_question(alloc, text)?;
-    Ok(Line::Look(Ask::Answer(question)))
+    Ok(Line::Request(Request::Look(Ask::Answer(question))))
 }
 
 #[tactic(auto, unfolding(crate::specs::Line::servers_in))]
@@ -108,16 +103,7 @@ fn read_servers(alloc: Global, text: &[u8]) -> Result<Line, LineFault>
     ensures no_memory { IsErrOf result NoMemory → IsTrue (takes_by Verb.Servers text.now) }
 {
     let name = read_only_name(alloc, text)?;
-    Ok(Line::Look(Ask::Servers(name)))
-}
-
-#[tactic(auto, unfolding(crate::specs::Line::sweep_in))]
-fn read_sweep(text: &[u8]) -> Result<Line, LineFault>
-    ensures value { Gives result (sweep_in text.now) }
-    ensures no_memory { IsErrOf result NoMemory → IsTrue (takes_by Verb.Sweep text.now) }
-{
-    read_end(text)?;
-    Ok(Line::Sweep)
+    Ok(Line::Request(Request::Look(Ask::Servers(name))))
 }
 
 #[tactic(auto, unfolding(crate::specs::Line::flush_in))]
@@ -126,7 +112,7 @@ fn read_flush(alloc: Global, text: &[u8]) -> Result<Line, LineFault>
     ensures no_memory { IsErrOf result NoMemory → IsTrue (takes_by Verb.Flush text.now) }
 {
     let name = read_only_name(alloc, text)?;
-    Ok(Line::Do(Command::Flush { name }))
+    Ok(Line::Request(Request::Do(Command::Flush { name })))
 }
 
 #[tactic(auto, unfolding(crate::specs::Line::flush_type_in))]
@@ -135,7 +121,7 @@ fn read_flush_type(alloc: Global, text: &[u8]) -> Result<Line, LineFault>
     ensures no_memory { IsErrOf result NoMemory → IsTrue (takes_by Verb.FlushType text.now) }
 {
     let question = read_question(alloc, text)?;
-    Ok(Line::Do(Command::FlushType(question)))
+    Ok(Line::Request(Request::Do(Command::FlushType(question))))
 }
 
 #[tactic(auto, unfolding(crate::specs::Line::flush_zone_in))]
@@ -144,7 +130,7 @@ fn read_flush_zone(alloc: Global, text: &[u8]) -> Result<Line, LineFault>
     ensures no_memory { IsErrOf result NoMemory → IsTrue (takes_by Verb.FlushZone text.now) }
 {
     let name = read_only_name(alloc, text)?;
-    Ok(Line::Do(Command::FlushZone { name }))
+    Ok(Line::Request(Request::Do(Command::FlushZone { name })))
 }
 
 #[tactic(auto, unfolding(crate::specs::Line::local_zone_in))]
@@ -153,7 +139,7 @@ fn read_local_zone(alloc: Global, text: &[u8]) -> Result<Line, LineFault>
     ensures no_memory { IsErrOf result NoMemory → IsTrue (takes_by Verb.LocalZone text.now) }
 {
     let command = read_set_zone(alloc, text)?;
-    Ok(Line::Do(command))
+    Ok(Line::Request(Request::Do(command)))
 }
 
 #[tactic(auto, unfolding(crate::specs::Line::local_zone_remove_in))]
@@ -162,7 +148,7 @@ fn read_local_zone_remove(alloc: Global, text: &[u8]) -> Result<Line, LineFault>
     ensures no_memory { IsErrOf result NoMemory → IsTrue (takes_by Verb.LocalZoneRemove text.now) }
 {
     let command = read_drop_zone(alloc, text)?;
-    Ok(Line::Do(command))
+    Ok(Line::Request(Request::Do(command)))
 }
 
 #[tactic(auto, unfolding(crate::specs::Line::local_data_in))]
@@ -171,7 +157,7 @@ fn read_local_data(alloc: Global, text: &[u8]) -> Result<Line, LineFault>
     ensures no_memory { IsErrOf result NoMemory → IsTrue (takes_by Verb.LocalData text.now) }
 {
     let command = read_add_record(alloc, text)?;
-    Ok(Line::Do(command))
+    Ok(Line::Request(Request::Do(command)))
 }
 
 #[tactic(auto, unfolding(crate::specs::Line::local_data_remove_in))]
@@ -180,7 +166,7 @@ fn read_local_data_remove(alloc: Global, text: &[u8]) -> Result<Line, LineFault>
     ensures no_memory { IsErrOf result NoMemory → IsTrue (takes_by Verb.LocalDataRemove text.now) }
 {
     let command = read_drop_name(alloc, text)?;
-    Ok(Line::Do(command))
+    Ok(Line::Request(Request::Do(command)))
 }
 
 #[tactic(auto, unfolding(crate::specs::Line::stub_add_in))]
@@ -189,7 +175,7 @@ fn read_stub_add(alloc: Global, text: &[u8]) -> Result<Line, LineFault>
     ensures no_memory { IsErrOf result NoMemory → IsTrue (takes_by Verb.StubAdd text.now) }
 {
     let command = read_set_stub(alloc, text)?;
-    Ok(Line::Do(command))
+    Ok(Line::Request(Request::Do(command)))
 }
 
 #[tactic(auto, unfolding(crate::specs::Line::stub_remove_in))]
@@ -198,61 +184,17 @@ fn read_stub_remove(alloc: Global, text: &[u8]) -> Result<Line, LineFault>
     ensures no_memory { IsErrOf result NoMemory → IsTrue (takes_by Verb.StubRemove text.now) }
 {
     let command = read_drop_stub(alloc, text)?;
-    Ok(Line::Do(command))
+    Ok(Line::Request(Request::Do(command)))
 }
 
-#[tactic(auto, unfolding(crate::specs::Line::list_local_zones_in))]
-fn read_list_local_zones(text: &[u8]) -> Result<Line, LineFault>
-    ensures value { Gives result (list_local_zones_in text.now) }
-    ensures no_memory { IsErrOf result NoMemory → IsTrue (takes_by Verb.ListLocalZones text.now) }
+/// A command whose word stands alone.
+#[tactic(auto, unfolding(crate::specs::Line::alone))]
+fn read_alone(line: Line, text: &[u8]) -> Result<Line, LineFault>
+    ensures value { result ≡ alone line text.now }
+    ensures fault { IfErr result (λ e. e ≡ BadData) }
 {
     read_end(text)?;
-    Ok(Line::Look(Ask::Zones))
-}
-
-#[tactic(auto, unfolding(crate::specs::Line::list_local_data_in))]
-fn read_list_local_data(text: &[u8]) -> Result<Line, LineFault>
-    ensures value { Gives result (list_local_data_in text.now) }
-    ensures no_memory { IsErrOf result NoMemory → IsTrue (takes_by Verb.ListLocalData text.now) }
-{
-    read_end(text)?;
-    Ok(Line::Look(Ask::Records))
-}
-
-#[tactic(auto, unfolding(crate::specs::Line::list_stubs_in))]
-fn read_list_stubs(text: &[u8]) -> Result<Line, LineFault>
-    ensures value { Gives result (list_stubs_in text.now) }
-    ensures no_memory { IsErrOf result NoMemory → IsTrue (takes_by Verb.ListStubs text.now) }
-{
-    read_end(text)?;
-    Ok(Line::Look(Ask::Stubs))
-}
-
-#[tactic(auto, unfolding(crate::specs::Line::list_commands_in))]
-fn read_list_commands(text: &[u8]) -> Result<Line, LineFault>
-    ensures value { Gives result (list_commands_in text.now) }
-    ensures no_memory { IsErrOf result NoMemory → IsTrue (takes_by Verb.ListCommands text.now) }
-{
-    read_end(text)?;
-    Ok(Line::Look(Ask::Commands))
-}
-
-#[tactic(auto, unfolding(crate::specs::Line::undo_in))]
-fn read_undo(text: &[u8]) -> Result<Line, LineFault>
-    ensures value { Gives result (undo_in text.now) }
-    ensures no_memory { IsErrOf result NoMemory → IsTrue (takes_by Verb.Undo text.now) }
-{
-    read_end(text)?;
-    Ok(Line::Undo)
-}
-
-#[tactic(auto, unfolding(crate::specs::Line::redo_in))]
-fn read_redo(text: &[u8]) -> Result<Line, LineFault>
-    ensures value { Gives result (redo_in text.now) }
-    ensures no_memory { IsErrOf result NoMemory → IsTrue (takes_by Verb.Redo text.now) }
-{
-    read_end(text)?;
-    Ok(Line::Redo)
+    Ok(line)
 }
 
 /// What a command says with the text after its word.
@@ -267,7 +209,7 @@ fn read_command(alloc: Global, verb: Verb, text: &[u8]) -> Result<Line, LineFaul
         Verb::NoName => read_no_name_line(alloc, text),
         Verb::Look => read_look(alloc, text),
         Verb::Servers => read_servers(alloc, text),
-        Verb::Sweep => read_sweep(text),
+        Verb::Sweep => read_alone(Line::Request(Request::Sweep), text),
         Verb::Flush => read_flush(alloc, text),
         Verb::FlushType => read_flush_type(alloc, text),
         Verb::FlushZone => read_flush_zone(alloc, text),
@@ -277,12 +219,13 @@ fn read_command(alloc: Global, verb: Verb, text: &[u8]) -> Result<Line, LineFaul
         Verb::LocalDataRemove => read_local_data_remove(alloc, text),
         Verb::StubAdd => read_stub_add(alloc, text),
         Verb::StubRemove => read_stub_remove(alloc, text),
-        Verb::ListLocalZones => read_list_local_zones(text),
-        Verb::ListLocalData => read_list_local_data(text),
-        Verb::ListStubs => read_list_stubs(text),
-        Verb::ListCommands => read_list_commands(text),
-        Verb::Undo => read_undo(text),
-        Verb::Redo => read_redo(text),
+        Verb::ListLocalZones => read_alone(Line::Request(Request::Look(Ask::Zones)), text),
+        Verb::ListLocalData => read_alone(Line::Request(Request::Look(Ask::Records)), text),
+        Verb::ListStubs => read_alone(Line::Request(Request::Look(Ask::Stubs)), text),
+        Verb::ListCommands => read_alone(Line::Request(Request::Look(Ask::Commands)), text),
+        Verb::Undo => read_alone(Line::Request(Request::Undo), text),
+        Verb::Redo => read_alone(Line::Request(Request::Redo), text),
+        Verb::Stop => read_alone(Line::Stop, text),
     }
 }
 

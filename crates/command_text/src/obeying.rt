@@ -1,11 +1,10 @@
-//! A line is obeyed.
+//! A line of a script is obeyed.
 
 ghost use Rattle.std.specs.Prelude.{◌≡◌, List, Ok, IfOk, codes};
 ghost use Rattle.streams.specs.Split.{with_end};
 ghost use Rattle.streams.specs.Text.{octets_in};
 ghost use Rattle.undo_book.specs.declared.event.Event.{Event};
-ghost use Rattle.undo_book.specs.Answers.{Answers, history_after};
-ghost use Rattle.command_text.specs.declared.line.Line.TheVariants.{At, Admit, Deny, Look, Sweep, Do, Undo, Redo};
+ghost use Rattle.command_text.specs.declared.line.Line.TheVariants.{At, Admit, Deny, Request as RequestLine};
 ghost use Rattle.command_text.specs.Admission.{IsFindOf};
 ghost use Rattle.command_text.specs.Denial.{IsDenialOf};
 ghost use Rattle.command_text.specs.Obeying.{Place, Asks, Does, GoesOn, Obeys};
@@ -14,21 +13,13 @@ use crate::admission::Admission;
 use crate::denial::Denial;
 use crate::fault::LineFault;
 use crate::line::{Line, is_silent, read_line};
+use crate::request::{Request, event_at};
 use crate::text::{answer_text, line_fault_text};
 use crate::words::Channel;
 use ranked::SharedFind;
 use std::alloc::{AllocError, Global};
 use streams::Text;
-use undo_book::{Ask, Book, Command, Event, Reply, StepFault};
-
-/// Asks the book.
-fn take<B: Book>(book: &mut B, event: Event) -> Result<Reply, StepFault>
-    ensures answers { (h : List Event) → B.stands_for book.old h → Answers (B.settings book.old) h event result }
-    ensures stands { (h : List Event) → B.stands_for book.old h → B.stands_for book.new (history_after h event result) }
-    ensures settings { B.settings book.new ≡ B.settings book.old }
-{
-    book.step(event)
-}
+use undo_book::{Book, Desk, Event};
 
 /// Asks the book an event, and says what is told.
 fn ask<B: Book>(alloc: Global, book: &mut B, event: Event) -> Text
@@ -37,7 +28,7 @@ fn ask<B: Book>(alloc: Global, book: &mut B, event: Event) -> Text
         × B.stands_for book.new next.history × (next.moment ≡ place.moment) }
     ensures settings { B.settings book.new ≡ B.settings book.old }
 {
-    let answer = take(book, event);
+    let answer = book.call(event);
     answer_text(alloc, &answer)
 }
 
@@ -82,39 +73,11 @@ fn obey_deny<B: Book>(alloc: Global, book: &mut B, moment: u64, denial: Denial) 
     }
 }
 
-fn obey_look<B: Book>(alloc: Global, book: &mut B, moment: u64, asked: Ask) -> Text
-    ensures does { GoesOn B.stands_for book.old moment book.new moment (λ place next. Does (B.settings book.old) place (Ok (Look asked)) (octets_in result) next) }
+fn obey_request<B: Book>(alloc: Global, book: &mut B, moment: u64, request: Request) -> Text
+    ensures does { GoesOn B.stands_for book.old moment book.new moment (λ place next. Does (B.settings book.old) place (Ok (RequestLine request)) (octets_in result) next) }
     ensures settings { B.settings book.new ≡ B.settings book.old }
 {
-    ask(alloc, book, Event::Look { moment, ask: asked })
-}
-
-fn obey_sweep<B: Book>(alloc: Global, book: &mut B, moment: u64) -> Text
-    ensures does { GoesOn B.stands_for book.old moment book.new moment (λ place next. Does (B.settings book.old) place (Ok Sweep) (octets_in result) next) }
-    ensures settings { B.settings book.new ≡ B.settings book.old }
-{
-    ask(alloc, book, Event::Sweep { moment })
-}
-
-fn obey_command<B: Book>(alloc: Global, book: &mut B, moment: u64, command: Command) -> Text
-    ensures does { GoesOn B.stands_for book.old moment book.new moment (λ place next. Does (B.settings book.old) place (Ok (Do command)) (octets_in result) next) }
-    ensures settings { B.settings book.new ≡ B.settings book.old }
-{
-    ask(alloc, book, Event::Do { moment, command })
-}
-
-fn obey_undo<B: Book>(alloc: Global, book: &mut B, moment: u64) -> Text
-    ensures does { GoesOn B.stands_for book.old moment book.new moment (λ place next. Does (B.settings book.old) place (Ok Undo) (octets_in result) next) }
-    ensures settings { B.settings book.new ≡ B.settings book.old }
-{
-    ask(alloc, book, Event::Undo { moment })
-}
-
-fn obey_redo<B: Book>(alloc: Global, book: &mut B, moment: u64) -> Text
-    ensures does { GoesOn B.stands_for book.old moment book.new moment (λ place next. Does (B.settings book.old) place (Ok Redo) (octets_in result) next) }
-    ensures settings { B.settings book.new ≡ B.settings book.old }
-{
-    ask(alloc, book, Event::Redo { moment })
+    ask(alloc, book, event_at(moment, request))
 }
 
 /// Obeys what a line says.
@@ -127,11 +90,9 @@ fn obey_line<B: Book>(alloc: Global, book: &mut B, moment: &mut u64, line: Line)
         Line::At { moment: given } => obey_at(moment, given),
         Line::Admit(admission) => obey_admit(alloc, book, *moment, admission),
         Line::Deny(denial) => obey_deny(alloc, book, *moment, denial),
-        Line::Look(asked) => obey_look(alloc, book, *moment, asked),
-        Line::Sweep => obey_sweep(alloc, book, *moment),
-        Line::Do(command) => obey_command(alloc, book, *moment, command),
-        Line::Undo => obey_undo(alloc, book, *moment),
-        Line::Redo => obey_redo(alloc, book, *moment),
+        Line::Request(request) => obey_request(alloc, book, *moment, request),
+        // No script has this line: `read_line` takes its word for none.
+        Line::Stop => line_fault_text(LineFault::Unknown),
     }
 }
 

@@ -1,4 +1,4 @@
-//! Lines in, a transcript out.
+//! Lines of a script in, a transcript out.
 
 ghost use Rattle.std.specs.Prelude.{◌≡◌, ℕ, List, [], ◌≤◌, ◌<◌, ◌+◌, ◌⊎◌, OnOk, IsErrOf};
 ghost use Rattle.std.specs.Io.KnownBytes.{Appends, Consumes, IsAtEnd};

@@ -6,7 +6,7 @@ ghost use Rattle.streams.specs.Text.{octets_in};
 ghost use Rattle.dns_name.specs.Text.{text_of};
 ghost use Rattle.dns_text.specs.Data.{data_text};
 ghost use Rattle.ranked.specs.Body.{is_negative};
-ghost use Rattle.command_text.specs.Text.{set_text, scope_text, found_text, held_text, is_long, reply_text, reason_text, fault_text, line_fault_text};
+ghost use Rattle.command_text.specs.Text.{set_text, scope_text, found_text, held_text, is_long, reply_text, reason_text, fault_text, desk_fault_text, line_fault_text};
 ghost use Rattle.command_text.specs.Obeying.{Tells};
 
 use crate::answers::answer_line;
@@ -20,7 +20,7 @@ use itoa::Buffer;
 use ranked::{Body, Find, Scope, SharedFind, Shown};
 use std::alloc::Global;
 use streams::Text;
-use undo_book::{Reason, Reply, Seen, StepFault};
+use undo_book::{DeskFault, Reason, Reply, Seen, StepFault};
 
 /// Writes the data after the first of a set.
 fn push_others(others: &[Data], out: &mut Vec<u8>) -> Result<(), NoMemory>
@@ -156,8 +156,18 @@ fn fault_text(fault: StepFault) -> Text
     }
 }
 
-/// The line of what a step answers. A set, local data or a list that finds no memory for its text is lost.
-pub fn answer_text(alloc: Global, answer: &Result<Reply, StepFault>) -> Text
+/// The line of a fault of a desk.
+fn desk_fault_text(fault: DeskFault) -> Text
+    ensures { octets_in result ≡ desk_fault_text fault }
+{
+    match fault {
+        DeskFault::Step(fault) => fault_text(fault),
+        DeskFault::Behind { at } => number_line(b"fault behind", at),
+    }
+}
+
+/// The line of what a desk answers. A set, local data or a list that finds no memory for its text is lost.
+pub fn answer_text(alloc: Global, answer: &Result<Reply, DeskFault>) -> Text
     ensures { Tells answer.now (octets_in result) }
 {
     match answer {
@@ -165,7 +175,7 @@ pub fn answer_text(alloc: Global, answer: &Result<Reply, StepFault>) -> Text
             Ok(text) => text,
             Err(_) => Text::Fixed(b"fault reply_lost\n"),
         },
-        Err(fault) => fault_text(*fault),
+        Err(fault) => desk_fault_text(*fault),
     }
 }
 

@@ -31,6 +31,7 @@ pub(crate) enum Verb {
     ListCommands,
     Undo,
     Redo,
+    Stop,
 }
 
 /// Where lines come from.
@@ -52,7 +53,7 @@ struct Usage {
     in_control: bool,
 }
 
-static COMMANDS: [Usage; 22] = [
+static COMMANDS: [Usage; 23] = [
     Usage {
         verb: Verb::At,
         word: "at",
@@ -205,6 +206,13 @@ static COMMANDS: [Usage; 22] = [
         word: "redo",
         form: "",
         in_script: true,
+        in_control: true,
+    },
+    Usage {
+        verb: Verb::Stop,
+        word: "stop",
+        form: "",
+        in_script: false,
         in_control: true,
     },
 ];

@@ -3,7 +3,7 @@
 use crate::messages::{QUERY, REPLY, TEXT, long_reply, unknown};
 use anyhow::anyhow;
 use dns_name::Name;
-use dns_wire::{Asked, decode, encode, read_question};
+use dns_wire::{Asked, decode, encode, encode_lent, read_question};
 use std::alloc::Global;
 use std::cmp::Ordering;
 
@@ -27,6 +27,31 @@ pub fn encode_many(alloc: Global, octets: &[u8], count: u32) -> anyhow::Result<u
     let mut sum = 0;
     for _ in 0..count {
         let out = encode(alloc, &message)?;
+        sum = added(sum, out.len());
+    }
+    Ok(sum)
+}
+
+/// Replies whose records are lent.
+pub fn encode_lent_many(
+    alloc: Global,
+    query: &[u8],
+    octets: &[u8],
+    count: u32,
+) -> anyhow::Result<u32> {
+    let Asked::Good(query) = read_question(alloc, query)? else {
+        return Err(anyhow!("it is no query"));
+    };
+    let message = decode(alloc, octets)?;
+    let mut sum = 0;
+    for _ in 0..count {
+        let out = encode_lent(
+            alloc,
+            &query,
+            &message.head,
+            &message.answer,
+            &message.authority,
+        )?;
         sum = added(sum, out.len());
     }
     Ok(sum)
@@ -117,6 +142,7 @@ pub fn run(alloc: Global, call: &str, count: u32) -> anyhow::Result<u32> {
         "encode_query" => encode_many(alloc, &query, count),
         "encode_reply" => encode_many(alloc, &reply, count),
         "encode_long" => encode_many(alloc, &long, count),
+        "encode_lent" => encode_lent_many(alloc, &query, &reply, count),
         "read_question" => read_question_many(alloc, &query, count),
         "from_text" => from_text_many(alloc, &text, count),
         "to_text" => to_text_many(alloc, &text, count),

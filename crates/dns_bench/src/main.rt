@@ -11,13 +11,14 @@ use calls::run;
 use std::env;
 
 /// Every call, in the order in which it is shown.
-const CALLS: [&str; 11] = [
+const CALLS: [&str; 12] = [
     "decode_query",
     "decode_reply",
     "decode_long",
     "encode_query",
     "encode_reply",
     "encode_long",
+    "encode_lent",
     "read_question",
     "from_text",
     "to_text",

@@ -3,6 +3,7 @@
 use crate::denials::denial_in;
 use crate::fault::CallFault;
 use crate::harvests::harvest_in;
+use crate::lent::lent_octets;
 use crate::messages::{
     encoding_of, fault_reply_to, is_read_again, reply_octets, reply_over_udp, verdict_on, words_of,
 };
@@ -10,6 +11,7 @@ use crate::names::{
     is_below, labels_of, length_of, name_of_labels, name_text, order_of, parent_of, spelling_of,
 };
 use crate::texts::{addr_text, data_text, record_text, type_text};
+use crate::verdicts::{query_octets, verdict_in};
 use dns_text::next_word;
 use hex::FromHexError;
 use std::alloc::{AllocError, Global};
@@ -59,8 +61,15 @@ fn answer(alloc: Global, word: &[u8], arguments: &[Vec<u8>]) -> Result<Vec<u8>, 
         (b"fault", [octets, rcode]) => fault_reply_to(alloc, octets, rcode),
         (b"cut", [query, octets]) => reply_over_udp(alloc, query, octets),
         (b"reply", [query, octets]) => reply_octets(alloc, query, octets),
+        (b"lent", [query, owner, kind, ttl, data @ ..]) => {
+            lent_octets(alloc, query, owner, kind, ttl, data)
+        }
         (b"denial", [octets, owner, kind, zone]) => denial_in(alloc, octets, owner, kind, zone),
         (b"harvest", [octets, owner, kind, zone]) => harvest_in(alloc, octets, owner, kind, zone),
+        (b"query", [id, owner, kind]) => query_octets(alloc, id, owner, kind),
+        (b"judge", [octets, over, id, zone, owner, kind]) => {
+            verdict_in(alloc, octets, (over, id), zone, owner, kind)
+        }
         _ => Err(CallFault::NoCall),
     }
 }

@@ -21,7 +21,7 @@ fn push_each(data: &[Data], out: &mut Vec<u8>) -> Result<(), NoMemory> {
 }
 
 /// `set`, the rank, the time to live, the owner, the type and the data; or what is denied.
-fn find_words(alloc: Global, find: &Find) -> Result<Vec<u8>, NoMemory> {
+pub fn find_words(alloc: Global, find: &Find) -> Result<Vec<u8>, NoMemory> {
     let Body::Set(data) = &find.body else {
         return denial_words(alloc, find);
     };
@@ -35,7 +35,7 @@ fn find_words(alloc: Global, find: &Find) -> Result<Vec<u8>, NoMemory> {
 }
 
 /// `passing`, the rank, the owner, the type and the data.
-fn passing_words(alloc: Global, set: &PassingSet) -> Result<Vec<u8>, NoMemory> {
+pub fn passing_words(alloc: Global, set: &PassingSet) -> Result<Vec<u8>, NoMemory> {
     let rank = set.rank.level();
     let mut told = format!(in alloc; "passing {rank} ")?.into_bytes();
     set.owner.push_text(&mut told)?;

@@ -8,9 +8,11 @@ mod calls; // each call by its word
 mod denials; // what a message denies
 mod fault; // why a call gives nothing
 mod harvests; // what a message is believed to say
+mod lent; // replies whose records are lent
 mod messages; // messages and queries
 mod names; // names
 mod texts; // records, types and addresses as text
+mod verdicts; // queries, and what came of them
 mod words; // a message in words
 
 use calls::call;

@@ -8,3 +8,6 @@ pub const MAX_NAME_OCTETS: usize = 255;
 
 /// The most labels of a name: each takes two octets or more.
 pub const MAX_LABELS: usize = (MAX_NAME_OCTETS - 1) / 2;
+
+// The most octets that the labels of a name take, each behind its length.
+pub(crate) const MAX_SPELLED_OCTETS: usize = MAX_NAME_OCTETS - 1;

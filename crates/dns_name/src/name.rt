@@ -1,6 +1,6 @@
 //! A name, its labels and its order.
 
-ghost use Rattle.std.specs.Prelude.{◌≡◌, ◌↔◌, ◌++◌, IsTrue, IfOk, IfErr, OnOk, MatchOption, List, ℕ, ◌+◌, [], length, map};
+ghost use Rattle.std.specs.Prelude.{◌≡◌, ◌↔◌, ◌++◌, IsTrue, IfOk, IfErr, OnOk, MatchOption, List, ℕ, ◌+◌, ◌≤◌, [], length, drop, map};
 ghost use Rattle.std.specs.Iterator.{YieldsFirstBy, item_count};
 ghost use Rattle.dns_name.specs.Labels.{IsAtOrBelow, octets_of, spelled, wire_len, IsName, IsOctets, labels_in, labels_of, parent_of};
 ghost use Rattle.dns_name.specs.Making.{Gives, name_after, lowercase_labels};
@@ -10,7 +10,8 @@ ghost use Rattle.dns_name.specs.Order.{labels_cmp, ZoneIsFirst, SubtreeIsContigu
 use crate::NoMemory;
 use crate::builder::NameBuilder;
 use crate::fault::NameFault;
-use crate::limits::MAX_LABELS;
+use crate::limits::{MAX_LABELS, MAX_SPELLED_OCTETS};
+use crate::octets::Octets;
 use arrayvec::ArrayVec;
 use std::alloc::Global;
 use std::cmp::Ordering;
@@ -22,10 +23,13 @@ use std::marker::Model;
 ///
 /// Two names are equal where their labels are. They are ordered by labels from the root, each label
 /// compared as octets, so a zone comes right before the names below it.
+///
+/// A copy takes no memory. That of a name of more than 31 octets in a message is one more owner of
+/// the same octets; where there are too many owners to count, `clone` answers `NoMemory`.
 #[derive(Debug, Drop)]
 pub struct Name {
     // The labels from the root, each behind its length: those of a zone are a prefix.
-    octets: Vec<u8>,
+    octets: Octets,
 }
 
 impl Model for Name {
@@ -34,18 +38,18 @@ impl Model for Name {
 
     ghost Value = { List (List ℕ) };
 
-    ghost view = { λ n. labels_of n.octets.items };
+    ghost view = { λ n. labels_of n.octets };
 
-    ghost invariant = { λ n. IsOctets n.octets.items };
+    ghost invariant = { λ n. IsOctets n.octets };
 }
 
 impl Name {
     /// The root. It takes no memory.
-    pub fn root(alloc: Global) -> Name
+    pub fn root(_alloc: Global) -> Name
         ensures { result ≡ [] }
     {
         Name {
-            octets: Vec::new(alloc),
+            octets: Octets::none(),
         }
     }
 
@@ -60,13 +64,18 @@ impl Name {
         build(alloc, labels)
     }
 
-    /// The name of the labels that these octets spell from the root.
-    pub(crate) fn from_octets(alloc: Global, octets: &[u8]) -> Result<Name, NoMemory>
-        requires { IsOctets octets.now }
-        ensures { IfOk result (λ n. n ≡ labels_of octets.now) }
+    /// The name of the labels that a buffer spells from `start` on, from the root.
+    pub(crate) fn from_buffer(
+        alloc: Global,
+        buffer: &[u8; MAX_SPELLED_OCTETS],
+        start: usize,
+    ) -> Result<Name, NoMemory>
+        requires within { start ≤ MAX_SPELLED_OCTETS }
+        requires octets { IsOctets (drop start buffer.now) }
+        ensures { IfOk result (λ n. n ≡ labels_of (drop start buffer.now)) }
     {
         Ok(Name {
-            octets: Vec::from_slice(alloc, octets)?,
+            octets: Octets::from_buffer(alloc, buffer, start)?,
         })
     }
 
@@ -77,7 +86,7 @@ impl Name {
         let mut labels = self.labels();
         match labels.next() {
             None => Ok(None),
-            Some(_) => Ok(Some(Name::from_octets(alloc, labels.octets)?)),
+            Some(_) => Ok(Some(NameBuilder::from_octets(labels.octets).name(alloc)?)),
         }
     }
 
@@ -86,9 +95,10 @@ impl Name {
         ensures value { result ≡ self.now }
         ensures name { IsName self.now }
     {
+        let octets = self.octets();
         Labels {
-            octets: &self.octets,
-            starts: label_starts(&self.octets),
+            octets,
+            starts: label_starts(octets),
         }
     }
 
@@ -99,7 +109,7 @@ impl Name {
         ensures labels { labels_of result.now ≡ self.now }
         ensures name { IsName self.now }
     {
-        &self.octets
+        self.octets.as_slice()
     }
 
     /// How many octets the name takes in a message, with the zero octet that ends it: 1 to `MAX_NAME_OCTETS` (RFC 1035 section 3.1).
@@ -116,7 +126,7 @@ impl Name {
     pub fn push_spelled(&self, out: &mut Vec<u8>) -> Result<(), NoMemory>
         ensures { OnOk result (out.new.items ≡ out.old.items ++ spelled self.now) }
     {
-        push_labels(&self.octets, out)
+        push_labels(self.octets(), out)
     }
 
     /// Whether the labels of this name end with those of `zone`. It takes no memory.
@@ -262,7 +272,7 @@ impl PartialEq for Name {
     ghost laws = { name_per };
 
     fn eq(&self, other: &Name) -> bool {
-        self.octets == other.octets
+        self.octets() == other.octets()
     }
 }
 
@@ -297,7 +307,7 @@ impl Ord for Name {
     ghost matches_eq = { name_eq-is_eq };
 
     fn cmp(&self, other: &Name) -> Ordering {
-        compare(&self.octets, &other.octets)
+        compare(self.octets(), other.octets())
     }
 }
 
@@ -309,7 +319,7 @@ impl Hash for Name {
     ghost respects_eq = { name_hash_respects_eq };
 
     fn hash<H: Hasher>(&self, state: &mut H) {
-        state.write(&self.octets);
+        state.write(self.octets());
     }
 }
 

@@ -1,0 +1,2 @@
+pub mod BelievedLaws
+pub mod VerdictLaws

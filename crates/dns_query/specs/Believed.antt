@@ -1,34 +1,50 @@
 -- The sets of a harvest that may be answered: those of rank 2 or more (RFC 2181, section 5.4.1).
-use Rattle.std.specs.Prelude.{◌≡◌, ◌≤◌, false, List}
-use Rattle.std.specs.List.{Contains}
+use Rattle.std.specs.Prelude.{◌≡◌, ℕ, ◌≤◌, ◌<◌, false, List, length, take, slice_index_or}
+use Rattle.std.specs.List.{AllByRecursion, Contains}
 use Rattle.dns_name.specs.Labels.{Labels}
 use Rattle.dns_text.specs.declared.record.Question.{Question}
 use Rattle.dns_wire.specs.declared.message.Message.{Message}
-use Rattle.ranked.specs.Rank.{level_of}
 use Rattle.ranked.specs.Body.{is_negative}
+use Rattle.ranked.specs.Rank.{level_of}
 use Rattle.ranked.specs.declared.find.Scope.TheVariants.{One}
-use Rattle.neg_rule.specs.Negative.{Said}
+use Rattle.neg_rule.specs.Negative.{Said, said_by}
 use Rattle.harvest.specs.Harvest.{finds_in, passing_in}
+use Rattle.harvest.specs.Learnt.{set_of}
 use Rattle.harvest.specs.Sets.{Set}
+use Rattle.dns_query.specs.declared.sets.Believed.{Believed}
+use Rattle.dns_query.specs.declared.sets.Believed.TheVariants.{Find, Passing}
 
--- What is found is a set of this name and type, and may be answered.
+-- The find is a set of this name and type that may be answered.
 pub record IsFoundFor (question : Question) (said : Said) : Type 0 where
   pub owner : said.owner ≡ question.owner
-  pub kind : said.scope ≡ One question.kind
+  pub scope : said.scope ≡ One question.kind
   pub trusted : 2 ≤ level_of said.rank
-  pub has_data : is_negative said.body ≡ false
+  pub is_set : is_negative said.body ≡ false
 
--- A set that passes is of this name and type, and may be answered.
+-- And so is the set that passes.
 pub record IsPassingFor (question : Question) (set : Set) : Type 0 where
   pub owner : set.key.owner ≡ question.owner
   pub kind : set.key.kind ≡ question.kind
   pub trusted : 2 ≤ level_of set.key.rank
 
--- Among these finds, or these sets that pass, one is of this name and type, and may be answered.
-pub data HasSetAmong (finds : List Said) (passing : List Set) (question : Question) : Type 0 where
-  found : (said : Said) → Contains finds said → IsFoundFor question said → HasSetAmong finds passing question
-  passes : (set : Set) → Contains passing set → IsPassingFor question set → HasSetAmong finds passing question
+-- Among finds and sets that pass stands one of this question that may be answered.
+pub data Has (finds : List Said) (passing : List Set) (question : Question) : Type 0 where
+  found : (said : Said) → Contains finds said → IsFoundFor question said → Has finds passing question
+  passes : (set : Set) → Contains passing set → IsPassingFor question set → Has finds passing question
 
--- A message that responds to a query of `asked` in a zone has a set of this question.
+-- The harvest of a response, from a zone that was asked a question, has a set of this name and type that may be answered.
 abbrev pub HasSet : Message → Question → Labels → Question → Type 0
-HasSet v asked zone question = HasSetAmong (finds_in v asked zone) (passing_in v asked zone) question
+HasSet v asked zone question = Has (finds_in v asked zone) (passing_in v asked zone) question
+
+-- The first of these of which this holds.
+pub record IsFirst {X : Type 0} (P : X → Type 0) (xs : List X) (x : X) : Type 0 where
+  pub at : ℕ
+  pub within : at < length xs
+  pub stands : slice_index_or xs at x ≡ x
+  pub holds : P x
+  pub none_before : AllByRecursion (λ y. ¬ (P y)) (take at xs)
+
+-- It is the first find of this question that may be answered, or else the first such set that passes.
+abbrev pub IsBelieved : List Said → List Set → Question → Believed → Type 0
+IsBelieved finds passing question (Find find) = IsFirst (IsFoundFor question) finds (said_by find.now)
+IsBelieved finds passing question (Passing set) = AllByRecursion (λ said. ¬ (IsFoundFor question said)) finds × IsFirst (IsPassingFor question) passing (set_of set.now)

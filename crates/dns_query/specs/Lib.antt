@@ -1,5 +1,7 @@
 pub mod Query
 pub mod Response
 pub mod Believed
+pub mod BelievedLaws
 pub mod Referral
+pub mod Denial
 pub mod Verdict

@@ -1,84 +1,108 @@
--- Responses that say only who serves a nearer zone (RFC 1034, section 5.3.3, step 4b).
-use Rattle.std.specs.Prelude.{◌≡◌, ℕ, ◌==◌, ◌&&◌, ◌<◌, Bool, false, List, ◌++◌, [], ◌∷◌, length, filter, map}
-use Rattle.std.specs.List.{All, flat_map}
+-- Referrals: responses that say no more of a question than which servers are nearer (RFC 1034, section 5.3.3, step 4b).
+use Rattle.std.specs.Prelude.{◌≡◌, ℕ, ◌==◌, ◌&&◌, ◌||◌, Bool, not, true, false, List, [], ◌∷◌, ◌++◌, length, filter, Option, Some, None, if◌then◌else◌}
+use Rattle.std.specs.List.{filter_map, find, flat_map, list_any, list_all}
+use Rattle.std.specs.Option.{option_map}
 use Rattle.dns_name.specs.Labels.{Labels, IsAtOrBelow}
 use Rattle.dns_name.specs.Order.{name_eq}
 use Rattle.dns_text.specs.declared.addr.Addr.{Addr}
 use Rattle.dns_text.specs.declared.addr.Ip.TheVariants.{V4, V6}
 use Rattle.dns_text.specs.declared.record.Data.{Data}
-use Rattle.dns_text.specs.declared.record.Data.TheVariants.{A, Aaaa, One}
+use Rattle.dns_text.specs.declared.record.Data.TheVariants.{A, Aaaa}
 use Rattle.dns_text.specs.declared.record.Question.{Question}
 use Rattle.dns_text.specs.declared.record.Record.{Record}
-use Rattle.dns_text.specs.declared.types.TheConstants as number
+use Rattle.dns_text.specs.declared.types.TheConstants as types
 use Rattle.dns_wire.specs.declared.message.Classed.{Classed}
 use Rattle.dns_wire.specs.declared.message.Message.{Message}
 use Rattle.dns_wire.specs.declared.message.TheConstants.{CLASS_IN}
 use Rattle.ranked.specs.Body.{data_of}
-use Rattle.ranked.specs.declared.find.Scope.{Scope}
-use Rattle.ranked.specs.declared.find.Scope.TheVariants.{One as OneType, Whole}
+use Rattle.ranked.specs.Find.{has_kind}
+use Rattle.ranked.specs.Set.{each_once}
+use Rattle.neg_rule.specs.Alias.{target_of}
 use Rattle.neg_rule.specs.Negative.{Said}
 use Rattle.harvest.specs.Harvest.{finds_in, passing_in}
 use Rattle.harvest.specs.Sets.{Set}
-use Rattle.dns_query.specs.declared.verdict.Referral.{Referral}
+use Rattle.dns_query.specs.declared.referral.Referral.{Referral}
 
--- the records of class IN
-abbrev pub records_in : List (Classed Record) → List Record
-records_in section = map (λ r. r.item) (filter (λ r. r.class == CLASS_IN) section)
+-- ---- the zone
 
-abbrev pub is_of : ℕ → Record → Bool
-is_of kind r = r.kind == kind
+-- whether a record is of class IN; the others say nothing here
+abbrev pub is_in : Classed Record → Bool
+is_in r = r.class == CLASS_IN
 
--- the NS records of class IN of the authority section
-abbrev pub delegation_in : Message → List Record
-delegation_in v = filter (is_of number.NS) (records_in v.authority)
+-- whether it is also of this type
+abbrev pub is_of : ℕ → Classed Record → Bool
+is_of kind r = is_in r && r.item.kind == kind
 
--- the name in the data of an NS record
-abbrev pub target_of : Data → List Labels
-target_of (One name) = name ∷ []
-target_of _ = []
+-- whether it is no NS record, or this name's
+abbrev pub is_own : Labels → Classed Record → Bool
+is_own name r = not (is_of types.NS r) || name_eq r.item.owner name
 
--- the servers that a message names
-abbrev pub targets_in : Message → List Labels
-targets_in v = flat_map (λ r. target_of r.body) (delegation_in v)
+-- the owner of the first NS record of a section
+abbrev pub ns_owner : List (Classed Record) → Option Labels
+ns_owner section = option_map (λ r. r.item.owner) (find (is_of types.NS) section)
 
--- the address that a datum has, with this port
+-- The response is not authoritative, and has no error, no answer and no SOA.
+pub record MayRefer (v : Message) : Type 0 where
+  pub no_error : v.head.rcode ≡ 0
+  pub not_authoritative : v.head.aa ≡ false
+  pub no_answer : list_any is_in v.answer ≡ false
+  pub no_soa : list_any (is_of types.SOA) v.authority ≡ false
+
+-- A zone is strictly below the one asked, and at or above the name.
+pub record IsNearer (asked name zone : Labels) : Type 0 where
+  pub below : IsAtOrBelow zone asked
+  pub strictly : ¬ (zone ≡ asked)
+  pub above : IsAtOrBelow name zone
+
+-- The response may refer, and its NS records, one or more, are those of one nearer zone.
+pub record RefersTo (asked name : Labels) (v : Message) (zone : Labels) : Type 0 where
+  pub may_refer : MayRefer v
+  pub owner : ns_owner v.authority ≡ Some zone
+  pub one_owner : list_all (is_own zone) v.authority ≡ true
+  pub nearer : IsNearer asked name zone
+
+-- ---- its servers
+
+-- the server that a record names, if it is an NS record
+abbrev pub target_in : Classed Record → Option Labels
+target_in r = if is_of types.NS r then target_of r.item.body else None
+
+-- the servers that a section names, each once (RFC 2181, section 5)
+abbrev pub targets_in : List (Classed Record) → List Labels
+targets_in section = each_once name_eq (filter_map target_in section)
+
+-- the address that a datum of an A or AAAA record has, with this port
 abbrev pub addr_of : ℕ → Data → List Addr
 addr_of port (A octets) = (record { ip = V4 octets; port = port }) ∷ []
 addr_of port (Aaaa octets) = (record { ip = V6 octets; port = port }) ∷ []
 addr_of port _ = []
 
-abbrev pub is_of_scope : ℕ → Scope → Bool
-is_of_scope kind (OneType own) = own == kind
-is_of_scope kind Whole = false
+-- the data of a name and a type in a find, whatever its rank
+abbrev pub data_found : Labels → ℕ → Said → List Data
+data_found name kind said = if name_eq said.owner name && has_kind said.scope kind then data_of said.body else []
 
-abbrev pub is_find_of : ℕ → Labels → Said → Bool
-is_find_of kind name said = is_of_scope kind said.scope && name_eq said.owner name
+-- and in a set that passes
+abbrev pub data_passing : Labels → ℕ → Set → List Data
+data_passing name kind set = if name_eq set.key.owner name && set.key.kind == kind then set.data_in else []
 
-abbrev pub is_passing_of : ℕ → Labels → Set → Bool
-is_passing_of kind name set = (set.key.kind == kind) && name_eq set.key.owner name
+-- the addresses of a server by its records of this type: those of the finds, then those that pass
+abbrev pub addrs_by : ℕ → List Said → List Set → ℕ → Labels → List Addr
+addrs_by port finds passing kind name =
+    flat_map (λ said. flat_map (addr_of port) (data_found name kind said)) finds ++ flat_map (λ set. flat_map (addr_of port) (data_passing name kind set)) passing
 
--- the data of a name and type in a harvest, of any rank: those of its finds, then of what passes
-abbrev pub data_in : List Said → List Set → ℕ → Labels → List Data
-data_in finds passing kind name =
-    flat_map (λ said. data_of said.body) (filter (is_find_of kind name) finds) ++ flat_map (λ set. set.data_in) (filter (is_passing_of kind name) passing)
-
--- the addresses of a name in a harvest, those of IPv4 first
-abbrev pub addrs_in : ℕ → List Said → List Set → Labels → List Addr
-addrs_in port finds passing name = flat_map (addr_of port) (data_in finds passing number.A name) ++ flat_map (addr_of port) (data_in finds passing number.AAAA name)
+-- the addresses of a server, those of IPv4 first
+abbrev pub addrs_of : ℕ → List Said → List Set → Labels → List Addr
+addrs_of port finds passing name = addrs_by port finds passing types.A name ++ addrs_by port finds passing types.AAAA name
 
 abbrev pub has_no_addr : ℕ → List Said → List Set → Labels → Bool
-has_no_addr port finds passing name = length (addrs_in port finds passing name) == 0
+has_no_addr port finds passing name = length (addrs_of port finds passing name) == 0
 
--- The response says nothing of the question but who serves a zone nearer to it.
+-- These are the addresses of servers, server by server, and the servers that have none.
+pub record AreServers (port : ℕ) (finds : List Said) (passing : List Set) (targets : List Labels) (referral : Referral) : Type 0 where
+  pub addrs : referral.addrs ≡ flat_map (addrs_of port finds passing) targets
+  pub missing : referral.missing ≡ filter (has_no_addr port finds passing) targets
+
+-- A response from a zone refers to these servers, whose addresses stand in its own harvest.
 pub record IsReferral (port : ℕ) (zone : Labels) (question : Question) (v : Message) (referral : Referral) : Type 0 where
-  pub no_error : v.head.rcode ≡ 0
-  pub not_authoritative : v.head.aa ≡ false
-  pub no_answer : records_in v.answer ≡ []
-  pub no_soa : filter (is_of number.SOA) (records_in v.authority) ≡ []
-  pub some : 0 < length (delegation_in v)
-  pub one_owner : All (λ r. r.owner ≡ referral.zone) (delegation_in v)
-  pub below : IsAtOrBelow referral.zone zone
-  pub strictly : ¬ (referral.zone ≡ zone)
-  pub above : IsAtOrBelow question.owner referral.zone
-  pub addrs : referral.addrs ≡ flat_map (addrs_in port (finds_in v question zone) (passing_in v question zone)) (targets_in v)
-  pub missing : referral.missing ≡ filter (has_no_addr port (finds_in v question zone) (passing_in v question zone)) (targets_in v)
+  pub refers : RefersTo zone question.owner v referral.zone
+  pub servers : AreServers port (finds_in v question zone) (passing_in v question zone) (targets_in v.authority) referral

@@ -1,13 +1,14 @@
--- Which octets respond to a query (RFC 1034, section 5.3.3, step 4; RFC 1035, section 7.3).
+-- Which octets are a response to a query (RFC 1034, section 5.3.3, step 4; RFC 1035, sections 4.1.1 and 4.2.1).
 use Rattle.std.specs.Prelude.{◌≡◌, ℕ, ◌⊎◌, true, false, List, [], ◌∷◌}
 use Rattle.dns_text.specs.declared.record.Question.{Question}
 use Rattle.dns_wire.specs.declared.message.Message.{Message}
 use Rattle.dns_wire.specs.Read.Message.{SpelledMessage}
+use Rattle.dns_wire.specs.WellFormed.{HasForms}
 use Rattle.dns_wire.specs.Write.Question.{in_class_in}
-use Rattle.dns_query.specs.declared.over.Over.{Over}
-use Rattle.dns_query.specs.declared.over.Over.TheVariants.{Udp}
+use Rattle.dns_query.specs.declared.response.Over.{Over}
+use Rattle.dns_query.specs.declared.response.Over.TheVariants.{Udp}
 
--- A message responds to the query of this identifier and question.
+-- A message is a response of this identifier to this question alone, of class IN.
 pub record Meets (id : ℕ) (question : Question) (v : Message) : Type 0 where
   pub response : v.head.qr ≡ true
   pub standard : v.head.opcode ≡ 0
@@ -19,12 +20,18 @@ pub record IsResponse (id : ℕ) (question : Question) (octets : List ℕ) (v : 
   pub spelled : SpelledMessage octets v
   pub meets : Meets id question v
 
--- It is whole, and says that the name is there or that it is not.
+-- It was not truncated, and says that there is no error or no such name.
 pub record IsWhole (v : Message) : Type 0 where
   pub whole : v.head.tc ≡ false
   pub rcode : (v.head.rcode ≡ 0) ⊎ (v.head.rcode ≡ 3)
 
--- It was cut to fit a datagram, and may be had whole over TCP (RFC 2181, section 9).
+-- It was truncated to fit a datagram, and can be had whole over TCP.
 pub record IsCut (over : Over) (v : Message) : Type 0 where
   pub cut : v.head.tc ≡ true
   pub udp : over ≡ Udp
+
+-- The octets are this message and no other.
+pub record IsRead (octets : List ℕ) (v : Message) : Type 0 where
+  pub spelled : SpelledMessage octets v
+  pub forms : HasForms v
+  pub only : (w : Message) → SpelledMessage octets w → w ≡ v

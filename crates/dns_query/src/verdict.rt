@@ -1,49 +1,39 @@
 //! What came of a query.
 
-use dns_name::Name;
-use dns_text::{Addr, Items};
+use crate::referral::Referral;
 use dns_wire::Rcode;
 use harvest::Harvest;
 use ranked::SharedFind;
 
-/// Servers of a zone nearer to the name, as a response names them (RFC 1034, section 5.3.3, step 4b).
-#[derive(Debug, Drop, PartialEq)]
-pub struct Referral {
-    pub zone: Name,
-    /// Where they listen, in the order of the servers, and of each those of IPv4 first.
-    pub addrs: Items<Addr>,
-    /// The servers of which the response has no address.
-    pub missing: Items<Name>,
-}
-
 /// What a response says of the question.
-#[derive(Debug, Drop, PartialEq)]
+#[derive(Debug, Drop)]
 pub enum Says {
-    /// The harvest has the set that is asked for, or an alias of the name, and either may be answered.
+    /// The harvest has, at rank 2 or more, the set that is asked for, or an alias of the name.
     Answers,
-    /// It is authoritative and has neither: with its RCODE, 0 or 3, and the find of what it denies, where it gives one.
+    /// It is authoritative and has neither.
     Denies {
+        /// No error, or no such name.
         rcode: Rcode,
+        /// The find of what it denies, if it gives one: it stands in the harvest too (RFC 2308, section 5).
         negative: Option<SharedFind>,
     },
-    /// It refers to servers of a nearer zone.
+    /// It names servers of a zone nearer to the name.
     Refers(Referral),
 }
 
 /// A response that is of use.
-#[derive(Debug, Drop, PartialEq)]
+#[derive(Debug, Drop)]
 pub struct Heard {
     pub harvest: Harvest,
     pub says: Says,
 }
 
 /// What came of a query.
-#[derive(Debug, Drop, PartialEq)]
+#[derive(Debug, Drop)]
 pub enum Verdict {
-    /// Nothing of use.
+    /// Nothing of use: no response, or one that says nothing of the question.
     Struck,
-    /// A response that was cut to fit a datagram, and may be had whole over TCP (RFC 2181, section 9).
+    /// A response that was truncated to fit a datagram.
     Cut,
-    /// A response that is of use.
     Heard(Heard),
 }

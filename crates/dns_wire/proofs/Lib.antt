@@ -13,6 +13,7 @@ pub mod WalkLaws
 pub mod PointerLaws
 pub mod AskingLaws
 pub mod VerdictLaws
+pub mod LentLaws
 pub mod WrittenSize
 pub mod WrittenName
 pub mod WrittenData

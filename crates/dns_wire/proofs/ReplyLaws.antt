@@ -13,22 +13,14 @@ use Rattle.dns_wire.specs.WellFormed.{IsHead}
 use Rattle.dns_wire.specs.Write.Header.{header_octets}
 use Rattle.dns_wire.specs.Write.Question.{IsQuestionOctets}
 use Rattle.dns_wire.specs.Write.Message.{octets_with, message_octets, IsTooLong}
-use Rattle.dns_wire.proofs.WrittenSize.{length-octets_with, as_long}
+use Rattle.dns_wire.proofs.WrittenSize.{length-octets_with, not_long, as_long}
 use Rattle.dns_wire.proofs.WrittenMessage.{message_written, reply_written}
-
--- A short message without records, and with a question at most, isn't too long.
-not_long : (v : Message) → length (message_octets v) ≤ 65535 → length v.questions ≤ 1 → v.answer ≡ [] → v.authority ≡ [] → v.additional ≡ [] → ¬ (IsTooLong v)
-not_long v short few a u x (inl long) = omega arith
-not_long v short few a u x (inr (inl many)) = omega arith
-not_long v short few a u x (inr (inr (inl many))) = omega (arith, ap length a)
-not_long v short few a u x (inr (inr (inr (inl many)))) = omega (arith, ap length u)
-not_long v short few a u x (inr (inr (inr (inr many)))) = omega (arith, ap length x)
 
 pub head_spelled : (h : Head) → IsHead h → SpelledMessage (header_octets h 0 0 0 0) (head_alone h)
 unfolding octets_with header_octets
 head_spelled h fits =
     message_written (head_alone h) (record { head = fits; questions = tt; answer = tt; authority = tt; additional = tt })
-    (not_long (head_alone h) (omega (arith, length-octets_with [] (head_alone h))) (omega arith) refl refl refl)
+    (not_long (head_alone h) (omega (arith, length-octets_with [] (head_alone h))))
 
 -- how many octets a question takes
 pub length-question : {q : Question} {octets : List ℕ} → IsQuestionOctets octets q → length octets ≡ length (spelled q.owner) + 5
@@ -42,4 +34,4 @@ cut_spelled h q octets fits name is =
     reply_written q octets v is
     (record { head = fits; questions = (record { owner = name; kind = is.kind; class = omega arith }, tt); answer = tt; authority = tt; additional = tt })
     refl
-    (not_long v (omega (arith, size, name.short, as_long v is refl, length-octets_with octets v)) (omega arith) refl refl refl)
+    (not_long v (omega (arith, size, name.short, as_long v is refl, length-octets_with octets v)))

@@ -9,6 +9,7 @@ use Rattle.dns_wire.specs.declared.message.Classed.{Classed}
 use Rattle.dns_wire.specs.declared.message.Message.{Message}
 use Rattle.std.specs.Int.{w16, from_be_bytes}
 use Rattle.dns_wire.specs.Write.Encoding.{SpellsOnly}
+use Rattle.dns_wire.specs.Lent.{records_of}
 use Rattle.dns_wire.specs.Read.Header.{head_of}
 use Rattle.dns_wire.specs.Read.Message.{QuestionsAt, RecordsAt, SpelledMessage}
 use Rattle.dns_wire.specs.Read.Number.{u16_at}
@@ -20,7 +21,7 @@ use Rattle.dns_wire.specs.Write.Question.{question_octets, first_name, in_class_
 use Rattle.dns_wire.specs.Write.Record.{records_octets}
 use Rattle.dns_wire.specs.Write.Message.{octets_with, message_octets, IsTooLong}
 use Rattle.dns_wire.proofs.MessageLaws.{spelled_once}
-use Rattle.dns_wire.proofs.WrittenSize.{Fits, all_fits, length-octets_with, length-question_octets, as_long}
+use Rattle.dns_wire.proofs.WrittenSize.{Fits, all_fits, length-octets_with, many_questions, as_long}
 use Rattle.dns_wire.proofs.WrittenName.{StandsAt, stands_first, stands_second}
 use Rattle.dns_wire.proofs.WrittenHead.{flags_small, flags_written}
 use Rattle.dns_wire.proofs.WrittenRecord.{cased_question, questions_written, FirstAt, no_question, first, later, records_written}
@@ -109,18 +110,14 @@ behind_questions questions v fits short same many stands =
 
 -- ---- messages and replies
 
-many_octets : (questions : List (Classed Question)) → length questions ≤ length (flat_map question_octets questions)
-many_octets [] = omega arith
-many_octets (q ∷ questions) = omega (arith, many_octets questions, length-append (question_octets q) (flat_map question_octets questions), length-question_octets q)
-
 pub message_written : (v : Message) → IsWellFormed v → ¬ (IsTooLong v) → SpelledMessage (message_octets v) v
 message_written v fits short =
     let questions : List ℕ = flat_map question_octets v.questions in
     let stands = questions_written (message_octets v) 12 v.questions fits.questions (questions_at questions v) in
-    behind_questions questions v fits (all_fits v short) refl (many_octets v.questions) stands
+    behind_questions questions v fits (all_fits v short) refl (many_questions v.questions) stands
 
 -- A reply to a good query has its question in range.
-pub reply_fits : {q : Question} {octets : List ℕ} (v : Message) → IsQuestionOctets octets q → IsName q.owner → v.questions ≡ in_class_in q ∷ [] → IsHead v.head → AreRecords v → IsWellFormed v
+pub reply_fits : {q : Question} {octets : List ℕ} (v : Message) → IsQuestionOctets octets q → IsName q.owner → v.questions ≡ in_class_in q ∷ [] → IsHead v.head → AreRecords (records_of v) → IsWellFormed v
 reply_fits {q} v is name one head records = record {
   head = head;
   questions = rw one (record { owner = name; kind = is.kind; class = omega arith }, tt);

@@ -4,7 +4,7 @@ use Rattle.std.specs.List.{flat_map, slice_get}
 use Rattle.std.specs.Bool.{Decides}
 use Rattle.std.specs.Char.{to_ascii_lowercase}
 use Rattle.std.specs.Prelude.{◌⊎◌, IfSome, MatchOption}
-use Rattle.std.proofs.lemmas.Bool.{cases_Bool, lt-ltb, ltb-true, ltb-false}
+use Rattle.std.proofs.lemmas.Bool.{cases_Bool, le-ltb, lt-ltb, ltb-true, ltb-false}
 use Rattle.std.proofs.lemmas.Bool.Decides.{Decides-or, Decides-ltb, not_from_Decides}
 use Rattle.std.proofs.lemmas.List.{length-map, length-take, length-drop}
 use Rattle.dns_name.specs.Labels.{Labels, spelled}
@@ -13,7 +13,8 @@ use Rattle.dns_text.specs.declared.record.Question.{Question}
 use Rattle.dns_text.specs.declared.record.Record.{Record}
 use Rattle.dns_wire.specs.declared.message.Classed.{Classed}
 use Rattle.dns_wire.specs.declared.message.Message.{Message}
-use Rattle.dns_wire.specs.Write.Size.{within, records_len_with, records_len, has_long_section, IsRoom}
+use Rattle.dns_wire.specs.Lent.{Records, records_of}
+use Rattle.dns_wire.specs.Write.Size.{within, records_len, IsRoom}
 use Rattle.dns_wire.specs.Write.Number.{u16_octets, u32_octets}
 use Rattle.dns_wire.specs.Write.Header.{header_octets}
 use Rattle.dns_wire.specs.Write.Name.{name_octets, owner_octets}
@@ -31,6 +32,9 @@ more_than_fit {n} e =
       | inl over ↦ ltb-true 65535 n over
       | inr fits ↦ absurd (let bad : Some n ≡ None = sym (rw fits refl) ∙ e in cc)
     ]
+
+pub fits_within : {n k : ℕ} → k ≡ n → k ≤ 65535 → Some k ≡ within n
+fits_within {n} {k} is fits = rw (le-ltb 65535 n (omega arith)) (ap (λ (i : ℕ). Some i) is)
 
 -- What fits is the whole number.
 pub as_many : {n k : ℕ} → within n ≡ Some k → (k ≡ n) × (n ≤ 65535)
@@ -73,7 +77,7 @@ length-question_octets q = simp length-append (omega arith)
 
 -- ---- whole messages
 
-pub length-octets_with : (questions : List ℕ) (v : Message) → length (octets_with questions v) ≡ 12 + length questions + records_len v
+pub length-octets_with : (questions : List ℕ) (v : Message) → length (octets_with questions v) ≡ 12 + length questions + records_len (first_name v.questions) (records_of v)
 unfolding octets_with header_octets
 length-octets_with questions v =
     let answer = records_octets (first_name v.questions) v.answer in
@@ -81,25 +85,40 @@ length-octets_with questions v =
     let additional = records_octets (first_name v.questions) v.additional in
     omega (arith, length-append questions (answer ++ authority ++ additional), length-append (answer ++ authority) additional, length-append answer authority)
 
-long_section : (v : Message) → Decides (has_long_section v) ((65535 < length v.questions) ⊎ ((65535 < length v.answer) ⊎ ((65535 < length v.authority) ⊎ (65535 < length v.additional))))
-long_section v =
-    Decides-or _ _ (Decides-ltb 65535 (length v.questions)) (Decides-or _ _ (Decides-ltb 65535 (length v.answer)) (Decides-or _ _ (Decides-ltb 65535 (length v.authority)) (Decides-ltb 65535 (length v.additional))))
+-- Questions and records take an octet each at least.
+pub many_questions : (questions : List (Classed Question)) → length questions ≤ length (flat_map question_octets questions)
+many_questions [] = omega arith
+many_questions (q ∷ questions) = omega (arith, many_questions questions, length-append (question_octets q) (flat_map question_octets questions), length-question_octets q)
+
+many_records : (first : Option Labels) (records : List (Classed Record)) → length records ≤ length (records_octets first records)
+many_records first [] = omega arith
+many_records first (r ∷ records) =
+    omega (arith, many_records first records, length-append (record_octets first r) (records_octets first records), length-append (owner_octets first r.item.owner) (behind_owner_octets r))
+
+-- A message is too long by its octets alone.
+pub not_long : (v : Message) → length (message_octets v) ≤ 65535 → ¬ (IsTooLong v)
+not_long v short long =
+    let first : Option Labels = first_name v.questions in
+    let all = length-octets_with (flat_map question_octets v.questions) v in
+    let questions = many_questions v.questions in
+    let answer = many_records first v.answer in
+    let authority = many_records first v.authority in
+    let additional = many_records first v.additional in
+    elim long [
+      | inl over ↦ omega arith
+      | inr (inl over) ↦ omega arith
+      | inr (inr (inl over)) ↦ omega arith
+      | inr (inr (inr (inl over))) ↦ omega arith
+      | inr (inr (inr (inr over))) ↦ omega arith
+    ]
 
 -- So many octets have room, or the message is too long.
 abbrev pub HaveRoom : List ℕ → Message → Option ℕ → Type 0
 HaveRoom octets v found = MatchOption found (IsTooLong v) (λ n. (length octets ≤ n) × ¬ (IsTooLong v))
 
-pub measured : (questions : List ℕ) (v : Message) → length (octets_with questions v) ≡ length (message_octets v) → (found : Option ℕ) → IsRoom (12 + length questions) v found → HaveRoom (octets_with questions v) v found
-measured questions v same None (inl long) = inr ((long_section v).0 long)
-measured questions v same None (inr over) = let all = length-octets_with questions v in inl (omega arith)
-measured questions v same (Some room) (short, enough, few) =
-    let all = length-octets_with questions v in (
-      omega arith,
-      λ h. elim h [
-        | inl over ↦ omega arith
-        | inr long ↦ not_from_Decides (has_long_section v) (long_section v) short long
-      ],
-    )
+pub measured : (questions : List ℕ) (v : Message) → length (octets_with questions v) ≡ length (message_octets v) → (found : Option ℕ) → IsRoom (12 + length questions + records_len (first_name v.questions) (records_of v)) found → HaveRoom (octets_with questions v) v found
+measured questions v same None over = let all = length-octets_with questions v in inl (omega arith)
+measured questions v same (Some room) (enough, few) = let all = length-octets_with questions v in (omega arith, not_long v (omega arith))
 
 -- ---- owners whole
 
@@ -120,27 +139,18 @@ records_no_longer first h (r ∷ records) =
     let behind = behind_owner_octets r in
     omega (arith, length-append (record_octets (Some first) r) (records_octets (Some first) records), length-append (record_octets None r) (records_octets None records), length-append (owner_octets (Some first) r.item.owner) behind, length-append (name_octets r.item.owner) behind)
 
-whole_no_less : (first : Labels) (v : Message) → 0 < length (spelled first) → records_len_with (Some first) v ≤ records_len_with None v
-whole_no_less first v h =
-    omega (arith, records_no_longer first h v.answer, records_no_longer first h v.authority, records_no_longer first h v.additional)
+-- So many octets with each owner whole are no less than with the first question's name, unless that is the root.
+pub whole_no_less : (first : Option Labels) (records : Records) → IfSome first (λ name. 0 < length (spelled name)) → records_len first records ≤ records_len None records
+whole_no_less None records h = omega arith
+whole_no_less (Some first) records h =
+    omega (arith, records_no_longer first h records.answer, records_no_longer first h records.authority, records_no_longer first h records.additional)
 
-first_is : (questions : List (Classed Question)) (q : Classed Question) → Some q ≡ slice_get questions 0 → first_name questions ≡ Some q.item.owner
-first_is [] q e = absurd cc
-first_is (one ∷ rest) q e = let same : one ≡ q = cc in ap (λ (x : Classed Question). Some x.item.owner) same
-
-no_first : (questions : List (Classed Question)) → None ≡ slice_get questions 0 → first_name questions ≡ None
-no_first [] e = refl
-no_first (one ∷ rest) e = absurd cc
-
-pub none_less : (v : Message) → None ≡ slice_get v.questions 0 → records_len v ≤ records_len_with None v
-none_less v e = subst (λ (first : Option Labels). records_len_with first v ≤ records_len_with None v) (sym (no_first v.questions e)) (omega arith)
-
-pub some_less : (v : Message) (q : Classed Question) → Some q ≡ slice_get v.questions 0 → 2 ≤ length (spelled q.item.owner) + 1 → records_len v ≤ records_len_with None v
-some_less v q e h = subst (λ (first : Option Labels). records_len_with first v ≤ records_len_with None v) (sym (first_is v.questions q e)) (whole_no_less q.item.owner v (omega arith))
-
-pub whole_bound : (before : ℕ) (v : Message) (found : Option ℕ) → found ≡ within (before + records_len_with None v) → records_len v ≤ records_len_with None v → IfSome found (λ n. (before + records_len v ≤ n) × (n ≤ 65535))
-whole_bound before v None is less = tt
-whole_bound before v (Some n) is less = let same = as_many (sym is) in (omega (arith, same.0), omega (arith, same.0, same.1))
+pub whole_bound : (before : ℕ) (first : Option Labels) (records : Records) (found : Option ℕ) → found ≡ within (before + records_len None records) → IfSome first (λ name. 0 < length (spelled name)) → IfSome found (λ n. (before + records_len first records ≤ n) × (n ≤ 65535))
+whole_bound before first records None is h = tt
+whole_bound before first records (Some n) is h =
+    let same = as_many (sym is) in
+    let less = whole_no_less first records h in
+    (omega (arith, same.0), omega (arith, same.0, same.1))
 
 -- Too many octets in front are too many in all.
 pub front_is_long : (questions : List ℕ) (v : Message) → length (octets_with questions v) ≡ length (message_octets v) → within (12 + length questions) ≡ None → IsTooLong v
@@ -158,7 +168,7 @@ as_long {q} {octets} v h is =
     let whole : length (flat_map question_octets v.questions) ≡ length (question_octets (in_class_in q) ++ []) = ap (λ (qs : List (Classed Question)). length (flat_map question_octets qs)) is in
     omega (arith, length-octets_with octets v, length-octets_with (flat_map question_octets v.questions) v, ap length h.fixed, length-map front to_ascii_lowercase, length-take (length octets - 4) octets, length-drop (length octets - 4) octets, length-append (question_octets (in_class_in q)) [], length-append (spelled q.owner) (0 ∷ []))
 
-pub sections_fit : (v : Message) → ¬ (IsTooLong v) → records_len v ≤ 65535
+pub sections_fit : (v : Message) → ¬ (IsTooLong v) → records_len (first_name v.questions) (records_of v) ≤ 65535
 sections_fit v h =
     let fits = all_fits v h in
     omega (arith, length-octets_with (flat_map question_octets v.questions) v)

@@ -11,6 +11,7 @@ use Rattle.dns_text.specs.String.{AreOctets}
 use Rattle.dns_wire.specs.declared.message.Classed.{Classed}
 use Rattle.dns_wire.specs.declared.message.Head.{Head}
 use Rattle.dns_wire.specs.declared.message.Message.{Message}
+use Rattle.dns_wire.specs.Lent.{Records, records_of}
 use Rattle.dns_wire.specs.Read.Rdata.{form_in}
 
 pub record IsHead (h : Head) : Type 0 where
@@ -48,10 +49,10 @@ pub record IsRecord (r : Classed Record) : Type 0 where
   pub data_fits : IsData r.item.body
 
 -- The records of each section.
-pub record AreRecords (v : Message) : Type 0 where
-  pub answer : AllByRecursion IsRecord v.answer
-  pub authority : AllByRecursion IsRecord v.authority
-  pub additional : AllByRecursion IsRecord v.additional
+pub record AreRecords (records : Records) : Type 0 where
+  pub answer : AllByRecursion IsRecord records.answer
+  pub authority : AllByRecursion IsRecord records.authority
+  pub additional : AllByRecursion IsRecord records.additional
 
 -- Each field is in its range, each TTL is below 2^31, and all data has the form of its class and type.
 pub record IsWellFormed (v : Message) : Type 0 where
@@ -61,8 +62,12 @@ pub record IsWellFormed (v : Message) : Type 0 where
   pub authority : AllByRecursion IsRecord v.authority
   pub additional : AllByRecursion IsRecord v.additional
 
--- All data has the form of its class and type. The types of the fields ensure all else that a message has to be.
-pub record HasForms (v : Message) : Type 0 where
-  pub answer : AllByRecursion HasItsForm v.answer
-  pub authority : AllByRecursion HasItsForm v.authority
-  pub additional : AllByRecursion HasItsForm v.additional
+-- All data has the form of its class and type.
+pub record AreFormed (records : Records) : Type 0 where
+  pub answer : AllByRecursion HasItsForm records.answer
+  pub authority : AllByRecursion HasItsForm records.authority
+  pub additional : AllByRecursion HasItsForm records.additional
+
+-- The same of a message. The types of the fields ensure all else that a message has to be.
+abbrev pub HasForms : Message → Type 0
+HasForms v = AreFormed (records_of v)

@@ -9,6 +9,8 @@ mod rcode;
 mod reserved;
 // What a message says.
 mod message;
+// Records that are lent, and the sections that lend them.
+mod lent;
 // Why octets are no message.
 mod fault;
 // What is read.
@@ -19,6 +21,7 @@ mod write;
 mod server;
 
 pub use fault::WireFault;
+pub use lent::{LentRecord, NoRecords, Section};
 pub use message::{CLASS_IN, Classed, Head, Message};
 pub use opcode::Opcode;
 pub use rcode::Rcode;
@@ -27,4 +30,4 @@ pub use reserved::Reserved;
 pub use server::asking::{one_verdict, read_question};
 pub use server::query::{Asked, Query};
 pub use server::replying::{cut_for_udp, fault_reply};
-pub use write::encoding::{EncodeFault, encode, encode_reply, written_is_read};
+pub use write::encoding::{EncodeFault, encode, encode_lent, encode_reply, written_is_read};

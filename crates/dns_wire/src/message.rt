@@ -1,8 +1,15 @@
 //! What a message says.
 
+ghost use Rattle.std.specs.Prelude.{◌≡◌};
+ghost use Rattle.std.specs.Option.{option_copied};
+ghost use Rattle.dns_wire.specs.Lent.{records_of};
+ghost use Rattle.dns_wire.specs.Write.Question.{first_name};
+
+use crate::lent::Sections;
 use crate::opcode::Opcode;
 use crate::rcode::Rcode;
 use crate::reserved::Reserved;
+use dns_name::Name;
 use dns_text::{Items, Question, Record};
 
 /// The header of a message without its counts (RFC 1035, section 4.1.1).
@@ -44,4 +51,29 @@ pub struct Message {
     pub answer: Items<Classed<Record>>,
     pub authority: Items<Classed<Record>>,
     pub additional: Items<Classed<Record>>,
+}
+
+impl Message {
+    /// The name of the first question.
+    pub(crate) fn first_name(&self) -> Option<&Name>
+        ensures { option_copied result ≡ first_name self.now.questions }
+    {
+        match self.questions.as_slice().first() {
+            Some(first) => Some(&first.item.owner),
+            None => None,
+        }
+    }
+
+    /// The records, lent.
+    pub(crate) fn sections(
+        &self,
+    ) -> Sections<'_, Items<Classed<Record>>, Items<Classed<Record>>, Items<Classed<Record>>>
+        ensures { result ≡ records_of self.now }
+    {
+        Sections {
+            answer: &self.answer,
+            authority: &self.authority,
+            additional: &self.additional,
+        }
+    }
 }

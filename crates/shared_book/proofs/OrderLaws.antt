@@ -12,7 +12,7 @@ use Rattle.shared_book.specs.declared.fault.CloseFault.{CloseFault}
 use Rattle.shared_book.specs.declared.fault.CloseFault.TheVariants.{NotWhole, Missing, Mismatch, NoMemory}
 use Rattle.shared_book.specs.Pass.{PassState}
 use Rattle.shared_book.specs.Kept.{KeptState}
-use Rattle.shared_book.specs.Closing.{IsInOrder, IsFirstOther, ClosesAs, AgreeButMemory}
+use Rattle.shared_book.specs.Closing.{IsInOrder, IsFirstOther, IsComplete, ClosesAs, AgreeButMemory}
 
 abbrev below : Receipt → Receipt → Bool
 below x y = is_lt (nat_cmp x.number y.number)
@@ -149,10 +149,22 @@ one_place first m n xs es o p =
 
 -- ---- one verdict
 
+-- where all is handed in, memory may be wanted in place of what the order tells alone
+memory_of_order : {B : Type 0} (kept : KeptState B) (passes : List PassState) (receipts : List Receipt) (b : Option CloseFault)
+    → IsComplete kept passes receipts → ClosesAs kept passes receipts b → AgreeButMemory (Some NoMemory) b
+memory_of_order kept ps rs None all q = inr (inl (refl, tt))
+memory_of_order kept ps rs (Some (Mismatch n)) all q = inr (inl (refl, tt))
+memory_of_order kept ps rs (Some NoMemory) all q = inl refl
+memory_of_order kept ps rs (Some NotWhole) all q = absurd (omega (arith, all.recorded, q))
+memory_of_order kept ps rs (Some (Missing c)) all q = absurd (omega (arith, all.handed_in, all.gathered, q.1, q.2))
+
 pub one_verdict : {B : Type 0} (kept : KeptState B) (passes : List PassState) (receipts : List Receipt) (a b : Option CloseFault)
     → ClosesAs kept passes receipts a → ClosesAs kept passes receipts b → AgreeButMemory a b
-one_verdict kept ps rs (Some NoMemory) b p q = inr (inl refl)
-one_verdict kept ps rs a (Some NoMemory) p q = inr (inr refl)
+one_verdict kept ps rs (Some NoMemory) b p q = memory_of_order kept ps rs b p.0 q
+one_verdict kept ps rs None (Some NoMemory) p q = inr (inr (refl, tt))
+one_verdict kept ps rs (Some (Mismatch m)) (Some NoMemory) p q = inr (inr (refl, tt))
+one_verdict kept ps rs (Some NotWhole) (Some NoMemory) p q = absurd (omega (arith, q.0.recorded, p))
+one_verdict kept ps rs (Some (Missing c)) (Some NoMemory) p q = absurd (omega (arith, q.0.handed_in, q.0.gathered, p.1, p.2))
 one_verdict kept ps rs None None p q = inl refl
 one_verdict kept ps rs None (Some NotWhole) p q = absurd (omega (arith, p.0.recorded, q))
 one_verdict kept ps rs None (Some (Missing c)) p q = absurd (omega (arith, p.0.handed_in, p.0.gathered, q.1, q.2))

@@ -24,9 +24,8 @@ pub record IsReceiptOf (pass : PassState) (event : Event) (receipt : Receipt) (p
   pub later : pass.seen < receipt.number
   pub counted : pass' ≡ after_call pass receipt.number
 
--- A reply is that of the replay of some history of as many events as there were calls before it, behind which the event is timely.
-pub record IsJustified (number : ℕ) (event : Event) (reply : Reply) : Type 0 where
-  pub settings : Settings
+-- By these settings a reply is that of the replay of some history of as many events as there were calls before it, behind which the event is timely.
+pub record IsJustified (settings : Settings) (number : ℕ) (event : Event) (reply : Reply) : Type 0 where
   pub history : List Event
   pub place : number ≡ length history + 1
   pub timely : IsTimely (length history) event
@@ -50,8 +49,9 @@ has_reason settings h event CountEnded a = a.0
 has_reason settings h event (Full stored) a = a.1
 has_reason settings h event NoMemory a = tt
 
--- One call at a shared book: the pass before, the event, the answer, the pass after.
-abbrev pub SeatCall : PassState → Event → Result Reply DeskFault → PassState → Type 0
-SeatCall pass event (Ok reply) pass' = (receipt : Receipt) × (receipt.reply ≡ reply) × IsReceiptOf pass event receipt pass' × IsJustified receipt.number event reply
-SeatCall pass event (Err (Step fault)) pass' = (pass' ≡ pass) × IsReason event fault
-SeatCall pass event (Err (Behind at)) pass' = (pass' ≡ pass) × (at < pass.seen)
+-- One call at a shared book that was made with these settings: the pass before, the event, the answer, the pass after.
+abbrev pub SeatCall : Settings → PassState → Event → Result Reply DeskFault → PassState → Type 0
+SeatCall settings pass event (Ok reply) pass' =
+    (receipt : Receipt) × (receipt.reply ≡ reply) × IsReceiptOf pass event receipt pass' × IsJustified settings receipt.number event reply
+SeatCall settings pass event (Err (Step fault)) pass' = (pass' ≡ pass) × IsReason event fault
+SeatCall settings pass event (Err (Behind at)) pass' = (pass' ≡ pass) × (at < pass.seen)

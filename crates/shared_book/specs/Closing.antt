@@ -5,7 +5,7 @@ use Rattle.std.specs.Ordering.{nat_cmp}
 use Rattle.shared_book.specs.declared.receipt.Receipt.{Receipt}
 use Rattle.shared_book.specs.declared.fault.CloseFault.{CloseFault}
 use Rattle.shared_book.specs.declared.fault.CloseFault.TheVariants.{NotWhole, Missing, Mismatch, NoMemory}
-use Rattle.shared_book.specs.Pass.{PassState, calls_of}
+use Rattle.shared_book.specs.Pass.{PassState, calls_of, parts_of}
 use Rattle.shared_book.specs.Kept.{KeptState}
 
 -- the same receipts in order of number, equal numbers as handed in
@@ -31,15 +31,26 @@ pub record IsComplete {B : Type 0} (kept : KeptState B) (passes : List PassState
   pub handed_in : kept.total ≤ length receipts
   pub gathered : calls_of passes ≡ kept.total
 
--- what closing comes to: its fault, or none
+-- The passes count no more calls than were made, and, where they have all the parts of the ledger, as many.
+pub record IsGathered {B : Type 0} (parts : ℕ) (kept : KeptState B) (passes : List PassState) : Type 0 where
+  pub within : calls_of passes ≤ kept.total
+  pub whole : parts_of passes ≡ parts → calls_of passes ≡ kept.total
+
+-- What closing comes to: its fault, or none. Up to 20 receipts are put in order with no memory.
 abbrev pub ClosesAs : {B : Type 0} → KeptState B → List PassState → List Receipt → Option CloseFault → Type 0
 ClosesAs kept passes receipts None = IsComplete kept passes receipts × IsInOrder receipts kept.entries
 ClosesAs kept passes receipts (Some NotWhole) = kept.limit < kept.total
 ClosesAs kept passes receipts (Some (Missing count)) = (kept.total ≤ kept.limit) × (0 < count) × (kept.total ≡ min (length receipts) (calls_of passes) + count)
 ClosesAs kept passes receipts (Some (Mismatch number)) =
     IsComplete kept passes receipts × ((sorted : List Receipt) × IsInOrder receipts sorted × IsFirstOther kept.first number sorted kept.entries)
-ClosesAs kept passes receipts (Some NoMemory) = IsComplete kept passes receipts
+ClosesAs kept passes receipts (Some NoMemory) = IsComplete kept passes receipts × (20 < length receipts)
 
--- the same, or one of them is want of memory
+-- what closing comes to once the receipts are in order
+abbrev pub IsOfOrder : Option CloseFault → Type 0
+IsOfOrder None = Unit {0}
+IsOfOrder (Some (Mismatch number)) = Unit {0}
+IsOfOrder (Some _) = ⊥
+
+-- They are the same, or one wants the memory by which the receipts are put in order for the other.
 abbrev pub AgreeButMemory : Option CloseFault → Option CloseFault → Type 0
-AgreeButMemory a b = (a ≡ b) ⊎ ((a ≡ Some NoMemory) ⊎ (b ≡ Some NoMemory))
+AgreeButMemory a b = (a ≡ b) ⊎ (((a ≡ Some NoMemory) × IsOfOrder b) ⊎ ((b ≡ Some NoMemory) × IsOfOrder a))

@@ -1,5 +1,5 @@
 -- What lies under the lock.
-use Rattle.std.specs.Prelude.{◌≡◌, ℕ, ◌+◌, ◌<◌, ◌≤◌, ◌^◌, List, [], ◌∷◌, ◌++◌, length, refl}
+use Rattle.std.specs.Prelude.{◌≡◌, ℕ, ◌+◌, ◌<◌, ◌≤◌, ◌^◌, List, [], ◌∷◌, ◌++◌, length, take, refl}
 use Rattle.std.specs.Coded.{Coded, code_by, coded×, coded_ℕ, coded_list}
 use Rattle.undo_book.specs.declared.event.Event.{Event}
 use Rattle.undo_book.specs.declared.event.Reply.{Reply}
@@ -27,7 +27,7 @@ pub record IsWhole {B : Type 0} (stands_for : B → List Event → Type 0) (sett
   pub legal : IsLegalAfter (settings kept.book) [] kept.entries
   pub stands : stands_for kept.book (events_of kept.entries)
 
--- The book stands for a history of as many events as calls were made. Up to the limit they are those of the record, which is legal.
+-- The book stands for a history of as many events as calls were made. The record has the first of them, up to its limit, and is legal.
 pub record IsKept {B : Type 0} (stands_for : B → List Event → Type 0) (settings : B → Settings) (kept : KeptState B) : Type 0 where
   pub history : List Event
   pub stands : stands_for kept.book history
@@ -35,7 +35,8 @@ pub record IsKept {B : Type 0} (stands_for : B → List Event → Type 0) (setti
   pub few : kept.total < 2 ^ 62
   pub few_callers : kept.callers ≤ 2 ^ 62
   pub from_one : kept.first ≡ 1
-  pub recorded : kept.total ≤ kept.limit → (history ≡ events_of kept.entries) × IsLegalAfter (settings kept.book) [] kept.entries
+  pub recorded : events_of kept.entries ≡ take kept.limit history
+  pub legal : IsLegalAfter (settings kept.book) [] kept.entries
 
 -- One call more was taken and, up to the limit, recorded.
 pub record IsCalled {B : Type 0} (before after : KeptState B) (pass : PassState) (event : Event) (reply : Reply) (pass' : PassState) : Type 0 where

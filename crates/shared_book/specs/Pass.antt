@@ -18,3 +18,7 @@ after_call pass number = record { caller = pass.caller; seen = number; made = pa
 -- how many calls the passes count
 abbrev pub calls_of : List PassState → ℕ
 calls_of passes = sum (map (λ pass. pass.made) passes)
+
+-- into how many passes they can be split
+abbrev pub parts_of : List PassState → ℕ
+parts_of passes = sum (map (λ pass. pass.parts) passes)

@@ -1,9 +1,26 @@
-//! A ledger of calls by which no book counts yet.
+//! The ledger of the calls of one book.
 
-ghost use Rattle.std.specs.Prelude.{◌≡◌};
+ghost use Rattle.std.specs.Prelude.{◌≡◌, ℕ, []};
 
-use std::marker::Model;
+use std::marker::{Brand, Model};
 use std::sync::ledger::{Blank as BlankLedger, Book as Calls, Ledger, Share};
+
+/// Which book's ledger it is, with what all callers know of that book.
+pub trait CallLedger: Ledger {
+    ghost use Rattle.undo_book.specs.declared.event.Settings.{Settings};
+
+    // How many calls are recorded.
+    ghost limit: { ℕ };
+
+    // What the book was made with.
+    ghost settings: { Settings };
+}
+
+impl CallLedger for Brand {
+    ghost limit = { 0 };
+
+    ghost settings = { record { journal = 0; cells = 0; hints = []; server_port = 0 } };
+}
 
 /// A new ledger of calls, with the number of its parts.
 #[derive(Drop)]

@@ -2,18 +2,19 @@
 
 ghost use Rattle.std.specs.Prelude.{◌≡◌, ◌+◌, ◌<◌, ◌≤◌, ◌^◌, ◌/◌, ◌↔◌, ◌⊎◌, max, ℕ, IfOk, IfErr, OnOk, OnErr, IsErrOf, IsErr};
 ghost use Rattle.undo_book.specs.declared.limits.TheConstants.{MOST_EVENTS};
-ghost use Rattle.shared_book.specs.Pass.{calls_of};
+ghost use Rattle.shared_book.specs.Pass.{calls_of, parts_of};
 ghost use Rattle.shared_book.specs.Kept.{IsCalled, IsSameRecord};
 ghost use Rattle.shared_book.specs.Calling.{IsJustified, IsReasonOf};
 
+use crate::blank::CallLedger;
 use crate::fault::{CallFault, SplitFault};
 use crate::kept::{Kept, untimely};
 use crate::pass::Pass;
 use dns_text::Shared;
-use std::sync::ledger::{Ledger, Share};
+use std::sync::ledger::Share;
 use undo_book::{Book, Event, Reply, StepFault};
 
-impl<B: Book, L: Ledger> Kept<B, L> {
+impl<B: Book, L: CallLedger> Kept<B, L> {
     /// A step for a pass that has seen no more than there is.
     pub(crate) fn call(
         &mut self,
@@ -24,7 +25,7 @@ impl<B: Book, L: Ledger> Kept<B, L> {
         requires same { copy ≡ event }
         ensures called { IfOk result (λ reply. IsCalled self.old self.new pass.old event reply pass.new) }
         ensures later { OnOk result (pass.old.seen < pass.new.seen) }
-        ensures justified { IfOk result (λ reply. IsJustified pass.new.seen event reply) }
+        ensures justified { IfOk result (λ reply. IsJustified L.settings pass.new.seen event reply) }
         ensures reason { IfErr result (λ fault. IsReasonOf event fault) }
         ensures fault { OnErr result (pass.new ≡ pass.old) }
         ensures behind { (at : ℕ) → IsErrOf result (CallFault.Behind at) → (at ≡ self.old.total) × (at < pass.old.seen) }
@@ -69,41 +70,47 @@ impl<B: Book, L: Ledger> Kept<B, L> {
         ensures seen { result.seen ≡ max first.seen second.seen }
         ensures made { result.made ≡ first.made + second.made }
         ensures parts { first.parts + second.parts < 2 ^ 64 → result.parts ≡ first.parts + second.parts }
+        ensures within { first.parts + second.parts ≤ L.parts }
         ensures same { self.new ≡ self.old }
     {
         Pass::joined(first, second, &mut self.calls)
     }
 
-    /// The calls that the passes count, which are no more than were made.
+    /// The calls that the passes count.
     pub(crate) fn gather(&mut self, passes: Vec<Pass<L>>) -> u64
         ensures same { self.new ≡ self.old }
         ensures sum { result ≡ calls_of passes.items }
         ensures within { result ≤ self.old.total }
+        ensures whole { parts_of passes.items ≡ L.parts → result ≡ self.old.total }
     {
         let mut made = 0u64;
         let mut all = self.nothing();
         for pass in passes {
             let (one, share) = pass.into_share();
             all.merge(share);
-            self.bound(&mut all);
+            self.audit(&mut all);
             made += one;
         }
+        self.audit(&mut all);
         made
     }
 
     /// A share of no calls.
     fn nothing(&mut self) -> Share<L>
-        ensures share { result.amount ≡ 0 }
+        ensures amount { result.amount ≡ 0 }
+        ensures parts { result.parts ≡ 0 }
         ensures same { self.new ≡ self.old }
     {
         self.none.empty()
     }
 
-    /// Tells that a share counts no more calls than were made.
-    fn bound(&mut self, share: &mut Share<L>)
+    /// Tells that a share counts no more calls than were made, and with all the parts as many.
+    fn audit(&mut self, share: &mut Share<L>)
         ensures within { share.new.amount ≤ self.old.total }
+        ensures whole { share.old.parts ≡ L.parts → share.new.amount ≡ self.old.total }
         ensures few { self.old.total < 2 ^ 62 }
-        ensures share { share.new.amount ≡ share.old.amount }
+        ensures amount { share.new.amount ≡ share.old.amount }
+        ensures parts { share.new.parts ≡ share.old.parts }
         ensures same { self.new ≡ self.old }
     {
         self.calls.audit(share);

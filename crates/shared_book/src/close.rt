@@ -1,25 +1,25 @@
 //! Whether the receipts that are handed in are the record.
 
-ghost use Rattle.std.specs.Prelude.{◌≡◌, ◌+◌, ◌<◌, ◌≤◌, ◌^◌, ◌↔◌, IsTrue, length, slice_get, Some, None, OnOk, IfOk, MatchResult, MatchOption};
-ghost use Rattle.shared_book.specs.Closing.{IsInOrder, IsFirstOther, ClosesAs};
+ghost use Rattle.std.specs.Prelude.{◌≡◌, ◌+◌, ◌<◌, ◌≤◌, ◌^◌, ◌↔◌, IsTrue, length, slice_get, Some, None, OnOk, IfOk, IsOk, MatchResult, MatchOption};
+ghost use Rattle.shared_book.specs.Closing.{IsInOrder, IsFirstOther, IsGathered, ClosesAs};
 ghost use Rattle.shared_book.specs.Kept.{IsWhole};
 
+use crate::blank::CallLedger;
 use crate::fault::CloseFault;
 use crate::kept::Kept;
 use crate::pass::Pass;
 use crate::receipt::Receipt;
 use dns_name::NoMemory;
-use std::sync::ledger::Ledger;
 use undo_book::Book;
 
 /// Why a book is not closed, and what lay under its lock, unchanged.
 #[derive(Drop)]
-pub struct NotClosed<B: Book, L: Ledger> {
+pub struct NotClosed<B: Book, L: CallLedger> {
     pub fault: CloseFault,
     pub kept: Kept<B, L>,
 }
 
-impl<B: Book, L: Ledger> Kept<B, L> {
+impl<B: Book, L: CallLedger> Kept<B, L> {
     /// Whether the receipts, in order of number, are the record. The faults come in their order.
     pub fn close(
         mut self,
@@ -28,12 +28,13 @@ impl<B: Book, L: Ledger> Kept<B, L> {
     ) -> Result<Kept<B, L>, NotClosed<B, L>>
         ensures same { MatchResult result (λ kept. kept ≡ self) (λ not_closed. not_closed.kept ≡ self) }
         ensures verdict { MatchResult result (λ kept. ClosesAs self passes.items receipts.items None) (λ not_closed. ClosesAs self passes.items receipts.items (Some not_closed.fault)) }
+        ensures gathered { IsGathered L.parts self passes.items }
         ensures whole { IfOk result (λ kept. IsWhole B.stands_for B.settings kept) }
     {
+        let made = self.gather(passes);
         if self.total() > self.limit() {
             return Err(not_closed(CloseFault::NotWhole, self));
         }
-        let made = self.gather(passes);
         let held = made.min(receipts.len() as u64);
         if held < self.total() {
             let count = self.total() - held;
@@ -58,7 +59,7 @@ impl<B: Book, L: Ledger> Kept<B, L> {
     }
 }
 
-fn not_closed<B: Book, L: Ledger>(fault: CloseFault, kept: Kept<B, L>) -> NotClosed<B, L>
+fn not_closed<B: Book, L: CallLedger>(fault: CloseFault, kept: Kept<B, L>) -> NotClosed<B, L>
     ensures fault { result.fault ≡ fault }
     ensures kept { result.kept ≡ kept }
 {
@@ -68,6 +69,7 @@ fn not_closed<B: Book, L: Ledger>(fault: CloseFault, kept: Kept<B, L>) -> NotClo
 /// Puts receipts in order of number, equal numbers as they stood.
 fn put_in_order(receipts: &mut Vec<Receipt>) -> Result<(), NoMemory>
     ensures order { OnOk result (IsInOrder receipts.old.items receipts.new.items) }
+    ensures few { length receipts.old.items ≤ 20 → IsOk result }
     ensures len { length receipts.new.items ≡ length receipts.old.items }
 {
     match receipts.sort_by_key(|receipt| receipt.number) {

@@ -5,17 +5,17 @@ ghost use Rattle.undo_book.specs.declared.event.Event.{Event};
 ghost use Rattle.undo_book.specs.Answers.{Answers, IsTimely, history_after};
 ghost use Rattle.shared_book.specs.declared.kept.TheConstants.{MOST_RECORDED};
 ghost use Rattle.shared_book.specs.Pass.{first_pass};
-ghost use Rattle.shared_book.specs.Kept.{IsWhole, IsCalled, IsSameRecord, IsUntimely};
+ghost use Rattle.shared_book.specs.Kept.{IsKept, IsWhole, IsCalled, IsSameRecord, IsUntimely};
 
 use crate::ahead::{look_ahead, told_again};
-use crate::blank::Blank;
+use crate::blank::{Blank, CallLedger};
 use crate::pass::Pass;
 use crate::receipt::Receipt;
 use crate::record::{CallRecord, make_room};
 use dns_text::Shared;
 use std::alloc::Global;
 use std::marker::Model;
-use std::sync::ledger::{Book as Calls, Ledger, Share};
+use std::sync::ledger::{Book as Calls, Share};
 use undo_book::{Book, Event, MOMENT_END, MOST_EVENTS, MakeFault, Reply, StepFault};
 
 /// The most calls that can be recorded.
@@ -23,7 +23,7 @@ pub const MOST_RECORDED: u64 = 1_000_000;
 
 /// The book, the record of its calls and their total.
 #[derive(Drop)]
-pub struct Kept<B: Book, L: Ledger> {
+pub struct Kept<B: Book, L: CallLedger> {
     pub(crate) book: B,
     pub(crate) recorded: CallRecord,
     pub(crate) total: u64,
@@ -32,7 +32,7 @@ pub struct Kept<B: Book, L: Ledger> {
     pub(crate) none: Share<L>,
 }
 
-impl<B: Book, L: Ledger> Model for Kept<B, L> {
+impl<B: Book, L: CallLedger> Model for Kept<B, L> {
     ghost use Rattle.std.specs.Prelude.{◌≡◌};
     ghost use Rattle.shared_book.specs.Kept.{KeptState, IsKept, kept_code};
     ghost use Rattle.shared_book.specs.contracts.receipt.Receipt as receipt_type;
@@ -43,11 +43,11 @@ impl<B: Book, L: Ledger> Model for Kept<B, L> {
 
     ghost view = { λ k. record { book = k.book; first = k.recorded.first; entries = k.recorded.entries.items; limit = k.recorded.limit; total = k.total; callers = k.callers } };
 
-    ghost invariant = { λ k. (k.total ≡ k.calls.total)
+    ghost invariant = { λ k. (k.total ≡ k.calls.total) × ((k.recorded.limit ≡ L.limit) × (B.settings k.book ≡ L.settings))
         × IsKept B.stands_for B.settings (record { book = k.book; first = k.recorded.first; entries = k.recorded.entries.items; limit = k.recorded.limit; total = k.total; callers = k.callers }) };
 }
 
-impl<B: Book, L: Ledger> Kept<B, L> {
+impl<B: Book, L: CallLedger> Kept<B, L> {
     /// A book that has taken no event, with a record of no calls, which takes so many, and the first pass.
     pub fn new(
         alloc: Global,
@@ -57,6 +57,8 @@ impl<B: Book, L: Ledger> Kept<B, L> {
     ) -> Result<(Kept<B, L>, Pass<L>), MakeFault>
         requires name { blank.name ≡ L.name }
         requires parts { blank.parts ≡ L.parts }
+        requires limit { limit ≡ L.limit }
+        requires settings { B.settings book ≡ L.settings }
         requires fresh { B.stands_for book [] }
         ensures refused { IsErrOf result MakeFault.BadSettings ↔ ¬ ((1 ≤ blank.parts) × (1 ≤ limit) × (limit ≤ MOST_RECORDED)) }
         ensures made { 1 ≤ blank.parts → 1 ≤ limit → limit ≤ MOST_RECORDED → IsOk result }
@@ -90,14 +92,16 @@ impl<B: Book, L: Ledger> Kept<B, L> {
 
     /// How many calls are recorded.
     pub fn limit(&self) -> u64
-        ensures { result ≡ self.now.limit }
+        ensures limit { result ≡ self.now.limit }
+        ensures same { result ≡ L.limit }
     {
         self.recorded.limit
     }
 
-    /// The record: every call, while they are not more than are recorded. It is legal, and the book stands for its events.
+    /// The record: the first calls, up to the limit.
     pub fn entries(&self) -> &[Receipt]
         ensures entries { result.now ≡ self.now.entries }
+        ensures kept { IsKept B.stands_for B.settings self.now }
         ensures whole { self.now.total ≤ self.now.limit → IsWhole B.stands_for B.settings self.now }
     {
         self.recorded.entries.as_slice()
@@ -105,7 +109,8 @@ impl<B: Book, L: Ledger> Kept<B, L> {
 
     /// The book.
     pub fn book(&self) -> &B
-        ensures { result.now ≡ self.now.book }
+        ensures book { result.now ≡ self.now.book }
+        ensures settings { B.settings result.now ≡ L.settings }
     {
         &self.book
     }

@@ -5,7 +5,7 @@
 mod fault;
 // What a call gives back, and what the record has of it.
 mod receipt;
-// A ledger by which no book counts yet.
+// The ledger of the calls of one book.
 mod blank;
 // A caller's right to call, with what it has seen.
 mod pass;
@@ -26,7 +26,7 @@ mod shared;
 // A shared book with a pass, as a desk.
 mod seat;
 
-pub use blank::Blank;
+pub use blank::{Blank, CallLedger};
 pub use close::NotClosed;
 pub use fault::{CallFault, CloseFault, SplitFault};
 pub use kept::{Kept, MOST_RECORDED};

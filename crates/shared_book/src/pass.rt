@@ -113,6 +113,7 @@ impl<L: Ledger> Pass<L> {
         ensures seen { result.seen ≡ max first.seen second.seen }
         ensures made { result.made ≡ first.made + second.made }
         ensures parts { first.parts + second.parts < 2 ^ 64 → result.parts ≡ first.parts + second.parts }
+        ensures within { first.parts + second.parts ≤ L.parts }
         ensures same { calls.new.total ≡ calls.old.total }
     {
         let Pass {
@@ -144,6 +145,7 @@ impl<L: Ledger> Pass<L> {
     pub(crate) fn into_share(self) -> (u64, Share<L>)
         ensures made { result.0 ≡ self.made }
         ensures amount { result.1.amount ≡ self.made }
+        ensures parts { self.parts ≤ result.1.parts }
     {
         let Pass {
             caller: _,

@@ -3,6 +3,7 @@
 ghost use Rattle.std.specs.Prelude.{◌≡◌};
 ghost use Rattle.shared_book.specs.Calling.{SeatCall};
 
+use crate::blank::CallLedger;
 use crate::fault::CallFault;
 use crate::pass::Pass;
 use crate::receipt::Receipt;
@@ -10,19 +11,18 @@ use crate::shared::SharedBook;
 use dns_text::Shared;
 use std::alloc::Global;
 use std::sync::Wait;
-use std::sync::ledger::Ledger;
 use undo_book::{Book, Desk, DeskFault, Event, Reply, StepFault};
 
 /// A caller's place at a shared book.
 #[derive(Drop)]
-pub struct Seat<'a, B: Book, L: Ledger, R: Wait> {
+pub struct Seat<'a, B: Book, L: CallLedger, R: Wait> {
     rt: &'a R,
     alloc: Global,
     book: &'a SharedBook<B, L>,
     pass: Pass<L>,
 }
 
-impl<'a, B: Book, L: Ledger, R: Wait> Seat<'a, B, L, R> {
+impl<'a, B: Book, L: CallLedger, R: Wait> Seat<'a, B, L, R> {
     /// The place of this pass.
     pub fn new(
         rt: &'a R,
@@ -54,8 +54,8 @@ impl<'a, B: Book, L: Ledger, R: Wait> Seat<'a, B, L, R> {
     }
 }
 
-impl<'a, B: Book, L: Ledger, R: Wait> Desk for Seat<'a, B, L, R> {
-    ghost calls = { λ before event answer after. SeatCall before.pass event answer after.pass };
+impl<'a, B: Book, L: CallLedger, R: Wait> Desk for Seat<'a, B, L, R> {
+    ghost calls = { λ before event answer after. SeatCall L.settings before.pass event answer after.pass };
 
     fn call(&mut self, event: Event) -> Result<Reply, DeskFault> {
         let Ok(event) = Shared::new(self.alloc, event) else {

@@ -4,10 +4,10 @@ ghost use Rattle.std.specs.Prelude.{◌≡◌, ◌+◌, ◌<◌, ◌≤◌, ◌^
 ghost use Rattle.shared_book.specs.declared.kept.TheConstants.{MOST_RECORDED};
 ghost use Rattle.shared_book.specs.Pass.{first_pass, after_call};
 ghost use Rattle.shared_book.specs.Calling.{IsReceiptOf, IsJustified, IsReasonOf};
-ghost use Rattle.shared_book.specs.Closing.{ClosesAs};
+ghost use Rattle.shared_book.specs.Closing.{IsGathered, ClosesAs};
 ghost use Rattle.shared_book.specs.Kept.{IsWhole};
 
-use crate::blank::Blank;
+use crate::blank::{Blank, CallLedger};
 use crate::close::NotClosed;
 use crate::fault::{CallFault, SplitFault};
 use crate::kept::Kept;
@@ -15,17 +15,16 @@ use crate::pass::Pass;
 use crate::receipt::Receipt;
 use dns_text::Shared;
 use std::alloc::Global;
-use std::sync::ledger::Ledger;
 use std::sync::{Mutex, Wait};
 use undo_book::{Book, Event, MakeFault, Reply, StepFault};
 
 /// A book that many callers share, each with a pass.
 #[derive(Drop)]
-pub struct SharedBook<B: Book, L: Ledger> {
+pub struct SharedBook<B: Book, L: CallLedger> {
     kept: Mutex<Kept<B, L>>,
 }
 
-impl<B: Book, L: Ledger> SharedBook<B, L> {
+impl<B: Book, L: CallLedger> SharedBook<B, L> {
     /// A book that has taken no event, with a record of no calls, which takes so many, and the first pass.
     pub fn new(
         alloc: Global,
@@ -35,6 +34,8 @@ impl<B: Book, L: Ledger> SharedBook<B, L> {
     ) -> Result<(SharedBook<B, L>, Pass<L>), MakeFault>
         requires name { blank.name ≡ L.name }
         requires parts { blank.parts ≡ L.parts }
+        requires limit { limit ≡ L.limit }
+        requires settings { B.settings book ≡ L.settings }
         requires fresh { B.stands_for book [] }
         ensures refused { IsErrOf result MakeFault.BadSettings ↔ ¬ ((1 ≤ blank.parts) × (1 ≤ limit) × (limit ≤ MOST_RECORDED)) }
         ensures made { 1 ≤ blank.parts → 1 ≤ limit → limit ≤ MOST_RECORDED → IsOk result }
@@ -68,6 +69,7 @@ impl<B: Book, L: Ledger> SharedBook<B, L> {
         ensures seen { result.seen ≡ max first.seen second.seen }
         ensures made { result.made ≡ first.made + second.made }
         ensures parts { first.parts + second.parts < 2 ^ 64 → result.parts ≡ first.parts + second.parts }
+        ensures within { first.parts + second.parts ≤ L.parts }
     {
         self.kept.lock(rt).join(first, second)
     }
@@ -80,7 +82,7 @@ impl<B: Book, L: Ledger> SharedBook<B, L> {
         event: Shared<Event>,
     ) -> Result<Receipt, CallFault>
         ensures receipt { IfOk result (λ r. IsReceiptOf pass.old event r pass.new) }
-        ensures justified { IfOk result (λ r. IsJustified r.number event r.reply) }
+        ensures justified { IfOk result (λ r. IsJustified L.settings r.number event r.reply) }
         ensures reason { IfErr result (λ fault. IsReasonOf event fault) }
         ensures fault { OnErr result (pass.new ≡ pass.old) }
         ensures behind { (at : ℕ) → IsErrOf result (CallFault.Behind at) → at < pass.old.seen }
@@ -110,7 +112,7 @@ impl<B: Book, L: Ledger> SharedBook<B, L> {
         requires same { copy ≡ event }
         ensures counted { OnOk result (pass.new ≡ after_call pass.old pass.new.seen) }
         ensures later { OnOk result (pass.old.seen < pass.new.seen) }
-        ensures justified { IfOk result (λ reply. IsJustified pass.new.seen event reply) }
+        ensures justified { IfOk result (λ reply. IsJustified L.settings pass.new.seen event reply) }
         ensures reason { IfErr result (λ fault. IsReasonOf event fault) }
         ensures fault { OnErr result (pass.new ≡ pass.old) }
         ensures behind { (at : ℕ) → IsErrOf result (CallFault.Behind at) → at < pass.old.seen }
@@ -125,6 +127,8 @@ impl<B: Book, L: Ledger> SharedBook<B, L> {
         receipts: Vec<Receipt>,
     ) -> Result<Kept<B, L>, NotClosed<B, L>>
         ensures verdict { MatchResult result (λ kept. ClosesAs kept passes.items receipts.items None) (λ not_closed. ClosesAs not_closed.kept passes.items receipts.items (Some not_closed.fault)) }
+        ensures gathered { MatchResult result (λ kept. IsGathered L.parts kept passes.items) (λ not_closed. IsGathered L.parts not_closed.kept passes.items) }
+        ensures limit { MatchResult result (λ kept. kept.limit ≡ L.limit) (λ not_closed. not_closed.kept.limit ≡ L.limit) }
         ensures whole { IfOk result (λ kept. IsWhole B.stands_for B.settings kept) }
     {
         let SharedBook { kept } = self;

@@ -4,21 +4,22 @@ use crate::draws::event;
 use dns_text::Shared;
 use rand_core::SeedableRng;
 use rand_pcg::Pcg32;
-use shared_book::{Pass, Receipt, SharedBook};
+use shared_book::{CallLedger, Pass, Receipt, SharedBook};
 use std::alloc::Global;
 use std::sync::Wait;
-use std::sync::ledger::Ledger;
 use std::thread;
 use std::thread::Threads;
+use thiserror::Error;
 use undo_book::PlainBook;
 
 /// A draw or a call came to nothing.
-#[derive(Clone, Copy, Debug, PartialEq, Eq)]
+#[derive(Clone, Copy, Debug, PartialEq, Eq, Error)]
+#[error("a draw or a call came to nothing")]
 pub struct Stop;
 
 /// What is handed in at the end.
 #[derive(Drop)]
-pub struct Handed<L: Ledger> {
+pub struct Handed<L: CallLedger> {
     pub pass: Pass<L>,
     pub receipts: Vec<Receipt>,
 }
@@ -27,7 +28,7 @@ pub struct Handed<L: Ledger> {
 const CALLS: u32 = 62;
 
 /// One drawn call.
-fn one_call<L: Ledger, R: Wait>(
+fn one_call<L: CallLedger, R: Wait>(
     rt: &R,
     alloc: Global,
     book: &SharedBook<PlainBook, L>,
@@ -47,7 +48,7 @@ fn one_call<L: Ledger, R: Wait>(
 }
 
 /// One caller's drawn calls.
-fn calls<L: Ledger, R: Wait>(
+fn calls<L: CallLedger, R: Wait>(
     rt: &R,
     alloc: Global,
     book: &SharedBook<PlainBook, L>,
@@ -67,7 +68,7 @@ fn calls<L: Ledger, R: Wait>(
 }
 
 /// The same with more receipts.
-fn with_receipts<L: Ledger>(handed: Handed<L>, more: Vec<Receipt>) -> Result<Handed<L>, Stop> {
+fn with_receipts<L: CallLedger>(handed: Handed<L>, more: Vec<Receipt>) -> Result<Handed<L>, Stop> {
     let Handed { pass, mut receipts } = handed;
     for receipt in more {
         if receipts.push(receipt).is_err() {
@@ -78,7 +79,7 @@ fn with_receipts<L: Ledger>(handed: Handed<L>, more: Vec<Receipt>) -> Result<Han
 }
 
 /// What two have to hand in, as one.
-fn joined<L: Ledger, R: Wait>(
+fn joined<L: CallLedger, R: Wait>(
     rt: &R,
     book: &SharedBook<PlainBook, L>,
     one: Handed<L>,
@@ -94,7 +95,7 @@ fn joined<L: Ledger, R: Wait>(
 }
 
 /// Two callers, of whom the first calls once more when the second is done.
-fn two<L: Ledger + Send + Sync, R: Threads + Wait + Sync>(
+fn two<L: CallLedger + Send + Sync, R: Threads + Wait + Sync>(
     rt: &R,
     alloc: Global,
     book: &SharedBook<PlainBook, L>,
@@ -114,7 +115,7 @@ fn two<L: Ledger + Send + Sync, R: Threads + Wait + Sync>(
     with_receipts(last, receipts)
 }
 
-fn four<L: Ledger + Send + Sync, R: Threads + Wait + Sync>(
+fn four<L: CallLedger + Send + Sync, R: Threads + Wait + Sync>(
     rt: &R,
     alloc: Global,
     book: &SharedBook<PlainBook, L>,
@@ -133,7 +134,7 @@ fn four<L: Ledger + Send + Sync, R: Threads + Wait + Sync>(
 }
 
 /// Eight callers, each in a thread of its own.
-pub fn eight<L: Ledger + Send + Sync, R: Threads + Wait + Sync>(
+pub fn eight<L: CallLedger + Send + Sync, R: Threads + Wait + Sync>(
     rt: &R,
     alloc: Global,
     book: &SharedBook<PlainBook, L>,

@@ -1,38 +1,42 @@
 //! Eight callers, in threads of their own, make 500 drawn calls of every kind on a shared book, with passes that are split
 //! before and joined after. The book is closed with their receipts, and the record's events are given to a fresh book, whose
 //! replies are counted where they are those of the record. That is done with 40 books.
+//!
+//! With the argument `steps` one caller makes such calls of a book that lies under no lock, for tests/check_memory.py.
 #![tactic(auto)]
 
-ghost use Rattle.std.specs.Prelude.{◌≡◌};
+ghost use Rattle.std.specs.Prelude.{◌≡◌, []};
 
 mod callers; // eight callers of one book
 mod draws; // events by chance
 mod replayed; // the record, given to a fresh book
+mod steps; // one caller, and calls that find no memory
 
 use callers::{Handed, Stop, eight};
 use replayed::{plain, replayed};
-use shared_book::{Blank, SharedBook};
+use shared_book::{Blank, CallLedger, SharedBook};
 use std::alloc::Global;
-use std::io;
 use std::marker::Brand;
 use std::sync::Wait;
-use std::sync::ledger::Ledger;
 use std::thread::Threads;
-use undo_book::PlainBook;
+use std::{env, io};
+use steps::steps;
+use undo_book::{Book, PlainBook};
 
 /// How many entries a book's record has, and to how many of them a fresh book replies the same. None where it is not closed.
-fn one_book<L: Ledger + Send + Sync, R: Threads + Wait + Sync>(
+fn one_book<L: CallLedger + Send + Sync, R: Threads + Wait + Sync>(
     rt: &R,
     alloc: Global,
     blank: Blank,
+    book: PlainBook,
     seed: u64,
 ) -> Result<Option<(usize, usize)>, Stop>
     requires name { blank.name ≡ L.name }
     requires parts { blank.parts ≡ L.parts }
+    requires limit { 500 ≡ L.limit }
+    requires settings { ⟦<PlainBook as Book>⟧.settings book ≡ L.settings }
+    requires fresh { ⟦<PlainBook as Book>⟧.stands_for book [] }
 {
-    let Ok(book) = plain(alloc) else {
-        return Err(Stop);
-    };
     let Ok((shared, pass)) = SharedBook::<PlainBook, L>::new(alloc, blank, book, 500) else {
         return Err(Stop);
     };
@@ -52,15 +56,18 @@ fn one_book_as<R: Threads + Wait + Sync>(
     alloc: Global,
     seed: u64,
 ) -> Result<Option<(usize, usize)>, Stop> {
-    one_book::<Brand, R>(rt, alloc, Blank::new(1 << 10), seed)
+    let Ok(book) = plain(alloc) else {
+        return Err(Stop);
+    };
+    one_book::<Brand, R>(rt, alloc, Blank::new(1 << 10), book, seed)
 }
 
-fn main(rt: HostRuntime) -> io::Result<()> {
+fn books<R: Print + Threads + Wait + Sync>(rt: &R, alloc: Global) -> io::Result<()> {
     let mut closed = 0u64;
     let mut calls = 0u64;
     let mut same = 0u64;
     for seed in 0..40u64 {
-        if let Ok(Some((entries, alike))) = one_book_as(&rt, rt.alloc(), seed) {
+        if let Ok(Some((entries, alike))) = one_book_as(rt, alloc, seed) {
             closed = closed.wrapping_add(1);
             calls = calls.wrapping_add(entries as u64);
             same = same.wrapping_add(alike as u64);
@@ -68,4 +75,19 @@ fn main(rt: HostRuntime) -> io::Result<()> {
     }
     println!(rt; "books closed {}", closed)?;
     println!(rt; "calls {}, replied alike {}", calls, same)
+}
+
+fn steps_as<R: Print>(rt: &R, alloc: Global) -> Result<(), Stop> {
+    let Ok(book) = plain(alloc) else {
+        return Err(Stop);
+    };
+    steps::<Brand, R>(rt, alloc, Blank::new(1), book)
+}
+
+fn main(rt: HostRuntime) -> anyhow::Result<()> {
+    let words: Vec<String> = env::args(&rt)?.collect(rt.alloc())?;
+    match words.as_slice() {
+        [_, word] if word.as_str() == "steps" => Ok(steps_as(&rt, rt.alloc())?),
+        _ => Ok(books(&rt, rt.alloc())?),
+    }
 }

@@ -3,10 +3,9 @@
 ghost use Rattle.std.specs.Prelude.{◌≡◌, [], IfOk};
 
 use dns_text::{Items, Shared};
-use shared_book::{CallFault, Pass, Receipt, SharedBook};
+use shared_book::{CallFault, CallLedger, Pass, Receipt, SharedBook};
 use std::alloc::Global;
 use std::sync::Wait;
-use std::sync::ledger::Ledger;
 use std::test::*;
 use std::thread;
 use std::thread::Threads;
@@ -25,7 +24,7 @@ pub fn plain(alloc: Global) -> Result<PlainBook, MakeFault>
 }
 
 /// Calls with each event, and keeps the receipts.
-pub fn call_all<L: Ledger, R: Wait>(
+pub fn call_all<L: CallLedger, R: Wait>(
     rt: &R,
     alloc: Global,
     book: &SharedBook<PlainBook, L>,
@@ -46,7 +45,7 @@ pub fn call_all<L: Ledger, R: Wait>(
 pub type HandedIn<L> = (Pass<L>, Vec<Receipt>);
 
 /// Both callers, each in a thread of its own.
-pub fn both<L: Ledger + Send + Sync, R: Threads + Wait + Sync>(
+pub fn both<L: CallLedger + Send + Sync, R: Threads + Wait + Sync>(
     rt: &R,
     alloc: Global,
     book: &SharedBook<PlainBook, L>,

@@ -1,18 +1,17 @@
 //! Closing with what two callers hand in, whole and with something wrong.
 
-ghost use Rattle.std.specs.Prelude.{◌≡◌};
+ghost use Rattle.std.specs.Prelude.{◌≡◌, []};
 
 use crate::callers::{are_told, both, plain};
 use crate::events::{of_the_first, of_the_second};
-use shared_book::{Blank, CloseFault, Kept, NotClosed, Pass, Receipt, SharedBook};
+use shared_book::{Blank, CallLedger, CloseFault, Kept, NotClosed, Pass, Receipt, SharedBook};
 use std::alloc::Global;
 use std::marker::Brand;
 use std::process::Abort;
 use std::sync::Wait;
-use std::sync::ledger::Ledger;
 use std::test::*;
 use std::thread::Threads;
-use undo_book::{PlainBook, Reply};
+use undo_book::{Book, PlainBook, Reply};
 
 /// What is done to the six receipts before they are handed in.
 #[derive(Clone, Copy, PartialEq, Eq, Debug)]
@@ -113,7 +112,10 @@ fn changed(case: Case, mut receipts: Vec<Receipt>) -> Result<Vec<Receipt>, Fail>
 /// What closing tells, how many entries there are, and what it tells when it is asked again with nothing.
 type Told = (Option<CloseFault>, usize, Option<CloseFault>);
 
-fn asked_again<L: Ledger>(alloc: Global, kept: Kept<PlainBook, L>) -> (usize, Option<CloseFault>) {
+fn asked_again<L: CallLedger>(
+    alloc: Global,
+    kept: Kept<PlainBook, L>,
+) -> (usize, Option<CloseFault>) {
     let entries = kept.entries().len();
     match kept.close(Vec::new(alloc), Vec::new(alloc)) {
         Ok(_) => (entries, None),
@@ -121,7 +123,7 @@ fn asked_again<L: Ledger>(alloc: Global, kept: Kept<PlainBook, L>) -> (usize, Op
     }
 }
 
-fn told<L: Ledger>(
+fn told<L: CallLedger>(
     alloc: Global,
     closed: Result<Kept<PlainBook, L>, NotClosed<PlainBook, L>>,
 ) -> Told {
@@ -145,7 +147,7 @@ fn all_of(mut ones: Vec<Receipt>, twos: Vec<Receipt>) -> Result<Vec<Receipt>, Fa
     Ok(ones)
 }
 
-fn passes_of<L: Ledger>(
+fn passes_of<L: CallLedger>(
     alloc: Global,
     case: Case,
     one: Pass<L>,
@@ -157,16 +159,20 @@ fn passes_of<L: Ledger>(
     Ok(vec![in alloc; two, one]?)
 }
 
-fn two_callers<L: Ledger + Send + Sync, R: Threads + Wait + Sync + Abort>(
+fn two_callers<L: CallLedger + Send + Sync, R: Threads + Wait + Sync + Abort>(
     rt: &R,
     alloc: Global,
     blank: Blank,
+    book: PlainBook,
     case: Case,
 ) -> Result<Told, Fail>
     requires name { blank.name ≡ L.name }
     requires parts { blank.parts ≡ L.parts }
+    requires limit { 100 ≡ L.limit }
+    requires settings { ⟦<PlainBook as Book>⟧.settings book ≡ L.settings }
+    requires fresh { ⟦<PlainBook as Book>⟧.stands_for book [] }
 {
-    let (book, mut one) = SharedBook::<PlainBook, L>::new(alloc, blank, plain(alloc)?, 100)?;
+    let (book, mut one) = SharedBook::<PlainBook, L>::new(alloc, blank, book, 100)?;
     let two = book.split(rt, &mut one)?;
     let events = (of_the_first(alloc)?, of_the_second(alloc)?);
     let ((one, ones), (two, twos)) = both(rt, alloc, &book, (one, two), events)?;
@@ -181,7 +187,7 @@ fn closed_as<R: Threads + Wait + Sync + Abort>(
     alloc: Global,
     case: Case,
 ) -> Result<Told, Fail> {
-    two_callers::<Brand, R>(rt, alloc, Blank::new(1 << 20), case)
+    two_callers::<Brand, R>(rt, alloc, Blank::new(1 << 20), plain(alloc)?, case)
 }
 
 /// The passes are given up when closing is asked first, so all six calls are missing then.

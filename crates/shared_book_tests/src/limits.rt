@@ -1,28 +1,31 @@
 //! What a book is made with, and a record that is full.
 
-ghost use Rattle.std.specs.Prelude.{◌≡◌};
+ghost use Rattle.std.specs.Prelude.{◌≡◌, []};
 
 use crate::callers::{call_all, plain};
 use crate::events::of_the_second;
-use shared_book::{Blank, CloseFault, MOST_RECORDED, SharedBook, SplitFault};
+use shared_book::{Blank, CallLedger, CloseFault, MOST_RECORDED, SharedBook, SplitFault};
 use std::alloc::Global;
 use std::marker::Brand;
 use std::process::Abort;
 use std::sync::Wait;
-use std::sync::ledger::Ledger;
 use std::test::*;
-use undo_book::{MakeFault, PlainBook};
+use undo_book::{Book, MakeFault, PlainBook};
 
 /// One call more than is recorded.
-fn past_the_record<L: Ledger, R: Wait + Abort>(
+fn past_the_record<L: CallLedger, R: Wait + Abort>(
     rt: &R,
     alloc: Global,
     blank: Blank,
+    book: PlainBook,
 ) -> Result<Option<CloseFault>, Fail>
     requires name { blank.name ≡ L.name }
     requires parts { blank.parts ≡ L.parts }
+    requires limit { 1 ≡ L.limit }
+    requires settings { ⟦<PlainBook as Book>⟧.settings book ≡ L.settings }
+    requires fresh { ⟦<PlainBook as Book>⟧.stands_for book [] }
 {
-    let (book, pass) = SharedBook::<PlainBook, L>::new(alloc, blank, plain(alloc)?, 1)?;
+    let (book, pass) = SharedBook::<PlainBook, L>::new(alloc, blank, book, 1)?;
     let (pass, receipts) = call_all(rt, alloc, &book, pass, of_the_second(alloc)?)?;
     assert_eq!(rt; receipts.len(), 2);
     match book.close(vec![in alloc; pass]?, receipts) {
@@ -32,7 +35,7 @@ fn past_the_record<L: Ledger, R: Wait + Abort>(
 }
 
 fn past_the_record_as<R: Wait + Abort>(rt: &R, alloc: Global) -> Result<Option<CloseFault>, Fail> {
-    past_the_record::<Brand, R>(rt, alloc, Blank::new(1))
+    past_the_record::<Brand, R>(rt, alloc, Blank::new(1), plain(alloc)?)
 }
 
 #[test]
@@ -43,16 +46,20 @@ fn a_record_is_not_whole(rt: HostRuntime) -> Result<(), Fail> {
 }
 
 /// Whether a book is refused that is made with these, and whether its first pass can be split.
-fn made<L: Ledger, R: Wait>(
+fn made<L: CallLedger, R: Wait>(
     rt: &R,
     alloc: Global,
     blank: Blank,
+    book: PlainBook,
     limit: u64,
 ) -> Result<Option<SplitFault>, MakeFault>
     requires name { blank.name ≡ L.name }
     requires parts { blank.parts ≡ L.parts }
+    requires limit { limit ≡ L.limit }
+    requires settings { ⟦<PlainBook as Book>⟧.settings book ≡ L.settings }
+    requires fresh { ⟦<PlainBook as Book>⟧.stands_for book [] }
 {
-    let (book, mut pass) = SharedBook::<PlainBook, L>::new(alloc, blank, plain(alloc)?, limit)?;
+    let (book, mut pass) = SharedBook::<PlainBook, L>::new(alloc, blank, book, limit)?;
     Ok(book.split(rt, &mut pass).err())
 }
 
@@ -62,7 +69,7 @@ fn made_as<R: Wait>(
     parts: u64,
     limit: u64,
 ) -> Result<Option<SplitFault>, MakeFault> {
-    made::<Brand, R>(rt, alloc, Blank::new(parts), limit)
+    made::<Brand, R>(rt, alloc, Blank::new(parts), plain(alloc)?, limit)
 }
 
 #[test]

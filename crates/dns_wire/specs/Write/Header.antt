@@ -1,6 +1,7 @@
 -- The header as octets (RFC 1035, section 4.1.1).
-use Rattle.std.specs.Prelude.{ℕ, ◌+◌, ◌*◌, Bool, true, false, List, ◌++◌}
+use Rattle.std.specs.Prelude.{ℕ, ◌+◌, ◌*◌, ◌≤◌, Bool, true, false, List, ◌++◌, length}
 use Rattle.dns_wire.specs.declared.message.Head.{Head}
+use Rattle.dns_wire.specs.Lent.{Records}
 use Rattle.dns_wire.specs.Write.Number.{u16_octets}
 
 abbrev pub bit : Bool → ℕ
@@ -15,3 +16,9 @@ flags_of h = bit h.qr * 32768 + h.opcode * 2048 + bit h.aa * 1024 + bit h.tc * 5
 unfoldable pub header_octets : Head → ℕ → ℕ → ℕ → ℕ → List ℕ
 header_octets h questions answer authority additional =
     u16_octets h.id ++ u16_octets (flags_of h) ++ u16_octets questions ++ u16_octets answer ++ u16_octets authority ++ u16_octets additional
+
+-- A header can count the records of each section.
+pub record AreFew (records : Records) : Type 0 where
+  pub answer : length records.answer ≤ 65535
+  pub authority : length records.authority ≤ 65535
+  pub additional : length records.additional ≤ 65535

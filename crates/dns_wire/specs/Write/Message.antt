@@ -1,20 +1,21 @@
 -- Messages as octets (RFC 1035, section 4.1).
-use Rattle.std.specs.Prelude.{ℕ, ◌<◌, ◌⊎◌, List, ◌++◌, length}
+use Rattle.std.specs.Prelude.{ℕ, ◌<◌, ◌⊎◌, List, ◌++◌, length, Option}
 use Rattle.std.specs.List.{flat_map}
+use Rattle.dns_name.specs.Labels.{Labels}
 use Rattle.dns_wire.specs.declared.message.Message.{Message}
+use Rattle.dns_wire.specs.Lent.{Records, records_of}
 use Rattle.dns_wire.specs.Write.Header.{header_octets}
 use Rattle.dns_wire.specs.Write.Question.{question_octets, first_name}
 use Rattle.dns_wire.specs.Write.Record.{records_octets}
 
--- the records of a message
-abbrev pub sections_octets : Message → List ℕ
-sections_octets v =
-    records_octets (first_name v.questions) v.answer ++ records_octets (first_name v.questions) v.authority ++ records_octets (first_name v.questions) v.additional
+-- records, where the first question has this name
+abbrev pub sections_octets : Option Labels → Records → List ℕ
+sections_octets first records = records_octets first records.answer ++ records_octets first records.authority ++ records_octets first records.additional
 
 -- a message whose questions take these octets
 unfoldable pub octets_with : List ℕ → Message → List ℕ
 octets_with questions v =
-    header_octets v.head (length v.questions) (length v.answer) (length v.authority) (length v.additional) ++ questions ++ sections_octets v
+    header_octets v.head (length v.questions) (length v.answer) (length v.authority) (length v.additional) ++ questions ++ sections_octets (first_name v.questions) (records_of v)
 
 -- a message
 abbrev pub message_octets : Message → List ℕ

@@ -15,9 +15,9 @@ abbrev pub first_name : List (Classed Question) → Option Labels
 first_name [] = None
 first_name (q ∷ questions) = Some q.item.owner
 
--- a question of class IN
-abbrev pub in_class_in : Question → Classed Question
-in_class_in q = record { item = q; class = 1 }
+-- a question or a record of class IN
+abbrev pub in_class_in : {A : Type 0} → A → Classed A
+in_class_in item = record { item = item; class = 1 }
 
 -- These are the octets of a question of class IN, its name whole, in whatever case.
 pub record IsQuestionOctets (octets : List ℕ) (q : Question) : Type 0 where

@@ -1,16 +1,19 @@
 //! A message as octets.
 
 ghost use Rattle.std.specs.Prelude.{◌≡◌, ◌≤◌, ◌⊎◌, length, [], ◌∷◌, IfOk, IfErr, Err};
+ghost use Rattle.std.specs.List.{AllByRecursion};
 ghost use Rattle.dns_name.specs.Labels.{IsName};
 ghost use Rattle.dns_wire.specs.declared.write.encoding.EncodeFault.{EncodeFault};
 ghost use Rattle.dns_wire.specs.declared.write.encoding.EncodeFault.TheVariants.{TooLong, NoMemory};
 ghost use Rattle.dns_wire.specs.Write.Encoding.{WrittenIsRead, RepliesAreRead};
 ghost use Rattle.dns_wire.specs.Read.Message.{SpelledMessage};
-ghost use Rattle.dns_wire.specs.WellFormed.{HasForms, IsHead, AreRecords, IsWellFormed};
+ghost use Rattle.dns_wire.specs.Lent.{reply_of, lent_reply};
+ghost use Rattle.dns_wire.specs.WellFormed.{HasItsForm, HasForms, IsHead, AreFormed, AreRecords, IsWellFormed};
 ghost use Rattle.dns_wire.specs.Write.Question.{in_class_in};
 ghost use Rattle.dns_wire.specs.Write.Message.{message_octets, octets_with, IsTooLong};
 
-use crate::message::Message;
+use crate::lent::{NoRecords, Section, Sections};
+use crate::message::{Head, Message};
 use crate::server::query::Query;
 use crate::write::header::push_header;
 use crate::write::message::push_sections;
@@ -54,10 +57,12 @@ fn write_message(alloc: Global, message: &Message, room: usize) -> Result<Vec<u8
     ensures octets { IfOk result (λ out. out.items ≡ message_octets message.now) }
     ensures fits { IfOk result (λ _. IsWellFormed message.now) }
 {
+    let questions = message.questions.as_slice();
+    let sections = message.sections();
     let mut out = Vec::with_capacity(alloc, room)?;
-    push_header(&mut out, message)?;
-    push_questions(&mut out, message.questions.as_slice())?;
-    push_sections(&mut out, message)?;
+    push_header(&mut out, &message.head, questions.len() as u16, &sections)?;
+    push_questions(&mut out, questions)?;
+    push_sections(&mut out, message.first_name(), &sections)?;
     Ok(out)
 }
 
@@ -80,24 +85,47 @@ pub fn encode(alloc: Global, message: &Message) -> Result<Vec<u8>, EncodeFault>
 
 /// A reply that isn't too long, in one buffer with room for it.
 #[tactic(auto, unfolding(crate::specs::Write::Message::octets_with))]
-fn write_reply(
+fn write_reply<A: Section, B: Section, C: Section>(
     alloc: Global,
     query: &Query,
-    reply: &Message,
+    head: &Head,
+    sections: &Sections<'_, A, B, C>,
     room: usize,
 ) -> Result<Vec<u8>, AllocError>
-    requires forms { HasForms reply.now }
-    requires fits { ¬ (IsTooLong reply.now) }
-    requires room { length (octets_with query.now.octets reply.now) ≤ room }
-    ensures octets { IfOk result (λ out. out.items ≡ octets_with query.now.octets reply.now) }
-    ensures fits { IfOk result (λ _. IsHead reply.now.head × AreRecords reply.now × IsName query.now.question.owner) }
+    requires forms { AreFormed sections.now }
+    requires fits { ¬ (IsTooLong (reply_of head.now query.now.question sections.now)) }
+    requires room { length (octets_with query.now.octets (reply_of head.now query.now.question sections.now)) ≤ room }
+    ensures octets { IfOk result (λ out. out.items ≡ octets_with query.now.octets (reply_of head.now query.now.question sections.now)) }
+    ensures fits { IfOk result (λ _. IsHead head.now × AreRecords sections.now × IsName query.now.question.owner) }
 {
-    let _len = query.question.owner.wire_len();
+    let owner = &query.question.owner;
+    let _len = owner.wire_len();
     let mut out = Vec::with_capacity(alloc, room)?;
-    push_header(&mut out, reply)?;
+    push_header(&mut out, head, 1, sections)?;
     out.extend_from_slice(query.octets.as_slice())?;
-    push_sections(&mut out, reply)?;
+    push_sections(&mut out, Some(owner), sections)?;
     Ok(out)
+}
+
+/// A reply as octets, its question in the case in which the query asked it.
+fn encode_sections<A: Section, B: Section, C: Section>(
+    alloc: Global,
+    query: &Query,
+    head: &Head,
+    sections: &Sections<'_, A, B, C>,
+) -> Result<Vec<u8>, EncodeFault>
+    requires { AreFormed sections.now }
+    ensures octets { IfOk result (λ out. out.items ≡ octets_with query.now.octets (reply_of head.now query.now.question sections.now)) }
+    ensures spelled { IfOk result (λ out. SpelledMessage out.items (reply_of head.now query.now.question sections.now)) }
+    ensures short { IfOk result (λ out. length out.items ≤ 65535) }
+    ensures fits { IfOk result (λ _. ¬ (IsTooLong (reply_of head.now query.now.question sections.now))) }
+    ensures too_long { IsTooLong (reply_of head.now query.now.question sections.now) → result ≡ Err TooLong }
+    ensures fault { IfErr result (λ fault. (fault ≡ NoMemory) ⊎ IsTooLong (reply_of head.now query.now.question sections.now)) }
+{
+    match reply_room(query, sections) {
+        None => Err(EncodeFault::TooLong),
+        Some(room) => Ok(write_reply(alloc, query, head, sections, room)?),
+    }
 }
 
 /// A reply as octets, its question in the case in which the query asked it.
@@ -111,10 +139,33 @@ pub fn encode_reply(alloc: Global, query: &Query, reply: &Message) -> Result<Vec
     ensures too_long { IsTooLong reply.now → result ≡ Err TooLong }
     ensures fault { IfErr result (λ fault. (fault ≡ NoMemory) ⊎ IsTooLong reply.now) }
 {
-    match reply_room(query, reply) {
-        None => Err(EncodeFault::TooLong),
-        Some(room) => Ok(write_reply(alloc, query, reply, room)?),
-    }
+    encode_sections(alloc, query, &reply.head, &reply.sections())
+}
+
+/// A reply as octets, of a head and of sections that are lent, its question in the case in which the query asked it. It
+/// copies no name and takes one block of memory, the reply's own.
+pub fn encode_lent<A: Section, B: Section>(
+    alloc: Global,
+    query: &Query,
+    head: &Head,
+    answer: &A,
+    authority: &B,
+) -> Result<Vec<u8>, EncodeFault>
+    requires answer { AllByRecursion (AllByRecursion HasItsForm) (A.parts answer.now) }
+    requires authority { AllByRecursion (AllByRecursion HasItsForm) (B.parts authority.now) }
+    ensures octets { IfOk result (λ out. out.items ≡ octets_with query.now.octets (lent_reply head.now query.now.question (A.parts answer.now) (B.parts authority.now))) }
+    ensures spelled { IfOk result (λ out. SpelledMessage out.items (lent_reply head.now query.now.question (A.parts answer.now) (B.parts authority.now))) }
+    ensures short { IfOk result (λ out. length out.items ≤ 65535) }
+    ensures fits { IfOk result (λ _. ¬ (IsTooLong (lent_reply head.now query.now.question (A.parts answer.now) (B.parts authority.now)))) }
+    ensures too_long { IsTooLong (lent_reply head.now query.now.question (A.parts answer.now) (B.parts authority.now)) → result ≡ Err TooLong }
+    ensures fault { IfErr result (λ fault. (fault ≡ NoMemory) ⊎ IsTooLong (lent_reply head.now query.now.question (A.parts answer.now) (B.parts authority.now))) }
+{
+    let sections = Sections {
+        answer,
+        authority,
+        additional: &NoRecords,
+    };
+    encode_sections(alloc, query, head, &sections)
 }
 
 /// What a message is written as is read back, and is no other message.

@@ -1,11 +1,12 @@
 //! The header as octets.
 
-ghost use Rattle.std.specs.Prelude.{◌≡◌, ◌++◌, ◌<◌, ◌+◌, length, OnOk};
+ghost use Rattle.std.specs.Prelude.{◌≡◌, ◌++◌, ◌<◌, ◌≤◌, ◌+◌, length, OnOk};
+ghost use Rattle.dns_wire.specs.Lent.{in_order};
 ghost use Rattle.dns_wire.specs.WellFormed.{IsHead};
-ghost use Rattle.dns_wire.specs.Write.Header.{flags_of, header_octets};
-ghost use Rattle.dns_wire.specs.Write.Message.{IsTooLong};
+ghost use Rattle.dns_wire.specs.Write.Header.{flags_of, header_octets, AreFew};
 
-use crate::message::{Head, Message};
+use crate::lent::{Section, Sections};
+use crate::message::Head;
 use std::alloc::AllocError;
 
 fn flags_of(head: &Head) -> u16
@@ -58,16 +59,32 @@ pub(crate) fn header_of(
     ]
 }
 
-/// The header of a message.
-pub(crate) fn push_header(out: &mut Vec<u8>, message: &Message) -> Result<(), AllocError>
-    requires { ¬ (IsTooLong message.now) }
-    ensures fits { IsHead message.now.head }
-    ensures octets { OnOk result (out.new.items ≡ out.old.items ++ header_octets message.now.head (length message.now.questions) (length message.now.answer) (length message.now.authority) (length message.now.additional)) }
+/// How many records a section has.
+fn count_of<S: Section>(section: &S) -> u16
+    requires { length (in_order (S.parts section.now)) ≤ 65535 }
+    ensures { result ≡ length (in_order (S.parts section.now)) }
 {
-    let questions = message.questions.as_slice().len() as u16;
-    let answer = message.answer.as_slice().len() as u16;
-    let authority = message.authority.as_slice().len() as u16;
-    let additional = message.additional.as_slice().len() as u16;
-    let header = header_of(&message.head, questions, answer, authority, additional);
+    let mut count = 0;
+    for part in 0..section.part_count() {
+        count += section.record_count(part) as u16;
+    }
+    count
+}
+
+/// The header of a message with so many questions.
+pub(crate) fn push_header<A: Section, B: Section, C: Section>(
+    out: &mut Vec<u8>,
+    head: &Head,
+    questions: u16,
+    sections: &Sections<'_, A, B, C>,
+) -> Result<(), AllocError>
+    requires { AreFew sections.now }
+    ensures fits { IsHead head.now }
+    ensures octets { OnOk result (out.new.items ≡ out.old.items ++ header_octets head.now questions (length sections.now.answer) (length sections.now.authority) (length sections.now.additional)) }
+{
+    let answer = count_of(sections.answer);
+    let authority = count_of(sections.authority);
+    let additional = count_of(sections.additional);
+    let header = header_of(head, questions, answer, authority, additional);
     out.extend_from_slice(&header)
 }

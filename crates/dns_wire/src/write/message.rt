@@ -1,23 +1,48 @@
 //! The sections of a message as octets, behind what `out` holds.
 
-ghost use Rattle.std.specs.Prelude.{◌≡◌, ◌++◌, ◌≤◌, ◌<◌, ◌+◌, OnOk};
-ghost use Rattle.dns_wire.specs.WellFormed.{HasForms, AreRecords};
+ghost use Rattle.std.specs.Prelude.{◌≡◌, ◌++◌, ◌≤◌, ◌<◌, ◌+◌, length, OnOk};
+ghost use Rattle.std.specs.List.{AllByRecursion};
+ghost use Rattle.std.specs.Option.{option_copied};
+ghost use Rattle.dns_wire.specs.Lent.{in_order};
+ghost use Rattle.dns_wire.specs.WellFormed.{HasItsForm, IsRecord, AreFormed, AreRecords};
+ghost use Rattle.dns_wire.specs.Write.Record.{records_octets};
 ghost use Rattle.dns_wire.specs.Write.Size.{records_len};
 ghost use Rattle.dns_wire.specs.Write.Message.{sections_octets};
 
-use crate::message::Message;
-use crate::write::record::push_records;
+use crate::lent::{Section, Sections};
+use crate::write::record::push_part;
+use dns_name::Name;
 use std::alloc::AllocError;
 
-/// The sections behind the questions.
-pub(crate) fn push_sections(out: &mut Vec<u8>, message: &Message) -> Result<(), AllocError>
-    requires forms { HasForms message.now }
-    requires short { records_len message.now ≤ 65535 }
-    ensures fits { OnOk result (AreRecords message.now) }
-    ensures octets { OnOk result (out.new.items ≡ out.old.items ++ sections_octets message.now) }
+/// A section of a message whose first question has this name.
+fn push_section<S: Section>(
+    out: &mut Vec<u8>,
+    first: Option<&Name>,
+    section: &S,
+) -> Result<(), AllocError>
+    requires forms { AllByRecursion HasItsForm (in_order (S.parts section.now)) }
+    requires short { length (records_octets (option_copied first) (in_order (S.parts section.now))) ≤ 65535 }
+    ensures octets { OnOk result (out.new.items ≡ out.old.items ++ records_octets (option_copied first.entry) (in_order (S.parts section.now))) }
+    ensures fits { OnOk result (AllByRecursion IsRecord (in_order (S.parts section.now))) }
 {
-    let questions = message.questions.as_slice();
-    push_records(out, questions, message.answer.as_slice())?;
-    push_records(out, questions, message.authority.as_slice())?;
-    push_records(out, questions, message.additional.as_slice())
+    for part in 0..section.part_count() {
+        push_part(out, first, section, part)?;
+    }
+    Ok(())
+}
+
+/// The sections behind the questions, of which the first has this name.
+pub(crate) fn push_sections<A: Section, B: Section, C: Section>(
+    out: &mut Vec<u8>,
+    first: Option<&Name>,
+    sections: &Sections<'_, A, B, C>,
+) -> Result<(), AllocError>
+    requires forms { AreFormed sections.now }
+    requires short { records_len (option_copied first) sections.now ≤ 65535 }
+    ensures octets { OnOk result (out.new.items ≡ out.old.items ++ sections_octets (option_copied first.entry) sections.now) }
+    ensures fits { OnOk result (AreRecords sections.now) }
+{
+    push_section(out, first, sections.answer)?;
+    push_section(out, first, sections.authority)?;
+    push_section(out, first, sections.additional)
 }

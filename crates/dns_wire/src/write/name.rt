@@ -1,13 +1,11 @@
 //! Names as octets, each behind what `out` holds.
 
 ghost use Rattle.std.specs.Prelude.{◌≡◌, ◌++◌, ◌<◌, ◌+◌, OnOk};
+ghost use Rattle.std.specs.Option.{option_copied};
 ghost use Rattle.dns_name.specs.Labels.{IsName};
 ghost use Rattle.dns_wire.specs.Write.Name.{name_octets, owner_octets};
-ghost use Rattle.dns_wire.specs.Write.Question.{first_name};
 
-use crate::message::Classed;
 use dns_name::Name;
-use dns_text::Question;
 use std::alloc::AllocError;
 
 /// A name, whole.
@@ -21,18 +19,18 @@ pub(crate) fn push_name(out: &mut Vec<u8>, name: &Name) -> Result<(), AllocError
     Ok(())
 }
 
-/// An owner in a message of these questions.
+/// An owner in a message whose first question has this name.
 pub(crate) fn push_owner(
     out: &mut Vec<u8>,
-    questions: &[Classed<Question>],
+    first: Option<&Name>,
     owner: &Name,
 ) -> Result<(), AllocError>
-    ensures octets { OnOk result (out.new.items ≡ out.old.items ++ owner_octets (first_name questions.now) owner.now) }
+    ensures octets { OnOk result (out.new.items ≡ out.old.items ++ owner_octets (option_copied first.entry) owner.now) }
     ensures name { IsName owner.now }
 {
     let _len = owner.wire_len();
-    match questions.first() {
-        Some(first) if first.item.owner == *owner => out.extend_from_slice(&[192, 12]),
+    match first {
+        Some(first) if *first == *owner => out.extend_from_slice(&[192, 12]),
         _ => push_name(out, owner),
     }
 }

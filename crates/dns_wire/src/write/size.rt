@@ -1,22 +1,26 @@
 //! How many octets a message takes, and room for them: `None` above 65,535.
 
-ghost use Rattle.std.specs.Prelude.{◌≡◌, ◌≤◌, ◌+◌, length, [], ◌∷◌, IfSome, MatchOption};
+ghost use Rattle.std.specs.Prelude.{◌≡◌, ◌≤◌, ◌+◌, length, IfSome, MatchOption};
 ghost use Rattle.std.specs.List.{flat_map, AllByRecursion};
+ghost use Rattle.std.specs.Option.{option_copied};
 ghost use Rattle.dns_name.specs.declared.limits.TheConstants.{MAX_NAME_OCTETS};
 ghost use Rattle.dns_name.specs.Labels.{with_length};
 ghost use Rattle.dns_text.specs.Data.{IsSized};
-ghost use Rattle.dns_wire.specs.Write.Size.{within, has_long_section, records_len_with, records_len, IsRoom};
-ghost use Rattle.dns_wire.specs.WellFormed.{HasItsForm, HasForms};
+ghost use Rattle.dns_wire.specs.declared.message.Head.{Head};
+ghost use Rattle.dns_wire.specs.Lent.{part_at, in_order, reply_of};
+ghost use Rattle.dns_wire.specs.Write.Size.{within, records_len, IsRoom};
+ghost use Rattle.dns_wire.specs.WellFormed.{HasItsForm, HasForms, AreFormed};
 ghost use Rattle.dns_wire.specs.Write.Name.{owner_octets};
-ghost use Rattle.dns_wire.specs.Write.Question.{question_octets, first_name, in_class_in};
+ghost use Rattle.dns_wire.specs.Write.Question.{question_octets};
 ghost use Rattle.dns_wire.specs.Write.Rdata.{data_octets};
 ghost use Rattle.dns_wire.specs.Write.Record.{record_octets, records_octets};
 ghost use Rattle.dns_wire.specs.Write.Message.{message_octets, octets_with, IsTooLong};
 
+use crate::lent::{LentRecord, Section, Sections, record_in};
 use crate::message::{Classed, Message};
 use crate::server::query::Query;
 use dns_name::Name;
-use dns_text::{Data, Octets, Question, Record};
+use dns_text::{Data, Octets, Question};
 
 /// A sum.
 fn sum_of(before: usize, more: usize) -> Option<usize>
@@ -62,41 +66,55 @@ pub(crate) fn data_len(body: &Data) -> Option<usize>
     }
 }
 
-/// An owner in a message of these questions.
-fn owner_len(questions: &[Classed<Question>], owner: &Name) -> usize
-    ensures exact { result ≡ length (owner_octets (first_name questions.now) owner.now) }
+/// An owner in a message whose first question has this name.
+fn owner_len(first: Option<&Name>, owner: &Name) -> usize
+    ensures exact { result ≡ length (owner_octets (option_copied first.entry) owner.now) }
     ensures few { result ≤ MAX_NAME_OCTETS }
 {
-    match questions.first() {
-        Some(first) if first.item.owner == *owner => 2,
+    match first {
+        Some(first) if *first == *owner => 2,
         _ => owner.wire_len(),
     }
 }
 
-/// A record in a message of these questions.
-fn record_len(questions: &[Classed<Question>], entry: &Classed<Record>) -> Option<usize>
+/// A record in a message whose first question has this name.
+fn record_len(first: Option<&Name>, entry: &LentRecord<'_>) -> Option<usize>
     requires { IsSized entry.now.item.body }
-    ensures { result ≡ within (length (record_octets (first_name questions.now) entry.now)) }
+    ensures { result ≡ within (length (record_octets (option_copied first.entry) entry.now)) }
 {
-    let owner = owner_len(questions, &entry.item.owner);
-    let body = data_len(&entry.item.body)?;
+    let owner = owner_len(first, entry.owner);
+    let body = data_len(entry.body)?;
     sum_of(body, owner + 10)
 }
 
-/// Records in a message of these questions, behind so many octets.
-fn records_len(
+/// A part of a section, behind so many octets.
+fn part_len<S: Section>(
     before: usize,
-    questions: &[Classed<Question>],
-    records: &[Classed<Record>],
+    first: Option<&Name>,
+    section: &S,
+    part: usize,
 ) -> Option<usize>
     requires few { before ≤ 65535 }
-    requires forms { AllByRecursion HasItsForm records.now }
-    ensures { result ≡ within (before + length (records_octets (first_name questions.now) records.now)) }
+    requires forms { AllByRecursion HasItsForm (part_at (S.parts section.now) part) }
+    ensures { result ≡ within (before + length (records_octets (option_copied first.entry) (part_at (S.parts section.now) part))) }
 {
     let mut total = before;
-    for entry in records {
-        let len = record_len(questions, entry)?;
+    for place in 0..section.record_count(part) {
+        let len = record_len(first, &record_in(section, part, place))?;
         total = sum_of(total, len)?;
+    }
+    Some(total)
+}
+
+/// A section, behind so many octets.
+fn section_len<S: Section>(before: usize, first: Option<&Name>, section: &S) -> Option<usize>
+    requires few { before ≤ 65535 }
+    requires forms { AllByRecursion HasItsForm (in_order (S.parts section.now)) }
+    ensures { result ≡ within (before + length (records_octets (option_copied first.entry) (in_order (S.parts section.now)))) }
+{
+    let mut total = before;
+    for part in 0..section.part_count() {
+        total = part_len(total, first, section, part)?;
     }
     Some(total)
 }
@@ -112,52 +130,52 @@ fn questions_len(questions: &[Classed<Question>]) -> Option<usize>
     Some(total)
 }
 
-fn has_long_section(message: &Message) -> bool
-    ensures { result ≡ has_long_section message.now }
-{
-    message.questions.as_slice().len() > 65535
-        || message.answer.as_slice().len() > 65535
-        || message.authority.as_slice().len() > 65535
-        || message.additional.as_slice().len() > 65535
-}
-
-/// The records of a message as one of these questions, behind so many octets.
-fn sections_len(before: usize, questions: &[Classed<Question>], message: &Message) -> Option<usize>
+/// All sections, behind so many octets.
+fn sections_len<A: Section, B: Section, C: Section>(
+    before: usize,
+    first: Option<&Name>,
+    sections: &Sections<'_, A, B, C>,
+) -> Option<usize>
     requires few { before ≤ 65535 }
-    requires forms { HasForms message.now }
-    ensures { result ≡ within (before + records_len_with (first_name questions.now) message.now) }
+    requires forms { AreFormed sections.now }
+    ensures { result ≡ within (before + records_len (option_copied first.entry) sections.now) }
 {
-    let total = records_len(before, questions, message.answer.as_slice())?;
-    let total = records_len(total, questions, message.authority.as_slice())?;
-    records_len(total, questions, message.additional.as_slice())
+    let total = section_len(before, first, sections.answer)?;
+    let total = section_len(total, first, sections.authority)?;
+    section_len(total, first, sections.additional)
 }
 
 /// The same with each owner whole, which is no bound where the question's name is the root: a pointer is longer.
-fn whole_len(before: usize, message: &Message) -> Option<usize>
+fn whole_len<A: Section, B: Section, C: Section>(
+    before: usize,
+    first: Option<&Name>,
+    sections: &Sections<'_, A, B, C>,
+) -> Option<usize>
     requires few { before ≤ 65535 }
-    requires forms { HasForms message.now }
-    ensures { IfSome result (λ n. (before + records_len message.now ≤ n) × (n ≤ 65535)) }
+    requires forms { AreFormed sections.now }
+    ensures { IfSome result (λ n. (before + records_len (option_copied first.entry) sections.now ≤ n) × (n ≤ 65535)) }
 {
-    match message.questions.as_slice().first() {
-        Some(first) if first.item.owner.wire_len() < 2 => None,
-        _ => sections_len(before, &[], message),
+    match first {
+        Some(first) if first.wire_len() < 2 => None,
+        _ => sections_len(before, None, sections),
     }
 }
 
 /// Room for a message whose header and questions take so many octets. Owners are compared with the question's name only
 /// where the message might be too long with each of them whole.
-fn room_behind(before: usize, message: &Message) -> Option<usize>
+fn room_behind<A: Section, B: Section, C: Section>(
+    before: usize,
+    first: Option<&Name>,
+    sections: &Sections<'_, A, B, C>,
+) -> Option<usize>
     requires few { before ≤ 65535 }
-    requires forms { HasForms message.now }
-    ensures { IsRoom before message.now result }
+    requires forms { AreFormed sections.now }
+    ensures { IsRoom (before + records_len (option_copied first.entry) sections.now) result }
 {
-    if has_long_section(message) {
-        return None;
-    }
-    if let Some(room) = whole_len(before, message) {
+    if let Some(room) = whole_len(before, first, sections) {
         return Some(room);
     }
-    sections_len(before, message.questions.as_slice(), message)
+    sections_len(before, first, sections)
 }
 
 /// Room for a message.
@@ -165,15 +183,18 @@ pub(crate) fn message_room(message: &Message) -> Option<usize>
     requires { HasForms message.now }
     ensures { MatchOption result (IsTooLong message.now) (λ n. (length (message_octets message.now) ≤ n) × ¬ (IsTooLong message.now)) }
 {
-    room_behind(questions_len(message.questions.as_slice())?, message)
+    let before = questions_len(message.questions.as_slice())?;
+    room_behind(before, message.first_name(), &message.sections())
 }
 
-/// Room for a reply to a query, whose octets it repeats.
-pub(crate) fn reply_room(query: &Query, reply: &Message) -> Option<usize>
-    requires forms { HasForms reply.now }
-    requires question { reply.now.questions ≡ in_class_in query.now.question ∷ [] }
-    ensures { MatchOption result (IsTooLong reply.now) (λ n. (length (octets_with query.now.octets reply.now) ≤ n) × ¬ (IsTooLong reply.now)) }
+/// Room for a reply to a query, whose octets it repeats, whatever its head.
+pub(crate) fn reply_room<A: Section, B: Section, C: Section>(
+    query: &Query,
+    sections: &Sections<'_, A, B, C>,
+) -> Option<usize>
+    requires { AreFormed sections.now }
+    ensures { (head : Head) → MatchOption result (IsTooLong (reply_of head query.now.question sections.now)) (λ n. (length (octets_with query.now.octets (reply_of head query.now.question sections.now)) ≤ n) × ¬ (IsTooLong (reply_of head query.now.question sections.now))) }
 {
     let before = sum_of(12, query.octets.as_slice().len())?;
-    room_behind(before, reply)
+    room_behind(before, Some(&query.question.owner), sections)
 }

@@ -8,12 +8,12 @@ use Rattle.command_text.proofs.addrs.read_addrs.Goals as goal
 pub returns-in_err-read_address : goal.returns-in_err-read_address
 returns-in_err-read_address c =
     let p = err_from_is_err_and c.from_residual.result c.from_residual.ensures.1 in
-    rw (p.1, p.2) (read-fails _ _ _ _ _ _ c.loop-word.invariant (sym c.in-Some.ensures.value) c.in-Some.ensures.less (sym c.in_err-read_address.ensures))
+    rw (p.1, p.2) (read-fails _ _ _ _ _ _ c.loop-word.invariant (sym c.in-Some.ensures.value) (sym c.in_err-read_address.ensures))
 
 pub loop-word-preserved : goal.loop-word-preserved
 loop-word-preserved c =
     subst (λ (l : List Addr). Left c.args.text.now c.in-Some.after.now l) (sym c.in_ok-push.ensures.items)
-    (read-more _ _ _ _ _ _ c.loop-word.invariant (sym c.in-Some.ensures.value) c.in-Some.ensures.less (sym c.in_ok-read_address.ensures))
+    (read-more _ _ _ _ _ _ c.loop-word.invariant (sym c.in-Some.ensures.value) (sym c.in_ok-read_address.ensures))
 
 pub returns : goal.returns
 returns c =

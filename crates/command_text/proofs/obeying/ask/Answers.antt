@@ -1,11 +1,17 @@
-use Rattle.std.proofs.Common.{refl}
+use Rattle.std.proofs.Common.{Result, refl, subst}
+use Rattle.streams.specs.Text.{octets_in}
+use Rattle.undo_book.specs.declared.event.Reply.{Reply}
+use Rattle.undo_book.specs.declared.desk.DeskFault.{DeskFault}
 use Rattle.undo_book.specs.Answers.{history_after}
+use Rattle.command_text.specs.Obeying.{Tells}
 use Rattle.command_text.proofs.obeying.ask.Goals as goal
 
 pub returns-clause-asks : goal.returns-clause-asks
-returns-clause-asks g c = λ place s. (
-  record { history = history_after place.history c.args.event c.take-answer.result; moment = place.moment },
-  (c.take-answer.result, c.take-answer.ensures.answers place.history s, c.answer_text.ensures, refl),
-  c.take-answer.ensures.stands place.history s,
-  refl,
-)
+returns-clause-asks g c = λ place s.
+    let step = c.call-answer.ensures in
+    let told = subst (λ (a : Result Reply DeskFault). Tells a (octets_in c.answer_text.result)) step.1 c.answer_text.ensures in (
+      record { history = history_after place.history c.args.event step.0; moment = place.moment },
+      (step.0, step.2.answers place.history s, told, refl),
+      step.2.stands place.history s,
+      refl,
+    )

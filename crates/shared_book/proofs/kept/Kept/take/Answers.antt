@@ -1,5 +1,5 @@
 -- The book's reply to the copy is that to the event, and so the record stays legal.
-use Rattle.std.proofs.Common.{rules, ◌≡◌, ◌+◌, [], ◌∷◌, ◌++◌, length, refl, ◌∙◌, ap, subst}
+use Rattle.std.proofs.Common.{rules, ◌≡◌, ◌+◌, [], ◌∷◌, ◌++◌, length, refl, ◌∙◌, ap, subst, arith}
 use Rattle.undo_book.specs.declared.event.Event.{Event}
 use Rattle.undo_book.specs.declared.event.Settings.{Settings}
 use Rattle.undo_book.specs.Answers.{IsTimely}
@@ -13,7 +13,7 @@ use Rattle.shared_book.proofs.kept.Kept.take.Goals as goal
 
 pub told_again-requires : goal.told_again-requires
 told_again-requires g c =
-    let k = c.self.invariant.1 in
+    let k = c.self.invariant.2 in
     let settings : Settings = g.B.Book.settings c.self.inside.book in
     let past : Past = past_of settings.journal k.history in
     let answers = c.in_ok-reply-2.ensures.answers k.history k.stands in (
@@ -27,7 +27,7 @@ told_again-requires g c =
 pub invariant_of-self-2 : goal.invariant_of-self-2
 invariant_of-self-2 g c =
     let stands_for = g.B.Book.stands_for in
-    let k = c.self.invariant.1 in
+    let k = c.self.invariant.2 in
     let settings : Settings = g.B.Book.settings c.self.inside.book in
     let past : Past = past_of settings.journal k.history in
     let e : Receipt = record { number = c.self.inside.total + 1; caller = c.caller.result; event = c.args.event; reply = c.told_again.result } in
@@ -39,4 +39,4 @@ invariant_of-self-2 g c =
     let grown : c.push_reserved.new.self.items ≡ c.self.inside.recorded.entries.items ++ e ∷ [] = search rules in
     let old : KeptState g.row.B.Denot
     = record { book = c.self.inside.book; first = c.self.inside.recorded.first; entries = c.self.inside.recorded.entries.items; limit = c.self.inside.recorded.limit; total = c.self.inside.total; callers = c.self.inside.callers } in
-    (search rules, keeps stands_for g.B.Book.settings old c.step-2.new.self c.push_reserved.new.self.items e k timely reply stands c.step-2.ensures.settings refl grown)
+    (search rules, search rules, keeps stands_for g.B.Book.settings old c.step-2.new.self c.push_reserved.new.self.items e k timely reply stands c.step-2.ensures.settings refl grown (omega arith))

@@ -1,0 +1,52 @@
+-- What a line of control does, and what it is told.
+use Rattle.std.specs.Prelude.{◌≡◌, ℕ, Bool, true, false, IsTrue, ◌⊎◌, Result, Ok, Err, List, [], codes}
+use Rattle.streams.specs.Split.{with_end}
+use Rattle.undo_book.specs.declared.event.Event.{Event}
+use Rattle.undo_book.specs.declared.event.Reply.{Reply}
+use Rattle.undo_book.specs.declared.desk.DeskFault.{DeskFault}
+use Rattle.command_text.specs.declared.request.Request.{Request}
+use Rattle.command_text.specs.declared.line.Line.{Line}
+use Rattle.command_text.specs.declared.line.Line.TheVariants.{Silent, Request as RequestLine, Stop}
+use Rattle.command_text.specs.declared.fault.LineFault.{LineFault}
+use Rattle.command_text.specs.declared.fault.LineFault.TheVariants.{Unknown, NoMemory}
+use Rattle.command_text.specs.declared.words.Channel.TheVariants.{Control}
+use Rattle.command_text.specs.Request.{event_at}
+use Rattle.command_text.specs.Line.{says, takes_memory}
+use Rattle.command_text.specs.Text.{line_fault_text}
+use Rattle.command_text.specs.Obeying.{Tells}
+
+-- one reading of a clock: before, the moment, after
+abbrev pub Ticks : Type 0 → Type 1
+Ticks C = C → ℕ → C → Type 0
+
+-- one call of a desk: before, the event, the answer, after
+abbrev pub Calls : Type 0 → Type 1
+Calls D = D → Event → Result Reply DeskFault → D → Type 0
+
+-- The clock is read once, the request is handed in at its moment, and what the desk answers is told.
+pub record IsAsked {C D : Type 0} (ticks : Ticks C) (calls : Calls D) (clock : C) (desk : D) (request : Request) (text : List ℕ) (clock' : C) (desk' : D) : Type 0 where
+  pub moment : ℕ
+  pub read : ticks clock moment clock'
+  pub answer : Result Reply DeskFault
+  pub called : calls desk (event_at moment request) answer desk'
+  pub told : Tells answer text
+
+-- The line is told this text. The clock is not read, and no one asks the desk.
+pub record IsTold {C D : Type 0} (clock : C) (desk : D) (this text : List ℕ) (clock' : C) (desk' : D) : Type 0 where
+  pub text_is : text ≡ this
+  pub same_clock : clock' ≡ clock
+  pub same_desk : desk' ≡ desk
+
+-- A line that says this is obeyed. Control has none of the lines that tell a script's moments and finds: they would be no commands.
+abbrev pub DoesAt : {C D : Type 0} → Ticks C → Calls D → C → D → Result Line LineFault → List ℕ → Bool → C → D → Type 0
+DoesAt ticks calls clock desk (Ok Silent) text ends clock' desk' = IsTold clock desk [] text clock' desk' × (ends ≡ false)
+DoesAt ticks calls clock desk (Ok (RequestLine request)) text ends clock' desk' = IsAsked ticks calls clock desk request text clock' desk' × (ends ≡ false)
+DoesAt ticks calls clock desk (Ok Stop) text ends clock' desk' = IsTold clock desk (with_end (codes "ok stopping")) text clock' desk' × (ends ≡ true)
+DoesAt ticks calls clock desk (Ok _) text ends clock' desk' = IsTold clock desk (line_fault_text Unknown) text clock' desk' × (ends ≡ false)
+DoesAt ticks calls clock desk (Err fault) text ends clock' desk' = IsTold clock desk (line_fault_text fault) text clock' desk' × (ends ≡ false)
+
+-- One line of control: what it says is done, or no memory is found for one that takes some.
+abbrev pub Controls : {C D : Type 0} → Ticks C → Calls D → C → D → List ℕ → List ℕ → Bool → C → D → Type 0
+Controls ticks calls clock desk line text ends clock' desk' =
+    DoesAt ticks calls clock desk (says Control line) text ends clock' desk'
+    ⊎ (IsTrue (takes_memory Control line) × DoesAt ticks calls clock desk (Err NoMemory) text ends clock' desk')

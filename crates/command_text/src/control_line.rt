@@ -1,0 +1,67 @@
+//! A line of control is obeyed.
+
+ghost use Rattle.std.specs.Prelude.{◌≡◌, false, Ok};
+ghost use Rattle.streams.specs.Text.{octets_in};
+ghost use Rattle.command_text.specs.Control.{IsAsked, DoesAt, Controls};
+
+use crate::clock::Clock;
+use crate::fault::LineFault;
+use crate::line::{Line, is_silent, read_line};
+use crate::request::{Request, event_at};
+use crate::text::{answer_text, line_fault_text};
+use crate::words::Channel;
+use std::alloc::Global;
+use streams::{Text, Told};
+use undo_book::Desk;
+
+/// A line that is told this, and is not the last.
+fn going_on(text: Text) -> Told
+    ensures { result ≡ record { text = text; stops = false } }
+{
+    Told { text, stops: false }
+}
+
+/// Hands a request in at the clock's moment, and says what is told.
+fn ask_at<C: Clock, D: Desk>(alloc: Global, clock: &mut C, desk: &mut D, request: Request) -> Text
+    ensures { IsAsked C.ticks D.calls clock.old desk.old request (octets_in result) clock.new desk.new }
+{
+    let moment = clock.now();
+    let answer = desk.call(event_at(moment, request));
+    answer_text(alloc, &answer)
+}
+
+/// Obeys what a line says.
+fn obey_line<C: Clock, D: Desk>(alloc: Global, clock: &mut C, desk: &mut D, line: Line) -> Told
+    ensures { DoesAt C.ticks D.calls clock.old desk.old (Ok line) (octets_in result.text) result.stops clock.new desk.new }
+{
+    match line {
+        Line::Silent => going_on(Text::Fixed(b"")),
+        Line::Request(request) => going_on(ask_at(alloc, clock, desk, request)),
+        Line::Stop => Told {
+            text: Text::Fixed(b"ok stopping\n"),
+            stops: true,
+        },
+        // Control has none of these lines: `read_line` takes their words for none.
+        Line::At { .. } | Line::Admit(_) | Line::Deny(_) => {
+            going_on(line_fault_text(LineFault::Unknown))
+        }
+    }
+}
+
+/// Obeys a line, and says what it is told and whether it is the last.
+pub(crate) fn obey_control<C: Clock, D: Desk>(
+    alloc: Global,
+    clock: &mut C,
+    desk: &mut D,
+    line: &[u8],
+) -> Told
+    ensures { Controls C.ticks D.calls clock.old desk.old line.now (octets_in result.text) result.stops clock.new desk.new }
+{
+    if is_silent(line) {
+        return going_on(Text::Fixed(b""));
+    }
+    match read_line(alloc, Channel::Control, line) {
+        Ok(said) => obey_line(alloc, clock, desk, said),
+        Err(fault) => going_on(line_fault_text(fault)),
+    }
+}

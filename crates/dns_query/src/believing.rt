@@ -1,0 +1,91 @@
+//! The sets of a harvest that may be answered.
+
+ghost use Rattle.std.specs.Prelude.{◌≡◌, ◌↔◌, IsTrue, MatchOption, map};
+ghost use Rattle.std.specs.List.{AllByRecursion};
+ghost use Rattle.neg_rule.specs.Negative.{said_by};
+ghost use Rattle.harvest.specs.Learnt.{set_of};
+ghost use Rattle.dns_query.specs.Believed.{Has, IsBelieved, IsFirst, IsFoundFor, IsPassingFor};
+
+use crate::sets::Believed;
+use dns_name::Name;
+use dns_text::{Question, Shared};
+use harvest::{Harvest, PassingSet};
+use ranked::{Body, Find, Scope, SharedFind};
+
+pub(crate) fn is_same(name: &Name, other: &Name) -> bool
+    ensures { IsTrue result ↔ (name.now ≡ other.now) }
+{
+    name == other
+}
+
+/// Whether a find is a set of this name and type that may be answered.
+fn is_found_for(find: &Find, owner: &Name, kind: u16) -> bool
+    ensures { IsTrue result ↔ IsFoundFor (record { owner = owner.now; kind = kind }) (said_by find.now) }
+{
+    find.scope == Scope::One(kind)
+        && find.rank.level() >= 2
+        && matches!(&find.body, Body::Set(_))
+        && is_same(&find.owner, owner)
+}
+
+/// Whether a set that passes is one of this name and type that may be answered.
+fn is_passing_for(set: &PassingSet, owner: &Name, kind: u16) -> bool
+    ensures { IsTrue result ↔ IsPassingFor (record { owner = owner.now; kind = kind }) (set_of set.now) }
+{
+    set.kind == kind && set.rank.level() >= 2 && is_same(&set.owner, owner)
+}
+
+fn first_found<'a>(finds: &'a [SharedFind], owner: &Name, kind: u16) -> Option<&'a SharedFind>
+    ensures { MatchOption result
+        (AllByRecursion (λ said. ¬ (IsFoundFor (record { owner = owner.now; kind = kind }) said)) (map said_by finds.now))
+        (λ find. IsFirst (IsFoundFor (record { owner = owner.now; kind = kind })) (map said_by finds.now) (said_by find.now)) }
+{
+    for find in finds {
+        if is_found_for(find.find(), owner, kind) {
+            return Some(find);
+        }
+    }
+    None
+}
+
+fn first_passing<'a>(
+    passing: &'a [Shared<PassingSet>],
+    owner: &Name,
+    kind: u16,
+) -> Option<&'a Shared<PassingSet>>
+    ensures { MatchOption result
+        (AllByRecursion (λ set. ¬ (IsPassingFor (record { owner = owner.now; kind = kind }) set)) (map set_of passing.now))
+        (λ set. IsFirst (IsPassingFor (record { owner = owner.now; kind = kind })) (map set_of passing.now) (set_of set.now)) }
+{
+    for set in passing {
+        if is_passing_for(set.get(), owner, kind) {
+            return Some(set);
+        }
+    }
+    None
+}
+
+/// The first set of this name and type that may be answered.
+pub(crate) fn believed_of<'a>(harvest: &'a Harvest, owner: &Name, kind: u16) -> Option<Believed<'a>>
+    ensures { MatchOption result
+        (¬ (Has (map said_by harvest.now.finds) (map set_of harvest.now.passing) (record { owner = owner.now; kind = kind })))
+        (IsBelieved (map said_by harvest.now.finds) (map set_of harvest.now.passing) (record { owner = owner.now; kind = kind })) }
+{
+    match first_found(harvest.finds.as_slice(), owner, kind) {
+        Some(find) => Some(Believed::Find(find)),
+        None => match first_passing(harvest.passing.as_slice(), owner, kind) {
+            Some(set) => Some(Believed::Passing(set)),
+            None => None,
+        },
+    }
+}
+
+/// The first set of this question in a harvest that may be answered, of rank 2 or more (RFC 2181, section 5.4.1): among the
+/// finds, else among the sets that pass.
+pub fn believed<'a>(harvest: &'a Harvest, question: &Question) -> Option<Believed<'a>>
+    ensures { MatchOption result
+        (¬ (Has (map said_by harvest.now.finds) (map set_of harvest.now.passing) question.now))
+        (IsBelieved (map said_by harvest.now.finds) (map set_of harvest.now.passing) question.now) }
+{
+    believed_of(harvest, &question.owner, question.kind)
+}

@@ -1,0 +1,74 @@
+//! Servers nearer to a name.
+
+ghost use Rattle.std.specs.Prelude.{◌≡◌, map, IfOk, MatchOption};
+ghost use Rattle.neg_rule.specs.Negative.{said_by};
+ghost use Rattle.harvest.specs.Harvest.{finds_in, passing_in};
+ghost use Rattle.harvest.specs.Learnt.{set_of};
+ghost use Rattle.dns_query.specs.Referral.{AreServers, IsReferral};
+
+use crate::nearer::zone_of;
+use crate::servers::{add_server, targets_in};
+use dns_name::{Name, NoMemory};
+use dns_text::{Addr, Items, Question};
+use dns_wire::Message;
+use harvest::Harvest;
+use std::alloc::Global;
+
+/// Servers nearer to a name, as a response names them (RFC 1034, section 5.3.3, step 4b).
+#[derive(Debug, Drop, PartialEq)]
+pub struct Referral {
+    /// Their zone, strictly below the one asked.
+    pub zone: Name,
+    /// Server by server, those of IPv4 first.
+    pub addrs: Items<Addr>,
+    /// The servers without an address in the response.
+    pub missing: Items<Name>,
+}
+
+/// The servers of these names, for a zone.
+fn servers_named(
+    alloc: Global,
+    port: u16,
+    harvest: &Harvest,
+    zone: &Name,
+    targets: &Vec<Name>,
+) -> Result<Referral, NoMemory>
+    ensures zone { IfOk result (λ referral. referral.zone ≡ zone.now) }
+    ensures servers { IfOk result (AreServers port (map said_by harvest.now.finds) (map set_of harvest.now.passing) targets.now.items) }
+{
+    let mut addrs = Vec::new(alloc);
+    let mut missing = Vec::new(alloc);
+    for target in targets {
+        add_server(alloc, port, harvest, target, &mut addrs, &mut missing)?;
+    }
+    Ok(Referral {
+        zone: zone.clone()?,
+        addrs: Items::new(addrs),
+        missing: Items::new(missing),
+    })
+}
+
+/// The servers to which a response from a zone refers. It looks at each set of the harvest once for each server.
+pub(crate) fn referral_of(
+    alloc: Global,
+    port: u16,
+    zone: &Name,
+    question: &Question,
+    message: &Message,
+    harvest: &Harvest,
+) -> Result<Option<Referral>, NoMemory>
+    requires finds { map said_by harvest.now.finds ≡ finds_in message.now question.now zone.now }
+    requires passing { map set_of harvest.now.passing ≡ passing_in message.now question.now zone.now }
+    ensures { IfOk result (λ found. MatchOption found
+        ((referral : Referral) → ¬ (IsReferral port zone.now question.now message.now referral))
+        (IsReferral port zone.now question.now message.now)) }
+{
+    match zone_of(zone, &question.owner, message) {
+        None => Ok(None),
+        Some(nearer) => {
+            let targets = targets_in(alloc, message.authority.as_slice())?;
+            let referral = servers_named(alloc, port, harvest, nearer, &targets)?;
+            Ok(Some(referral))
+        }
+    }
+}
