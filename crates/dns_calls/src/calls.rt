@@ -3,7 +3,6 @@
 use crate::denials::denial_in;
 use crate::fault::CallFault;
 use crate::harvests::harvest_in;
-use crate::lent::lent_octets;
 use crate::messages::{
     encoding_of, fault_reply_to, is_read_again, reply_octets, reply_over_udp, verdict_on, words_of,
 };
@@ -61,9 +60,6 @@ fn answer(alloc: Global, word: &[u8], arguments: &[Vec<u8>]) -> Result<Vec<u8>, 
         (b"fault", [octets, rcode]) => fault_reply_to(alloc, octets, rcode),
         (b"cut", [query, octets]) => reply_over_udp(alloc, query, octets),
         (b"reply", [query, octets]) => reply_octets(alloc, query, octets),
-        (b"lent", [query, owner, kind, ttl, data @ ..]) => {
-            lent_octets(alloc, query, owner, kind, ttl, data)
-        }
         (b"denial", [octets, owner, kind, zone]) => denial_in(alloc, octets, owner, kind, zone),
         (b"harvest", [octets, owner, kind, zone]) => harvest_in(alloc, octets, owner, kind, zone),
         (b"query", [id, owner, kind]) => query_octets(alloc, id, owner, kind),

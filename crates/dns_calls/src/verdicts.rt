@@ -8,7 +8,6 @@ use dns_name::{Name, NoMemory};
 use dns_query::{Believed, Heard, Over, Referral, Says, Verdict, believed, judge, query};
 use dns_text::types::CNAME;
 use dns_text::{Question, push_addr};
-use dns_wire::Rcode;
 use ranked::SharedFind;
 use std::alloc::Global;
 
@@ -68,10 +67,9 @@ fn answer_words(alloc: Global, heard: &Heard, question: &Question) -> Result<Vec
 /// `denies`, the RCODE, and what is denied or `none`.
 fn denied_words(
     alloc: Global,
-    rcode: Rcode,
+    rcode: u8,
     negative: &Option<SharedFind>,
 ) -> Result<Vec<u8>, NoMemory> {
-    let rcode = rcode.number();
     let mut told = format!(in alloc; "denies {rcode} ")?.into_bytes();
     match negative {
         Some(find) => told.extend_from_slice(&denial_words(alloc, find.find())?)?,
@@ -108,7 +106,7 @@ fn verdict_words(
         Verdict::Cut => Ok(Vec::from_slice(alloc, b"cut")?),
         Verdict::Heard(heard) => match &heard.says {
             Says::Answers => answer_words(alloc, heard, question),
-            Says::Denies { rcode, negative } => Ok(denied_words(alloc, *rcode, negative)?),
+            Says::Denies { rcode, negative } => Ok(denied_words(alloc, rcode.number(), negative)?),
             Says::Refers(referral) => Ok(referral_words(alloc, referral)?),
         },
     }

@@ -7,25 +7,25 @@ use Rattle.dns_wire.specs.declared.message.Message.{Message}
 use Rattle.neg_rule.specs.Negative.{Said, said_by}
 use Rattle.harvest.specs.Learnt.{set_of}
 use Rattle.harvest.specs.Sets.{Set}
-use Rattle.dns_query.specs.declared.referral.Referral.{Referral}
-use Rattle.dns_query.specs.declared.response.Over.{Over}
+use Rattle.dns_query.specs.declared.verdict.Referral.{Referral}
+use Rattle.dns_query.specs.declared.over.Over.{Over}
 use Rattle.dns_query.specs.declared.sets.Believed.{Believed}
 use Rattle.dns_query.specs.declared.sets.Believed.TheVariants.{Find, Passing}
-use Rattle.dns_query.specs.Believed.{Has, found, passes, IsBelieved, IsFoundFor, IsPassingFor}
+use Rattle.dns_query.specs.Believed.{HasSetAmong, found, passes, IsBelieved, IsFoundFor, IsPassingFor}
 use Rattle.dns_query.specs.BelievedLaws.{first_contained}
 use Rattle.dns_query.specs.Query.{alias_question}
 use Rattle.dns_query.specs.Referral.{IsReferral}
 use Rattle.dns_query.specs.Response.{IsRead, IsWhole, IsCut, Meets}
-use Rattle.dns_query.specs.Verdict.{IsAnswer, IsUseful, IsUseless, Tells, answers, names_alias, authoritative, refers}
+use Rattle.dns_query.specs.Verdict.{IsAnswer, IsUseful, IsUseless, Tells}
 
 -- what is believed is there
-pub believed_has : (finds : List Said) (passing : List Set) (question : Question) (believed : Believed) → IsBelieved finds passing question believed → Has finds passing question
+pub believed_has : (finds : List Said) (passing : List Set) (question : Question) (believed : Believed) → IsBelieved finds passing question believed → HasSetAmong finds passing question
 believed_has finds passing question (Find find) h = found (said_by find.now) (first_contained (IsFoundFor question) finds (said_by find.now) h) h.holds
 believed_has finds passing question (Passing set) h = passes (set_of set.now) (first_contained (IsPassingFor question) passing (set_of set.now) h.1) h.1.holds
 
 -- what these lists have, for a question or for the alias of its name
 abbrev pub HasAnswer : List Said → List Set → Question → Type 0
-HasAnswer finds passing question = Has finds passing question ⊎ Has finds passing (alias_question question.owner)
+HasAnswer finds passing question = HasSetAmong finds passing question ⊎ HasSetAmong finds passing (alias_question question.owner)
 
 pub answer_in : (finds fs : List Said) (passing ps : List Set) (question : Question) → finds ≡ fs → passing ≡ ps → HasAnswer finds passing question → HasAnswer fs ps question
 answer_in finds fs passing ps question same also h =
@@ -33,10 +33,9 @@ answer_in finds fs passing ps question same also h =
 
 -- a response that says none of these says nothing
 pub not_telling : {port : ℕ} {zone : Labels} {question : Question} {v : Message} → ¬ (IsAnswer zone question v) → v.head.aa ≡ false → ((referral : Referral) → ¬ (IsReferral port zone question v referral)) → ¬ (Tells port zone question v)
-not_telling no_answer no_authority no_referral (answers has) = no_answer (inl has)
-not_telling no_answer no_authority no_referral (names_alias has) = no_answer (inr has)
-not_telling no_answer no_authority no_referral (authoritative is) = false≢true (sym no_authority ∙ is)
-not_telling no_answer no_authority no_referral (refers referral is) = no_referral referral is
+not_telling no_answer no_authority no_referral (inl answer) = no_answer answer
+not_telling no_answer no_authority no_referral (inr (inl authority)) = false≢true (sym no_authority ∙ authority)
+not_telling no_answer no_authority no_referral (inr (inr refers)) = no_referral refers.0 refers.1
 
 module _ {port : ℕ} {zone : Labels} {id : ℕ} {question : Question} {octets : List ℕ} {v : Message} (r : IsRead octets v) (over : Over) where
   pub not_meeting : ¬ (Meets id question v) → IsUseless port over zone id question octets
@@ -50,4 +49,4 @@ module _ {port : ℕ} {zone : Labels} {id : ℕ} {question : Question} {octets :
 
   -- what is whole was not truncated
   pub nothing_told : IsWhole v → ¬ (Tells port zone question v) → IsUseless port over zone id question octets
-  nothing_told whole silent = of_no_use (λ cut. false≢true (sym whole.whole ∙ cut.cut)) (λ useful. silent useful.tells)
+  nothing_told whole silent = of_no_use (λ cut. false≢true (sym whole.whole ∙ cut.cut)) (λ useful. silent useful.says)

@@ -17,9 +17,9 @@ use Rattle.dns_query.specs.declared.sets.Believed.TheVariants.{Find, Passing}
 -- The find is a set of this name and type that may be answered.
 pub record IsFoundFor (question : Question) (said : Said) : Type 0 where
   pub owner : said.owner ≡ question.owner
-  pub scope : said.scope ≡ One question.kind
+  pub kind : said.scope ≡ One question.kind
   pub trusted : 2 ≤ level_of said.rank
-  pub is_set : is_negative said.body ≡ false
+  pub has_data : is_negative said.body ≡ false
 
 -- And so is the set that passes.
 pub record IsPassingFor (question : Question) (set : Set) : Type 0 where
@@ -28,13 +28,13 @@ pub record IsPassingFor (question : Question) (set : Set) : Type 0 where
   pub trusted : 2 ≤ level_of set.key.rank
 
 -- Among finds and sets that pass stands one of this question that may be answered.
-pub data Has (finds : List Said) (passing : List Set) (question : Question) : Type 0 where
-  found : (said : Said) → Contains finds said → IsFoundFor question said → Has finds passing question
-  passes : (set : Set) → Contains passing set → IsPassingFor question set → Has finds passing question
+pub data HasSetAmong (finds : List Said) (passing : List Set) (question : Question) : Type 0 where
+  found : (said : Said) → Contains finds said → IsFoundFor question said → HasSetAmong finds passing question
+  passes : (set : Set) → Contains passing set → IsPassingFor question set → HasSetAmong finds passing question
 
 -- The harvest of a response, from a zone that was asked a question, has a set of this name and type that may be answered.
 abbrev pub HasSet : Message → Question → Labels → Question → Type 0
-HasSet v asked zone question = Has (finds_in v asked zone) (passing_in v asked zone) question
+HasSet v asked zone question = HasSetAmong (finds_in v asked zone) (passing_in v asked zone) question
 
 -- The first of these of which this holds.
 pub record IsFirst {X : Type 0} (P : X → Type 0) (xs : List X) (x : X) : Type 0 where

@@ -3,5 +3,4 @@ pub mod Response
 pub mod Believed
 pub mod BelievedLaws
 pub mod Referral
-pub mod Denial
 pub mod Verdict

@@ -21,7 +21,7 @@ use Rattle.neg_rule.specs.Alias.{target_of}
 use Rattle.neg_rule.specs.Negative.{Said}
 use Rattle.harvest.specs.Harvest.{finds_in, passing_in}
 use Rattle.harvest.specs.Sets.{Set}
-use Rattle.dns_query.specs.declared.referral.Referral.{Referral}
+use Rattle.dns_query.specs.declared.verdict.Referral.{Referral}
 
 -- ---- the zone
 
@@ -48,18 +48,13 @@ pub record MayRefer (v : Message) : Type 0 where
   pub no_answer : list_any is_in v.answer ≡ false
   pub no_soa : list_any (is_of types.SOA) v.authority ≡ false
 
--- A zone is strictly below the one asked, and at or above the name.
-pub record IsNearer (asked name zone : Labels) : Type 0 where
-  pub below : IsAtOrBelow zone asked
-  pub strictly : ¬ (zone ≡ asked)
-  pub above : IsAtOrBelow name zone
-
--- The response may refer, and its NS records, one or more, are those of one nearer zone.
-pub record RefersTo (asked name : Labels) (v : Message) (zone : Labels) : Type 0 where
+-- The response may refer, and its NS records, one or more, are those of one zone, strictly below the one asked.
+pub record RefersTo (asked : Labels) (v : Message) (zone : Labels) : Type 0 where
   pub may_refer : MayRefer v
   pub owner : ns_owner v.authority ≡ Some zone
   pub one_owner : list_all (is_own zone) v.authority ≡ true
-  pub nearer : IsNearer asked name zone
+  pub below : IsAtOrBelow zone asked
+  pub strictly : ¬ (zone ≡ asked)
 
 -- ---- its servers
 
@@ -102,7 +97,8 @@ pub record AreServers (port : ℕ) (finds : List Said) (passing : List Set) (tar
   pub addrs : referral.addrs ≡ flat_map (addrs_of port finds passing) targets
   pub missing : referral.missing ≡ filter (has_no_addr port finds passing) targets
 
--- A response from a zone refers to these servers, whose addresses stand in its own harvest.
+-- A response from a zone refers to these servers of one at or above the name, with the addresses that stand in its own harvest.
 pub record IsReferral (port : ℕ) (zone : Labels) (question : Question) (v : Message) (referral : Referral) : Type 0 where
-  pub refers : RefersTo zone question.owner v referral.zone
+  pub refers : RefersTo zone v referral.zone
+  pub above : IsAtOrBelow question.owner referral.zone
   pub servers : AreServers port (finds_in v question zone) (passing_in v question zone) (targets_in v.authority) referral

@@ -5,8 +5,8 @@ use Rattle.dns_wire.specs.declared.message.Message.{Message}
 use Rattle.dns_wire.specs.Read.Message.{SpelledMessage}
 use Rattle.dns_wire.specs.WellFormed.{HasForms}
 use Rattle.dns_wire.specs.Write.Question.{in_class_in}
-use Rattle.dns_query.specs.declared.response.Over.{Over}
-use Rattle.dns_query.specs.declared.response.Over.TheVariants.{Udp}
+use Rattle.dns_query.specs.declared.over.Over.{Over}
+use Rattle.dns_query.specs.declared.over.Over.TheVariants.{Udp}
 
 -- A message is a response of this identifier to this question alone, of class IN.
 pub record Meets (id : ℕ) (question : Question) (v : Message) : Type 0 where

@@ -7,15 +7,14 @@ use Rattle.dns_wire.specs.declared.message.Message.{Message}
 use Rattle.neg_rule.specs.Negative.{negative_in, said_by}
 use Rattle.harvest.specs.Harvest.{finds_in, passing_in}
 use Rattle.harvest.specs.Learnt.{set_of}
-use Rattle.dns_query.specs.declared.response.Over.{Over}
-use Rattle.dns_query.specs.declared.referral.Referral.{Referral}
+use Rattle.dns_query.specs.declared.over.Over.{Over}
+use Rattle.dns_query.specs.declared.verdict.Referral.{Referral}
 use Rattle.dns_query.specs.declared.verdict.Heard.{Heard}
 use Rattle.dns_query.specs.declared.verdict.Says.{Says}
 use Rattle.dns_query.specs.declared.verdict.Says.TheVariants.{Answers, Denies, Refers}
 use Rattle.dns_query.specs.declared.verdict.Verdict.{Verdict}
 use Rattle.dns_query.specs.declared.verdict.Verdict.TheVariants.{Struck, Cut, Heard as HeardAs}
 use Rattle.dns_query.specs.Believed.{HasSet}
-use Rattle.dns_query.specs.Denial.{IsDenial}
 use Rattle.dns_query.specs.Query.{alias_question}
 use Rattle.dns_query.specs.Referral.{IsReferral}
 use Rattle.dns_query.specs.Response.{IsResponse, IsWhole, IsCut}
@@ -24,16 +23,20 @@ use Rattle.dns_query.specs.Response.{IsResponse, IsWhole, IsCut}
 abbrev pub IsAnswer : Labels → Question → Message → Type 0
 IsAnswer zone question v = HasSet v question zone question ⊎ HasSet v question zone (alias_question question.owner)
 
--- It says something of the question: a set, an alias, that there is neither, or who is nearer.
-pub data Tells (port : ℕ) (zone : Labels) (question : Question) (v : Message) : Type 0 where
-  answers : HasSet v question zone question → Tells port zone question v
-  names_alias : HasSet v question zone (alias_question question.owner) → Tells port zone question v
-  authoritative : v.head.aa ≡ true → Tells port zone question v
-  refers : (referral : Referral) → IsReferral port zone question v referral → Tells port zone question v
+-- The response is authoritative and has neither (RFC 2308, section 2).
+pub record IsDenial (zone : Labels) (question : Question) (v : Message) : Type 0 where
+  pub authoritative : v.head.aa ≡ true
+  pub no_set : ¬ (HasSet v question zone question)
+  pub no_alias : ¬ (HasSet v question zone (alias_question question.owner))
 
+-- It answers, is authoritative, or refers to servers.
+abbrev pub Tells : ℕ → Labels → Question → Message → Type 0
+Tells port zone question v = IsAnswer zone question v ⊎ ((v.head.aa ≡ true) ⊎ ((referral : Referral) × IsReferral port zone question v referral))
+
+-- The response is of use: it is whole, and tells something of the question.
 pub record IsUseful (port : ℕ) (zone : Labels) (question : Question) (v : Message) : Type 0 where
   pub whole : IsWhole v
-  pub tells : Tells port zone question v
+  pub says : Tells port zone question v
 
 -- The octets are no response, or one that cannot be had whole and says nothing of the question.
 abbrev pub IsUseless : ℕ → Over → Labels → ℕ → Question → List ℕ → Type 0
@@ -52,10 +55,16 @@ pub record IsHeard (port : ℕ) (zone : Labels) (id : ℕ) (question : Question)
   pub whole : IsWhole message
   pub finds : map said_by heard.harvest.finds ≡ finds_in message question zone
   pub passing : map set_of heard.harvest.passing ≡ passing_in message question zone
-  pub said : IsSaid port zone question message heard.says
+  pub says : IsSaid port zone question message heard.says
+
+-- The octets are a response that was truncated, and can be had whole.
+pub record IsTruncated (over : Over) (id : ℕ) (question : Question) (octets : List ℕ) : Type 0 where
+  pub message : Message
+  pub response : IsResponse id question octets message
+  pub cut : IsCut over message
 
 -- What came of a query of a question with this identifier to a server of this zone; servers listen at this port.
 abbrev pub IsVerdict : ℕ → Over → Labels → ℕ → Question → List ℕ → Verdict → Type 0
 IsVerdict port over zone id question octets Struck = IsUseless port over zone id question octets
-IsVerdict port over zone id question octets Cut = (v : Message) × IsResponse id question octets v × IsCut over v
+IsVerdict port over zone id question octets Cut = IsTruncated over id question octets
 IsVerdict port over zone id question octets (HeardAs heard) = IsHeard port zone id question octets heard

@@ -4,7 +4,7 @@ ghost use Rattle.std.specs.Prelude.{◌≡◌, ◌↔◌, IsTrue, MatchOption, m
 ghost use Rattle.std.specs.List.{AllByRecursion};
 ghost use Rattle.neg_rule.specs.Negative.{said_by};
 ghost use Rattle.harvest.specs.Learnt.{set_of};
-ghost use Rattle.dns_query.specs.Believed.{Has, IsBelieved, IsFirst, IsFoundFor, IsPassingFor};
+ghost use Rattle.dns_query.specs.Believed.{HasSetAmong, IsBelieved, IsFirst, IsFoundFor, IsPassingFor};
 
 use crate::sets::Believed;
 use dns_name::Name;
@@ -68,7 +68,7 @@ fn first_passing<'a>(
 /// The first set of this name and type that may be answered.
 pub(crate) fn believed_of<'a>(harvest: &'a Harvest, owner: &Name, kind: u16) -> Option<Believed<'a>>
     ensures { MatchOption result
-        (¬ (Has (map said_by harvest.now.finds) (map set_of harvest.now.passing) (record { owner = owner.now; kind = kind })))
+        (¬ (HasSetAmong (map said_by harvest.now.finds) (map set_of harvest.now.passing) (record { owner = owner.now; kind = kind })))
         (IsBelieved (map said_by harvest.now.finds) (map set_of harvest.now.passing) (record { owner = owner.now; kind = kind })) }
 {
     match first_found(harvest.finds.as_slice(), owner, kind) {
@@ -84,7 +84,7 @@ pub(crate) fn believed_of<'a>(harvest: &'a Harvest, owner: &Name, kind: u16) -> 
 /// finds, else among the sets that pass.
 pub fn believed<'a>(harvest: &'a Harvest, question: &Question) -> Option<Believed<'a>>
     ensures { MatchOption result
-        (¬ (Has (map said_by harvest.now.finds) (map set_of harvest.now.passing) question.now))
+        (¬ (HasSetAmong (map said_by harvest.now.finds) (map set_of harvest.now.passing) question.now))
         (IsBelieved (map said_by harvest.now.finds) (map set_of harvest.now.passing) question.now) }
 {
     believed_of(harvest, &question.owner, question.kind)

@@ -5,16 +5,16 @@ ghost use Rattle.dns_wire.specs.WellFormed.{HasForms};
 ghost use Rattle.neg_rule.specs.Negative.{said_by};
 ghost use Rattle.harvest.specs.Harvest.{finds_in, passing_in};
 ghost use Rattle.harvest.specs.Learnt.{set_of};
-ghost use Rattle.dns_query.specs.Believed.{Has};
-ghost use Rattle.dns_query.specs.Denial.{IsDenial};
+ghost use Rattle.dns_query.specs.Believed.{HasSetAmong};
 ghost use Rattle.dns_query.specs.Query.{alias_question};
 ghost use Rattle.dns_query.specs.Response.{IsRead, IsWhole, Meets};
-ghost use Rattle.dns_query.specs.declared.response.Over.{Over};
-ghost use Rattle.dns_query.specs.Verdict.{IsSaid, IsVerdict, Tells};
+ghost use Rattle.dns_query.specs.declared.over.Over.{Over};
+ghost use Rattle.dns_query.specs.Verdict.{IsDenial, IsSaid, IsVerdict, Tells};
 
 use crate::believing::believed_of;
+use crate::over::Over;
 use crate::referral::referral_of;
-use crate::response::{Over, is_cut, is_whole, meets, read};
+use crate::response::{is_cut, is_whole, meets, read};
 use crate::verdict::{Heard, Says, Verdict};
 use dns_name::{Name, NoMemory};
 use dns_text::Question;
@@ -27,7 +27,7 @@ use std::alloc::Global;
 
 /// Whether a harvest has a set of this name and type that may be answered.
 fn has(harvest: &Harvest, owner: &Name, kind: u16) -> bool
-    ensures { IsTrue result ↔ Has (map said_by harvest.now.finds) (map set_of harvest.now.passing) (record { owner = owner.now; kind = kind }) }
+    ensures { IsTrue result ↔ HasSetAmong (map said_by harvest.now.finds) (map set_of harvest.now.passing) (record { owner = owner.now; kind = kind }) }
 {
     match believed_of(harvest, owner, kind) {
         Some(_) => true,
@@ -37,8 +37,8 @@ fn has(harvest: &Harvest, owner: &Name, kind: u16) -> bool
 
 /// Whether a harvest has the set that is asked for, or an alias of the name.
 fn is_answer(harvest: &Harvest, question: &Question) -> bool
-    ensures { IsTrue result ↔ (Has (map said_by harvest.now.finds) (map set_of harvest.now.passing) question.now
-        ⊎ Has (map said_by harvest.now.finds) (map set_of harvest.now.passing) (alias_question question.now.owner)) }
+    ensures { IsTrue result ↔ (HasSetAmong (map said_by harvest.now.finds) (map set_of harvest.now.passing) question.now
+        ⊎ HasSetAmong (map said_by harvest.now.finds) (map set_of harvest.now.passing) (alias_question question.now.owner)) }
 {
     has(harvest, &question.owner, question.kind) || has(harvest, &question.owner, CNAME)
 }

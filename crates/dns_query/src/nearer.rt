@@ -3,8 +3,8 @@
 ghost use Rattle.std.specs.Prelude.{◌≡◌, ◌↔◌, IsTrue, MatchOption};
 ghost use Rattle.std.specs.List.{list_all, list_any};
 ghost use Rattle.std.specs.Option.{option_map};
-ghost use Rattle.dns_name.specs.Labels.{Labels};
-ghost use Rattle.dns_query.specs.Referral.{is_in, is_of, is_own, ns_owner, IsNearer, MayRefer, RefersTo};
+ghost use Rattle.dns_name.specs.Labels.{Labels, IsAtOrBelow};
+ghost use Rattle.dns_query.specs.Referral.{is_in, is_of, is_own, ns_owner, MayRefer, RefersTo};
 
 use crate::believing::is_same;
 use dns_name::Name;
@@ -68,16 +68,16 @@ fn may_refer(message: &Message) -> bool
         && !has_soa(message.authority.as_slice())
 }
 
-/// Whether a zone is strictly below the one asked, and at or above a name.
-fn is_nearer(asked: &Name, name: &Name, zone: &Name) -> bool
-    ensures { IsTrue result ↔ IsNearer asked.now name.now zone.now }
+/// Whether a zone is strictly below the one asked.
+fn is_nearer(asked: &Name, zone: &Name) -> bool
+    ensures { IsTrue result ↔ (IsAtOrBelow zone.now asked.now × (¬ (zone.now ≡ asked.now))) }
 {
-    zone.at_or_below(asked) && !is_same(zone, asked) && name.at_or_below(zone)
+    zone.at_or_below(asked) && !is_same(zone, asked)
 }
 
 /// The zone to which a response refers.
-pub(crate) fn zone_of<'a>(asked: &Name, name: &Name, message: &'a Message) -> Option<&'a Name>
-    ensures { MatchOption result ((zone : Labels) → ¬ (RefersTo asked.now name.now message.now zone)) (λ zone. RefersTo asked.now name.now message.now zone.now) }
+pub(crate) fn zone_of<'a>(asked: &Name, message: &'a Message) -> Option<&'a Name>
+    ensures { MatchOption result ((zone : Labels) → ¬ (RefersTo asked.now message.now zone)) (λ zone. RefersTo asked.now message.now zone.now) }
 {
     if !may_refer(message) {
         return None;
@@ -86,7 +86,7 @@ pub(crate) fn zone_of<'a>(asked: &Name, name: &Name, message: &'a Message) -> Op
     match ns_owner(authority) {
         None => None,
         Some(zone) => {
-            if has_one_owner(authority, zone) && is_nearer(asked, name, zone) {
+            if has_one_owner(authority, zone) && is_nearer(asked, zone) {
                 Some(zone)
             } else {
                 None

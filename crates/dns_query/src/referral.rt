@@ -8,22 +8,12 @@ ghost use Rattle.dns_query.specs.Referral.{AreServers, IsReferral};
 
 use crate::nearer::zone_of;
 use crate::servers::{add_server, targets_in};
+use crate::verdict::Referral;
 use dns_name::{Name, NoMemory};
-use dns_text::{Addr, Items, Question};
+use dns_text::{Items, Question};
 use dns_wire::Message;
 use harvest::Harvest;
 use std::alloc::Global;
-
-/// Servers nearer to a name, as a response names them (RFC 1034, section 5.3.3, step 4b).
-#[derive(Debug, Drop, PartialEq)]
-pub struct Referral {
-    /// Their zone, strictly below the one asked.
-    pub zone: Name,
-    /// Server by server, those of IPv4 first.
-    pub addrs: Items<Addr>,
-    /// The servers without an address in the response.
-    pub missing: Items<Name>,
-}
 
 /// The servers of these names, for a zone.
 fn servers_named(
@@ -63,9 +53,12 @@ pub(crate) fn referral_of(
         ((referral : Referral) → ¬ (IsReferral port zone.now question.now message.now referral))
         (IsReferral port zone.now question.now message.now)) }
 {
-    match zone_of(zone, &question.owner, message) {
+    match zone_of(zone, message) {
         None => Ok(None),
         Some(nearer) => {
+            if !question.owner.at_or_below(nearer) {
+                return Ok(None);
+            }
             let targets = targets_in(alloc, message.authority.as_slice())?;
             let referral = servers_named(alloc, port, harvest, nearer, &targets)?;
             Ok(Some(referral))

@@ -4,17 +4,11 @@ ghost use Rattle.std.specs.Prelude.{◌↔◌, IfOk, IsTrue, MatchOption};
 ghost use Rattle.dns_wire.specs.Read.Decoding.{IsUnspelled};
 ghost use Rattle.dns_query.specs.Response.{IsCut, IsRead, IsWhole, Meets};
 
+use crate::over::Over;
 use dns_name::NoMemory;
 use dns_text::{Question, equality_law};
 use dns_wire::{CLASS_IN, Message, Rcode, WireFault, decode};
 use std::alloc::{AllocError, Global};
-
-/// How a query goes out.
-#[derive(Clone, Copy, Debug, PartialEq, Eq)]
-pub enum Over {
-    Udp,
-    Tcp,
-}
 
 /// The message that octets are, or none.
 pub(crate) fn read(alloc: Global, octets: &[u8]) -> Result<Option<Message>, NoMemory>

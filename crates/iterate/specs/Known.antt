@@ -6,8 +6,8 @@ use Rattle.dns_text.specs.declared.addr.Addr.{Addr}
 use Rattle.dns_text.specs.declared.record.Question.{Question}
 use Rattle.dns_text.specs.declared.record.Record.{Record}
 use Rattle.dns_wire.specs.declared.message.Message.{Message}
-use Rattle.dns_query.specs.declared.response.Over.{Over}
-use Rattle.dns_query.specs.declared.referral.Referral.{Referral}
+use Rattle.dns_query.specs.declared.over.Over.{Over}
+use Rattle.dns_query.specs.declared.verdict.Referral.{Referral}
 use Rattle.dns_query.specs.Believed.{IsFoundFor, IsPassingFor}
 use Rattle.dns_query.specs.Query.{IsQuery, address_question}
 use Rattle.dns_query.specs.Referral.{IsReferral}

@@ -4,7 +4,7 @@ use Rattle.dns_name.specs.Labels.{Labels}
 use Rattle.dns_text.specs.declared.addr.Addr.{Addr}
 use Rattle.dns_text.specs.declared.record.Question.{Question}
 use Rattle.dns_wire.specs.declared.message.Message.{Message}
-use Rattle.dns_query.specs.declared.response.Over.{Over}
+use Rattle.dns_query.specs.declared.over.Over.{Over}
 use Rattle.dns_query.specs.declared.verdict.Heard.{Heard}
 use Rattle.dns_query.specs.Query.{IsQuery, address_question, alias_question}
 use Rattle.dns_query.specs.Verdict.{IsSaid}

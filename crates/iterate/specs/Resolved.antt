@@ -6,12 +6,11 @@ use Rattle.dns_name.specs.Labels.{Labels, IsAtOrBelow}
 use Rattle.dns_text.specs.declared.addr.Addr.{Addr}
 use Rattle.dns_text.specs.declared.record.Question.{Question}
 use Rattle.dns_wire.specs.declared.message.Message.{Message}
-use Rattle.dns_query.specs.declared.response.Over.{Over}
-use Rattle.dns_query.specs.declared.referral.Referral.{Referral}
+use Rattle.dns_query.specs.declared.over.Over.{Over}
+use Rattle.dns_query.specs.declared.verdict.Referral.{Referral}
 use Rattle.dns_query.specs.Query.{IsQuery, address_question, alias_question}
 use Rattle.dns_query.specs.Referral.{IsReferral}
-use Rattle.dns_query.specs.Denial.{IsDenial}
-use Rattle.dns_query.specs.Verdict.{IsUseless}
+use Rattle.dns_query.specs.Verdict.{IsDenial, IsUseless}
 use Rattle.local_zone.specs.declared.local.Local.TheVariants as local
 use Rattle.neg_rule.specs.Negative.{said_by, negative_in}
 use Rattle.ranked.specs.declared.find.Find.{Find}
