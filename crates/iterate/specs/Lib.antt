@@ -9,3 +9,4 @@ pub mod Searching
 pub mod Phase
 pub mod Measure
 pub mod Task
+pub mod Judged

@@ -18,7 +18,15 @@ mod path;
 mod first;
 // Servers that are asked in turn, and the questions for their addresses.
 mod search;
-// Where a task stands.
+// The innermost question of a search.
+mod innermost;
+// What is done when a response was heard.
+mod concluding;
+// What a response taught is handed to the book.
+mod admitting;
+// What came of a query.
+mod came;
+// Where a task stands, and how it goes on.
 mod phase;
 // The task.
 mod task;
@@ -31,4 +39,5 @@ pub use laws::{due_law, resolved_law};
 pub use path::Path;
 pub use phase::{Phase, Stage};
 pub use search::{Frame, Hunt, Search};
+pub use task::{State, Task};
 pub use want::{Input, Step, Want};
