@@ -111,7 +111,7 @@ take_next i xs server rest next =
     let some : i < length xs = omega (arith, ap (λ (ys : List Addr). length ys) next, length-drop i xs) in
     let zero_more : i + 0 ≡ i = omega arith in
     let at : get_or xs i server ≡ server =
-          sym (ap (λ (n : ℕ). get_or xs n server) zero_more) ∙ sym (get_or-drop i xs 0 server) ∙ ap (λ (ys : List Addr). get_or ys 0 server) next in
+    sym (ap (λ (n : ℕ). get_or xs n server) zero_more) ∙ sym (get_or-drop i xs 0 server) ∙ ap (λ (ys : List Addr). get_or ys 0 server) next in
     take_more xs i server some ∙ ap (λ (a : Addr). take i xs ++ a ∷ []) at
 
 struck_known : {port : ℕ} {log : List Exchange} {name : Labels} {server : Addr} {rest : List Addr} (hunt : Hunt) → IsHunt port log name hunt → drop hunt.asked hunt.addrs.items ≡ server ∷ rest
@@ -135,7 +135,7 @@ struck_base {port} {question} {log} {server} {rest} searching hunt none becomes 
     let asked : question_of searching ≡ searching.path.last = ap (λ (fs : List Frame). question_behind fs searching.path.last) none in
     let first : drop searching.base.asked searching.base.addrs.items ≡ server ∷ rest = subst (λ (h : Hunt). drop h.asked h.addrs.items ≡ server ∷ rest) base next in
     let in_vain : Struck port s.since searching.base.servers.zone searching.path.last server =
-          subst (λ (q : Question). Struck port s.since searching.base.servers.zone q server) asked (subst (λ (h : Hunt). Struck port s.since h.servers.zone (question_of searching) server) base struck) in
+    subst (λ (q : Question). Struck port s.since searching.base.servers.zone q server) asked (subst (λ (h : Hunt). Struck port s.since h.servers.zone (question_of searching) server) base struck) in
     let more = take_next searching.base.asked searching.base.addrs.items server rest first in
     let same : hunt ≡ struck_hunt searching.base = becomes (some_asked searching.base server rest first) in
     subst (λ (h : Hunt). IsSearch port question log (record searching { base = h })) (sym same) (record {
@@ -146,7 +146,7 @@ struck_base {port} {question} {log} {server} {rest} searching hunt none becomes 
         reached = s.base.reached;
         all = s.base.all;
         vain = λ addr among. elim (Contains-push_cases (take searching.base.asked searching.base.addrs.items) server addr (subst (λ (xs : List Addr). Contains xs addr) more among)) [
-            inl earlier ↦ s.base.vain addr earlier
+          | inl earlier ↦ s.base.vain addr earlier
           | inr this ↦ subst (λ (a : Addr). Struck port s.since searching.base.servers.zone searching.path.last a) this in_vain
         ];
         sought = s.base.sought;
@@ -167,7 +167,7 @@ struck_frame {port} {question} {log} {server} {rest} searching after frame frame
     let first : drop frame.hunt.asked frame.hunt.addrs.items ≡ server ∷ rest = subst (λ (h : Hunt). drop h.asked h.addrs.items ≡ server ∷ rest) inner next in
     let known : AreFrames port log s.since searching.base (frame ∷ frames) = subst (λ (fs : List Frame). AreFrames port log s.since searching.base fs) some s.frames in
     let after_known : AreFrames port log s.since searching.base (struck_frame_of frame ∷ frames) =
-          (record { next = known.0.next; sought = known.0.sought; hunt = struck_known frame.hunt known.0.hunt first }, known.1) in
+    (record { next = known.0.next; sought = known.0.sought; hunt = struck_known frame.hunt known.0.hunt first }, known.1) in
     let deep : length (frame ∷ frames) ≤ 8 = subst (λ (fs : List Frame). length fs ≤ 8) some s.deep in
     record {
       path = subst (λ (p : Path). IsPath port question log p) (sym path) s.path;
@@ -203,12 +203,12 @@ struck_inner {port} {question} {log} {server} {rest} searching after removed hun
     let i = inner searching.frames.items some in
     let first : removed ≡ i.first = subst (λ (fs : List Frame). removed ≡ slice_index_or fs 0 removed) i.are is in
     let at : drop removed.hunt.asked removed.hunt.addrs.items ≡ server ∷ rest =
-          subst (λ (f : Frame). drop f.hunt.asked f.hunt.addrs.items ≡ server ∷ rest) (sym first) (subst (λ (fs : List Frame). drop (hunt_behind fs searching.base).asked (hunt_behind fs searching.base).addrs.items ≡ server ∷ rest) i.are next) in
+    subst (λ (f : Frame). drop f.hunt.asked f.hunt.addrs.items ≡ server ∷ rest) (sym first) (subst (λ (fs : List Frame). drop (hunt_behind fs searching.base).asked (hunt_behind fs searching.base).addrs.items ≡ server ∷ rest) i.are next) in
     let same : hunt ≡ struck_hunt removed.hunt = becomes (some_asked removed.hunt server rest at) in
     let back : after.frames.items ≡ record { target = removed.target; hunt = hunt } ∷ i.rest =
-          subst (λ (fs : List Frame). after.frames.items ≡ insert (remove fs 0) 0 (record { target = removed.target; hunt = hunt })) i.are are in
+    subst (λ (fs : List Frame). after.frames.items ≡ insert (remove fs 0) 0 (record { target = removed.target; hunt = hunt })) i.are are in
     let frames : after.frames.items ≡ struck_frame_of i.first ∷ i.rest =
-          back ∙ ap (λ (h : Hunt). record { target = removed.target; hunt = h } ∷ i.rest) same ∙ ap (λ (f : Frame). struck_frame_of f ∷ i.rest) first in
+    back ∙ ap (λ (h : Hunt). record { target = removed.target; hunt = h } ∷ i.rest) same ∙ ap (λ (f : Frame). struck_frame_of f ∷ i.rest) first in
     struck_frame searching after i.first i.rest i.are frames path base s next
 
 -- ---- less is left

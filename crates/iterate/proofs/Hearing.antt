@@ -217,7 +217,7 @@ addresses_serve {port} {question} {log} searching frame some is s addrs all =
     let listed = behind_known port log s.since i.rest searching.base searching.path.last.owner s.base.is_hunt known.1 in
     let here : AllByRecursion (IsAddressOf port log i.first.target) addrs = subst (λ (f : Frame). AllByRecursion (IsAddressOf port log f.target) addrs) first all in
     subst (λ (fs : List Frame). AllByRecursion (λ addr. Known port log (Serves (hunt_behind (drop 1 fs) searching.base).servers.zone addr)) addrs) (sym i.are)
-      (serves_all port log behind i.first.target listed (next_among behind i.first.target known.0.next) addrs here)
+    (serves_all port log behind i.first.target listed (next_among behind i.first.target known.0.next) addrs here)
 
 pub harvest_heard : {port : ℕ} {question : Question} {log : List Exchange} {searching : Search} {heard : Heard} → IsHearing port question log searching heard → IsHarvestOf port log heard.harvest
 harvest_heard {searching = searching} h = record {
@@ -234,7 +234,7 @@ pub addresses_known : (port : ℕ) (log : List Exchange) (question : Question) (
     → (addrs : List Addr) → AllByRecursion (IsAddressIn port told) addrs → AllByRecursion (IsAddressOf port log target) addrs
 addresses_known port log question told target had same addrs all =
     all_weaker (IsAddressIn port told) (IsAddressOf port log target)
-      (λ addr among. record { told = told; had = subst (λ (q : Question). Known port log (Had q told)) same had; among = among }) addrs all
+    (λ addr among. record { told = told; had = subst (λ (q : Question). Known port log (Had q told)) same had; among = among }) addrs all
 
 -- less is left where the last name is looked at
 pub following_less : (path : Path) → left_of_path path 4 ≤ left_of_hearing path 1

@@ -87,5 +87,13 @@ pub(crate) fn admitted<R: Rng>(
     if !is_passed(input) {
         return Ok(failed(alloc));
     }
-    admit(alloc, port, moment, ids, search, heard, next.saturating_add(1))
+    admit(
+        alloc,
+        port,
+        moment,
+        ids,
+        search,
+        heard,
+        next.saturating_add(1),
+    )
 }

@@ -99,12 +99,7 @@ fn strike(search: Search) -> Result<Search, NoMemory>
 }
 
 /// The same server is asked once more, by a stream (RFC 2181, section 9).
-fn again<R: Rng>(
-    alloc: Global,
-    ids: &mut R,
-    search: Search,
-    server: Addr,
-) -> Result<Turn, NoMemory>
+fn again<R: Rng>(alloc: Global, ids: &mut R, search: Search, server: Addr) -> Result<Turn, NoMemory>
     ensures { (port moment left : ℕ) (question : Question) (log : List Exchange) (rest : List Addr) → IsSearch port question log search
         → drop (hunt_of search).asked (hunt_of search).addrs.items ≡ server ∷ rest → (search.path.sent < 64 → left_of_sending search.path < left) → left_in Phase.Ended < left
         → IfOk result (λ t. Goes port question log moment (id_drawn (R.stream ids.old)) left t.phase t.want) }
@@ -135,8 +130,6 @@ pub(crate) fn came<R: Rng>(
     match judged(alloc, port, over, zone, id, &question, input)? {
         Verdict::Struck => go_on(alloc, ids, moment, strike(search.counted())?),
         Verdict::Cut => again(alloc, ids, search.counted(), server),
-        Verdict::Heard(heard) => {
-            admit(alloc, port, moment, ids, search.counted(), heard, 0)
-        }
+        Verdict::Heard(heard) => { admit(alloc, port, moment, ids, search.counted(), heard, 0) }
     }
 }

@@ -14,7 +14,6 @@ use crate::listing::listed;
 use crate::path::{Path, aliased, looked_on};
 use crate::search::Search;
 use crate::seeking::sought;
-
 use crate::want::{Input, Want};
 use dns_name::{Name, NoMemory};
 use dns_query::{Heard, Over};
@@ -41,11 +40,17 @@ pub enum Phase {
     /// It looks at the question.
     First,
     /// It looks for an alias of the last name.
-    Aliasing { path: Path },
+    Aliasing {
+        path: Path,
+    },
     /// It looks at the question behind an alias.
-    Looking { path: Path },
+    Looking {
+        path: Path,
+    },
     /// It looks for the servers of the last name.
-    Listing { path: Path },
+    Listing {
+        path: Path,
+    },
     /// It looks for a server without an address.
     Seeking {
         search: Search,

@@ -75,7 +75,6 @@ pub struct Task {
 impl Model for Task {
     ghost use Rattle.iterate.specs.declared.task.State.{State};
     ghost use Rattle.iterate.specs.Task.{IsTask};
-
     ghost use Rattle.std.specs.Coded.{codes};
     ghost use Rattle.ranked.specs.contracts.find.Find as find_type;
 

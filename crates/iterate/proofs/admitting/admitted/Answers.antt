@@ -14,7 +14,7 @@ returns-then-not-is_passed g c = λ question before log want h within a suits ad
     let suited = subst (λ (v : Want). Suits v input) a.wanted suits in
     turned c.failed.ensures.phase c.failed.ensures.want
     (failing_admission c.args.port question before log a.moment c.args.moment _ (length c.args.heard.harvest.finds - c.args.next) a.find input c.args.search.path h.is_search.path here
-        (c.is_passed.ensures c.if-not-is_passed.true a.moment a.find suited))
+    (c.is_passed.ensures c.if-not-is_passed.true a.moment a.find suited))
 
 pub returns : goal.returns
 returns g c = λ question before log want h within a suits adds.

@@ -18,12 +18,12 @@ returns-clause-task g c =
     let id = id_drawn (g.R.Rng.stream c.args.ids.now) in
     let was : before ≡ state.phase = c.replace-phase.ensures.value in
     let made = stepping state.port state.question steps c.args.moment id c.args.input before c.in_ok-phase.field-0.phase want
-        (subst (λ (p : Phase). IsTask state.port state.question steps p) (sym was) c.requires.task)
-        (subst (λ (p : Phase). IsDueAt p steps c.args.input) (sym was) c.requires.due)
-        (λ log next last f s a. c.in_ok-phase.ensures.goes log next last f s a) (λ fresh. c.in_ok-phase.ensures.fresh fresh)
-        (λ broken. let t = c.in_ok-phase.ensures.broken broken in let e : ⊥ = cc in e) in
+    (subst (λ (p : Phase). IsTask state.port state.question steps p) (sym was) c.requires.task)
+    (subst (λ (p : Phase). IsDueAt p steps c.args.input) (sym was) c.requires.due)
+    (λ log next last f s a. c.in_ok-phase.ensures.goes log next last f s a) (λ fresh. c.in_ok-phase.ensures.fresh fresh)
+    (λ broken. let t = c.in_ok-phase.ensures.broken broken in let e : ⊥ = cc in e) in
     let items : c.push.new.self.items ≡ steps ++ step_of c.args.input want ∷ [] =
-        c.in_ok-push.ensures.items ∙ ap (λ (w : Want). steps ++ step_of c.args.input w ∷ []) c.in_ok-kept.ensures in
+    c.in_ok-push.ensures.items ∙ ap (λ (w : Want). steps ++ step_of c.args.input w ∷ []) c.in_ok-kept.ensures in
     subst (λ (xs : List Step). IsTask state.port state.question xs c.in_ok-phase.field-0.phase) (sym items) made.task
 
 pub returns-clause-wants : goal.returns-clause-wants
@@ -35,12 +35,12 @@ returns-clause-wants g c =
     let id = id_drawn (g.R.Rng.stream c.args.ids.now) in
     let was : before ≡ state.phase = c.replace-phase.ensures.value in
     let made = stepping state.port state.question steps c.args.moment id c.args.input before c.in_ok-phase.field-0.phase want
-        (subst (λ (p : Phase). IsTask state.port state.question steps p) (sym was) c.requires.task)
-        (subst (λ (p : Phase). IsDueAt p steps c.args.input) (sym was) c.requires.due)
-        (λ log next last f s a. c.in_ok-phase.ensures.goes log next last f s a) (λ fresh. c.in_ok-phase.ensures.fresh fresh)
-        (λ broken. let t = c.in_ok-phase.ensures.broken broken in let e : ⊥ = cc in e) in
+    (subst (λ (p : Phase). IsTask state.port state.question steps p) (sym was) c.requires.task)
+    (subst (λ (p : Phase). IsDueAt p steps c.args.input) (sym was) c.requires.due)
+    (λ log next last f s a. c.in_ok-phase.ensures.goes log next last f s a) (λ fresh. c.in_ok-phase.ensures.fresh fresh)
+    (λ broken. let t = c.in_ok-phase.ensures.broken broken in let e : ⊥ = cc in e) in
     let items : c.push.new.self.items ≡ steps ++ step_of c.args.input want ∷ [] =
-        c.in_ok-push.ensures.items ∙ ap (λ (w : Want). steps ++ step_of c.args.input w ∷ []) c.in_ok-kept.ensures in
+    c.in_ok-push.ensures.items ∙ ap (λ (w : Want). steps ++ step_of c.args.input w ∷ []) c.in_ok-kept.ensures in
     subst (λ (xs : List Step). MayWant state.port state.question (exchanges_of xs) c.args.moment id want) (sym items) made.wants
 
 pub returns-clause-fit : goal.returns-clause-fit
@@ -52,10 +52,10 @@ returns-clause-fit g c =
     let id = id_drawn (g.R.Rng.stream c.args.ids.now) in
     let was : before ≡ state.phase = c.replace-phase.ensures.value in
     let made = stepping state.port state.question steps c.args.moment id c.args.input before c.in_ok-phase.field-0.phase want
-        (subst (λ (p : Phase). IsTask state.port state.question steps p) (sym was) c.requires.task)
-        (subst (λ (p : Phase). IsDueAt p steps c.args.input) (sym was) c.requires.due)
-        (λ log next last f s a. c.in_ok-phase.ensures.goes log next last f s a) (λ fresh. c.in_ok-phase.ensures.fresh fresh)
-        (λ broken. let t = c.in_ok-phase.ensures.broken broken in let e : ⊥ = cc in e) in
+    (subst (λ (p : Phase). IsTask state.port state.question steps p) (sym was) c.requires.task)
+    (subst (λ (p : Phase). IsDueAt p steps c.args.input) (sym was) c.requires.due)
+    (λ log next last f s a. c.in_ok-phase.ensures.goes log next last f s a) (λ fresh. c.in_ok-phase.ensures.fresh fresh)
+    (λ broken. let t = c.in_ok-phase.ensures.broken broken in let e : ⊥ = cc in e) in
     wanted_is_fit state.port state.question _ c.args.moment id want made.wants
 
 pub returns-clause-few : goal.returns-clause-few
@@ -67,12 +67,12 @@ returns-clause-few g c =
     let id = id_drawn (g.R.Rng.stream c.args.ids.now) in
     let was : before ≡ state.phase = c.replace-phase.ensures.value in
     let made = stepping state.port state.question steps c.args.moment id c.args.input before c.in_ok-phase.field-0.phase want
-        (subst (λ (p : Phase). IsTask state.port state.question steps p) (sym was) c.requires.task)
-        (subst (λ (p : Phase). IsDueAt p steps c.args.input) (sym was) c.requires.due)
-        (λ log next last f s a. c.in_ok-phase.ensures.goes log next last f s a) (λ fresh. c.in_ok-phase.ensures.fresh fresh)
-        (λ broken. let t = c.in_ok-phase.ensures.broken broken in let e : ⊥ = cc in e) in
+    (subst (λ (p : Phase). IsTask state.port state.question steps p) (sym was) c.requires.task)
+    (subst (λ (p : Phase). IsDueAt p steps c.args.input) (sym was) c.requires.due)
+    (λ log next last f s a. c.in_ok-phase.ensures.goes log next last f s a) (λ fresh. c.in_ok-phase.ensures.fresh fresh)
+    (λ broken. let t = c.in_ok-phase.ensures.broken broken in let e : ⊥ = cc in e) in
     let items : c.push.new.self.items ≡ steps ++ step_of c.args.input want ∷ [] =
-        c.in_ok-push.ensures.items ∙ ap (λ (w : Want). steps ++ step_of c.args.input w ∷ []) c.in_ok-kept.ensures in
+    c.in_ok-push.ensures.items ∙ ap (λ (w : Want). steps ++ step_of c.args.input w ∷ []) c.in_ok-kept.ensures in
     subst (λ (xs : List Step). sent_in xs ≤ 64) (sym items) made.few
 
 pub returns-clause-left : goal.returns-clause-left
@@ -84,8 +84,8 @@ returns-clause-left g c =
     let id = id_drawn (g.R.Rng.stream c.args.ids.now) in
     let was : before ≡ state.phase = c.replace-phase.ensures.value in
     let made = stepping state.port state.question steps c.args.moment id c.args.input before c.in_ok-phase.field-0.phase want
-        (subst (λ (p : Phase). IsTask state.port state.question steps p) (sym was) c.requires.task)
-        (subst (λ (p : Phase). IsDueAt p steps c.args.input) (sym was) c.requires.due)
-        (λ log next last f s a. c.in_ok-phase.ensures.goes log next last f s a) (λ fresh. c.in_ok-phase.ensures.fresh fresh)
-        (λ broken. let t = c.in_ok-phase.ensures.broken broken in let e : ⊥ = cc in e) in
+    (subst (λ (p : Phase). IsTask state.port state.question steps p) (sym was) c.requires.task)
+    (subst (λ (p : Phase). IsDueAt p steps c.args.input) (sym was) c.requires.due)
+    (λ log next last f s a. c.in_ok-phase.ensures.goes log next last f s a) (λ fresh. c.in_ok-phase.ensures.fresh fresh)
+    (λ broken. let t = c.in_ok-phase.ensures.broken broken in let e : ⊥ = cc in e) in
     subst (λ (p : Phase). left_in c.in_ok-phase.field-0.phase < left_in p) was made.falls
