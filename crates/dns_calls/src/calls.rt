@@ -10,6 +10,7 @@ use crate::names::{
     is_below, labels_of, length_of, name_of_labels, name_text, order_of, parent_of, spelling_of,
 };
 use crate::texts::{addr_text, data_text, record_text, type_text};
+use crate::lent::lent_octets;
 use crate::verdicts::{query_octets, verdict_in};
 use dns_text::next_word;
 use hex::FromHexError;
@@ -62,6 +63,9 @@ fn answer(alloc: Global, word: &[u8], arguments: &[Vec<u8>]) -> Result<Vec<u8>, 
         (b"reply", [query, octets]) => reply_octets(alloc, query, octets),
         (b"denial", [octets, owner, kind, zone]) => denial_in(alloc, octets, owner, kind, zone),
         (b"harvest", [octets, owner, kind, zone]) => harvest_in(alloc, octets, owner, kind, zone),
+        (b"lent", [query, owner, kind, ttl, data @ ..]) => {
+            lent_octets(alloc, query, owner, kind, ttl, data)
+        }
         (b"query", [id, owner, kind]) => query_octets(alloc, id, owner, kind),
         (b"judge", [octets, over, id, zone, owner, kind]) => {
             verdict_in(alloc, octets, (over, id), zone, owner, kind)

@@ -8,6 +8,7 @@ mod calls; // each call by its word
 mod denials; // what a message denies
 mod fault; // why a call gives nothing
 mod harvests; // what a message is believed to say
+mod lent; // replies whose records are lent
 mod messages; // messages and queries
 mod names; // names
 mod texts; // records, types and addresses as text

@@ -69,7 +69,7 @@ pub fn fault_reply_to(alloc: Global, octets: &[u8], rcode: &[u8]) -> Result<Vec<
     }
 }
 
-fn query_in(alloc: Global, octets: &[u8]) -> Result<Query, CallFault> {
+pub fn query_in(alloc: Global, octets: &[u8]) -> Result<Query, CallFault> {
     match read_question(alloc, octets)? {
         Asked::Good(query) => Ok(query),
         _ => Err(CallFault::NoCall),

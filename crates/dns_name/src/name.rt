@@ -3,6 +3,7 @@
 ghost use Rattle.std.specs.Prelude.{◌≡◌, ◌↔◌, ◌++◌, IsTrue, IfOk, IfErr, OnOk, MatchOption, List, ℕ, ◌+◌, ◌≤◌, [], length, drop, map};
 ghost use Rattle.std.specs.Iterator.{YieldsFirstBy, item_count};
 ghost use Rattle.dns_name.specs.Labels.{IsAtOrBelow, octets_of, spelled, wire_len, IsName, IsOctets, labels_in, labels_of, parent_of};
+ghost use Rattle.dns_name.specs.Below.{is_at_or_below};
 ghost use Rattle.dns_name.specs.Making.{Gives, name_after, lowercase_labels};
 ghost use Rattle.dns_name.specs.Building.{IsComing, starts_from, Begins, Ends, IsOver};
 ghost use Rattle.dns_name.specs.Order.{labels_cmp, ZoneIsFirst, SubtreeIsContiguous};
@@ -131,7 +132,8 @@ impl Name {
 
     /// Whether the labels of this name end with those of `zone`. It takes no memory.
     pub fn at_or_below(&self, zone: &Name) -> bool
-        ensures { IsTrue result ↔ IsAtOrBelow self.now zone.now }
+        ensures value { result ≡ is_at_or_below self.now zone.now }
+        ensures fact { IsTrue result ↔ IsAtOrBelow self.now zone.now }
     {
         self.octets().starts_with(zone.octets())
     }

@@ -3,7 +3,6 @@
 ghost use Rattle.std.specs.Prelude.{◌≡◌, ◌++◌, IfOk, OnOk};
 ghost use Rattle.std.specs.List.{AllByRecursion};
 ghost use Rattle.dns_wire.specs.WellFormed.{HasForms, HasItsForm};
-ghost use Rattle.dns_name.specs.Below.{is_at_or_below};
 ghost use Rattle.harvest.specs.Counted.{counts, answer_rank, authority_rank, ranked_in, ranked_of};
 
 use dns_name::{Name, NoMemory};
@@ -31,17 +30,11 @@ impl<'a> Model for Counted<'a> {
     ghost invariant = { λ r. HasForm r.said.now.kind r.said.now.body };
 }
 
-fn is_at_or_below(name: &Name, zone: &Name) -> bool
-    ensures { result ≡ is_at_or_below name.now zone.now }
-{
-    name.at_or_below(zone)
-}
-
 /// Whether a record counts.
 fn counts(zone: &Name, r: &Classed<Record>) -> bool
     ensures { result ≡ counts zone.now r.now }
 {
-    r.class == CLASS_IN && !is_excluded(r.item.kind) && is_at_or_below(&r.item.owner, zone)
+    r.class == CLASS_IN && !is_excluded(r.item.kind) && r.item.owner.at_or_below(zone)
 }
 
 /// The rank of a record of the answer section.

@@ -6,3 +6,8 @@ pub mod DueLaws
 pub mod Coming
 pub mod Hearing
 pub mod Stepping
+pub mod Depths
+pub mod Asking
+pub mod Supplying
+pub mod Finding
+pub mod Telling

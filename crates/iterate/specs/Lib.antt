@@ -10,3 +10,4 @@ pub mod Phase
 pub mod Measure
 pub mod Task
 pub mod Judged
+pub mod Hunting

@@ -20,6 +20,14 @@ mod first;
 mod search;
 // The innermost question of a search.
 mod innermost;
+// Queries go out.
+mod sending;
+// The addresses in a set.
+mod addresses;
+// The servers that a book names.
+mod listing;
+// Servers without an address are looked for.
+mod seeking;
 // What is done when a response was heard.
 mod concluding;
 // What a response taught is handed to the book.

@@ -1,9 +1,34 @@
 //! Servers that are asked in turn, and the questions for their addresses.
 
+ghost use Rattle.std.specs.Prelude.{◌≡◌, ◌⊎◌, ◌+◌, ◌<◌, ◌≤◌, ◌∷◌, [], ℕ, List, IsTrue, MatchOption, IfOk, false, length, take, drop};
+ghost use Rattle.std.specs.List.{Contains};
+ghost use Rattle.dns_name.specs.Labels.{Labels, IsAtOrBelow};
+ghost use Rattle.dns_text.specs.declared.addr.Addr.{Addr};
+ghost use Rattle.dns_text.specs.declared.record.Question.{Question};
+ghost use Rattle.dns_query.specs.Query.{address_question};
+ghost use Rattle.iterate.specs.Exchanges.{Exchange};
+ghost use Rattle.iterate.specs.Hunting.{AllServe, IsFresh, IsSupplied, AreSupplied, IsTried, IsSmaller, IsAt, IsNextStep, hunts_left};
+ghost use Rattle.iterate.specs.Known.{Known, Listed};
+ghost use Rattle.iterate.specs.Measure.{left_of_path, left_of_search, left_of_hearing};
+ghost use Rattle.iterate.specs.Phase.{Goes, IsSeeking};
+ghost use Rattle.iterate.specs.Resolved.{ReachedFor, MaySeek};
+ghost use Rattle.iterate.specs.Searching.{IsPath, IsSearch, IsNext, hunt_of, hunt_behind, question_of};
+ghost use Rattle.iterate.specs.Wanted.{id_drawn};
+
+use crate::finishing::failed;
 use crate::path::Path;
-use dns_name::Name;
-use dns_text::{Addr, Shared};
+use crate::phase::{Stage, Turn};
+use crate::seeking::seek;
+use crate::sending::ask;
+use dns_name::{Name, NoMemory};
+use dns_text::types::A;
+use dns_text::{Addr, Question, Shared};
+use rand_core::Rng;
+use std::alloc::Global;
 use undo_book::Servers;
+
+/// So many questions for addresses may be open inside one another.
+const MOST_DEPTH: usize = 8;
 
 /// The servers of a zone, as they are asked about a name.
 #[derive(Debug, Drop)]
@@ -32,4 +57,333 @@ pub struct Search {
     pub base: Hunt,
     /// The questions inside it, the innermost first.
     pub frames: Vec<Frame>,
+}
+
+// ---- servers are reached
+
+fn is_same(addr: &Addr, other: &Addr) -> bool
+    ensures { IsTrue result → addr.now ≡ other.now }
+{
+    addr == other
+}
+
+fn is_listed(addrs: &[Addr], addr: &Addr) -> bool
+    ensures { IsTrue result → Contains addrs.now addr.now }
+{
+    for known in addrs {
+        if is_same(known, addr) {
+            return true;
+        }
+    }
+    false
+}
+
+/// These addresses, and this one, if it is not there.
+fn with_addr(addrs: Vec<Addr>, addr: &Addr) -> Result<Vec<Addr>, NoMemory>
+    ensures first { IfOk result (λ v. take (length addrs.items) v.items ≡ addrs.items) }
+    ensures has { IfOk result (λ v. Contains v.items addr.now) }
+    ensures only { IfOk result (λ v. (other : Addr) → Contains v.items other → Contains addrs.items other ⊎ (addr.now ≡ other)) }
+{
+    let mut addrs = addrs;
+    if is_listed(&addrs, addr) {
+        return Ok(addrs);
+    }
+    addrs.push(*addr)?;
+    Ok(addrs)
+}
+
+/// These addresses, then those of the others that they lack.
+fn join_addrs(known: Vec<Addr>, others: &[Addr]) -> Result<Vec<Addr>, NoMemory>
+    ensures first { IfOk result (λ v. take (length known.items) v.items ≡ known.items) }
+    ensures all { IfOk result (λ v. (addr : Addr) → Contains others.now addr → Contains v.items addr) }
+    ensures only { IfOk result (λ v. (addr : Addr) → Contains v.items addr → Contains known.items addr ⊎ Contains others.now addr) }
+{
+    let mut addrs = known;
+    for addr in others {
+        addrs = with_addr(addrs, addr)?;
+    }
+    Ok(addrs)
+}
+
+/// Servers of which none was asked.
+pub(crate) fn begin_hunt(alloc: Global, servers: Shared<Servers>) -> Result<Hunt, NoMemory>
+    ensures { IfOk result (IsFresh servers) }
+{
+    let list = servers.get();
+    let _missing = list.missing.as_slice().len();
+    let addrs = join_addrs(Vec::new(alloc), list.addrs.as_slice())?;
+    Ok(Hunt {
+        servers,
+        addrs,
+        asked: 0,
+        sought: 0,
+    })
+}
+
+/// The search for the last question of a path, among servers that were reached for it.
+pub(crate) fn reach(alloc: Global, path: Path, servers: Shared<Servers>) -> Result<Search, NoMemory>
+    ensures path { IfOk result (λ search. search.path ≡ path) }
+    ensures reached { (port : ℕ) (question : Question) (log since : List Exchange) → IsPath port question log path → Known port log (Listed servers)
+        → ReachedFor port log path.last servers since → IsAtOrBelow path.last.owner servers.zone → IfOk result (IsSmaller port question log (left_of_path path 1)) }
+{
+    let base = begin_hunt(alloc, servers)?;
+    Ok(Search {
+        path,
+        base,
+        frames: Vec::new(alloc),
+    })
+}
+
+/// A response to the last question of the path referred to these servers.
+pub(crate) fn refer_base(
+    alloc: Global,
+    search: Search,
+    servers: Shared<Servers>,
+) -> Result<Search, NoMemory>
+    ensures { (port : ℕ) (question : Question) (log since : List Exchange) → IsSearch port question log search → Known port log (Listed servers)
+        → ReachedFor port log search.path.last servers since → IsAtOrBelow search.path.last.owner servers.zone
+        → IfOk result (IsSmaller port question log (left_of_hearing search.path 1)) }
+{
+    let Search { path, .. } = search;
+    let after = reach(alloc, path, servers)?;
+    Ok(after)
+}
+
+/// A response to the innermost question, for the address of a server, referred to these servers.
+pub(crate) fn refer_frame(
+    alloc: Global,
+    search: Search,
+    servers: Shared<Servers>,
+) -> Result<Search, NoMemory>
+    requires { 0 < length search.frames.items }
+    ensures { (port : ℕ) (question : Question) (log : List Exchange) → IsSearch port question log search → Known port log (Listed servers)
+        → IsAtOrBelow (question_of search).owner servers.zone → IfOk result (IsSmaller port question log (left_of_hearing search.path 1)) }
+{
+    let hunt = begin_hunt(alloc, servers)?;
+    let Search {
+        path,
+        base,
+        mut frames,
+    } = search;
+    let Frame { target, .. } = frames.remove(0);
+    frames.insert(0, Frame { target, hunt })?;
+    Ok(Search { path, base, frames })
+}
+
+/// A question for the address of the next server that the innermost question lacks, among the servers that were named for it.
+pub(crate) fn open(
+    alloc: Global,
+    search: Search,
+    target: Name,
+    servers: Shared<Servers>,
+) -> Result<Search, NoMemory>
+    ensures { (port : ℕ) (question : Question) (log : List Exchange) → IsSeeking port question log search target Stage.Servers → Known port log (Listed servers)
+        → IsAtOrBelow target servers.zone → IfOk result (IsSmaller port question log (left_of_search search 0)) }
+{
+    let hunt = begin_hunt(alloc, servers)?;
+    let Search {
+        path,
+        base,
+        mut frames,
+    } = search;
+    frames.insert(0, Frame { target, hunt })?;
+    Ok(Search { path, base, frames })
+}
+
+// ---- servers without an address are looked for
+
+/// The next server without an address is done with; these addresses of it were found.
+fn supply_hunt(hunt: Hunt, found: &[Addr]) -> Result<Hunt, NoMemory>
+    ensures { IfOk result (λ after. IsSupplied hunt found.now after) }
+{
+    let Hunt {
+        servers,
+        addrs,
+        asked,
+        sought,
+    } = hunt;
+    let missing = servers.get().missing.as_slice().len();
+    let addrs = join_addrs(addrs, found)?;
+    Ok(Hunt {
+        servers,
+        addrs,
+        asked,
+        sought: if sought < missing { sought + 1 } else { sought },
+    })
+}
+
+fn supply_innermost(search: Search, found: &[Addr]) -> Result<Search, NoMemory>
+    ensures path { IfOk result (λ after. after.path ≡ search.path) }
+    ensures supplied { IfOk result (λ after. AreSupplied search.frames.items search.base found.now after.frames.items after.base) }
+{
+    let Search {
+        path,
+        base,
+        mut frames,
+    } = search;
+    if frames.is_empty() {
+        let base = supply_hunt(base, found)?;
+        return Ok(Search { path, base, frames });
+    }
+    let Frame { target, hunt } = frames.remove(0);
+    let hunt = supply_hunt(hunt, found)?;
+    frames.insert(0, Frame { target, hunt })?;
+    Ok(Search { path, base, frames })
+}
+
+/// The next server that the innermost question lacks is done with; these addresses of it were found.
+pub(crate) fn supply(search: Search, found: &[Addr]) -> Result<Search, NoMemory>
+    ensures path { IfOk result (λ after. after.path ≡ search.path) }
+    ensures supplied { IfOk result (λ after. AreSupplied search.frames.items search.base found.now after.frames.items after.base) }
+    ensures further { (port : ℕ) (question : Question) (log : List Exchange) (target : Labels) → IsTried port question log search target
+        → AllServe port log (hunt_of search).servers.zone found.now → IfOk result (IsSmaller port question log (left_of_search search 0)) }
+{
+    let after = supply_innermost(search, found)?;
+    Ok(after)
+}
+
+/// The innermost question, for the address of a server, is done with; these addresses were found.
+pub(crate) fn close(search: Search, found: &[Addr]) -> Result<Search, NoMemory>
+    requires { 0 < length search.frames.items }
+    ensures path { IfOk result (λ after. after.path ≡ search.path) }
+    ensures fewer { IfOk result (λ after. hunts_left after < hunts_left search) }
+    ensures further { (port : ℕ) (question : Question) (log : List Exchange) → IsSearch port question log search
+        → AllServe port log (hunt_behind (drop 1 search.frames.items) search.base).servers.zone found.now → IfOk result (IsSmaller port question log (left_of_search search 0)) }
+{
+    let Search {
+        path,
+        base,
+        mut frames,
+    } = search;
+    frames.remove(0);
+    let after = supply(Search { path, base, frames }, found)?;
+    Ok(after)
+}
+
+// ---- what comes next
+
+/// What comes next for the innermost question.
+pub(crate) enum Next {
+    /// This server is asked.
+    Ask(Addr),
+    /// This server without an address is looked for.
+    Seek(Name),
+    /// The next server without an address may not be looked for.
+    Pass,
+    /// Nothing is left.
+    Close,
+}
+
+fn is_name(name: &Name, other: &Name) -> bool
+    ensures { IsTrue result → name.now ≡ other.now }
+{
+    name == other
+}
+
+/// Whether a question is for the address of this server.
+fn asks_address(question: &Question, target: &Name) -> bool
+    ensures { IsTrue result → address_question target.now ≡ question.now }
+{
+    question.kind == A && is_name(&question.owner, target)
+}
+
+/// Whether the address of a server is asked already.
+fn is_sought(search: &Search, target: &Name) -> bool
+    ensures { IsTrue result → search.now.frames.items ≡ [] → address_question target.now ≡ search.now.path.last }
+{
+    if search.frames.iter().any(|frame| frame.target == *target) {
+        return true;
+    }
+    asks_address(&search.path.last, target)
+}
+
+/// Whether a server without an address may be looked for: it does not lie in the zone, and its address is not asked already.
+fn may_seek(search: &Search, target: &Name) -> bool
+    ensures shallow { IsTrue result → length search.now.frames.items < 8 }
+    ensures passes { search.now.frames.items ≡ [] → MaySeek search.now.path.last search.now.base.servers target.now → IsTrue result }
+{
+    let zone = &search.hunt().servers.get().zone;
+    search.frames.len() < MOST_DEPTH && !target.at_or_below(zone) && !is_sought(search, target)
+}
+
+fn addr_at(addrs: &[Addr], place: usize) -> Option<Addr>
+    ensures { MatchOption result (length addrs.now ≤ place) (IsAt addrs.now place) }
+{
+    if place < addrs.len() {
+        Some(addrs[place])
+    } else {
+        None
+    }
+}
+
+fn name_at(names: &[Name], place: usize) -> Option<&Name>
+    ensures { MatchOption result (length names.now ≤ place) (λ name. IsAt names.now place name.now) }
+{
+    if place < names.len() {
+        Some(&names[place])
+    } else {
+        None
+    }
+}
+
+/// The next server without an address.
+fn next_missing(hunt: &Hunt) -> Option<&Name>
+    ensures { MatchOption result (length hunt.now.servers.missing ≤ hunt.now.sought) (λ name. IsAt hunt.now.servers.missing hunt.now.sought name.now) }
+{
+    name_at(hunt.servers.get().missing.as_slice(), hunt.sought)
+}
+
+/// What comes next for the innermost question: its servers are asked in turn, then those without an address are looked for.
+fn choose(search: &Search) -> Result<Next, NoMemory>
+    ensures { IfOk result (λ next. IsNextStep search.now next) }
+{
+    let hunt = search.hunt();
+    if let Some(server) = addr_at(&hunt.addrs, hunt.asked) {
+        return Ok(Next::Ask(server));
+    }
+    match next_missing(hunt) {
+        Some(name) => {
+            if may_seek(search, name) {
+                let target = name.clone()?;
+                Ok(Next::Seek(target))
+            } else {
+                Ok(Next::Pass)
+            }
+        }
+        None => Ok(Next::Close),
+    }
+}
+
+/// Whether no question is open inside the last one of the path.
+fn is_outermost(search: &Search) -> bool
+    ensures outermost { IsTrue result → search.now.frames.items ≡ [] }
+    ensures inner { result ≡ false → 0 < length search.now.frames.items }
+{
+    search.frames.is_empty()
+}
+
+/// Goes on with a search: the next server of the innermost question is asked, or looked for; where there is none, the question behind it goes on.
+pub(crate) fn go_on<R: Rng>(
+    alloc: Global,
+    ids: &mut R,
+    moment: u64,
+    search: Search,
+) -> Result<Turn, NoMemory>
+    ensures { (port : ℕ) (question : Question) (log : List Exchange) → IsSearch port question log search
+        → IfOk result (λ t. Goes port question log moment (id_drawn (R.stream ids.old)) (left_of_search search 4) t.phase t.want) }
+{
+    let mut current = search;
+    'going: loop {
+        match choose(&current)? {
+            Next::Ask(server) => return ask(alloc, ids, current, server),
+            Next::Seek(target) => return seek(moment, current, target, Stage::Address),
+            Next::Pass => current = supply(current, &[])?,
+            Next::Close => {
+                if is_outermost(&current) {
+                    return Ok(failed(alloc));
+                }
+                current = close(current, &[])?;
+            }
+        }
+    }
 }

@@ -7,7 +7,7 @@ ghost use Rattle.local_zone.specs.Answer.{absent_in, absent_or_pass, answer_in, 
 ghost use Rattle.local_zone.specs.Show.{data_shown, is_for};
 ghost use Rattle.local_zone.specs.declared.local.Local.TheVariants as local;
 
-use crate::closest::{closest, is_at_or_below};
+use crate::closest::closest;
 use crate::local::{Local, LocalSet};
 use crate::next::is_for;
 use crate::record::LocalRecord;
@@ -48,7 +48,7 @@ fn has_record_below(
 ) -> bool
     ensures { result ≡ has_record_below name.now zone.now (record { zones = zones.now.items; records = records.now }) }
 {
-    records.iter().any(|r| is_at_or_below(r.owner(), name) && lies_in(zones, &zone.name, r.owner()))
+    records.iter().any(|r| r.owner().at_or_below(name) && lies_in(zones, &zone.name, r.owner()))
 }
 
 /// The CNAME of an owner, else its set of the type, shown as of the name that is asked for; nothing where there is neither.

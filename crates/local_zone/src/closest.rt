@@ -6,28 +6,20 @@ ghost use Rattle.std.specs.Option.{option_map};
 ghost use Rattle.dns_name.specs.Labels.{Labels, IsAtOrBelow};
 ghost use Rattle.local_zone.specs.declared.zone.Zone.{Zone};
 ghost use Rattle.local_zone.specs.Closest.{closest, closer, IsClosest};
-ghost use Rattle.dns_name.specs.Below.{is_at_or_below};
 
 use crate::zone::Zone;
 use dns_name::Name;
 use dns_text::Shared;
 
-/// Whether a name is that of a zone or below it.
-pub(crate) fn is_at_or_below(name: &Name, zone: &Name) -> bool
-    ensures { result ≡ is_at_or_below name.now zone.now }
-{
-    name.at_or_below(zone)
-}
-
 /// Of two zones at or above a name the longer one, the first where they are equal.
 fn closer<'a>(name: &Name, best: Option<&'a Zone>, zone: &'a Zone) -> Option<&'a Zone>
     ensures { option_map (λ z. z.now) result ≡ closer name.now (option_map (λ z. z.now) best.entry) zone.now }
 {
-    if !is_at_or_below(name, &zone.name) {
+    if !name.at_or_below(&zone.name) {
         return best;
     }
     match best {
-        Some(other) if is_at_or_below(&other.name, &zone.name) => best,
+        Some(other) if other.name.at_or_below(&zone.name) => best,
         _ => Some(zone),
     }
 }

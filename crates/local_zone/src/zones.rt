@@ -8,7 +8,7 @@ ghost use Rattle.local_zone.specs.Closest.{closest, gives_way, lies_in};
 ghost use Rattle.local_zone.specs.Saved.{list_before};
 ghost use Rattle.local_zone.specs.declared.table.TheConstants.{MOST_ZONES};
 
-use crate::closest::{closest, is_at_or_below};
+use crate::closest::closest;
 use crate::saved::SavedList;
 use crate::table::MOST_ZONES;
 use crate::zone::Zone;
@@ -29,7 +29,7 @@ pub(crate) fn has_zone(zones: &[Shared<Zone>], name: &Name) -> bool
 pub(crate) fn lies_in(zones: &Vec<Shared<Zone>>, name: &Name, owner: &Name) -> bool
     ensures { result ≡ lies_in zones.now.items name.now owner.now }
 {
-    if is_at_or_below(owner, name) {
+    if owner.at_or_below(name) {
         match closest(zones, owner) {
             Some(zone) => zone.name == *name,
             None => false,
@@ -44,7 +44,7 @@ fn gives_way(name: &Name, zone: Option<&Zone>) -> bool
     ensures { result ≡ gives_way name.now (option_map (λ z. z.now) zone.entry) }
 {
     match zone {
-        Some(zone) => zone.name == *name || !is_at_or_below(&zone.name, name),
+        Some(zone) => zone.name == *name || !zone.name.at_or_below(name),
         None => true,
     }
 }
@@ -53,7 +53,7 @@ fn gives_way(name: &Name, zone: Option<&Zone>) -> bool
 fn would_lie_in(zones: &Vec<Shared<Zone>>, new: &Zone, owner: &Name) -> bool
     ensures { result ≡ lies_in (zones_with new.now zones.now.items) new.now.name owner.now }
 {
-    if is_at_or_below(owner, &new.name) {
+    if owner.at_or_below(&new.name) {
         gives_way(&new.name, closest(zones, owner))
     } else {
         false

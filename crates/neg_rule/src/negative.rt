@@ -2,7 +2,6 @@
 
 ghost use Rattle.std.specs.Prelude.{◌≡◌, IfOk, OnErr, IsSome};
 ghost use Rattle.std.specs.Option.{option_map};
-ghost use Rattle.dns_name.specs.Below.{is_at_or_below};
 ghost use Rattle.neg_rule.specs.Negative.{denied_for, denied_in, denies, has_answer, may_deny, negative_in, said_by, soa_for};
 
 use crate::alias::{is_for, last_of};
@@ -21,21 +20,14 @@ fn may_deny(message: &Message) -> bool
     message.head.aa && (rcode == Rcode::NAME_ERROR || rcode == Rcode::NO_ERROR)
 }
 
-/// Whether a name is that of a zone or below it.
-fn is_at_or_below(name: &Name, zone: &Name) -> bool
-    ensures { result ≡ is_at_or_below name.now zone.now }
-{
-    name.at_or_below(zone)
-}
-
 /// Whether a record is an SOA of class IN, owned at or above a name and at or below a zone.
 fn denies(r: &Classed<Record>, zone: &Name, name: &Name) -> bool
     ensures { result ≡ denies zone.now name.now r.now }
 {
     r.class == CLASS_IN
         && r.item.kind == SOA
-        && is_at_or_below(name, &r.item.owner)
-        && is_at_or_below(&r.item.owner, zone)
+        && name.at_or_below(&r.item.owner)
+        && r.item.owner.at_or_below(zone)
 }
 
 /// The first such record of the authority section.

@@ -6,18 +6,10 @@ ghost use Rattle.std.specs.Option.{option_map};
 ghost use Rattle.dns_name.specs.Labels.{Labels, IsAtOrBelow};
 ghost use Rattle.stub_table.specs.declared.stub.Stub.{Stub};
 ghost use Rattle.stub_table.specs.Closest.{closest_stub, closer, IsClosest};
-ghost use Rattle.dns_name.specs.Below.{is_at_or_below};
 
 use crate::stub::Stub;
 use dns_name::Name;
 use dns_text::Shared;
-
-/// Whether a name is that of a stub or below it.
-fn is_at_or_below(name: &Name, stub: &Name) -> bool
-    ensures { result ≡ is_at_or_below name.now stub.now }
-{
-    name.at_or_below(stub)
-}
 
 /// Of two stubs at or above a name the longer one, the first where they are equal.
 fn closer<'a>(
@@ -27,11 +19,11 @@ fn closer<'a>(
 ) -> Option<&'a Shared<Stub>>
     ensures { option_map (λ s. s.now) result ≡ closer name.now (option_map (λ s. s.now) best.entry) stub.now }
 {
-    if !is_at_or_below(name, &stub.get().name) {
+    if !name.at_or_below(&stub.get().name) {
         return best;
     }
     match best {
-        Some(other) if is_at_or_below(&other.get().name, &stub.get().name) => best,
+        Some(other) if other.get().name.at_or_below(&stub.get().name) => best,
         _ => Some(stub),
     }
 }

@@ -7,7 +7,6 @@ ghost use Rattle.ranked.specs.Body.{data_of};
 ghost use Rattle.undo_book.specs.PlainPast.{past_in};
 ghost use Rattle.undo_book.specs.Servers.{addr_of, addrs_at, cached_servers, data_at, has_no_addr, is_usable, servers_named, target_of};
 
-use crate::flushes::is_at_or_below;
 use crate::past::PlainPast;
 use crate::servers::{Servers, Source};
 use dns_name::{Name, NoMemory};
@@ -162,5 +161,5 @@ fn is_usable(servers: &Servers, targets: &Vec<Name>) -> bool
 fn has_outside(targets: &Vec<Name>, zone: &Name) -> bool
     ensures { result ≡ list_any (λ target. not (is_at_or_below target zone.now)) targets.now.items }
 {
-    targets.iter().any(|target| !is_at_or_below(target, zone))
+    targets.iter().any(|target| !target.at_or_below(zone))
 }

@@ -4,7 +4,7 @@ ghost use Rattle.std.specs.Prelude.{◌≡◌, IfOk};
 ghost use Rattle.std.specs.Option.{option_map};
 ghost use Rattle.local_zone.specs.Answer.{local_now};
 
-use crate::flushes::{is_at_or_below, is_flushed};
+use crate::flushes::is_flushed;
 use crate::servers::Servers;
 use dns_name::{Name, NoMemory};
 use dns_text::{Addr, Items, Question, Record, Shared};
@@ -63,7 +63,7 @@ impl Command {
         match self {
             Command::FlushType(target) => target.owner == *owner && target.kind == kind,
             Command::Flush { name } => *name == *owner && is_flushed(kind),
-            Command::FlushZone { name } => is_at_or_below(owner, name),
+            Command::FlushZone { name } => owner.at_or_below(name),
             _ => false,
         }
     }

@@ -1,0 +1,147 @@
+-- Servers without an address are looked for, and servers are named.
+use Rattle.std.proofs.Common.{◌≡◌, ℕ, ◌+◌, ◌<◌, ◌≤◌, List, [], ◌∷◌, ◌++◌, length, take, drop, false, None, sym, ap, ◌∙◌, subst, refl, arith}
+use Rattle.std.specs.List.{AllByRecursion, Contains}
+use Rattle.std.proofs.lemmas.List.{take-append-drop}
+use Rattle.std.proofs.lemmas.List.Elements.{Contains-append_right}
+use Rattle.dns_name.specs.Labels.{Labels, IsAtOrBelow}
+use Rattle.dns_text.specs.declared.addr.Addr.{Addr}
+use Rattle.dns_text.specs.declared.record.Question.{Question}
+use Rattle.dns_query.specs.Query.{address_question}
+use Rattle.local_zone.specs.declared.local.Local.TheVariants as local
+use Rattle.undo_book.specs.declared.event.Ask.{Ask}
+use Rattle.undo_book.specs.declared.event.Ask.TheVariants.{Answer as Asked, Servers as ServersFor}
+use Rattle.undo_book.specs.declared.event.Event.TheVariants.{Look}
+use Rattle.undo_book.specs.declared.event.Reply.TheVariants.{Seen}
+use Rattle.undo_book.specs.declared.event.Seen.{Seen as SeenValue}
+use Rattle.undo_book.specs.declared.event.Seen.TheVariants.{Unknown, Held, Local as LocalSeen, Zones, Records, Stubs, Commands, Servers as SeenServers}
+use Rattle.undo_book.specs.declared.servers.Servers.{Servers}
+use Rattle.iterate.specs.declared.answer.Answer.TheVariants.{Reply as Replies}
+use Rattle.iterate.specs.declared.answer.Told.{Told}
+use Rattle.iterate.specs.declared.path.Path.{Path}
+use Rattle.iterate.specs.declared.phase.Phase.TheVariants.{Ended}
+use Rattle.iterate.specs.declared.phase.Stage.{Stage}
+use Rattle.iterate.specs.declared.phase.Stage.TheVariants as stage
+use Rattle.iterate.specs.declared.search.Search.{Search}
+use Rattle.iterate.specs.declared.want.Input.{Input}
+use Rattle.iterate.specs.declared.want.Input.TheVariants.{Reply}
+use Rattle.iterate.specs.declared.want.Want.TheVariants.{Book, Finish}
+use Rattle.iterate.specs.Exchanges.{Exchange, exchange, Adds}
+use Rattle.iterate.specs.Hunting.{AllServe, IsTried, IsAddressSeen}
+use Rattle.iterate.specs.Known.{Known, Had, Listed, Serves}
+use Rattle.iterate.specs.Looked.{IsSetSeen}
+use Rattle.iterate.specs.Measure.{no_depths, left_of_path, left_of_search}
+use Rattle.iterate.specs.Phase.{Goes, IsSeeking, IsSought, ask_at}
+use Rattle.iterate.specs.Resolved.{Fails, ReachedFor, Sought}
+use Rattle.iterate.specs.Searching.{IsPath, IsSearch, IsNext, hunt_of}
+use Rattle.iterate.specs.Shown.{IsReplyTo, IsMisanswered}
+use Rattle.iterate.proofs.Growing.{happened_last, path_more, base_more, frames_more, search_looked, since_more, sought_more}
+use Rattle.iterate.proofs.Falling.{ended_falls}
+use Rattle.iterate.proofs.Asking.{failing, failing_search, innermost_hunt}
+
+-- ---- servers are named
+
+pub path_named : (port : ℕ) (question : Question) (before log : List Exchange) (m : ℕ) (path : Path) (list : Servers) → IsPath port question before path
+    → Adds before (exchange (Book (Look m (ServersFor path.last.owner))) (Reply (Seen (SeenServers list)))) log → IsPath port question log path
+path_named port question before log m path list p a = path_more p a refl
+
+pub reached_named : (port : ℕ) (before log : List Exchange) (m : ℕ) (question : Question) (list : Servers)
+    → Adds before (exchange (Book (Look m (ServersFor question.owner))) (Reply (Seen (SeenServers list)))) log → ReachedFor port log question list []
+reached_named port before log m question list a = ReachedFor.by_book before m a.adds
+
+pub listed_named : (port : ℕ) (before log : List Exchange) (m : ℕ) (name : Labels) (list : Servers)
+    → Adds before (exchange (Book (Look m (ServersFor name))) (Reply (Seen (SeenServers list)))) log → Known port log (Listed list)
+listed_named port before log m name list a = Known.named a
+
+pub failing_listing : (port m : ℕ) (question : Question) (before log : List Exchange) (moment id : ℕ) (path : Path) (input : Input) → IsPath port question before path
+    → Adds before (exchange (Book (Look m (ServersFor path.last.owner))) input) log → IsMisanswered (Look m (ServersFor path.last.owner)) input
+    → Goes port question log moment id (left_of_path path 1) Ended (Finish (Replies 2 false [] None None))
+failing_listing port m question before log moment id path input p a bad =
+    failing port question log moment id (left_of_path path 1) path (ended_falls path 0 0 1 no_depths p.short refl) (path_more p a refl) (Fails.misanswered (happened_last a) bad)
+
+-- ---- a look for a server without an address
+
+pub failing_seeking : (port m : ℕ) (question : Question) (before log : List Exchange) (moment id looks : ℕ) (search : Search) (ask : Ask) (input : Input) → IsSearch port question before search
+    → Adds before (exchange (Book (Look m ask)) input) log → IsMisanswered (Look m ask) input
+    → Goes port question log moment id (left_of_search search looks) Ended (Finish (Replies 2 false [] None None))
+failing_seeking port m question before log moment id looks search ask input s a bad =
+    failing_search port question log moment id looks search (search_looked s a refl) (Fails.misanswered (happened_last a) bad)
+
+-- a search behind a look
+abbrev after_look : {port : ℕ} {question : Question} {before log : List Exchange} (m : ℕ) (ask : Ask) (input : Input) (search : Search) → IsSearch port question before search
+    → Adds before (exchange (Book (Look m ask)) input) log → IsSearch port question log search
+after_look {port} m ask input search s a = record {
+  path = path_more s.path a refl;
+  since = s.since ++ exchange (Book (Look m ask)) input ∷ [];
+  base = base_more s.base a;
+  frames = frames_more port s.since search.base search.frames.items a s.frames;
+  deep = s.deep;
+}
+
+-- what was looked for since the servers were reached
+sought_then : (m : ℕ) (since : List Exchange) (target : Labels) (stage : Stage) (input : Input) → IsSought stage since target
+    → Sought (since ++ exchange (Book (Look m (ask_at stage target))) input ∷ []) target
+sought_then m since target stage.Address input k = record { moment = m; input = input; looked = happened_last (since_more since _) }
+sought_then m since target stage.Alias input k = sought_more k (since_more since _)
+sought_then m since target stage.Servers input k = sought_more k (since_more since _)
+
+-- The server was looked for.
+pub tried_more : (port m : ℕ) (question : Question) (before log : List Exchange) (search : Search) (target : Labels) (stage : Stage) (input : Input) → IsSeeking port question before search target stage
+    → Adds before (exchange (Book (Look m (ask_at stage target))) input) log → IsTried port question log search target
+tried_more port m question before log search target stage input k a = record {
+  is_search = after_look m (ask_at stage target) input search k.is_search a;
+  next = k.next;
+  tried = λ none may. sought_then m k.is_search.since target stage input k.sought;
+}
+
+is_sought : (then : Stage) (since : List Exchange) (target : Labels) → Sought since target → IsSought then since target
+is_sought stage.Address since target k = tt
+is_sought stage.Alias since target k = k
+is_sought stage.Servers since target k = k
+
+-- It is looked for further.
+pub seeking_more : (port m : ℕ) (question : Question) (before log : List Exchange) (search : Search) (target : Labels) (stage then : Stage) (input : Input) → IsSeeking port question before search target stage
+    → Adds before (exchange (Book (Look m (ask_at stage target))) input) log → IsSeeking port question log search target then
+seeking_more port m question before log search target stage then input k a = record {
+  is_search = after_look m (ask_at stage target) input search k.is_search a;
+  shallow = k.shallow;
+  next = k.next;
+  sought = is_sought then _ target (sought_then m k.is_search.since target stage input k.sought);
+}
+
+-- ---- its addresses
+
+contains_next : {X : Type 0} (n : ℕ) (xs : List X) (x : X) (rest : List X) → drop n xs ≡ x ∷ rest → Contains xs x
+contains_next n xs x rest next =
+    subst (λ (zs : List _). Contains zs x) (take-append-drop n xs) (Contains-append_right (take n xs) (drop n xs) x (subst (λ (zs : List _). Contains zs x) (sym next) (0, omega arith, refl)))
+
+-- A set that a look saw is known.
+had_seen : (port m : ℕ) (before log : List Exchange) (question : Question) (seen : SeenValue) (told : Told) → Adds before (exchange (Book (Look m (Asked question))) (Reply (Seen seen))) log
+    → IsReplyTo (Asked question) (Seen seen) → IsSetSeen seen told → Known port log (Had question told)
+had_seen port m before log question (Held shown) told a lawful is = subst (λ (t : Told). Known port log (Had question t)) (sym is.1) (Known.looked a record { shown_for = lawful; has_data = is.0 })
+had_seen port m before log question (LocalSeen (local.Data records)) told a lawful is = subst (λ (t : Told). Known port log (Had question t)) (sym is) (Known.local a lawful)
+had_seen port m before log question (LocalSeen (local.NoData soa)) told a lawful is = absurd is
+had_seen port m before log question (LocalSeen (local.NoName soa)) told a lawful is = absurd is
+had_seen port m before log question (LocalSeen local.Refuse) told a lawful is = absurd is
+had_seen port m before log question (LocalSeen local.Drop) told a lawful is = absurd is
+had_seen port m before log question (LocalSeen local.Pass) told a lawful is = absurd is
+had_seen port m before log question Unknown told a lawful is = absurd is
+had_seen port m before log question (Zones zones) told a lawful is = absurd is
+had_seen port m before log question (Records records) told a lawful is = absurd is
+had_seen port m before log question (Stubs stubs) told a lawful is = absurd is
+had_seen port m before log question (Commands commands) told a lawful is = absurd is
+had_seen port m before log question (SeenServers servers) told a lawful is = absurd is
+
+each_serves : (port m : ℕ) (before log : List Exchange) (servers : Servers) (target : Labels) (seen : SeenValue) (found : List Addr) → Adds before (exchange (Book (Look m (Asked (address_question target)))) (Reply (Seen seen))) log
+    → IsReplyTo (Asked (address_question target)) (Seen seen) → Known port log (Listed servers) → Contains servers.missing target → AllByRecursion (IsAddressSeen port seen) found
+    → AllServe port log servers.zone found
+each_serves port m before log servers target seen [] a lawful known among all = tt
+each_serves port m before log servers target seen (addr ∷ found) a lawful known among all =
+    (Known.found known among (had_seen port m before log (address_question target) seen all.0.told a lawful all.0.is_set) all.0.among, each_serves port m before log servers target seen found a lawful known among all.1)
+
+-- The addresses that a look saw are those of a server of the zone.
+pub serving : (port m : ℕ) (question : Question) (before log : List Exchange) (search : Search) (target : Labels) (seen : SeenValue) (found : List Addr) → IsSeeking port question before search target stage.Address
+    → Adds before (exchange (Book (Look m (Asked (address_question target)))) (Reply (Seen seen))) log → IsReplyTo (Asked (address_question target)) (Seen seen) → AllByRecursion (IsAddressSeen port seen) found
+    → AllServe port log (hunt_of search).servers.zone found
+serving port m question before log search target seen found k a lawful all =
+    let hunt = innermost_hunt search (search_looked k.is_search a refl) in
+    each_serves port m before log (hunt_of search).servers target seen found a lawful hunt.listed (contains_next (hunt_of search).sought (hunt_of search).servers.missing target k.next.rest k.next.next) all

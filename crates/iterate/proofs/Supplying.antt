@@ -1,0 +1,366 @@
+-- Servers are reached, and servers without an address are done with.
+use Rattle.std.proofs.Common.{zero, suc, ◌≡◌, ℕ, ◌+◌, ◌-◌, ◌^◌, ◌<◌, ◌≤◌, ◌⊎◌, List, [], ◌∷◌, ◌++◌, length, take, drop, get_or, sym, ap, ◌∙◌, subst, refl, inl, inr, arith}
+use Rattle.std.specs.List.{AllByRecursion, Contains, sum_by}
+use Rattle.std.proofs.lemmas.List.{length-append, length-drop, length-take, take-append-drop, take-append-le}
+use Rattle.std.proofs.lemmas.List.Elements.{All-from_recursion, All-contains, Contains-append_left, Contains-append_right, Contains-push, Contains-push_cases}
+use Rattle.std.proofs.Math.Seq.{take-append-add}
+use Rattle.dns_name.specs.Labels.{Labels, IsAtOrBelow}
+use Rattle.dns_text.specs.declared.addr.Addr.{Addr}
+use Rattle.dns_text.specs.declared.record.Question.{Question}
+use Rattle.undo_book.specs.declared.servers.Servers.{Servers}
+use Rattle.dns_text.specs.declared.types.TheConstants as number
+use Rattle.dns_query.specs.Query.{address_question}
+use Rattle.iterate.specs.declared.path.Path.{Path}
+use Rattle.iterate.specs.declared.search.Frame.{Frame}
+use Rattle.iterate.specs.declared.search.Hunt.{Hunt}
+use Rattle.iterate.specs.declared.search.Search.{Search}
+use Rattle.iterate.specs.Exchanges.{Exchange}
+use Rattle.iterate.specs.Hunting.{AllServe, IsFresh, IsSupplied, AreSupplied, IsTried, IsSmaller, frames_left}
+use Rattle.iterate.specs.Known.{Known, Listed, Serves}
+use Rattle.iterate.specs.Measure.{top, missing_left, depths, no_depths, Falls, digits_of_search, left_of_path, left_of_search, left_of_hearing}
+use Rattle.iterate.specs.Resolved.{ReachedFor, Struck, MaySeek, Sought}
+use Rattle.iterate.specs.Searching.{IsPath, IsHunt, IsNext, IsBase, IsFrame, AreFrames, IsSearch, hunt_behind, hunt_of, question_behind, question_of}
+use Rattle.iterate.proofs.Falling.{Digits, depths_fall, hearing_falls}
+use Rattle.iterate.proofs.Depths.{base_falls, frame_falls, closed_base_falls, closed_frame_falls, opened_falls, depths_nine, missing_digit, search_digits}
+
+-- ---- lists
+
+all_of : {X : Type 0} (P : X → Type 0) (xs : List X) → ((x : X) → Contains xs x → P x) → AllByRecursion P xs
+all_of P [] h = tt
+all_of P (x ∷ xs) h = (h x (0, omega arith, refl), all_of P xs (λ y is. h y (Contains-append_right (x ∷ []) xs y is)))
+
+of_all : {X : Type 0} (P : X → Type 0) (xs : List X) (x : X) → AllByRecursion P xs → Contains xs x → P x
+of_all P xs x all is = All-contains P xs x (All-from_recursion P xs all) is
+
+-- what stands before a place
+take_first : {X : Type 0} (n m : ℕ) (xs ys : List X) → take m xs ≡ ys → n ≤ m → n ≤ length ys → take n xs ≡ take n ys
+take_first n m xs ys first few short =
+    ap (λ (zs : List _). take n zs) (sym (take-append-drop m xs)) ∙ ap (λ (zs : List _). take n (zs ++ drop m xs)) first ∙ take-append-le n ys (drop m xs) short
+
+contains_first : {X : Type 0} (m : ℕ) (xs ys : List X) (x : X) → take m xs ≡ ys → Contains ys x → Contains xs x
+contains_first m xs ys x first is =
+    subst (λ (zs : List _). Contains zs x) (ap (λ (zs : List _). zs ++ drop m xs) (sym first) ∙ take-append-drop m xs) (Contains-append_left ys (drop m xs) x is)
+
+-- the next one is within the list
+pub next_within : {X : Type 0} (n : ℕ) (xs : List X) (x : X) (rest : List X) → drop n xs ≡ x ∷ rest → n < length xs
+next_within n xs x rest next =
+    let e : length xs - n ≡ suc (length rest) = sym (length-drop n xs) ∙ ap (λ (zs : List _). length zs) next in
+    omega (arith, e)
+
+-- one more is taken
+take_next : {X : Type 0} (n : ℕ) (xs : List X) (x : X) (rest : List X) → drop n xs ≡ x ∷ rest → take (n + 1) xs ≡ take n xs ++ x ∷ []
+take_next n xs x rest next =
+    let within = next_within n xs x rest next in
+    let long : length (take n xs) ≡ n = length-take n xs ∙ omega (arith, within) in
+    let split : xs ≡ take n xs ++ x ∷ rest = sym (take-append-drop n xs) ∙ ap (λ (zs : List _). take n xs ++ zs) next in
+    ap (λ (zs : List _). take (n + 1) zs) split ∙ ap (λ (k : ℕ). take (k + 1) (take n xs ++ x ∷ rest)) (sym long) ∙ take-append-add (take n xs) (x ∷ rest) 1
+
+none_taken : {X : Type 0} (n : ℕ) (xs : List X) (x : X) → n ≡ 0 → Contains (take n xs) x → ⊥
+none_taken n xs x none is =
+    let first : Contains (take 0 xs) x = subst (λ (k : ℕ). Contains (take k xs) x) none is in
+    absurd (omega (arith, first.1))
+
+pub none_within : {X : Type 0} (xs : List X) (x : X) → xs ≡ [] → Contains xs x → ⊥
+none_within xs x none is =
+    let first : Contains [] x = subst (λ (zs : List _). Contains zs x) none is in
+    absurd (omega (arith, first.1))
+
+pub address_is : (question : Question) (target : Labels) → question.owner ≡ target → question.kind ≡ number.A → address_question target ≡ question
+address_is question target owner kind =
+    subst (λ (n : Labels). address_question n ≡ question) owner (subst (λ (k : ℕ). record { owner = question.owner; kind = k } ≡ question) kind refl)
+
+-- the first of some questions
+pub first_frame : (fs : List Frame) → 0 < length fs → (g : Frame) × (gs : List Frame) × (fs ≡ g ∷ gs)
+first_frame [] some = absurd (omega (arith, some))
+first_frame (g ∷ gs) some = (g, gs, refl)
+
+pub removed_first : (fs : List Frame) (g : Frame) (gs : List Frame) (f : Frame) → fs ≡ g ∷ gs → f ≡ get_or fs 0 f → f ≡ g
+removed_first fs g gs f are is = is ∙ ap (λ (xs : List Frame). get_or xs 0 f) are
+
+-- one address more is joined
+pub join_more : (known before after others : List Addr) (i : ℕ) (addr : Addr) → take (i + 1) others ≡ take i others ++ addr ∷ [] → take (length known) before ≡ known
+    → ((a : Addr) → Contains (take i others) a → Contains before a) → ((a : Addr) → Contains before a → Contains known a ⊎ Contains (take i others) a)
+    → take (length before) after ≡ before → Contains after addr → ((a : Addr) → Contains after a → Contains before a ⊎ (addr ≡ a))
+    → (take (length known) after ≡ known) × ((a : Addr) → Contains (take (i + 1) others) a → Contains after a) × ((a : Addr) → Contains after a → Contains known a ⊎ Contains (take (i + 1) others) a)
+join_more known before after others i addr next first all only kept has either =
+    let short : length known ≤ length before = omega (arith, ap (λ (xs : List Addr). length xs) first, length-take (length known) before) in (
+      take_first (length known) (length before) after before kept short short ∙ first,
+      λ a is. elim (Contains-push_cases (take i others) addr a (subst (λ (xs : List Addr). Contains xs a) next is)) [
+        | inl earlier ↦ contains_first (length before) after before a kept (all a earlier)
+        | inr this ↦ subst (λ (x : Addr). Contains after x) this has
+      ],
+      λ a is. elim (either a is) [
+        | inl earlier ↦ elim (only a earlier) [
+          | inl old ↦ inl old
+          | inr new ↦ inr (subst (λ (xs : List Addr). Contains xs a) (sym next) (Contains-append_left (take i others) (addr ∷ []) a new))
+        ]
+        | inr this ↦ inr (subst (λ (xs : List Addr). Contains xs a) (sym next) (subst (λ (x : Addr). Contains (take i others ++ addr ∷ []) x) this (Contains-push (take i others) addr)))
+      ],
+    )
+
+-- ---- servers are reached
+
+pub fresh_hunt : (port : ℕ) (log : List Exchange) (name : Labels) (list : Servers) (hunt : Hunt) → Known port log (Listed list) → IsAtOrBelow name list.zone → IsFresh list hunt → IsHunt port log name hunt
+fresh_hunt port log name list hunt known zone f =
+    let same = sym f.servers in
+    record {
+      listed = subst (λ (s : Servers). Known port log (Listed s)) same known;
+      zone = subst (λ (s : Servers). IsAtOrBelow name s.zone) same zone;
+      serve = all_of (λ (addr : Addr). Known port log (Serves hunt.servers.zone addr)) hunt.addrs.items
+          (λ addr is. subst (λ (s : Servers). Known port log (Serves s.zone addr)) same (Known.addressed known (f.only addr is)));
+      asked = omega (arith, f.asked);
+      sought = omega (arith, f.sought);
+      countable = subst (λ (s : Servers). length s.missing < 2 ^ 64) same f.countable;
+    }
+
+fresh_base : (port : ℕ) (log since : List Exchange) (question : Question) (list : Servers) (hunt : Hunt) → Known port log (Listed list) → ReachedFor port log question list since
+    → IsAtOrBelow question.owner list.zone → IsFresh list hunt → IsBase port log question since hunt
+fresh_base port log since question list hunt known reached zone f = record {
+  is_hunt = fresh_hunt port log question.owner list hunt known zone f;
+  reached = subst (λ (s : Servers). ReachedFor port log question s since) (sym f.servers) reached;
+  all = λ addr is. f.all addr (subst (λ (s : Servers). Contains s.addrs addr) f.servers is);
+  vain = λ addr is. absurd (none_taken hunt.asked hunt.addrs.items addr f.asked is);
+  sought = λ target is may. absurd (none_taken hunt.sought hunt.servers.missing target f.sought is);
+}
+
+-- Searches differ in nothing but their parts.
+rebuilt : (port : ℕ) (question : Question) (log since : List Exchange) (after : Search) → IsPath port question log after.path → IsBase port log after.path.last since after.base
+    → AreFrames port log since after.base after.frames.items → length after.frames.items ≤ 8 → IsSearch port question log after
+rebuilt port question log since after p b fs deep = record { path = p; since = since; base = b; frames = fs; deep = deep }
+
+reached_search : (port : ℕ) (question : Question) (log since : List Exchange) (path : Path) (list : Servers) (after : Search) → after.path ≡ path → after.frames.items ≡ [] → IsFresh list after.base
+    → IsPath port question log path → Known port log (Listed list) → ReachedFor port log path.last list since → IsAtOrBelow path.last.owner list.zone → IsSearch port question log after
+reached_search port question log since path list after same none f p known reached zone =
+    rebuilt port question log since after (subst (λ (q : Path). IsPath port question log q) (sym same) p)
+    (subst (λ (q : Path). IsBase port log q.last since after.base) (sym same) (fresh_base port log since path.last list after.base known reached zone f))
+    (subst (λ (fs : List Frame). AreFrames port log since after.base fs) (sym none) tt)
+    (omega (arith, ap (λ (fs : List Frame). length fs) none))
+
+pub reaching : (port : ℕ) (question : Question) (log since : List Exchange) (path : Path) (list : Servers) (after : Search) → after.path ≡ path → after.frames.items ≡ [] → IsFresh list after.base
+    → IsPath port question log path → Known port log (Listed list) → ReachedFor port log path.last list since → IsAtOrBelow path.last.owner list.zone → IsSmaller port question log (left_of_path path 1) after
+reaching port question log since path list after same none f p known reached zone =
+    let s = reached_search port question log since path list after same none f p known reached zone in
+    let less : Falls (depths after.base after.frames.items) no_depths =
+    subst (λ (fs : List Frame). Falls (depths after.base fs) no_depths) (sym none) (Falls.here (missing_digit after.base s.base.is_hunt) refl) in
+    record {
+      is_search = s;
+      falls = depths_fall after.path path 0 0 0 4 1 (ap (λ (q : Path). 64 - (q.sent + 0)) same) (ap (λ (q : Path). length q.sets.items) same) less (search_digits after 4 (omega arith) s);
+    }
+
+-- less is left of a search than of a response
+pub below_hearing : {port : ℕ} {question : Question} {log : List Exchange} (path : Path) (after : Search) → after.path ≡ path → IsSearch port question log after → left_of_search after 4 < left_of_hearing path 1
+below_hearing path after same s =
+    hearing_falls after.path path 0 0 0 1 4 1 (depths after.base after.frames.items) no_depths (ap (λ (q : Path). 64 - (q.sent + 0)) same) (ap (λ (q : Path). length q.sets.items) same) (omega arith)
+    (depths_nine after.base after.frames.items s.deep) (search_digits after 4 (omega arith) s)
+
+-- the innermost question is asked of other servers
+referred_frames : (port : ℕ) (log since : List Exchange) (base : Hunt) (fs : List Frame) (last : Question) (list : Servers) (target : Labels) (hunt : Hunt) (g : Frame) (gs : List Frame)
+    → fs ≡ g ∷ gs → target ≡ g.target → AreFrames port log since base fs → Known port log (Listed list) → IsAtOrBelow (question_behind fs last).owner list.zone → IsFresh list hunt
+    → AreFrames port log since base (record { target = target; hunt = hunt } ∷ gs)
+referred_frames port log since base fs last list target hunt g gs are same all known zone f =
+    let inner : AreFrames port log since base (g ∷ gs) = subst (λ (xs : List Frame). AreFrames port log since base xs) are all in
+    let at : IsAtOrBelow target list.zone = subst (λ (n : Labels). IsAtOrBelow n list.zone) (sym same) (subst (λ (xs : List Frame). IsAtOrBelow (question_behind xs last).owner list.zone) are zone) in (
+      record {
+        next = subst (λ (n : Labels). IsNext (hunt_behind gs base) n) (sym same) inner.0.next;
+        sought = subst (λ (n : Labels). Sought since n) (sym same) inner.0.sought;
+        hunt = fresh_hunt port log target list hunt known at f;
+      },
+      inner.1,
+    )
+
+pub referring : (port : ℕ) (question : Question) (log : List Exchange) (search after : Search) (list : Servers) (target : Labels) (hunt : Hunt) (g : Frame) (gs : List Frame) → after.path ≡ search.path → after.base ≡ search.base
+    → search.frames.items ≡ g ∷ gs → target ≡ g.target → after.frames.items ≡ record { target = target; hunt = hunt } ∷ gs → IsFresh list hunt → IsSearch port question log search → Known port log (Listed list)
+    → IsAtOrBelow (question_of search).owner list.zone → IsSmaller port question log (left_of_hearing search.path 1) after
+referring port question log search after list target hunt g gs path base are same frames f s known zone =
+    let all = referred_frames port log s.since search.base search.frames.items search.path.last list target hunt g gs are same s.frames known zone f in
+    let deep : length (g ∷ gs) ≤ 8 = subst (λ (xs : List Frame). length xs ≤ 8) are s.deep in
+    let t = rebuilt port question log s.since after (subst (λ (q : Path). IsPath port question log q) (sym path) s.path)
+    (subst (λ (q : Path). IsBase port log q.last s.since after.base) (sym path) (subst (λ (h : Hunt). IsBase port log search.path.last s.since h) (sym base) s.base))
+    (subst (λ (xs : List Frame). AreFrames port log s.since after.base xs) (sym frames) (subst (λ (h : Hunt). AreFrames port log s.since h (record { target = target; hunt = hunt } ∷ gs)) (sym base) all))
+    (subst (λ (xs : List Frame). length xs ≤ 8) (sym frames) deep) in
+    record { is_search = t; falls = below_hearing search.path after path t }
+
+-- ---- a server without an address is done with
+
+next_less : (hunt : Hunt) (target : Labels) → IsNext hunt target → hunt.sought < length hunt.servers.missing
+next_less hunt target n = next_within hunt.sought hunt.servers.missing target n.rest n.next
+
+-- so less is left
+supplied_less : (before : Hunt) (found : List Addr) (after : Hunt) → before.sought < length before.servers.missing → IsSupplied before found after → missing_left after < missing_left before
+supplied_less before found after within i =
+    let one = i.sought within in
+    let same : length after.servers.missing ≡ length before.servers.missing = ap (λ (s : Servers). length s.missing) i.servers in
+    omega (arith, one, same, within)
+
+supplied_hunt : (port : ℕ) (log : List Exchange) (name target : Labels) (before : Hunt) (found : List Addr) (after : Hunt) → IsHunt port log name before → IsNext before target
+    → AllServe port log before.servers.zone found → IsSupplied before found after → IsHunt port log name after
+supplied_hunt port log name target before found after h n serve i =
+    let same = sym i.servers in
+    let within = next_less before target n in
+    let one = i.sought within in
+    let long : length before.addrs.items ≤ length after.addrs.items = omega (arith, ap (λ (xs : List Addr). length xs) i.first, length-take (length before.addrs.items) after.addrs.items) in
+    let many : length after.servers.missing ≡ length before.servers.missing = ap (λ (s : Servers). length s.missing) i.servers in
+    record {
+      listed = subst (λ (s : Servers). Known port log (Listed s)) same h.listed;
+      zone = subst (λ (s : Servers). IsAtOrBelow name s.zone) same h.zone;
+      serve = all_of (λ (addr : Addr). Known port log (Serves after.servers.zone addr)) after.addrs.items (λ addr is.
+          subst (λ (s : Servers). Known port log (Serves s.zone addr)) same (elim (i.only addr is) [
+            | inl old ↦ of_all (λ (a : Addr). Known port log (Serves before.servers.zone a)) before.addrs.items addr h.serve old
+            | inr new ↦ of_all (λ (a : Addr). Known port log (Serves before.servers.zone a)) found addr serve new
+          ]));
+      asked = omega (arith, h.asked, i.asked, long);
+      sought = omega (arith, one, many, within);
+      countable = omega (arith, many, h.countable);
+    }
+
+supplied_base : (port : ℕ) (log since : List Exchange) (last : Question) (target : Labels) (before : Hunt) (found : List Addr) (after : Hunt) → IsBase port log last since before → IsNext before target
+    → (MaySeek last before.servers target → Sought since target) → AllServe port log before.servers.zone found → IsSupplied before found after → IsBase port log last since after
+supplied_base port log since last target before found after b n tried serve i =
+    let same = sym i.servers in
+    let one = i.sought (next_less before target n) in
+    let asked_taken : take after.asked after.addrs.items ≡ take before.asked before.addrs.items =
+    ap (λ (k : ℕ). take k after.addrs.items) i.asked ∙ take_first before.asked (length before.addrs.items) after.addrs.items before.addrs.items i.first b.is_hunt.asked b.is_hunt.asked in
+    let sought_taken : take after.sought after.servers.missing ≡ take before.sought before.servers.missing ++ target ∷ [] =
+    ap (λ (k : ℕ). take k after.servers.missing) one ∙ ap (λ (s : Servers). take (before.sought + 1) s.missing) i.servers ∙ take_next before.sought before.servers.missing target n.rest n.next in
+    record {
+      is_hunt = supplied_hunt port log last.owner target before found after b.is_hunt n serve i;
+      reached = subst (λ (s : Servers). ReachedFor port log last s since) same b.reached;
+      all = λ addr is. contains_first (length before.addrs.items) after.addrs.items before.addrs.items addr i.first (b.all addr (subst (λ (s : Servers). Contains s.addrs addr) i.servers is));
+      vain = λ addr is. subst (λ (s : Servers). Struck port since s.zone last addr) same (b.vain addr (subst (λ (xs : List Addr). Contains xs addr) asked_taken is));
+      sought = λ name is may.
+          let may_before : MaySeek last before.servers name = subst (λ (s : Servers). MaySeek last s name) i.servers may in
+          elim (Contains-push_cases (take before.sought before.servers.missing) target name (subst (λ (xs : List Labels). Contains xs name) sought_taken is)) [
+            | inl earlier ↦ b.sought name earlier may_before
+            | inr this ↦ subst (λ (m : Labels). Sought since m) this (tried (subst (λ (m : Labels). MaySeek last before.servers m) (sym this) may_before))
+          ];
+    }
+
+-- what a search remembers of its servers
+record IsStack (port : ℕ) (log since : List Exchange) (last : Question) (base : Hunt) (fs : List Frame) : Type 0 where
+  base_known : IsBase port log last since base
+  frames_known : AreFrames port log since base fs
+  deep : length fs ≤ 8
+
+supplied_stack : (port : ℕ) (log since : List Exchange) (last : Question) (target : Labels) (fs gs : List Frame) (base next : Hunt) (found : List Addr) → IsBase port log last since base → AreFrames port log since base fs
+    → length fs ≤ 8 → IsNext (hunt_behind fs base) target → (fs ≡ [] → MaySeek last base.servers target → Sought since target) → AllServe port log (hunt_behind fs base).servers.zone found
+    → AreSupplied fs base found gs next → IsStack port log since last next gs
+supplied_stack port log since last target [] [] base next found b all deep n tried serve i =
+    record { base_known = supplied_base port log since last target base found next b n (tried refl) serve i; frames_known = tt; deep = omega arith }
+supplied_stack port log since last target [] (g ∷ gs) base next found b all deep n tried serve i = absurd i
+supplied_stack port log since last target (f ∷ fs) [] base next found b all deep n tried serve i = absurd i
+supplied_stack port log since last target (f ∷ fs) (g ∷ gs) base next found b all deep n tried serve i =
+    let same = sym i.0 in
+    let frame : IsFrame port log since (hunt_behind fs base) g = record {
+      next = subst (λ (m : Labels). IsNext (hunt_behind fs base) m) same all.0.next;
+      sought = subst (λ (m : Labels). Sought since m) same all.0.sought;
+      hunt = subst (λ (m : Labels). IsHunt port log m g.hunt) same (supplied_hunt port log f.target target f.hunt found g.hunt all.0.hunt n serve i.1);
+    } in
+    subst (λ (h : Hunt). IsStack port log since last h (g ∷ gs)) (sym i.3)
+    (subst (λ (xs : List Frame). IsStack port log since last base (g ∷ xs)) (sym i.2) record { base_known = b; frames_known = (frame, all.1); deep = deep })
+
+supplied_falls : (target : Labels) (fs gs : List Frame) (base next : Hunt) (found : List Addr) → IsNext (hunt_behind fs base) target → AreSupplied fs base found gs next → Falls (depths next gs) (depths base fs)
+supplied_falls target [] [] base next found n i = base_falls base next (supplied_less base found next (next_less base target n) i)
+supplied_falls target [] (g ∷ gs) base next found n i = absurd i
+supplied_falls target (f ∷ fs) [] base next found n i = absurd i
+supplied_falls target (f ∷ fs) (g ∷ gs) base next found n i =
+    subst (λ (h : Hunt). Falls (depths h (g ∷ gs)) (depths base (f ∷ fs))) (sym i.3)
+    (subst (λ (xs : List Frame). Falls (depths base (g ∷ xs)) (depths base (f ∷ fs))) (sym i.2) (frame_falls base f g fs (supplied_less f.hunt found g.hunt (next_less f.hunt target n) i.1)))
+
+closed_falls : (f : Frame) (fs gs : List Frame) (base next : Hunt) (found : List Addr) → length (f ∷ fs) ≤ 8 → IsNext (hunt_behind fs base) f.target → AreSupplied fs base found gs next
+    → Falls (depths next gs) (depths base (f ∷ fs))
+closed_falls f [] [] base next found deep n i = closed_base_falls base next f (supplied_less base found next (next_less base f.target n) i)
+closed_falls f [] (g ∷ gs) base next found deep n i = absurd i
+closed_falls f (h ∷ fs) [] base next found deep n i = absurd i
+closed_falls f (h ∷ fs) (g ∷ gs) base next found deep n i =
+    subst (λ (b : Hunt). Falls (depths b (g ∷ gs)) (depths base (f ∷ h ∷ fs))) (sym i.3)
+    (subst (λ (xs : List Frame). Falls (depths base (g ∷ xs)) (depths base (f ∷ h ∷ fs))) (sym i.2)
+    (closed_frame_falls base f h g fs deep (supplied_less h.hunt found g.hunt (next_less h.hunt f.target n) i.1)))
+
+-- A search with less left at some depth.
+smaller : (port : ℕ) (question : Question) (log since : List Exchange) (search after : Search) → after.path ≡ search.path → IsPath port question log search.path
+    → IsStack port log since search.path.last after.base after.frames.items → Falls (depths after.base after.frames.items) (depths search.base search.frames.items)
+    → IsSmaller port question log (left_of_search search 0) after
+smaller port question log since search after same p k less =
+    let s = rebuilt port question log since after (subst (λ (q : Path). IsPath port question log q) (sym same) p)
+    (subst (λ (q : Path). IsBase port log q.last since after.base) (sym same) k.base_known) k.frames_known k.deep in
+    record {
+      is_search = s;
+      falls = depths_fall after.path search.path 0 0 0 4 0 (ap (λ (q : Path). 64 - (q.sent + 0)) same) (ap (λ (q : Path). length q.sets.items) same) less (search_digits after 4 (omega arith) s);
+    }
+
+-- The next server without an address is done with.
+pub supplying : (port : ℕ) (question : Question) (log : List Exchange) (target : Labels) (search after : Search) (found : List Addr) → after.path ≡ search.path
+    → AreSupplied search.frames.items search.base found after.frames.items after.base → IsTried port question log search target → AllServe port log (hunt_of search).servers.zone found
+    → IsSmaller port question log (left_of_search search 0) after
+supplying port question log target search after found same i t serve =
+    let s = t.is_search in
+    smaller port question log s.since search after same s.path
+    (supplied_stack port log s.since search.path.last target search.frames.items after.frames.items search.base after.base found s.base s.frames s.deep t.next t.tried serve i)
+    (supplied_falls target search.frames.items after.frames.items search.base after.base found t.next i)
+
+closed_stack : (port : ℕ) (log since : List Exchange) (last : Question) (xs gs : List Frame) (base next : Hunt) (found : List Addr) → 0 < length xs → IsBase port log last since base → AreFrames port log since base xs → length xs ≤ 8
+    → AllServe port log (hunt_behind (drop 1 xs) base).servers.zone found → AreSupplied (drop 1 xs) base found gs next
+    → IsStack port log since last next gs × Falls (depths next gs) (depths base xs)
+closed_stack port log since last [] gs base next found some b all deep serve i = absurd (omega (arith, some))
+closed_stack port log since last (f ∷ fs) gs base next found some b all deep serve i =
+    (supplied_stack port log since last f.target fs gs base next found b all.1 (omega (arith, deep)) all.0.next (λ none may. all.0.sought) serve i, closed_falls f fs gs base next found deep all.0.next i)
+
+-- The innermost question is closed.
+pub closing : (port : ℕ) (question : Question) (log : List Exchange) (search after : Search) (found : List Addr) → 0 < length search.frames.items → after.path ≡ search.path
+    → AreSupplied (drop 1 search.frames.items) search.base found after.frames.items after.base → IsSearch port question log search
+    → AllServe port log (hunt_behind (drop 1 search.frames.items) search.base).servers.zone found → IsSmaller port question log (left_of_search search 0) after
+closing port question log search after found some same i s serve =
+    let k = closed_stack port log s.since search.path.last search.frames.items after.frames.items search.base after.base found some s.base s.frames s.deep serve i in
+    smaller port question log s.since search after same s.path k.0 k.1
+
+-- ---- how many are left, whatever is known
+
+pub hunts_fall : (fs gs : List Frame) (base next : Hunt) (found : List Addr) → (hunt_behind fs base).sought < length (hunt_behind fs base).servers.missing → AreSupplied fs base found gs next
+    → missing_left next + frames_left gs < missing_left base + frames_left fs
+hunts_fall [] [] base next found within i = let less = supplied_less base found next within i in omega (arith, less)
+hunts_fall [] (g ∷ gs) base next found within i = absurd i
+hunts_fall (f ∷ fs) [] base next found within i = absurd i
+hunts_fall (f ∷ fs) (g ∷ gs) base next found within i =
+    let less = supplied_less f.hunt found g.hunt within i.1 in
+    let same : frames_left gs ≡ frames_left fs = ap frames_left i.2 in
+    let base_same : missing_left next ≡ missing_left base = ap missing_left i.3 in
+    omega (arith, less, same, base_same)
+
+not_more : (before : Hunt) (found : List Addr) (after : Hunt) → IsSupplied before found after → missing_left after ≤ missing_left before
+not_more before found after i =
+    let same : length after.servers.missing ≡ length before.servers.missing = ap (λ (s : Servers). length s.missing) i.servers in
+    omega (arith, same, i.forward)
+
+hunts_stay : (fs gs : List Frame) (base next : Hunt) (found : List Addr) → AreSupplied fs base found gs next
+    → missing_left next + frames_left gs ≤ missing_left base + frames_left fs
+hunts_stay [] [] base next found i = let less = not_more base found next i in omega (arith, less)
+hunts_stay [] (g ∷ gs) base next found i = absurd i
+hunts_stay (f ∷ fs) [] base next found i = absurd i
+hunts_stay (f ∷ fs) (g ∷ gs) base next found i =
+    let less = not_more f.hunt found g.hunt i.1 in
+    let same : frames_left gs ≡ frames_left fs = ap frames_left i.2 in
+    let base_same : missing_left next ≡ missing_left base = ap missing_left i.3 in
+    omega (arith, less, same, base_same)
+
+pub hunts_close : (xs gs : List Frame) (base next : Hunt) (found : List Addr) → 0 < length xs → AreSupplied (drop 1 xs) base found gs next
+    → missing_left next + frames_left gs < missing_left base + frames_left xs
+hunts_close [] gs base next found some i = absurd (omega (arith, some))
+hunts_close (f ∷ fs) gs base next found some i = let less = hunts_stay fs gs base next found i in omega (arith, less)
+
+-- ---- a question is opened
+
+pub opening : (port : ℕ) (question : Question) (log : List Exchange) (search after : Search) (list : Servers) (target : Labels) (hunt : Hunt) → after.path ≡ search.path → after.base ≡ search.base
+    → after.frames.items ≡ record { target = target; hunt = hunt } ∷ search.frames.items → IsFresh list hunt → (s : IsSearch port question log search) → length search.frames.items < 8
+    → IsNext (hunt_of search) target → Sought s.since target → Known port log (Listed list) → IsAtOrBelow target list.zone → IsSmaller port question log (left_of_search search 0) after
+opening port question log search after list target hunt path base frames f s shallow n sought known zone =
+    let h = fresh_hunt port log target list hunt known zone f in
+    let stack : IsStack port log s.since search.path.last search.base (record { target = target; hunt = hunt } ∷ search.frames.items) = record {
+      base_known = s.base;
+      frames_known = (record { next = n; sought = sought; hunt = h }, s.frames);
+      deep = omega (arith, shallow);
+    } in
+    let less = opened_falls search.base (record { target = target; hunt = hunt }) search.frames.items shallow (missing_digit hunt h) in
+    smaller port question log s.since search after path s.path
+    (subst (λ (xs : List Frame). IsStack port log s.since search.path.last after.base xs) (sym frames) (subst (λ (b : Hunt). IsStack port log s.since search.path.last b (record { target = target; hunt = hunt } ∷ search.frames.items)) (sym base) stack))
+    (subst (λ (xs : List Frame). Falls (depths after.base xs) (depths search.base search.frames.items)) (sym frames)
+    (subst (λ (b : Hunt). Falls (depths b (record { target = target; hunt = hunt } ∷ search.frames.items)) (depths search.base search.frames.items)) (sym base) less))

@@ -1,0 +1,16 @@
+use Rattle.std.proofs.Common.{suc, ◌≡◌, ◌⊎◌, ◌+◌, ◌-◌, ◌<◌, ◌≤◌, ℕ, List, [], ◌∷◌, ◌++◌, length, take, drop, inl, inr, false, true, IfOk, sym, ap, ◌∙◌, subst, refl, arith, rules}
+use Rattle.iterate.specs.declared.search.Frame.{Frame}
+use Rattle.iterate.specs.Hunting.{AreSupplied}
+use Rattle.iterate.proofs.Supplying.{closing, hunts_close}
+use Rattle.iterate.proofs.search.close.Goals as goal
+
+pub returns-clause-fewer : goal.returns-clause-fewer
+returns-clause-fewer c =
+    let after = c.in_ok-after.after in
+    let i = subst (λ (fs : List Frame). AreSupplied fs c.args.search.base c.args.found.now c.in_ok-after.after.frames.items c.in_ok-after.after.base) c.remove.ensures.items c.in_ok-after.ensures.supplied in
+    hunts_close c.args.search.frames.items c.in_ok-after.after.frames.items c.args.search.base c.in_ok-after.after.base c.args.found.now c.requires i
+
+pub returns-clause-further : goal.returns-clause-further
+returns-clause-further c = λ port question log s serve.
+    let i = subst (λ (fs : List Frame). AreSupplied fs c.args.search.base c.args.found.now c.in_ok-after.after.frames.items c.in_ok-after.after.base) c.remove.ensures.items c.in_ok-after.ensures.supplied in
+    closing port question log c.args.search c.in_ok-after.after c.args.found.now c.requires c.in_ok-after.ensures.path i s serve

@@ -1,0 +1,144 @@
+-- What becomes of the servers that are asked: they are reached, asked in turn, and given the addresses that were found.
+use Rattle.std.specs.Prelude.{Bool, true, false, ◌≡◌, ℕ, ◌+◌, ◌^◌, ◌<◌, ◌≤◌, ◌⊎◌, List, [], ◌∷◌, length, take, drop}
+use Rattle.std.specs.List.{AllByRecursion, Contains, flat_map}
+use Rattle.dns_name.specs.Labels.{Labels}
+use Rattle.dns_text.specs.declared.addr.Addr.{Addr}
+use Rattle.dns_text.specs.declared.addr.Ip.TheVariants.{V4}
+use Rattle.dns_text.specs.declared.record.Data.{Data}
+use Rattle.dns_text.specs.declared.record.Data.TheVariants.{A}
+use Rattle.dns_text.specs.declared.record.Question.{Question}
+use Rattle.undo_book.specs.declared.servers.Servers.{Servers}
+use Rattle.iterate.specs.declared.search.Frame.{Frame}
+use Rattle.iterate.specs.declared.search.Hunt.{Hunt}
+use Rattle.iterate.specs.declared.search.Next.{Next}
+use Rattle.iterate.specs.declared.search.Next.TheVariants.{Ask, Seek, Pass, Close}
+use Rattle.iterate.specs.declared.search.Search.{Search}
+use Rattle.iterate.specs.Exchanges.{Exchange}
+use Rattle.iterate.specs.Known.{Known, Serves}
+use Rattle.iterate.specs.Measure.{missing_left, left_of_search}
+use Rattle.iterate.specs.Resolved.{MaySeek, Sought}
+use Rattle.iterate.specs.Searching.{IsSearch, IsNext, hunt_of}
+use Rattle.dns_name.specs.Labels.{IsAtOrBelow}
+use Rattle.local_zone.specs.declared.local.Local.TheVariants.{Data as LocalData}
+use Rattle.ranked.specs.declared.find.Body.{Body}
+use Rattle.ranked.specs.declared.find.Body.TheVariants.{Set}
+use Rattle.undo_book.specs.declared.event.Ask.TheVariants.{Servers as ServersFor}
+use Rattle.undo_book.specs.declared.event.Event.TheVariants.{Look}
+use Rattle.undo_book.specs.declared.event.Reply.TheVariants.{Seen}
+use Rattle.undo_book.specs.declared.event.Seen.{Seen as SeenValue}
+use Rattle.undo_book.specs.declared.event.Seen.TheVariants.{Held, Local as LocalSeen, Servers as SeenServers}
+use Rattle.iterate.specs.declared.want.Input.{Input}
+use Rattle.iterate.specs.declared.want.Input.TheVariants.{Reply}
+use Rattle.iterate.specs.declared.want.Want.TheVariants.{Book}
+use Rattle.iterate.specs.Phase.{Suits}
+use Rattle.iterate.specs.Shown.{IsMisanswered}
+use Rattle.iterate.specs.Looked.{IsSetSeen}
+use Rattle.iterate.specs.Told.{IsAddressIn}
+use Rattle.ranked.specs.Body.{data_of}
+use Rattle.iterate.specs.declared.answer.Told.{Told}
+use Rattle.iterate.specs.declared.answer.Told.TheVariants.{Find as FindTold, Local as LocalTold, Passing as PassingTold}
+
+-- the address that a datum has, with this port, if it is one of IPv4
+abbrev pub v4_of : ℕ → Data → List Addr
+v4_of port (A octets) = (record { ip = V4 octets; port = port }) ∷ []
+v4_of port datum = []
+
+-- the IPv4 addresses among data
+abbrev pub v4_in : ℕ → List Data → List Addr
+v4_in port data_given = flat_map (v4_of port) data_given
+
+-- the IPv4 addresses of a set
+abbrev pub v4_told : ℕ → Told → List Addr
+v4_told port (FindTold ttl find) = v4_in port (data_of find.body)
+v4_told port (LocalTold records) = flat_map (λ r. v4_of port r.body) records
+v4_told port (PassingTold set) = v4_in port set.data
+
+-- These addresses serve the zone.
+abbrev pub AllServe : ℕ → List Exchange → Labels → List Addr → Type 0
+AllServe port log zone addrs = AllByRecursion (λ addr. Known port log (Serves zone addr)) addrs
+
+-- Of these servers none was asked.
+pub record IsFresh (list : Servers) (hunt : Hunt) : Type 0 where
+  pub servers : hunt.servers ≡ list
+  pub asked : hunt.asked ≡ 0
+  pub sought : hunt.sought ≡ 0
+  pub all : (addr : Addr) → Contains list.addrs addr → Contains hunt.addrs.items addr
+  pub only : (addr : Addr) → Contains hunt.addrs.items addr → Contains list.addrs addr
+  pub countable : length list.missing < 2 ^ 64
+
+-- The next server without an address is done with, and these addresses were found.
+pub record IsSupplied (before : Hunt) (found : List Addr) (after : Hunt) : Type 0 where
+  pub servers : after.servers ≡ before.servers
+  pub asked : after.asked ≡ before.asked
+  pub sought : before.sought < length before.servers.missing → after.sought ≡ before.sought + 1
+  pub forward : before.sought ≤ after.sought
+  pub first : take (length before.addrs.items) after.addrs.items ≡ before.addrs.items
+  pub only : (addr : Addr) → Contains after.addrs.items addr → Contains before.addrs.items addr ⊎ Contains found addr
+
+-- So it is with the innermost question.
+abbrev pub AreSupplied : List Frame → Hunt → List Addr → List Frame → Hunt → Type 0
+AreSupplied [] base found [] next = IsSupplied base found next
+AreSupplied (frame ∷ frames) base found (f ∷ fs) next = (f.target ≡ frame.target) × IsSupplied frame.hunt found f.hunt × (fs ≡ frames) × (next ≡ base)
+AreSupplied frames base found fs next = ⊥
+
+-- The next server that the innermost question lacks was looked for, or may not be.
+pub record IsTried (port : ℕ) (question : Question) (log : List Exchange) (search : Search) (target : Labels) : Type 0 where
+  pub is_search : IsSearch port question log search
+  pub next : IsNext (hunt_of search) target
+  pub tried : search.frames.items ≡ [] → MaySeek search.path.last search.base.servers target → Sought is_search.since target
+
+-- A search of which less than this is left.
+pub record IsSmaller (port : ℕ) (question : Question) (log : List Exchange) (left : ℕ) (search : Search) : Type 0 where
+  pub is_search : IsSearch port question log search
+  pub falls : left_of_search search 4 < left
+
+abbrev pub frames_left : List Frame → ℕ
+frames_left [] = 0
+frames_left (frame ∷ frames) = missing_left frame.hunt + 1 + frames_left frames
+
+-- how many servers without an address are left, and questions open
+abbrev pub hunts_left : Search → ℕ
+hunts_left search = missing_left search.base + frames_left search.frames.items
+
+-- An item stands at a place.
+abbrev pub IsAt : {X : Type 0} → List X → ℕ → X → Type 0
+IsAt {X} xs place x = (rest : List X) × (drop place xs ≡ x ∷ rest)
+
+-- What comes next for the innermost question.
+abbrev pub IsNextStep : Search → Next → Type 0
+IsNextStep search (Ask server) = (rest : List Addr) × (drop (hunt_of search).asked (hunt_of search).addrs.items ≡ server ∷ rest)
+IsNextStep search (Seek target) = IsNext (hunt_of search) target × (length search.frames.items < 8)
+IsNextStep search Pass = (target : Labels) × IsNext (hunt_of search) target × (search.frames.items ≡ [] → ¬ (MaySeek search.path.last search.base.servers target))
+IsNextStep search Close = (length (hunt_of search).addrs.items ≤ (hunt_of search).asked) × (length (hunt_of search).servers.missing ≤ (hunt_of search).sought)
+
+-- ---- what a book said of servers
+
+-- What came is no list of servers.
+abbrev pub IsUnlisted : Input → Type 0
+IsUnlisted (Reply (Seen (SeenServers list))) = ⊥
+IsUnlisted input = Unit {0}
+
+-- What came of a look names no servers of a zone at or above the name.
+abbrev pub IsUnnamed : Labels → Input → Type 0
+IsUnnamed name input = (moment : ℕ) → Suits (Book (Look moment (ServersFor name))) input → IsMisanswered (Look moment (ServersFor name)) input
+
+pub record Names (name : Labels) (input : Input) (list : Servers) : Type 0 where
+  pub replied : input ≡ Reply (Seen (SeenServers list))
+  pub zone : IsAtOrBelow name list.zone
+
+-- whether a find is a set
+abbrev pub is_set_of : Body → Bool
+is_set_of (Set found) = true
+is_set_of body = false
+
+-- whether a look saw a set
+abbrev pub is_set_seen : SeenValue → Bool
+is_set_seen (Held shown) = is_set_of shown.body.body
+is_set_seen (LocalSeen (LocalData records)) = true
+is_set_seen seen = false
+
+-- An address is in the set that a look saw.
+pub record IsAddressSeen (port : ℕ) (seen : SeenValue) (addr : Addr) : Type 0 where
+  pub told : Told
+  pub is_set : IsSetSeen seen told
+  pub among : IsAddressIn port told addr

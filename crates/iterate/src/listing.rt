@@ -1,0 +1,74 @@
+//! The servers that a book names.
+
+ghost use Rattle.std.specs.Prelude.{◌≡◌, ℕ, List, IfOk, MatchOption};
+ghost use Rattle.dns_text.specs.declared.record.Question.{Question};
+ghost use Rattle.undo_book.specs.declared.event.Ask.TheVariants.{Servers as ServersFor};
+ghost use Rattle.undo_book.specs.declared.event.Event.TheVariants.{Look};
+ghost use Rattle.undo_book.specs.declared.event.Reply.TheVariants.{Seen as SeenReply};
+ghost use Rattle.undo_book.specs.declared.event.Seen.TheVariants.{Servers as SeenServers};
+ghost use Rattle.iterate.specs.declared.want.Input.TheVariants.{Reply as Replied};
+ghost use Rattle.iterate.specs.declared.want.Want.TheVariants.{Book};
+ghost use Rattle.iterate.specs.Exchanges.{Exchange, exchange, Adds};
+ghost use Rattle.iterate.specs.Hunting.{IsUnlisted, IsUnnamed, Names};
+ghost use Rattle.iterate.specs.Measure.{left_of_path};
+ghost use Rattle.iterate.specs.Phase.{Goes, Suits};
+ghost use Rattle.iterate.specs.Searching.{IsPath};
+ghost use Rattle.iterate.specs.Wanted.{id_drawn};
+
+use crate::finishing::failed;
+use crate::path::Path;
+use crate::phase::Turn;
+use crate::search::{go_on, reach};
+use crate::want::Input;
+use dns_name::{Name, NoMemory};
+use dns_text::Shared;
+use rand_core::Rng;
+use std::alloc::Global;
+use undo_book::{Reply, Seen, Servers};
+
+fn servers_in(input: &Input) -> Option<&Shared<Servers>>
+    ensures { MatchOption result (IsUnlisted input.now) (λ servers. input.now ≡ Replied (SeenReply (SeenServers servers.now))) }
+{
+    match input {
+        Input::Reply(Reply::Seen(Seen::Servers(servers))) => Some(servers),
+        _ => None,
+    }
+}
+
+/// The servers that a look named for a name, where their zone is at or above it.
+pub(crate) fn servers_for<'a>(name: &Name, input: &'a Input) -> Option<&'a Shared<Servers>>
+    ensures { MatchOption result (IsUnnamed name.now input.now) (λ servers. Names name.now input.now servers.now) }
+{
+    match servers_in(input) {
+        Some(servers) => {
+            if name.at_or_below(&servers.get().zone) {
+                Some(servers)
+            } else {
+                None
+            }
+        }
+        None => None,
+    }
+}
+
+/// Goes on when the look for the servers of the last name was answered.
+pub(crate) fn listed<R: Rng>(
+    alloc: Global,
+    ids: &mut R,
+    path: Path,
+    moment: u64,
+    input: &Input,
+) -> Result<Turn, NoMemory>
+    ensures { (port m : ℕ) (question : Question) (before log : List Exchange) → IsPath port question before path
+        → Adds before (exchange (Book (Look m (ServersFor path.last.owner))) input.now) log → Suits (Book (Look m (ServersFor path.last.owner))) input.now
+        → IfOk result (λ t. Goes port question log moment (id_drawn (R.stream ids.old)) (left_of_path path 1) t.phase t.want) }
+{
+    match servers_for(&path.last.owner, input) {
+        Some(servers) => {
+            let list = servers.share()?;
+            let search = reach(alloc, path, list)?;
+            go_on(alloc, ids, moment, search)
+        }
+        None => Ok(failed(alloc)),
+    }
+}

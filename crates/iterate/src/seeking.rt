@@ -1,0 +1,204 @@
+//! Servers without an address are looked for.
+
+ghost use Rattle.std.specs.Prelude.{◌≡◌, ◌<◌, ℕ, List, IfOk};
+ghost use Rattle.std.specs.List.{AllByRecursion};
+ghost use Rattle.dns_text.specs.declared.record.Question.{Question};
+ghost use Rattle.dns_query.specs.Query.{address_question, alias_question};
+ghost use Rattle.undo_book.specs.declared.event.Ask.TheVariants.{Answer as Asked};
+ghost use Rattle.undo_book.specs.declared.event.Event.TheVariants.{Look};
+ghost use Rattle.undo_book.specs.declared.event.Reply.TheVariants.{Seen as SeenReply};
+ghost use Rattle.iterate.specs.declared.want.Input.TheVariants.{Reply as Replied};
+ghost use Rattle.iterate.specs.declared.want.Want.TheVariants.{Book};
+ghost use Rattle.iterate.specs.Exchanges.{Exchange, exchange, Adds};
+ghost use Rattle.iterate.specs.Hunting.{IsAddressSeen, is_set_seen};
+ghost use Rattle.iterate.specs.Looked.{seen_of};
+ghost use Rattle.iterate.specs.Measure.{left_of_search, looks_left};
+ghost use Rattle.iterate.specs.Phase.{Goes, Suits, IsSeeking, ask_at};
+ghost use Rattle.iterate.specs.Shown.{IsReplyTo};
+ghost use Rattle.iterate.specs.Wanted.{id_drawn};
+
+use crate::addresses::addresses;
+use crate::finishing::failed;
+use crate::listing::servers_for;
+use crate::phase::{Phase, Stage, Turn};
+use crate::search::{Search, go_on, open, supply};
+use crate::shown::{Looked, replied, set_in};
+use crate::want::{Input, Want};
+use dns_name::{Name, NoMemory};
+use dns_text::types::{A, CNAME};
+use dns_text::{Addr, Question};
+use local_zone::Local;
+use rand_core::Rng;
+use ranked::Body;
+use std::alloc::Global;
+use undo_book::{Ask, Event, Seen};
+
+/// What is asked of a book about a server without an address.
+fn ask_at(stage: Stage, target: &Name) -> Result<Ask, NoMemory>
+    ensures { IfOk result (λ ask. ask ≡ ask_at stage target.now) }
+{
+    let owner = target.clone()?;
+    match stage {
+        Stage::Address => Ok(Ask::Answer(Question { owner, kind: A })),
+        Stage::Alias => Ok(Ask::Answer(Question { owner, kind: CNAME })),
+        Stage::Servers => Ok(Ask::Servers(owner)),
+    }
+}
+
+/// Looks for a server without an address, the next one of the innermost question.
+pub(crate) fn seek(
+    moment: u64,
+    search: Search,
+    target: Name,
+    stage: Stage,
+) -> Result<Turn, NoMemory>
+    ensures { (port id left : ℕ) (question : Question) (log : List Exchange) → IsSeeking port question log search target stage
+        → left_of_search search (looks_left stage) < left → IfOk result (λ t. Goes port question log moment id left t.phase t.want) }
+{
+    let ask = ask_at(stage, &target)?;
+    Ok(Turn {
+        phase: Phase::Seeking {
+            search,
+            target,
+            stage,
+        },
+        want: Want::Book(Event::Look { moment, ask }),
+    })
+}
+
+/// The IPv4 addresses of what a look was answered.
+fn addresses_in(alloc: Global, port: u16, what: Looked<'_>) -> Result<Vec<Addr>, NoMemory>
+    ensures { IfOk result (λ v. AllByRecursion (IsAddressSeen port (seen_of what.entry)) v.items) }
+{
+    match set_in(alloc, what)? {
+        Some(told) => addresses(alloc, port, &told),
+        None => Ok(Vec::new(alloc)),
+    }
+}
+
+/// Goes on from what the look for an address was answered: behind an answer of any kind the server is done with.
+fn address_seen<R: Rng>(
+    alloc: Global,
+    port: u16,
+    ids: &mut R,
+    moment: u64,
+    search: Search,
+    target: Name,
+    what: Looked<'_>,
+) -> Result<Turn, NoMemory>
+    ensures { (m : ℕ) (question : Question) (before log : List Exchange) → IsSeeking port question before search target Stage.Address
+        → Adds before (exchange (Book (Look m (Asked (address_question target)))) (Replied (SeenReply (seen_of what.entry)))) log
+        → IsReplyTo (Asked (address_question target)) (SeenReply (seen_of what.entry))
+        → IfOk result (λ t. Goes port question log moment (id_drawn (R.stream ids.old)) (left_of_search search 3) t.phase t.want) }
+{
+    match what {
+        Looked::Unknown => seek(moment, search, target, Stage::Alias),
+        _ => {
+            let found = addresses_in(alloc, port, what)?;
+            let after = supply(search, &found)?;
+            go_on(alloc, ids, moment, after)
+        }
+    }
+}
+
+/// Goes on from the look for an address.
+fn address_came<R: Rng>(
+    alloc: Global,
+    port: u16,
+    ids: &mut R,
+    moment: u64,
+    search: Search,
+    target: Name,
+    input: &Input,
+) -> Result<Turn, NoMemory>
+    ensures { (m : ℕ) (question : Question) (before log : List Exchange) → IsSeeking port question before search target Stage.Address
+        → Adds before (exchange (Book (Look m (ask_at Stage.Address target))) input.now) log → Suits (Book (Look m (ask_at Stage.Address target))) input.now
+        → IfOk result (λ t. Goes port question log moment (id_drawn (R.stream ids.old)) (left_of_search search 3) t.phase t.want) }
+{
+    match replied(input, &target, A) {
+        Some(what) => address_seen(alloc, port, ids, moment, search, target, what),
+        None => Ok(failed(alloc)),
+    }
+}
+
+/// Whether a look was answered by a set.
+fn is_set(what: Looked<'_>) -> bool
+    ensures { result ≡ is_set_seen (seen_of what.entry) }
+{
+    match what {
+        Looked::Unknown => false,
+        Looked::Held(shown) => matches!(shown.body.find().body, Body::Set(_)),
+        Looked::Local(answer) => matches!(answer, Local::Data(_)),
+    }
+}
+
+/// Goes on from the look for an alias: a server whose name is one is not used.
+fn alias_came<R: Rng>(
+    alloc: Global,
+    ids: &mut R,
+    moment: u64,
+    search: Search,
+    target: Name,
+    input: &Input,
+) -> Result<Turn, NoMemory>
+    ensures { (port m : ℕ) (question : Question) (before log : List Exchange) → IsSeeking port question before search target Stage.Alias
+        → Adds before (exchange (Book (Look m (ask_at Stage.Alias target))) input.now) log → Suits (Book (Look m (ask_at Stage.Alias target))) input.now
+        → IfOk result (λ t. Goes port question log moment (id_drawn (R.stream ids.old)) (left_of_search search 2) t.phase t.want) }
+{
+    match replied(input, &target, CNAME) {
+        Some(what) => {
+            if is_set(what) {
+                let after = supply(search, &[])?;
+                go_on(alloc, ids, moment, after)
+            } else {
+                seek(moment, search, target, Stage::Servers)
+            }
+        }
+        None => Ok(failed(alloc)),
+    }
+}
+
+/// Goes on from the look for the servers to ask about a server: a question for its address is opened.
+fn servers_came<R: Rng>(
+    alloc: Global,
+    ids: &mut R,
+    moment: u64,
+    search: Search,
+    target: Name,
+    input: &Input,
+) -> Result<Turn, NoMemory>
+    ensures { (port m : ℕ) (question : Question) (before log : List Exchange) → IsSeeking port question before search target Stage.Servers
+        → Adds before (exchange (Book (Look m (ask_at Stage.Servers target))) input.now) log → Suits (Book (Look m (ask_at Stage.Servers target))) input.now
+        → IfOk result (λ t. Goes port question log moment (id_drawn (R.stream ids.old)) (left_of_search search 1) t.phase t.want) }
+{
+    match servers_for(&target, input) {
+        Some(servers) => {
+            let list = servers.share()?;
+            let after = open(alloc, search, target, list)?;
+            go_on(alloc, ids, moment, after)
+        }
+        None => Ok(failed(alloc)),
+    }
+}
+
+/// Goes on when a look for a server without an address was answered.
+pub(crate) fn sought<R: Rng>(
+    alloc: Global,
+    port: u16,
+    ids: &mut R,
+    moment: u64,
+    search: Search,
+    target: Name,
+    stage: Stage,
+    input: &Input,
+) -> Result<Turn, NoMemory>
+    ensures { (m : ℕ) (question : Question) (before log : List Exchange) → IsSeeking port question before search target stage
+        → Adds before (exchange (Book (Look m (ask_at stage target))) input.now) log → Suits (Book (Look m (ask_at stage target))) input.now
+        → IfOk result (λ t. Goes port question log moment (id_drawn (R.stream ids.old)) (left_of_search search (looks_left stage)) t.phase t.want) }
+{
+    match stage {
+        Stage::Address => address_came(alloc, port, ids, moment, search, target, input),
+        Stage::Alias => alias_came(alloc, ids, moment, search, target, input),
+        Stage::Servers => servers_came(alloc, ids, moment, search, target, input),
+    }
+}
