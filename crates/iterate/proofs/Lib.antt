@@ -2,6 +2,7 @@ pub mod Growing
 pub mod Falling
 pub mod FitLaws
 pub mod PathTurns
+pub mod FollowTurns
 pub mod DueLaws
 pub mod Coming
 pub mod Hearing

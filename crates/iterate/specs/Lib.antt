@@ -3,6 +3,7 @@ pub mod Told
 pub mod Known
 pub mod Shown
 pub mod Looked
+pub mod Following
 pub mod Resolved
 pub mod Wanted
 pub mod Searching

@@ -16,6 +16,8 @@ mod finishing;
 mod path;
 // The first look, at the question itself.
 mod first;
+// Aliases inside a response.
+mod following;
 // Servers that are asked in turn, and the questions for their addresses.
 mod search;
 // The innermost question of a search.
