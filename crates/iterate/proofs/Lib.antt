@@ -4,6 +4,9 @@ pub mod FitLaws
 pub mod PathTurns
 pub mod FollowTurns
 pub mod DueLaws
+pub mod Coming
+pub mod Hearing
+pub mod Stepping
 pub mod Depths
 pub mod Asking
 pub mod Supplying

@@ -10,4 +10,5 @@ pub mod Searching
 pub mod Phase
 pub mod Measure
 pub mod Task
+pub mod Judged
 pub mod Hunting

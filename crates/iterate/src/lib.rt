@@ -30,7 +30,13 @@ mod addresses;
 mod listing;
 // Servers without an address are looked for.
 mod seeking;
-// Where a task stands.
+// What is done when a response was heard.
+mod concluding;
+// What a response taught is handed to the book.
+mod admitting;
+// What came of a query.
+mod came;
+// Where a task stands, and how it goes on.
 mod phase;
 // The task.
 mod task;
@@ -43,4 +49,5 @@ pub use laws::{due_law, resolved_law};
 pub use path::Path;
 pub use phase::{Phase, Stage};
 pub use search::{Frame, Hunt, Search};
+pub use task::{State, Task};
 pub use want::{Input, Step, Want};

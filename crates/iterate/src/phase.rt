@@ -1,11 +1,25 @@
-//! Where a task stands.
+//! Where a task stands, and how it goes on.
 
-use crate::path::Path;
+ghost use Rattle.std.specs.Prelude.{◌≡◌, [], List, IfOk, IsErr};
+ghost use Rattle.iterate.specs.declared.want.Want.{Want};
+ghost use Rattle.iterate.specs.Exchanges.{Exchange, exchange, Adds};
+ghost use Rattle.iterate.specs.Measure.{left_in};
+ghost use Rattle.iterate.specs.Phase.{Fits, Goes, Suits};
+ghost use Rattle.iterate.specs.Wanted.{id_drawn};
+
+use crate::admitting::admitted;
+use crate::came::came;
+use crate::first::{begin, looked_first};
+use crate::listing::listed;
+use crate::path::{Path, aliased, looked_on};
 use crate::search::Search;
-use crate::want::Want;
-use dns_name::Name;
+use crate::seeking::sought;
+use crate::want::{Input, Want};
+use dns_name::{Name, NoMemory};
 use dns_query::{Heard, Over};
-use dns_text::Addr;
+use dns_text::{Addr, Question};
+use rand_core::Rng;
+use std::alloc::{AllocError, Global};
 
 /// What is looked for of a server without an address.
 #[derive(Clone, Copy, Debug, PartialEq, Eq)]
@@ -66,4 +80,46 @@ pub enum Phase {
 pub(crate) struct Turn {
     pub(crate) phase: Phase,
     pub(crate) want: Want,
+}
+
+/// Goes on from where a task stands.
+pub(crate) fn advance<R: Rng>(
+    alloc: Global,
+    port: u16,
+    question: &Question,
+    phase: Phase,
+    moment: u64,
+    ids: &mut R,
+    input: &Input,
+) -> Result<Turn, NoMemory>
+    ensures goes { (before log : List Exchange) (want : Want) → Fits port question.now before want phase → Suits want input.now
+        → Adds before (exchange want input.now) log → IfOk result (λ t. Goes port question.now log moment (id_drawn (R.stream ids.old)) (left_in phase) t.phase t.want) }
+    ensures fresh { phase ≡ Phase.Fresh → IfOk result (λ t. Goes port question.now [] moment (id_drawn (R.stream ids.old)) (left_in phase) t.phase t.want) }
+    ensures broken { phase ≡ Phase.Broken → IsErr result }
+{
+    match phase {
+        Phase::Fresh => begin(question, moment),
+        Phase::First => looked_first(alloc, question, moment, input),
+        Phase::Aliasing { path } => aliased(alloc, path, moment, input),
+        Phase::Looking { path } => looked_on(alloc, path, moment, input),
+        Phase::Listing { path } => listed(alloc, ids, path, moment, input),
+        Phase::Seeking {
+            search,
+            target,
+            stage,
+        } => sought(alloc, port, ids, moment, search, target, stage, input),
+        Phase::Sent {
+            search,
+            server,
+            id,
+            over,
+        } => came(alloc, port, moment, ids, search, server, id, over, input),
+        Phase::Admitting {
+            search,
+            heard,
+            next,
+        } => admitted(alloc, port, moment, ids, search, heard, next, input),
+        Phase::Ended => Err(AllocError),
+        Phase::Broken => Err(AllocError),
+    }
 }

@@ -1,0 +1,269 @@
+-- What came of a query.
+use Rattle.std.proofs.Common.{◌≡◌, ℕ, ◌+◌, ◌-◌, ◌^◌, ◌<◌, ◌≤◌, ◌⊎◌, inl, inr, List, [], ◌∷◌, ◌++◌, length, take, drop, get_or, slice_index_or, sym, ap, ◌∙◌, subst, refl, append_assoc, arith}
+use Rattle.std.specs.List.{AllByRecursion, Contains, remove, insert}
+use Rattle.std.proofs.lemmas.List.{length-drop, take_more, get_or-drop}
+use Rattle.std.proofs.lemmas.List.Elements.{Contains-push_cases, All-from_recursion, All-drop, All-same, All-head}
+use Rattle.dns_name.specs.Labels.{Labels}
+use Rattle.dns_text.specs.declared.addr.Addr.{Addr}
+use Rattle.dns_text.specs.declared.record.Question.{Question}
+use Rattle.dns_query.specs.declared.over.Over.{Over}
+use Rattle.dns_query.specs.declared.verdict.Heard.{Heard}
+use Rattle.dns_query.specs.declared.verdict.Verdict.{Verdict}
+use Rattle.dns_query.specs.declared.verdict.Verdict.TheVariants.{Struck as StruckVerdict, Heard as HeardVerdict}
+use Rattle.iterate.specs.declared.path.Path.{Path}
+use Rattle.iterate.specs.declared.phase.Phase.{Phase}
+use Rattle.iterate.specs.declared.phase.Phase.TheVariants.{Ended}
+use Rattle.iterate.specs.declared.search.Frame.{Frame}
+use Rattle.iterate.specs.declared.search.Hunt.{Hunt}
+use Rattle.iterate.specs.declared.search.Search.{Search}
+use Rattle.iterate.specs.declared.want.Input.{Input}
+use Rattle.iterate.specs.declared.want.Input.TheVariants.{Begin, Reply, Refused, Came, Failed}
+use Rattle.iterate.specs.declared.want.Want.{Want}
+use Rattle.iterate.specs.declared.want.Want.TheVariants.{Send}
+use Rattle.iterate.specs.Exchanges.{Exchange, exchange, Adds}
+use Rattle.iterate.specs.Judged.{IsJudged}
+use Rattle.iterate.specs.Known.{Known, Serves, Responds}
+use Rattle.iterate.specs.Measure.{top, depths, no_depths, left_in, left_of_search, left_of_sending, left_of_hearing}
+use Rattle.iterate.specs.Phase.{Goes, IsWaiting, IsHearing}
+use Rattle.iterate.specs.Resolved.{CameUseless, Struck}
+use Rattle.iterate.specs.Searching.{IsPath, IsHunt, IsBase, IsFrame, AreFrames, IsSearch, hunt_behind, hunt_of, question_behind, question_of}
+use Rattle.iterate.proofs.Falling.{hearing_falls, sending_falls, ended_falls, path_digits, digits_replicated}
+use Rattle.iterate.proofs.Depths.{depths_nine, search_digits}
+use Rattle.iterate.proofs.Asking.{innermost_hunt}
+use Rattle.iterate.proofs.PathTurns.{less_left}
+use Rattle.iterate.proofs.Growing.{path_sent, base_more, frames_more, happened_last, search_sent}
+
+-- what is less is no more
+pub below : (a b : ℕ) → a < b → a ≤ b
+below a b h = omega (arith, h)
+
+pub from_less : {port : ℕ} {question : Question} {log : List Exchange} {moment id left more : ℕ} {phase : Phase} {want : Want}
+    → left < more → Goes port question log moment id left phase want → Goes port question log moment id more phase want
+from_less {left = left} {more = more} h g = less_left (below left more h) g
+
+-- One query more was sent.
+abbrev pub counted : Search → Search
+counted search = record search { path = record search.path { sent = search.path.sent + 1 } }
+
+-- what was asked, in the log
+pub here_sent : {port : ℕ} {question : Question} {before log : List Exchange} {want : Want} {searching : Search} {server : Addr} {id : ℕ} {over : Over} {input : Input}
+    → (w : IsWaiting port question before want searching server id over) → Adds before (exchange want input) log → Adds before (exchange (Send server over w.bytes) input) log
+here_sent {before = before} {log = log} {input = input} w adds = subst (λ (v : Want). Adds before (exchange v input) log) w.wanted adds
+
+-- The search goes on where it was.
+pub asked_once : {port : ℕ} {question : Question} {before log : List Exchange} {want : Want} {searching : Search} {server : Addr} {id : ℕ} {over : Over} {input : Input}
+    → (after : Search) → after ≡ counted searching → IsWaiting port question before want searching server id over → Adds before (exchange want input) log → IsSearch port question log after
+asked_once {port} {question} {log = log} after same w adds = subst (λ (s : Search). IsSearch port question log s) (sym same) (search_sent w.is_search (here_sent w adds) refl w.some)
+
+pub same_next : {port : ℕ} {question : Question} {before : List Exchange} {want : Want} {searching : Search} {server : Addr} {id : ℕ} {over : Over}
+    → (after : Search) → after ≡ counted searching → (w : IsWaiting port question before want searching server id over) → drop (hunt_of after).asked (hunt_of after).addrs.items ≡ server ∷ w.rest
+same_next {server = server} after same w = subst (λ (s : Search). drop (hunt_of s).asked (hunt_of s).addrs.items ≡ server ∷ w.rest) (sym same) w.next
+
+-- ---- in vain
+
+-- The server that was asked last was asked in vain.
+pub record IsVain (port : ℕ) (question : Question) (log : List Exchange) (server : Addr) (searching : Search) : Type 0 where
+  pub is_search : IsSearch port question log searching
+  pub struck : Struck port is_search.since (hunt_of searching).servers.zone (question_of searching) server
+
+-- a verdict on what was asked of the zone
+pub meant : (port : ℕ) (over : Over) (id : ℕ) (input : Input) (verdict : Verdict) {zone zone' : Labels} {question question' : Question} → zone ≡ zone' → question ≡ question'
+    → IsJudged port over zone id question input verdict → IsJudged port over zone' id question' input verdict
+meant port over id input verdict {zone} {zone'} {question} {question'} z q judged =
+    subst (λ (l : Labels). IsJudged port over l id question' input verdict) z (subst (λ (k : Question). IsJudged port over zone id k input verdict) q judged)
+
+pub useless : (port : ℕ) (over : Over) (zone : Labels) (id : ℕ) (question : Question) (input : Input) → IsJudged port over zone id question input StruckVerdict → CameUseless port over zone id question input
+useless port over zone id question (Came octets) judged = judged
+useless port over zone id question Failed judged = tt
+useless port over zone id question Begin judged = absurd judged
+useless port over zone id question (Reply reply) judged = absurd judged
+useless port over zone id question (Refused fault) judged = absurd judged
+
+pub vain : {port : ℕ} {question : Question} {before log : List Exchange} {want : Want} {searching : Search} {server : Addr} {id : ℕ} {over : Over} {input : Input}
+    → (after : Search) → after ≡ counted searching → IsWaiting port question before want searching server id over → Adds before (exchange want input) log
+    → CameUseless port over (hunt_of searching).servers.zone id (question_of searching) input → IsVain port question log server after
+vain {port} {question} {before} {log} {want} {searching} {server} {id} {over} {input} after same w adds no_use =
+    let here = here_sent w adds in
+    let s = w.is_search in
+    let x = exchange (Send server over w.bytes) input in
+    let last : Adds s.since x (s.since ++ x ∷ []) = record { adds = refl } in
+    subst (λ (a : Search). IsVain port question log server a) (sym same) (record {
+      is_search = record {
+        path = path_sent s.path here refl w.some;
+        since = s.since ++ x ∷ [];
+        base = base_more s.base here;
+        frames = frames_more port s.since searching.base searching.frames.items here s.frames;
+        deep = s.deep;
+      };
+      struck = record { over = over; bytes = w.bytes; id = id; input = input; asked = happened_last last; query = w.query; useless = no_use };
+    })
+
+-- ---- one server less is left
+
+abbrev pub struck_hunt : Hunt → Hunt
+struck_hunt hunt = record hunt { asked = hunt.asked + 1 }
+
+pub some_asked : (hunt : Hunt) (server : Addr) (rest : List Addr) → drop hunt.asked hunt.addrs.items ≡ server ∷ rest → hunt.asked < length hunt.addrs.items
+some_asked hunt server rest next = omega (arith, ap (λ (xs : List Addr). length xs) next, length-drop hunt.asked hunt.addrs.items)
+
+take_next : (i : ℕ) (xs : List Addr) (server : Addr) (rest : List Addr) → drop i xs ≡ server ∷ rest → take (i + 1) xs ≡ take i xs ++ server ∷ []
+take_next i xs server rest next =
+    let some : i < length xs = omega (arith, ap (λ (ys : List Addr). length ys) next, length-drop i xs) in
+    let zero_more : i + 0 ≡ i = omega arith in
+    let at : get_or xs i server ≡ server =
+    sym (ap (λ (n : ℕ). get_or xs n server) zero_more) ∙ sym (get_or-drop i xs 0 server) ∙ ap (λ (ys : List Addr). get_or ys 0 server) next in
+    take_more xs i server some ∙ ap (λ (a : Addr). take i xs ++ a ∷ []) at
+
+struck_known : {port : ℕ} {log : List Exchange} {name : Labels} {server : Addr} {rest : List Addr} (hunt : Hunt) → IsHunt port log name hunt → drop hunt.asked hunt.addrs.items ≡ server ∷ rest
+    → IsHunt port log name (struck_hunt hunt)
+struck_known {server = server} {rest = rest} hunt h next = record {
+  listed = h.listed;
+  zone = h.zone;
+  serve = h.serve;
+  asked = omega (arith, some_asked hunt server rest next);
+  sought = h.sought;
+  countable = h.countable;
+}
+
+-- where the last question itself is asked
+pub struck_base : {port : ℕ} {question : Question} {log : List Exchange} {server : Addr} {rest : List Addr} (searching : Search) (hunt : Hunt) → searching.frames.items ≡ []
+    → (searching.base.asked < length searching.base.addrs.items → hunt ≡ struck_hunt searching.base) → (s : IsSearch port question log searching)
+    → drop (hunt_of searching).asked (hunt_of searching).addrs.items ≡ server ∷ rest → Struck port s.since (hunt_of searching).servers.zone (question_of searching) server
+    → IsSearch port question log (record searching { base = hunt })
+struck_base {port} {question} {log} {server} {rest} searching hunt none becomes s next struck =
+    let base : hunt_of searching ≡ searching.base = ap (λ (fs : List Frame). hunt_behind fs searching.base) none in
+    let asked : question_of searching ≡ searching.path.last = ap (λ (fs : List Frame). question_behind fs searching.path.last) none in
+    let first : drop searching.base.asked searching.base.addrs.items ≡ server ∷ rest = subst (λ (h : Hunt). drop h.asked h.addrs.items ≡ server ∷ rest) base next in
+    let in_vain : Struck port s.since searching.base.servers.zone searching.path.last server =
+    subst (λ (q : Question). Struck port s.since searching.base.servers.zone q server) asked (subst (λ (h : Hunt). Struck port s.since h.servers.zone (question_of searching) server) base struck) in
+    let more = take_next searching.base.asked searching.base.addrs.items server rest first in
+    let same : hunt ≡ struck_hunt searching.base = becomes (some_asked searching.base server rest first) in
+    subst (λ (h : Hunt). IsSearch port question log (record searching { base = h })) (sym same) (record {
+      path = s.path;
+      since = s.since;
+      base = record {
+        is_hunt = struck_known searching.base s.base.is_hunt first;
+        reached = s.base.reached;
+        all = s.base.all;
+        vain = λ addr among. elim (Contains-push_cases (take searching.base.asked searching.base.addrs.items) server addr (subst (λ (xs : List Addr). Contains xs addr) more among)) [
+          | inl earlier ↦ s.base.vain addr earlier
+          | inr this ↦ subst (λ (a : Addr). Struck port s.since searching.base.servers.zone searching.path.last a) this in_vain
+        ];
+        sought = s.base.sought;
+      };
+      frames = subst (λ (fs : List Frame). AreFrames port log s.since (struck_hunt searching.base) fs) (sym none) tt;
+      deep = s.deep;
+    })
+
+abbrev pub struck_frame_of : Frame → Frame
+struck_frame_of frame = record frame { hunt = struck_hunt frame.hunt }
+
+-- where a question inside it is asked
+pub struck_frame : {port : ℕ} {question : Question} {log : List Exchange} {server : Addr} {rest : List Addr} (searching after : Search) (frame : Frame) (frames : List Frame)
+    → searching.frames.items ≡ frame ∷ frames → after.frames.items ≡ struck_frame_of frame ∷ frames → after.path ≡ searching.path → after.base ≡ searching.base
+    → IsSearch port question log searching → drop (hunt_of searching).asked (hunt_of searching).addrs.items ≡ server ∷ rest → IsSearch port question log after
+struck_frame {port} {question} {log} {server} {rest} searching after frame frames some struck path base s next =
+    let inner : hunt_of searching ≡ frame.hunt = ap (λ (fs : List Frame). hunt_behind fs searching.base) some in
+    let first : drop frame.hunt.asked frame.hunt.addrs.items ≡ server ∷ rest = subst (λ (h : Hunt). drop h.asked h.addrs.items ≡ server ∷ rest) inner next in
+    let known : AreFrames port log s.since searching.base (frame ∷ frames) = subst (λ (fs : List Frame). AreFrames port log s.since searching.base fs) some s.frames in
+    let after_known : AreFrames port log s.since searching.base (struck_frame_of frame ∷ frames) =
+    (record { next = known.0.next; sought = known.0.sought; hunt = struck_known frame.hunt known.0.hunt first }, known.1) in
+    let deep : length (frame ∷ frames) ≤ 8 = subst (λ (fs : List Frame). length fs ≤ 8) some s.deep in
+    record {
+      path = subst (λ (p : Path). IsPath port question log p) (sym path) s.path;
+      since = s.since;
+      base = subst (λ (p : Path). IsBase port log p.last s.since after.base) (sym path) (subst (λ (b : Hunt). IsBase port log searching.path.last s.since b) (sym base) s.base);
+      frames = subst (λ (b : Hunt). AreFrames port log s.since b after.frames.items) (sym base) (subst (λ (fs : List Frame). AreFrames port log s.since searching.base fs) (sym struck) after_known);
+      deep = subst (λ (fs : List Frame). length fs ≤ 8) (sym struck) (omega (arith, deep));
+    }
+
+empty : (fs : List Frame) → length fs ≡ 0 → fs ≡ []
+empty [] none = refl
+empty (f ∷ fs) none = absurd (omega (arith, none))
+
+pub no_frames : (searching : Search) → length searching.frames.items ≡ 0 → searching.frames.items ≡ []
+no_frames searching none = empty searching.frames.items none
+
+-- the innermost question, and those behind it
+pub record Inner (fs : List Frame) : Type 0 where
+  pub first : Frame
+  pub rest : List Frame
+  pub are : fs ≡ first ∷ rest
+
+pub inner : (fs : List Frame) → 0 < length fs → Inner fs
+inner [] some = absurd (omega (arith, some))
+inner (f ∷ fs) some = record { first = f; rest = fs; are = refl }
+
+-- the innermost question taken out, and put back as the server that it asked is struck
+pub struck_inner : {port : ℕ} {question : Question} {log : List Exchange} {server : Addr} {rest : List Addr} (searching after : Search) (removed : Frame) (hunt : Hunt) → 0 < length searching.frames.items
+    → removed ≡ slice_index_or searching.frames.items 0 removed → after.frames.items ≡ insert (remove searching.frames.items 0) 0 (record { target = removed.target; hunt = hunt })
+    → (removed.hunt.asked < length removed.hunt.addrs.items → hunt ≡ struck_hunt removed.hunt) → after.path ≡ searching.path → after.base ≡ searching.base
+    → IsSearch port question log searching → drop (hunt_of searching).asked (hunt_of searching).addrs.items ≡ server ∷ rest → IsSearch port question log after
+struck_inner {port} {question} {log} {server} {rest} searching after removed hunt some is are becomes path base s next =
+    let i = inner searching.frames.items some in
+    let first : removed ≡ i.first = subst (λ (fs : List Frame). removed ≡ slice_index_or fs 0 removed) i.are is in
+    let at : drop removed.hunt.asked removed.hunt.addrs.items ≡ server ∷ rest =
+    subst (λ (f : Frame). drop f.hunt.asked f.hunt.addrs.items ≡ server ∷ rest) (sym first) (subst (λ (fs : List Frame). drop (hunt_behind fs searching.base).asked (hunt_behind fs searching.base).addrs.items ≡ server ∷ rest) i.are next) in
+    let same : hunt ≡ struck_hunt removed.hunt = becomes (some_asked removed.hunt server rest at) in
+    let back : after.frames.items ≡ record { target = removed.target; hunt = hunt } ∷ i.rest =
+    subst (λ (fs : List Frame). after.frames.items ≡ insert (remove fs 0) 0 (record { target = removed.target; hunt = hunt })) i.are are in
+    let frames : after.frames.items ≡ struck_frame_of i.first ∷ i.rest =
+    back ∙ ap (λ (h : Hunt). record { target = removed.target; hunt = h } ∷ i.rest) same ∙ ap (λ (f : Frame). struck_frame_of f ∷ i.rest) first in
+    struck_frame searching after i.first i.rest i.are frames path base s next
+
+-- ---- less is left
+
+pub going_less : {port : ℕ} {question : Question} {log : List Exchange} (path : Path) (after : Search) → after.path ≡ record path { sent = path.sent + 1 } → IsSearch port question log after
+    → left_of_search after 4 < left_of_sending path
+going_less path after same s =
+    hearing_falls after.path path 0 1 0 2 4 0 (depths after.base after.frames.items) no_depths (omega (arith, ap (λ (p : Path). p.sent) same)) (ap (λ (p : Path). length p.sets.items) same) (omega arith)
+    (depths_nine after.base after.frames.items s.deep) (search_digits after 4 (omega arith) s)
+
+pub again_less : (path after : Path) → after ≡ record path { sent = path.sent + 1 } → after.sent < 64 → left_of_sending after < left_of_sending path
+again_less path after same few =
+    sending_falls after path 1 1 2 2 0 0 no_depths no_depths (omega (arith, ap (λ (p : Path). p.sent) same)) refl (path_digits after 1 2 0 no_depths (omega arith) (digits_replicated 9) (omega arith))
+
+pub ended_less : {port : ℕ} {question : Question} {log : List Exchange} (path : Path) → IsPath port question log path → left_in Ended < left_of_sending path
+ended_less path p = ended_falls path 1 2 0 no_depths p.short refl
+
+pub hearing_less : (path after : Path) (finds : ℕ) → after ≡ record path { sent = path.sent + 1 } → finds ≤ top → left_of_hearing after finds < left_of_sending path
+hearing_less path after finds same few =
+    hearing_falls after path 0 1 1 2 finds 0 no_depths no_depths (omega (arith, ap (λ (p : Path). p.sent) same)) (ap (λ (p : Path). length p.sets.items) same) (omega arith) refl
+    (path_digits after 0 1 finds no_depths (omega arith) (digits_replicated 9) few)
+
+-- ---- a response is heard
+
+next_serves : {port : ℕ} {question : Question} {log : List Exchange} {server : Addr} {rest : List Addr} (searching : Search) → IsSearch port question log searching
+    → drop (hunt_of searching).asked (hunt_of searching).addrs.items ≡ server ∷ rest → Known port log (Serves (hunt_of searching).servers.zone server)
+next_serves {port} {question} {log} {server} {rest} searching s next =
+    let P : Addr → Type 0 = λ addr. Known port log (Serves (hunt_of searching).servers.zone addr) in
+    let all = All-drop P (hunt_of searching).asked (hunt_of searching).addrs.items (All-from_recursion P (hunt_of searching).addrs.items (innermost_hunt searching s).serve) in
+    All-head P server rest (All-same P (server ∷ rest) (drop (hunt_of searching).asked (hunt_of searching).addrs.items) (sym next) all)
+
+pub hearing : (port : ℕ) (question : Question) (before log : List Exchange) (want : Want) (searching : Search) (server : Addr) (id : ℕ) (over : Over) (input : Input) (after : Search) (heard : Heard)
+    → after ≡ counted searching → IsWaiting port question before want searching server id over → Adds before (exchange want input) log
+    → IsJudged port over (hunt_of searching).servers.zone id (question_of searching) input (HeardVerdict heard) → IsHearing port question log after heard
+hearing port question before log want searching server id over (Came octets) after heard same w adds h =
+    let here = here_sent w adds in
+    subst (λ (a : Search). IsHearing port question log a heard) (sym same) (record {
+      is_search = search_sent w.is_search here refl w.some;
+      message = h.message;
+      before = before;
+      upto = log;
+      since = [];
+      server = server;
+      over = over;
+      bytes = w.bytes;
+      octets = octets;
+      came = here;
+      split = here.adds;
+      responds = Known.responded here (next_serves searching w.is_search w.next) w.query (innermost_hunt searching w.is_search).zone h.response h.whole;
+      whole = h.whole;
+      finds = h.finds;
+      passing = h.passing;
+      says = h.says;
+    })
+hearing port question before log want searching server id over Failed after heard same w adds h = let e : ⊥ = cc in absurd e
+hearing port question before log want searching server id over Begin after heard same w adds h = absurd h
+hearing port question before log want searching server id over (Reply reply) after heard same w adds h = absurd h
+hearing port question before log want searching server id over (Refused fault) after heard same w adds h = absurd h

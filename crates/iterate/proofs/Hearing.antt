@@ -1,0 +1,242 @@
+-- What a response that was heard gives.
+use Rattle.std.proofs.Common.{◌≡◌, ℕ, ◌+◌, ◌-◌, ◌<◌, ◌≤◌, ◌⊎◌, inl, inr, List, [], ◌∷◌, ◌++◌, length, map, drop, get_or, slice_index_or, true, false, None, Option, sym, ap, ◌∙◌, subst, refl, append_assoc, arith}
+use Rattle.std.specs.List.{AllByRecursion, Contains}
+use Rattle.std.specs.Option.{option_map}
+use Rattle.std.proofs.lemmas.List.{append-nil, length-map, get_or-map, length-drop, get_or-drop}
+use Rattle.dns_name.specs.Labels.{Labels, IsAtOrBelow}
+use Rattle.dns_name.specs.ListLaws.{all_weaker}
+use Rattle.dns_text.specs.declared.addr.Addr.{Addr}
+use Rattle.dns_text.specs.declared.record.Question.{Question}
+use Rattle.dns_wire.specs.declared.message.Message.{Message}
+use Rattle.dns_query.specs.Believed.{HasSet}
+use Rattle.dns_query.specs.Query.{address_question, alias_question}
+use Rattle.dns_query.specs.Referral.{IsReferral}
+use Rattle.dns_query.specs.Verdict.{IsSaid, IsUseful, IsAnswer, IsDenial}
+use Rattle.dns_query.specs.declared.verdict.Heard.{Heard}
+use Rattle.dns_query.specs.declared.verdict.Referral.{Referral}
+use Rattle.dns_query.specs.declared.verdict.Says.{Says}
+use Rattle.dns_query.specs.declared.verdict.Says.TheVariants.{Answers, Denies, Refers}
+use Rattle.harvest.specs.Harvest.{finds_in, passing_in}
+use Rattle.neg_rule.specs.Negative.{Said, said_by, negative_in}
+use Rattle.ranked.specs.declared.find.Find.{Find}
+use Rattle.undo_book.specs.declared.event.Event.TheVariants.{Admit}
+use Rattle.undo_book.specs.declared.servers.Servers.{Servers}
+use Rattle.iterate.specs.declared.answer.Answer.TheVariants.{Reply as Replies}
+use Rattle.iterate.specs.declared.path.Path.{Path}
+use Rattle.iterate.specs.declared.phase.Phase.TheVariants.{Admitting, Ended}
+use Rattle.iterate.specs.declared.search.Frame.{Frame}
+use Rattle.iterate.specs.declared.search.Hunt.{Hunt}
+use Rattle.iterate.specs.declared.search.Search.{Search}
+use Rattle.iterate.specs.declared.want.Input.{Input}
+use Rattle.iterate.specs.declared.want.Want.{Want}
+use Rattle.iterate.specs.declared.want.Want.TheVariants.{Book, Finish}
+use Rattle.iterate.specs.Exchanges.{Exchange, exchange, Adds, is_send}
+use Rattle.iterate.specs.Judged.{IsAddressOf}
+use Rattle.iterate.specs.Following.{IsHarvestOf}
+use Rattle.iterate.specs.declared.answer.Told.{Told}
+use Rattle.iterate.specs.Known.{Fact, Known, Had, Listed, Serves, Responds, servers_referred}
+use Rattle.iterate.specs.Measure.{top, depths, no_depths, left_in, left_of_search, left_of_hearing, left_of_path}
+use Rattle.iterate.specs.Phase.{Goes, IsHearing}
+use Rattle.iterate.specs.Resolved.{IsDenied, Fails, ReachedFor}
+use Rattle.iterate.specs.Searching.{IsPath, IsNext, IsHunt, AreFrames, IsSearch, hunt_behind, hunt_of, question_behind, question_of}
+use Rattle.iterate.specs.Shown.{IsMisanswered}
+use Rattle.iterate.specs.Told.{soa_whole, IsAddressIn}
+use Rattle.iterate.specs.Wanted.{IsHarvested}
+use Rattle.iterate.proofs.PathTurns.{failing}
+use Rattle.iterate.proofs.Coming.{inner, below}
+use Rattle.iterate.proofs.Depths.{depths_nine, search_digits}
+use Rattle.iterate.proofs.Falling.{hearing_falls, looks_fall, ended_falls, path_digits, digits_replicated}
+use Rattle.iterate.proofs.Growing.{path_more, search_looked, happened_last}
+
+-- ---- what is known
+
+-- What was known after some of the exchanges is known after all.
+known_since : {port : ℕ} {fact : Fact} (since upto log : List Exchange) → log ≡ upto ++ since → Known port upto fact → Known port log fact
+known_since {port} {fact} [] upto log split known = subst (λ (l : List Exchange). Known port l fact) (sym (split ∙ append-nil upto)) known
+known_since {port} {fact} (x ∷ since) upto log split known =
+    known_since since (upto ++ x ∷ []) log (split ∙ sym (append_assoc upto (x ∷ []) since)) (Known.kept {before = upto} {after = upto ++ x ∷ []} {x = x} (record { adds = refl }) known)
+
+pub responding : {port : ℕ} {question : Question} {log : List Exchange} {searching : Search} {heard : Heard} → (h : IsHearing port question log searching heard)
+    → Known port log (Responds (hunt_of searching).servers.zone (question_of searching) h.message)
+responding {log = log} h =
+    known_since h.since h.upto log (h.split ∙ sym (append_assoc h.before _ h.since) ∙ ap (λ (l : List Exchange). l ++ h.since) (sym h.came.adds)) h.responds
+
+-- With an exchange more that is no query, the response is still heard.
+pub hearing_more : {port : ℕ} {question : Question} {log after : List Exchange} {y : Exchange} {searching : Search} {heard : Heard} → IsHearing port question log searching heard → Adds log y after → is_send y ≡ false
+    → IsHearing port question after searching heard
+hearing_more {y = y} h a is = record {
+  is_search = search_looked h.is_search a is;
+  message = h.message;
+  before = h.before;
+  upto = h.upto;
+  since = h.since ++ y ∷ [];
+  server = h.server;
+  over = h.over;
+  bytes = h.bytes;
+  octets = h.octets;
+  came = h.came;
+  split = a.adds ∙ ap (λ (xs : List Exchange). xs ++ y ∷ []) h.split ∙ append_assoc h.before (_ ∷ h.since) (y ∷ []);
+  responds = h.responds;
+  whole = h.whole;
+  finds = h.finds;
+  passing = h.passing;
+  says = h.says;
+}
+
+useful : {port : ℕ} {zone : Labels} {question : Question} {message : Message} (says : Says) → IsSaid port zone question message says
+    → IsAnswer zone question message ⊎ ((message.head.aa ≡ true) ⊎ ((referral : Referral) × IsReferral port zone question message referral))
+useful Answers said = inl said
+useful (Denies rcode negative) said = inr (inl said.0.authoritative)
+useful (Refers referral) said = inr (inr (referral, said))
+
+mapped : (finds : List Find) (find : Find) → Contains finds find → Contains (map said_by finds) (said_by find)
+mapped finds find among =
+    (among.0, omega (arith, among.1, length-map finds said_by), get_or-map said_by finds among.0 find (said_by find) among.1 ∙ ap said_by among.2)
+
+-- A find of the harvest may be handed to a book.
+harvested : {port : ℕ} {question : Question} {log : List Exchange} {searching : Search} {heard : Heard} → IsHearing port question log searching heard → (find : Find) → Contains heard.harvest.finds find → IsHarvested port log find
+harvested {searching = searching} {heard = heard} h find among = record {
+  zone = (hunt_of searching).servers.zone;
+  question = question_of searching;
+  message = h.message;
+  responds = responding h;
+  useful = record { whole = h.whole; says = useful heard.says h.says };
+  among = subst (λ (xs : List Said). Contains xs (said_by find)) h.finds (mapped heard.harvest.finds find among);
+}
+
+-- ---- the book
+
+pub admitting : (port : ℕ) (question : Question) (log : List Exchange) (moment id left : ℕ) (searching : Search) (heard : Heard) (next : ℕ) (find : Find) → IsHearing port question log searching heard
+    → next < length heard.harvest.finds → Contains heard.harvest.finds find → left_of_hearing searching.path (length heard.harvest.finds - next) < left
+    → Goes port question log moment id left (Admitting searching heard next) (Book (Admit moment find))
+admitting port question log moment id left searching heard next find h within among less = record {
+  wants = (refl, harvested h find among);
+  fits = (h, within, record { moment = moment; find = find; wanted = refl });
+  falls = less;
+}
+
+pub ended_hearing : {port : ℕ} {question : Question} {log : List Exchange} (path : Path) (finds : ℕ) → IsPath port question log path → left_in Ended < left_of_hearing path finds
+ended_hearing path finds p = ended_falls path 0 1 finds no_depths p.short refl
+
+-- A book replied to an admission what it may not.
+pub failing_admission : (port : ℕ) (question : Question) (before log : List Exchange) (m moment id finds : ℕ) (find : Find) (input : Input) (path : Path) → IsPath port question before path
+    → Adds before (exchange (Book (Admit m find)) input) log → IsMisanswered (Admit m find) input
+    → Goes port question log moment id (left_of_hearing path finds) Ended (Finish (Replies 2 false [] None None))
+failing_admission port question before log m moment id finds find input path p adds bad =
+    let later = path_more p adds refl in
+    failing path (ended_hearing path finds later) later (Fails.misanswered {event = Admit m find} {input = input} (happened_last adds) bad)
+
+-- One find less is left.
+pub find_less : (path : Path) (finds more : ℕ) → finds ≤ top → finds < more → left_of_hearing path finds < left_of_hearing path more
+find_less path finds more few less = looks_fall path path 0 0 1 finds more no_depths refl refl less (path_digits path 0 1 finds no_depths (omega arith) (digits_replicated 9) few)
+
+pub finds_at_least : (path : Path) (finds : ℕ) → 0 < finds → left_of_hearing path 1 ≤ left_of_hearing path finds
+finds_at_least path finds some = omega (arith, some)
+
+-- Less is left where the search goes on.
+pub concluding_less : {port : ℕ} {question : Question} {log : List Exchange} (path : Path) (after : Search) → after.path ≡ path → IsSearch port question log after
+    → left_of_search after 4 < left_of_hearing path 1
+concluding_less path after same s =
+    hearing_falls after.path path 0 0 0 1 4 1 (depths after.base after.frames.items) no_depths (ap (λ (p : Path). 64 - (p.sent + 0)) same) (ap (λ (p : Path). length p.sets.items) same) (omega arith)
+    (depths_nine after.base after.frames.items s.deep) (search_digits after 4 (omega arith) s)
+
+-- ---- a response to the last question itself
+
+question_last : (searching : Search) → searching.frames.items ≡ [] → question_of searching ≡ searching.path.last
+question_last searching none = ap (λ (fs : List Frame). question_behind fs searching.path.last) none
+
+pub denying_last : {port : ℕ} {question : Question} {log : List Exchange} {searching : Search} {heard : Heard} (rcode : ℕ) (negative : Option Find) → IsHearing port question log searching heard → searching.frames.items ≡ []
+    → heard.says ≡ Denies rcode negative → IsDenied port log searching.path.last rcode (option_map soa_whole negative)
+denying_last {port} {question} {log} {searching} {heard} rcode negative h none is =
+    let zone = (hunt_of searching).servers.zone in
+    let said : IsSaid port zone (question_of searching) h.message (Denies rcode negative) = subst (λ (s : Says). IsSaid port zone (question_of searching) h.message s) is h.says in
+    subst (λ (q : Question). IsDenied port log q rcode (option_map soa_whole negative)) (question_last searching none) (record {
+      zone = zone;
+      message = h.message;
+      responds = responding h;
+      denial = said.0;
+      same = said.1;
+      negative = negative;
+      said = said.2;
+      soa = refl;
+    })
+
+referred : {port : ℕ} {question : Question} {log : List Exchange} {searching : Search} {heard : Heard} (referral : Referral) → (h : IsHearing port question log searching heard) → heard.says ≡ Refers referral
+    → IsReferral port (hunt_of searching).servers.zone (question_of searching) h.message referral
+referred {port} {searching = searching} referral h is = subst (λ (s : Says). IsSaid port (hunt_of searching).servers.zone (question_of searching) h.message s) is h.says
+
+-- What a response that refers to servers gives.
+pub record IsReferred (port : ℕ) (log : List Exchange) (question : Question) (since : List Exchange) (servers : Servers) : Type 0 where
+  pub reached : ReachedFor port log question servers since
+  pub listed : Known port log (Listed servers)
+  pub above : IsAtOrBelow question.owner servers.zone
+
+pub referring : {port : ℕ} {question : Question} {log : List Exchange} {searching : Search} {heard : Heard} (referral : Referral) (servers : Servers) → (h : IsHearing port question log searching heard)
+    → heard.says ≡ Refers referral → servers ≡ servers_referred referral → IsReferred port log (question_of searching) h.since servers
+referring {port} {question} {log} {searching} {heard} referral servers h is same =
+    let r = referred referral h is in
+    subst (λ (s : Servers). IsReferred port log (question_of searching) h.since s) (sym same) (record {
+      reached = ReachedFor.by_referral h.before h.upto h.server h.over h.bytes h.octets h.split h.came h.responds r refl;
+      listed = Known.referred (responding h) r;
+      above = r.above;
+    })
+
+pub referring_last : {port : ℕ} {question : Question} {log : List Exchange} {searching : Search} {heard : Heard} (referral : Referral) (servers : Servers) → (h : IsHearing port question log searching heard)
+    → searching.frames.items ≡ [] → heard.says ≡ Refers referral → servers ≡ servers_referred referral → IsReferred port log searching.path.last h.since servers
+referring_last {port} {log = log} {searching = searching} referral servers h none is same =
+    subst (λ (q : Question). IsReferred port log q h.since servers) (question_last searching none) (referring referral servers h is same)
+
+-- ---- a response to a question for the address of a server
+
+next_among : (hunt : Hunt) (target : Labels) → IsNext hunt target → Contains hunt.servers.missing target
+next_among hunt target n =
+    let missing = hunt.servers.missing in
+    let some : hunt.sought < length missing = omega (arith, ap (λ (xs : List Labels). length xs) n.next, length-drop hunt.sought missing) in
+    let zero_more : hunt.sought + 0 ≡ hunt.sought = omega arith in
+    (hunt.sought, some, sym (ap (λ (k : ℕ). get_or missing k target) zero_more) ∙ sym (get_or-drop hunt.sought missing 0 target) ∙ ap (λ (xs : List Labels). get_or xs 0 target) n.next)
+
+behind_known : (port : ℕ) (log since : List Exchange) (fs : List Frame) (base : Hunt) (name : Labels) → IsHunt port log name base → AreFrames port log since base fs → Known port log (Listed (hunt_behind fs base).servers)
+behind_known port log since [] base name h all = h.listed
+behind_known port log since (f ∷ fs) base name h all = all.0.hunt.listed
+
+serves_all : (port : ℕ) (log : List Exchange) (hunt : Hunt) (target : Labels) → Known port log (Listed hunt.servers) → Contains hunt.servers.missing target → (addrs : List Addr)
+    → AllByRecursion (IsAddressOf port log target) addrs → AllByRecursion (λ addr. Known port log (Serves hunt.servers.zone addr)) addrs
+serves_all port log hunt target listed among [] all = tt
+serves_all port log hunt target listed among (addr ∷ addrs) all =
+    (Known.found listed among all.0.had all.0.among, serves_all port log hunt target listed among addrs all.1)
+
+-- The addresses of the server for which the innermost question asks serve the zone behind it.
+pub addresses_serve : {port : ℕ} {question : Question} {log : List Exchange} (searching : Search) (frame : Frame) → 0 < length searching.frames.items → frame ≡ slice_index_or searching.frames.items 0 frame
+    → IsSearch port question log searching → (addrs : List Addr) → AllByRecursion (IsAddressOf port log frame.target) addrs
+    → AllByRecursion (λ addr. Known port log (Serves (hunt_behind (drop 1 searching.frames.items) searching.base).servers.zone addr)) addrs
+addresses_serve {port} {question} {log} searching frame some is s addrs all =
+    let i = inner searching.frames.items some in
+    let first : frame ≡ i.first = subst (λ (fs : List Frame). frame ≡ slice_index_or fs 0 frame) i.are is in
+    let known : AreFrames port log s.since searching.base (i.first ∷ i.rest) = subst (λ (fs : List Frame). AreFrames port log s.since searching.base fs) i.are s.frames in
+    let behind = hunt_behind i.rest searching.base in
+    let listed = behind_known port log s.since i.rest searching.base searching.path.last.owner s.base.is_hunt known.1 in
+    let here : AllByRecursion (IsAddressOf port log i.first.target) addrs = subst (λ (f : Frame). AllByRecursion (IsAddressOf port log f.target) addrs) first all in
+    subst (λ (fs : List Frame). AllByRecursion (λ addr. Known port log (Serves (hunt_behind (drop 1 fs) searching.base).servers.zone addr)) addrs) (sym i.are)
+    (serves_all port log behind i.first.target listed (next_among behind i.first.target known.0.next) addrs here)
+
+pub harvest_heard : {port : ℕ} {question : Question} {log : List Exchange} {searching : Search} {heard : Heard} → IsHearing port question log searching heard → IsHarvestOf port log heard.harvest
+harvest_heard {searching = searching} h = record {
+  zone = (hunt_of searching).servers.zone;
+  asked = question_of searching;
+  message = h.message;
+  responds = responding h;
+  finds = h.finds;
+  passing = h.passing;
+}
+
+-- The addresses in a set that is known are those of the server.
+pub addresses_known : (port : ℕ) (log : List Exchange) (question : Question) (told : Told) (target : Labels) → Known port log (Had question told) → question ≡ address_question target
+    → (addrs : List Addr) → AllByRecursion (IsAddressIn port told) addrs → AllByRecursion (IsAddressOf port log target) addrs
+addresses_known port log question told target had same addrs all =
+    all_weaker (IsAddressIn port told) (IsAddressOf port log target)
+    (λ addr among. record { told = told; had = subst (λ (q : Question). Known port log (Had q told)) same had; among = among }) addrs all
+
+-- less is left where the last name is looked at
+pub following_less : (path : Path) → left_of_path path 4 ≤ left_of_hearing path 1
+following_less path =
+    below _ _ (hearing_falls path path 0 0 0 1 4 1 no_depths no_depths refl refl (omega arith) refl (path_digits path 0 0 4 no_depths (omega arith) (digits_replicated 9) (omega arith)))

@@ -1,0 +1,7 @@
+use Rattle.std.proofs.Common.{◌≡◌, ◌+◌, ◌-◌, ◌<◌, ◌≤◌, ℕ, true, false, List, [], ◌∷◌, ◌++◌, length, drop, sym, ap, ◌∙◌, subst, refl, arith, rules}
+use Rattle.std.proofs.lemmas.Bool.{eqb-true, eqb-false}
+use Rattle.iterate.proofs.Coming.{no_frames}
+use Rattle.iterate.proofs.concluding.conclude.Goals as goal
+
+pub conclude_last-requires : goal.conclude_last-requires
+conclude_last-requires g c = no_frames c.args.search (let e = eqb-true c.args.search.frames.len 0 (sym c.if-is_empty.ensures) in omega (arith, c.args.search.frames.ok.0))

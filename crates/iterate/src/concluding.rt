@@ -1,0 +1,130 @@
+//! What is done when a response was heard.
+
+ghost use Rattle.std.specs.Prelude.{◌≡◌, ◌<◌, [], ℕ, List, IfOk, length};
+ghost use Rattle.std.specs.List.{AllByRecursion};
+ghost use Rattle.dns_text.specs.declared.record.Question.{Question};
+ghost use Rattle.iterate.specs.Exchanges.{Exchange};
+ghost use Rattle.iterate.specs.Following.{IsHarvestOf};
+ghost use Rattle.iterate.specs.Judged.{IsAddressOf};
+ghost use Rattle.iterate.specs.Known.{servers_referred};
+ghost use Rattle.iterate.specs.Measure.{left_of_hearing};
+ghost use Rattle.iterate.specs.Phase.{Goes, IsHearing};
+ghost use Rattle.iterate.specs.Wanted.{id_drawn};
+
+use crate::addresses::addresses;
+use crate::finishing::denied;
+use crate::following::{follow_in, harvested};
+use crate::innermost::address_question;
+use crate::phase::Turn;
+use crate::search::{Search, close, go_on, refer_base, refer_frame};
+use dns_name::{Name, NoMemory};
+use dns_query::{Heard, Referral, Says};
+use dns_text::{Addr, Shared};
+use harvest::Harvest;
+use rand_core::Rng;
+use std::alloc::Global;
+use undo_book::{Servers, Source};
+
+/// The servers to which a response refers.
+fn servers_of(alloc: Global, referral: Referral) -> Result<Shared<Servers>, NoMemory>
+    ensures { IfOk result (λ servers. servers ≡ servers_referred referral) }
+{
+    let Referral {
+        zone,
+        addrs,
+        missing,
+    } = referral;
+    Shared::new(
+        alloc,
+        Servers {
+            zone,
+            source: Source::Cache,
+            addrs,
+            missing,
+        },
+    )
+}
+
+/// The addresses of a server that a harvest has. A name that is an alias has none.
+fn addresses_in(
+    alloc: Global,
+    port: u16,
+    target: &Name,
+    harvest: &Harvest,
+) -> Result<Vec<Addr>, NoMemory>
+    ensures { (log : List Exchange) → IsHarvestOf port log harvest.now → IfOk result (λ addrs. AllByRecursion (IsAddressOf port log target.now) addrs.items) }
+{
+    match harvested(harvest, &address_question(target)?)? {
+        Some(told) => addresses(alloc, port, &told),
+        None => Ok(Vec::new(alloc)),
+    }
+}
+
+/// Does what a response to the question itself says.
+fn conclude_last<R: Rng>(
+    alloc: Global,
+    moment: u64,
+    ids: &mut R,
+    search: Search,
+    heard: Heard,
+) -> Result<Turn, NoMemory>
+    requires { search.frames.items ≡ [] }
+    ensures { (port : ℕ) (question : Question) (log : List Exchange) → IsHearing port question log search heard
+        → IfOk result (λ t. Goes port question log moment (id_drawn (R.stream ids.old)) (left_of_hearing search.path 1) t.phase t.want) }
+{
+    let Heard { harvest, says } = heard;
+    match says {
+        Says::Answers => follow_in(alloc, search.path, &harvest, moment),
+        Says::Denies { rcode, negative } => Ok(denied(search.path, rcode, negative)),
+        Says::Refers(referral) => {
+            let servers = servers_of(alloc, referral)?;
+            go_on(alloc, ids, moment, refer_base(alloc, search, servers)?)
+        }
+    }
+}
+
+/// Does what a response to a question for the address of a server says.
+fn conclude_frame<R: Rng>(
+    alloc: Global,
+    port: u16,
+    moment: u64,
+    ids: &mut R,
+    search: Search,
+    heard: Heard,
+) -> Result<Turn, NoMemory>
+    requires { 0 < length search.frames.items }
+    ensures { (question : Question) (log : List Exchange) → IsHearing port question log search heard
+        → IfOk result (λ t. Goes port question log moment (id_drawn (R.stream ids.old)) (left_of_hearing search.path 1) t.phase t.want) }
+{
+    let Heard { harvest, says } = heard;
+    match says {
+        Says::Answers => {
+            let addrs = addresses_in(alloc, port, &search.frames[0].target, &harvest)?;
+            go_on(alloc, ids, moment, close(search, &addrs)?)
+        }
+        Says::Denies { .. } => go_on(alloc, ids, moment, close(search, &[])?),
+        Says::Refers(referral) => {
+            let servers = servers_of(alloc, referral)?;
+            go_on(alloc, ids, moment, refer_frame(alloc, search, servers)?)
+        }
+    }
+}
+
+/// Does what a response says: a set or an alias is followed, a denial ends the question, a referral names the next servers
+/// (RFC 1034, section 5.3.3, step 4). An answer to a question for the address of a server gives its addresses.
+pub(crate) fn conclude<R: Rng>(
+    alloc: Global,
+    port: u16,
+    moment: u64,
+    ids: &mut R,
+    search: Search,
+    heard: Heard,
+) -> Result<Turn, NoMemory>
+    ensures { (question : Question) (log : List Exchange) → IsHearing port question log search heard
+        → IfOk result (λ t. Goes port question log moment (id_drawn (R.stream ids.old)) (left_of_hearing search.path 1) t.phase t.want) }
+{
+    if search.frames.is_empty() {
+        return conclude_last(alloc, moment, ids, search, heard);
+    }
+    conclude_frame(alloc, port, moment, ids, search, heard)
+}
