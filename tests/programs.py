@@ -16,6 +16,7 @@ DRAWN = os.path.join(TOP, "crates/dns_wire_drawn/out/dns_wire_drawn")
 BOOKS = os.path.join(TOP, "crates/shared_book_drawn/out/shared_book_drawn")
 ZONES = os.path.join(TOP, "crates/local_zone_tests/out/local_zone_tests")
 STUBS = os.path.join(TOP, "crates/stub_table_tests/out/stub_table_tests")
+TALK = os.path.join(TOP, "crates/iterate_talk/out/iterate_talk")
 
 # No run takes longer than this many seconds.
 PATIENCE = 600

@@ -1,0 +1,134 @@
+//! A question is resolved.
+
+ghost use Rattle.std.specs.Prelude.{IfOk, IfSome};
+ghost use Rattle.iterate.specs.Phase.{Suits};
+ghost use Rattle.iterate.specs.Task.{IsDueAt};
+ghost use Rattle.iterate.specs.declared.want.Want.TheVariants.{Send as SendWant};
+ghost use Rattle.dns_text.specs.declared.addr.Addr.{Addr as AddrValue};
+ghost use Rattle.dns_query.specs.declared.over.Over.{Over as OverValue};
+
+use crate::stop::Stop;
+use crate::telling::{answer_words, came_words, event_words, query_words};
+use crate::world::{World, next_line};
+use dns_query::Over;
+use dns_text::{Addr, Octets, Question};
+use iterate::{Input, Task, Want, due_law};
+use std::alloc::Global;
+use std::io::{BufRead, Write};
+
+/// Writes a line.
+pub fn tell(rt: &HostRuntime, mut text: Vec<u8>) -> Result<(), Stop> {
+    text.push(b'\n')?;
+    Ok(rt.stdout().write_all(&text)?)
+}
+
+/// Adds the identifier of a query to that of what comes of it, octet by octet.
+fn add_id(octets: &mut Vec<u8>, query: &[u8]) {
+    for i in 0..2 {
+        if i < octets.len() && i < query.len() {
+            octets[i] = octets[i].wrapping_add(query[i]);
+        }
+    }
+}
+
+fn octets_in(alloc: Global, digits: &[u8]) -> Result<Vec<u8>, Stop> {
+    match hex::decode(alloc, digits) {
+        Ok(octets) => Ok(octets),
+        Err(_) => Err(Stop::Device),
+    }
+}
+
+/// A response with the question of a query behind its header.
+fn with_question(alloc: Global, header: &[u8], query: &[u8], rest: &[u8]) -> Result<Vec<u8>, Stop> {
+    let mut octets = Vec::from_slice(alloc, header)?;
+    octets.extend_from_slice(query.get(12..).unwrap_or(&[]))?;
+    octets.extend_from_slice(rest)?;
+    Ok(octets)
+}
+
+/// What a line says that came of a query.
+fn came_in(alloc: Global, query: &[u8], line: &[u8]) -> Result<Input, Stop>
+    ensures { IfOk result (λ input. (server : AddrValue) (over : OverValue) (bytes : List ℕ) → Suits (SendWant server over bytes) input) }
+{
+    if let Some(digits) = line.strip_prefix(b"came ") {
+        let mut octets = octets_in(alloc, digits)?;
+        add_id(&mut octets, query);
+        return Ok(Input::Came(Octets::new(octets)));
+    }
+    if let Some(digits) = line.strip_prefix(b"asked ") {
+        let given = octets_in(alloc, digits)?;
+        let (header, rest) = given.split_at(given.len().min(12));
+        let mut octets = with_question(alloc, header, query, rest)?;
+        add_id(&mut octets, query);
+        return Ok(Input::Came(Octets::new(octets)));
+    }
+    Ok(Input::Failed)
+}
+
+/// Writes a query, and reads what comes of it.
+fn exchange<I: BufRead>(
+    rt: &HostRuntime,
+    input: &mut I,
+    server: &Addr,
+    over: Over,
+    bytes: &[u8],
+) -> Result<Input, Stop>
+    ensures { IfOk result (λ input. (server : AddrValue) (over : OverValue) (bytes : List ℕ) → Suits (SendWant server over bytes) input) }
+{
+    tell(rt, query_words(rt.alloc(), server, over, bytes)?)?;
+    let mut line = Vec::new(rt.alloc());
+    if !next_line(input, &mut line)? {
+        return Err(Stop::Device);
+    }
+    came_in(rt.alloc(), bytes, line.as_slice())
+}
+
+/// One step of a task, and what comes of its want; none where it wants no more.
+fn turn<I: BufRead>(
+    rt: &HostRuntime,
+    lines: &mut I,
+    world: &mut World,
+    task: &mut Task,
+    input: Input,
+) -> Result<Option<Input>, Stop>
+    requires { IsDueAt task.old.phase task.old.steps.items input }
+    ensures { IfOk result (IfSome (λ next. IsDueAt task.new.phase task.new.steps.items next)) }
+{
+    due_law();
+    match task.step(world.moment, &mut world.ids, input)? {
+        Want::Book(event) => {
+            tell(rt, event_words(rt.alloc(), &event)?)?;
+            let came = world.call(event);
+            tell(rt, came_words(rt.alloc(), &came)?)?;
+            Ok(Some(came))
+        }
+        Want::Send {
+            server,
+            over,
+            bytes,
+        } => Ok(Some(exchange(rt, lines, &server, over, bytes.get().as_slice())?)),
+        Want::Finish(answer) => {
+            tell(rt, answer_words(rt.alloc(), &answer)?)?;
+            Ok(None)
+        }
+    }
+}
+
+/// Resolves a question.
+pub fn ask<I: BufRead>(
+    rt: &HostRuntime,
+    lines: &mut I,
+    world: &mut World,
+    question: Question,
+) -> Result<(), Stop> {
+    due_law();
+    let mut task = Task::new(rt.alloc(), question, 53);
+    let mut input = Input::Begin;
+    for _ in 0..u64::MAX {
+        match turn(rt, lines, world, &mut task, input)? {
+            Some(next) => input = next,
+            None => return Ok(()),
+        }
+    }
+    Ok(())
+}

@@ -1,0 +1,90 @@
+//! The book, and how it is asked.
+
+ghost use Rattle.iterate.specs.Phase.{Suits};
+ghost use Rattle.iterate.specs.declared.want.Want.TheVariants.{Book as BookWant};
+
+use crate::stop::Stop;
+use dns_text::{Addr, Items};
+use iterate::Input;
+use rand_pcg::Pcg32;
+use std::alloc::Global;
+use std::io::BufRead;
+use undo_book::{Desk, DeskFault, Event, PlainBook, Reply, Settings, StepFault};
+
+/// A book, and how the next task is answered.
+#[derive(Drop)]
+pub struct World {
+    pub book: PlainBook,
+    /// In seconds.
+    pub moment: u64,
+    pub ids: Pcg32,
+    /// How many events the task gave so far.
+    pub calls: u64,
+    /// Which of them is not taken; 0 for none.
+    pub refused: u64,
+    /// Which of them gets a reply of another kind; 0 for none.
+    pub confused: u64,
+}
+
+/// An empty book whose root has these servers.
+pub fn book_with(alloc: Global, hints: Vec<Addr>) -> Result<PlainBook, Stop> {
+    let settings = Settings {
+        journal: 64,
+        cells: 100_000,
+        hints: Items::new(hints),
+        server_port: 53,
+    };
+    match PlainBook::new(alloc, settings) {
+        Ok(book) => Ok(book),
+        Err(_) => Err(Stop::NoMemory),
+    }
+}
+
+impl World {
+    pub fn new(alloc: Global) -> Result<World, Stop> {
+        Ok(World {
+            book: book_with(alloc, Vec::new(alloc))?,
+            moment: 0,
+            ids: Pcg32::new(1, 1),
+            calls: 0,
+            refused: 0,
+            confused: 0,
+        })
+    }
+
+    /// What comes of an event.
+    pub fn call(&mut self, event: Event) -> Input
+        ensures { Suits (BookWant event) result }
+    {
+        self.calls = self.calls.wrapping_add(1);
+        if self.calls == self.refused {
+            return Input::Refused(DeskFault::Step(StepFault::NoMemory));
+        }
+        if self.calls == self.confused {
+            return Input::Reply(Reply::Swept);
+        }
+        match self.book.call(event) {
+            Ok(reply) => Input::Reply(reply),
+            Err(fault) => Input::Refused(fault),
+        }
+    }
+
+    /// The next task is answered by the book alone.
+    pub fn forget(&mut self) {
+        self.calls = 0;
+        self.refused = 0;
+        self.confused = 0;
+    }
+}
+
+/// Reads a line without its end; false at the end of the input.
+pub fn next_line<I: BufRead>(input: &mut I, line: &mut Vec<u8>) -> Result<bool, Stop> {
+    line.clear();
+    if input.read_until(b'\n', line)? == 0 {
+        return Ok(false);
+    }
+    if line.ends_with(b"\n") {
+        line.pop();
+    }
+    Ok(true)
+}
