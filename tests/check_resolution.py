@@ -93,6 +93,50 @@ def difference(lines, told):
     return f"more: {told}" if told else None
 
 
+# ---- memory
+
+# Rows of which each growth is refused in turn.
+REFUSED = (
+    "a referral, an alias inside the response, and what the book holds then",
+    "a nested question",
+    "no such name",
+    "a set that passes",
+    "local data",
+    "TC over UDP asks the same server over TCP",
+)
+MOST = 10_000
+
+
+def fault_of_refusal(told, whole, status):
+    """What is wrong with a run in which a growth was refused, by what it told and what a run tells that lacks nothing.
+
+    Where the task finds no memory the program ends. Where the book finds none the look's question fails, and an admission
+    is passed over.
+    """
+    at = next((n for n, pair in enumerate(zip(told, whole)) if pair[0] != pair[1]), min(len(told), len(whole)))
+    if at == len(told):
+        return None if status in (1, 3) or told == whole else f"status {status} behind {told[-1:]}"
+    if told[at] != "told fault":
+        return f"{told[at]}, and with memory {whole[at]}"
+    ends = [line for line in told[at:] if line.startswith("answer")]
+    wanted = [line for line in whole if line.startswith("answer")]
+    if not told[at - 1].startswith("admit "):
+        wanted = ["answer 2 -"]
+    return None if status == 3 or ends[:1] == wanted else f"{ends} behind a fault of {told[at - 1]}, wanted {wanted}"
+
+
+def refuse_each(checks, about, lines):
+    """Runs a row with each growth refused in turn."""
+    text = "\n".join([*given(lines), ""]).encode()
+    whole = run([TALK], text).out.decode().splitlines()
+    for nth in range(1, MOST):
+        done = run([TALK], text, preload="refuse", REFUSE_NTH=nth)
+        if "refused" not in done.told:
+            checks.tell(f"{about}: some growths are refused", None if nth > 20 else f"{nth}")
+            return
+        checks.tell(f"{about}: growth {nth}", fault_of_refusal(done.out.decode().splitlines(), whole, done.status))
+
+
 def main():
     checks = Checks()
     for file in sorted(os.listdir(FOLDER)):
@@ -100,6 +144,8 @@ def main():
             done = run([TALK], "\n".join([*given(lines), ""]).encode())
             checks.equal(f"{file}: {about}: its status", done.status, 0)
             checks.tell(f"{file}: {about}", difference(lines, done.out.decode().splitlines()))
+            if about in REFUSED:
+                refuse_each(checks, about, lines)
     checks.end()
 
 
