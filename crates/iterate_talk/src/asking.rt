@@ -1,6 +1,6 @@
 //! A question is resolved.
 
-ghost use Rattle.std.specs.Prelude.{IfOk, IfSome};
+ghost use Rattle.std.specs.Prelude.{ℕ, List, IfOk, IfSome};
 ghost use Rattle.iterate.specs.Phase.{Suits};
 ghost use Rattle.iterate.specs.Task.{IsDueAt};
 ghost use Rattle.iterate.specs.declared.want.Want.TheVariants.{Send as SendWant};
@@ -11,7 +11,7 @@ use crate::stop::Stop;
 use crate::telling::{answer_words, came_words, event_words, query_words};
 use crate::world::{World, next_line};
 use dns_query::Over;
-use dns_text::{Addr, Octets, Question};
+use dns_text::{Addr, Octets, Question, Shared};
 use iterate::{Input, Task, Want, due_law};
 use std::alloc::Global;
 use std::io::{BufRead, Write};
@@ -71,16 +71,17 @@ fn exchange<I: BufRead>(
     input: &mut I,
     server: &Addr,
     over: Over,
-    bytes: &[u8],
+    bytes: &Shared<Octets>,
 ) -> Result<Input, Stop>
-    ensures { IfOk result (λ input. (server : AddrValue) (over : OverValue) (bytes : List ℕ) → Suits (SendWant server over bytes) input) }
+    ensures { IfOk result (λ input. Suits (SendWant server.now over bytes.now) input) }
 {
-    tell(rt, query_words(rt.alloc(), server, over, bytes)?)?;
+    let query = bytes.get().as_slice();
+    tell(rt, query_words(rt.alloc(), server, over, query)?)?;
     let mut line = Vec::new(rt.alloc());
     if !next_line(input, &mut line)? {
         return Err(Stop::Device);
     }
-    came_in(rt.alloc(), bytes, line.as_slice())
+    came_in(rt.alloc(), query, line.as_slice())
 }
 
 /// One step of a task, and what comes of its want; none where it wants no more.
@@ -92,7 +93,7 @@ fn turn<I: BufRead>(
     input: Input,
 ) -> Result<Option<Input>, Stop>
     requires { IsDueAt task.old.phase task.old.steps.items input }
-    ensures { IfOk result (IfSome (λ next. IsDueAt task.new.phase task.new.steps.items next)) }
+    ensures { IfOk result (λ found. IfSome found (λ next. IsDueAt task.new.phase task.new.steps.items next)) }
 {
     due_law();
     match task.step(world.moment, &mut world.ids, input)? {
@@ -106,7 +107,7 @@ fn turn<I: BufRead>(
             server,
             over,
             bytes,
-        } => Ok(Some(exchange(rt, lines, &server, over, bytes.get().as_slice())?)),
+        } => Ok(Some(exchange(rt, lines, &server, over, &bytes)?)),
         Want::Finish(answer) => {
             tell(rt, answer_words(rt.alloc(), &answer)?)?;
             Ok(None)

@@ -61,7 +61,14 @@ pub fn push_told(alloc: Global, told: &Told, out: &mut Vec<u8>) -> Result<(), No
         }
         Told::Passing(set) => {
             let set = set.get();
-            push_set(alloc, &set.owner, 0, Scope::One(set.kind), set.data.as_slice(), out)
+            push_set(
+                alloc,
+                &set.owner,
+                0,
+                Scope::One(set.kind),
+                set.data.as_slice(),
+                out,
+            )
         }
     }
 }

@@ -4,7 +4,6 @@ use dns_name::NoMemory;
 use std::alloc::AllocFailed;
 use std::io;
 
-
 /// Why the program ends before its input does.
 #[derive(Debug, Drop)]
 pub enum Stop {

@@ -59,7 +59,9 @@ pub fn event_words(alloc: Global, event: &Event) -> Result<Vec<u8>, NoMemory> {
 pub fn came_words(alloc: Global, input: &Input) -> Result<Vec<u8>, NoMemory> {
     let mut out = Vec::from_slice(alloc, b"told ")?;
     match input {
-        Input::Reply(reply) => out.extend_from_slice(reply_text(alloc, reply)?.as_slice().trim_ascii_end())?,
+        Input::Reply(reply) => out.extend_from_slice(
+            reply_text(alloc, reply)?.as_slice().trim_ascii_end(),
+        )?,
         _ => out.extend_from_slice(b"fault")?,
     }
     Ok(out)
