@@ -70,7 +70,7 @@ def query_words(line):
 
 def difference(lines, told):
     """What the program told otherwise than a row says, or None."""
-    told, asked = list(told), []
+    told, asked, identifier = list(told), [], None
     for line in lines:
         mark, _, rest = line.partition(" ")
         if mark in (">", "="):
@@ -80,6 +80,9 @@ def difference(lines, told):
             found = told.pop(0) if told else "nothing"
             if (query_words(found) if found.startswith("send ") else found) != rest:
                 return f"{found}, wanted {rest}"
+            if mark == ">" and found.split()[3][:4] == identifier:
+                return f"{found} has the identifier of the query before"
+            identifier = found.split()[3][:4] if mark == ">" else None
         elif mark == "?" and not any(line.startswith(rest) for line in asked):
             return f"no {rest} among {asked}"
         elif mark == "!" and any(line.startswith(rest) for line in asked):
@@ -106,16 +109,21 @@ REFUSED = (
 )
 MOST = 10_000
 
+# What a line of a script is told where it finds no memory, or its text none.
+LINE_WANTS = ("error no_memory", "fault no_memory", "fault reply_lost")
+
 
 def fault_of_refusal(told, whole, status):
     """What is wrong with a run in which a growth was refused, by what it told and what a run tells that lacks nothing.
 
     Where the task finds no memory the program ends. Where the book finds none the look's question fails, and an admission
-    is passed over.
+    is passed over. A line of a script tells it, and what comes behind it may differ.
     """
     at = next((n for n, pair in enumerate(zip(told, whole)) if pair[0] != pair[1]), min(len(told), len(whole)))
     if at == len(told):
         return None if status in (1, 3) or told == whole else f"status {status} behind {told[-1:]}"
+    if told[at] in LINE_WANTS:
+        return None
     if told[at] != "told fault":
         return f"{told[at]}, and with memory {whole[at]}"
     ends = [line for line in told[at:] if line.startswith("answer")]

@@ -7,7 +7,7 @@ named, or answers with a record that no response and no look gave.
 import random
 
 from checks import Checks
-from messages import TYPES, name_octets, number, question_of, record_data, type_number
+from messages import name_octets, number, question_of, record_data, type_number
 from programs import TALK, run
 
 WANTED = 20_000
@@ -67,7 +67,7 @@ class Drawing:
         if self.random.random() < 0.05:
             at = self.random.randrange(len(octets))
             return "asked " + (octets[:at] + number(self.random.randrange(256), 1) + octets[at + 1 :]).hex(), [], False
-        return "asked " + octets.hex(), [r for s in sections for r in s], True
+        return "asked " + octets.hex(), [(n, flags, r) for n, s in enumerate(sections) for r in s], True
 
 
 def record_octets(owner, ttl, kind, data):
@@ -93,6 +93,14 @@ def shown(line):
     return [(owner, kind, datum) for datum in data.split(" | ")]
 
 
+def believable(asked, records):
+    """Of the records of a response those that may be told: neither truncated nor an error, in the zone, and not additional."""
+    for section, flags, (owner, _, kind, data) in records:
+        owner = asked if owner == ASKED else owner
+        if section < 2 and not flags & 0x0200 and flags & 15 in (0, 3) and is_in_zone(owner):
+            yield owner, kind, data
+
+
 def fault_of(question, lines, told):
     """What is wrong with a task, and how many responses it took."""
     sent, known, addresses, exact = 0, set(), set(STUBS), True
@@ -104,8 +112,8 @@ def fault_of(question, lines, told):
             name = question_of(bytes.fromhex(line.split()[3])).split()[0]
             _, records, same = lines[sent]
             sent, exact = sent + 1, exact and same
-            known |= {(name if owner == ASKED else owner, kind, data) for owner, _, kind, data in records}
-            addresses |= {data for _, _, kind, data in records if kind in ("A", "AAAA")}
+            known |= set(believable(name, records))
+            addresses |= {data for _, _, (_, _, kind, data) in records if kind in ("A", "AAAA")}
         elif line.startswith("told found"):
             known |= set(shown(line.removeprefix("told ")))
             addresses |= {data for _, kind, data in shown(line.removeprefix("told ")) if kind in ("A", "AAAA")}
@@ -115,7 +123,7 @@ def fault_of(question, lines, told):
             return f"{line} lies outside the zone", sent
         elif word == "answer" and exact:
             for record in parts(line):
-                if record not in known and record[1] != "SOA":
+                if record not in known:
                     return f"{question} is answered {record}, which nothing gave", sent
     if sent > 64:
         return f"{question}: {sent} queries", sent
