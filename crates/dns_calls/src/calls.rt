@@ -3,6 +3,7 @@
 use crate::denials::denial_in;
 use crate::fault::CallFault;
 use crate::harvests::harvest_in;
+use crate::lent::lent_octets;
 use crate::messages::{
     encoding_of, fault_reply_to, is_read_again, reply_octets, reply_over_udp, verdict_on, words_of,
 };
@@ -10,7 +11,6 @@ use crate::names::{
     is_below, labels_of, length_of, name_of_labels, name_text, order_of, parent_of, spelling_of,
 };
 use crate::texts::{addr_text, data_text, record_text, type_text};
-use crate::lent::lent_octets;
 use crate::verdicts::{query_octets, verdict_in};
 use dns_text::next_word;
 use hex::FromHexError;
