@@ -213,7 +213,7 @@ def check_steps(checks):
             break
         wants += done.out.count(b": " + WANT + b"\n")
         checks.tell(f"recorded calls, growth {nth} refused", fault_of_steps(whole, done))
-    checks.tell("recorded calls that find no memory", None if wants > 100 else f"are {wants}")
+    checks.tell("recorded calls that find no memory", None if wants > 60 else f"are {wants}")
 
 
 # ---- messages that are drawn
