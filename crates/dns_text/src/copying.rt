@@ -1,4 +1,4 @@
-//! Data and records, each with memory of its own.
+//! Data and records, once more.
 
 ghost use Rattle.std.specs.Prelude.{◌≡◌, IfOk};
 
@@ -44,7 +44,7 @@ fn copy_srv(priority: u16, weight: u16, port: u16, target: &Name) -> Result<Data
 }
 
 impl Data {
-    /// The same data, with memory of its own.
+    /// The same data once more. Strings and lists take memory, names share theirs.
     pub fn copy(&self, alloc: Global) -> Result<Data, AllocError>
         ensures { IfOk result (λ x. x ≡ self.now) }
     {
@@ -86,7 +86,7 @@ impl Data {
 }
 
 impl Record {
-    /// The same record, with memory of its own.
+    /// The same record once more. Strings and lists take memory, names share theirs.
     pub fn copy(&self, alloc: Global) -> Result<Record, AllocError>
         ensures { IfOk result (λ x. x ≡ self.now) }
     {

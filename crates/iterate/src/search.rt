@@ -110,6 +110,7 @@ pub(crate) fn begin_hunt(alloc: Global, servers: Shared<Servers>) -> Result<Hunt
     ensures { IfOk result (IsFresh servers) }
 {
     let list = servers.get();
+    // A slice tells that they can be counted.
     let _missing = list.missing.as_slice().len();
     let addrs = join_addrs(Vec::new(alloc), list.addrs.as_slice())?;
     Ok(Hunt {

@@ -4,7 +4,7 @@
 mod servers; // which servers to ask about a name
 mod event; // what a book is given and asked, and what it replies
 mod copying; // what is handed in, once more
-mod flushes; // what a flush covers, as tests
+mod flushes; // the types that a flush covers
 mod limits; // how far moments, counts and settings go
 mod book; // the promise that every book keeps
 mod desk; // what a caller can hand an event to
