@@ -1,2 +1,3 @@
 pub mod BelievedLaws
+pub mod IndexedLaws
 pub mod VerdictLaws

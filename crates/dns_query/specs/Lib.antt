@@ -3,4 +3,5 @@ pub mod Response
 pub mod Believed
 pub mod BelievedLaws
 pub mod Referral
+pub mod Indexed
 pub mod Verdict

@@ -7,7 +7,7 @@ ghost use Rattle.harvest.specs.Learnt.{set_of};
 ghost use Rattle.dns_query.specs.Referral.{AreServers, IsReferral};
 
 use crate::nearer::zone_of;
-use crate::servers::{add_server, targets_in};
+use crate::servers::{add_server, addrs_by_name, targets_in};
 use crate::verdict::Referral;
 use dns_name::{Name, NoMemory};
 use dns_text::{Items, Question};
@@ -26,10 +26,11 @@ fn servers_named(
     ensures zone { IfOk result (λ referral. referral.zone ≡ zone.now) }
     ensures servers { IfOk result (AreServers port (map said_by harvest.now.finds) (map set_of harvest.now.passing) targets.now.items) }
 {
+    let index = addrs_by_name(alloc, port, harvest)?;
     let mut addrs = Vec::new(alloc);
     let mut missing = Vec::new(alloc);
     for target in targets {
-        add_server(alloc, port, harvest, target, &mut addrs, &mut missing)?;
+        add_server(&index, target, &mut addrs, &mut missing)?;
     }
     Ok(Referral {
         zone: zone.clone()?,
@@ -38,7 +39,7 @@ fn servers_named(
     })
 }
 
-/// The servers to which a response from a zone refers. It looks at each set of the harvest once for each server.
+/// The servers to which a response from a zone refers.
 pub(crate) fn referral_of(
     alloc: Global,
     port: u16,

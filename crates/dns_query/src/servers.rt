@@ -1,14 +1,17 @@
 //! The servers that a response names, and the addresses that it gives of them.
 
-ghost use Rattle.std.specs.Prelude.{◌≡◌, ◌∷◌, ◌++◌, [], filter, map, IfOk, OnOk};
+ghost use Rattle.std.specs.Prelude.{◌≡◌, ◌==◌, ◌∷◌, ◌++◌, [], filter, length, map, if◌then◌else◌, IfOk, OnOk};
 ghost use Rattle.std.specs.List.{flat_map};
 ghost use Rattle.std.specs.Option.{option_map};
+ghost use Rattle.dns_name.specs.Labels.{Labels};
 ghost use Rattle.dns_name.specs.Order.{name_eq};
 ghost use Rattle.ranked.specs.Body.{data_of};
+ghost use Rattle.ranked.specs.Find.{has_kind};
 ghost use Rattle.ranked.specs.Set.{with_datum};
 ghost use Rattle.neg_rule.specs.Negative.{said_by};
 ghost use Rattle.harvest.specs.Learnt.{set_of};
-ghost use Rattle.dns_query.specs.Referral.{addr_of, addrs_by, addrs_of, data_found, data_passing, has_no_addr, target_in, targets_in};
+ghost use Rattle.dns_query.specs.Indexed.{addrs_at, HasEach};
+ghost use Rattle.dns_query.specs.Referral.{addr_of, addrs_by, addrs_of, data_found, data_passing, target_in, targets_in};
 
 use crate::nearer::is_of;
 use dns_name::{Name, NoMemory};
@@ -16,8 +19,9 @@ use dns_text::types::{A, AAAA, NS};
 use dns_text::{Addr, Data, Ip, Record, Shared};
 use dns_wire::Classed;
 use harvest::{Harvest, PassingSet};
-use ranked::{Body, Find, SharedFind};
+use ranked::{Body, Find, Scope, SharedFind};
 use std::alloc::Global;
+use std::collections::{BTreeMap, BTreeSet};
 
 /// The server that a record names, if it is an NS record.
 fn target_in(r: &Classed<Record>) -> Option<&Name>
@@ -32,10 +36,18 @@ fn target_in(r: &Classed<Record>) -> Option<&Name>
     }
 }
 
-fn push_once(name: &Name, targets: &mut Vec<Name>) -> Result<(), NoMemory>
-    ensures { OnOk result (targets.new.items ≡ with_datum name_eq targets.old.items name.now) }
+/// Adds a name, unless it is there. The set has those that are.
+fn push_once(
+    name: &Name,
+    seen: &mut BTreeSet<Name>,
+    targets: &mut Vec<Name>,
+) -> Result<(), NoMemory>
+    requires { HasEach seen.old targets.old.items }
+    ensures targets { OnOk result (targets.new.items ≡ with_datum name_eq targets.old.items name.now) }
+    ensures seen { OnOk result (HasEach seen.new targets.new.items) }
 {
-    if !targets.contains(name) {
+    let added = seen.insert(name.clone()?)?;
+    if added {
         targets.push(name.clone()?)?;
     }
     Ok(())
@@ -45,10 +57,11 @@ fn push_once(name: &Name, targets: &mut Vec<Name>) -> Result<(), NoMemory>
 pub(crate) fn targets_in(alloc: Global, section: &[Classed<Record>]) -> Result<Vec<Name>, NoMemory>
     ensures { IfOk result (λ targets. targets.items ≡ targets_in section.now) }
 {
+    let mut seen = BTreeSet::new(alloc);
     let mut targets = Vec::new(alloc);
     for r in section {
         if let Some(name) = target_in(r) {
-            push_once(name, &mut targets)?;
+            push_once(name, &mut seen, &mut targets)?;
         }
     }
     Ok(targets)
@@ -84,97 +97,140 @@ fn data_in(body: &Body) -> &[Data]
     }
 }
 
-/// The data of a name and a type in a find, whatever its rank.
-fn data_found<'a>(find: &'a Find, name: &Name, kind: u16) -> &'a [Data]
-    ensures { result.now ≡ data_found name.now kind (said_by find.now) }
+/// The data of a type in a find, whatever its rank.
+fn found_of_kind(find: &Find, kind: u16) -> &[Data]
+    ensures { result.now ≡ (if has_kind find.now.scope kind then data_of find.now.body else []) }
 {
-    if find.touches(name, kind) {
-        data_in(&find.body)
-    } else {
-        &[]
+    match find.scope {
+        Scope::One(own) => {
+            if own == kind {
+                data_in(&find.body)
+            } else {
+                &[]
+            }
+        }
+        Scope::Whole => data_in(&find.body),
     }
 }
 
 /// And in a set that passes.
-fn data_passing<'a>(set: &'a PassingSet, name: &Name, kind: u16) -> &'a [Data]
-    ensures { result.now ≡ data_passing name.now kind (set_of set.now) }
+fn passing_of_kind(set: &PassingSet, kind: u16) -> &[Data]
+    ensures { result.now ≡ (if set.now.kind == kind then set.now.data else []) }
 {
-    if set.owner == *name && set.kind == kind {
+    if set.kind == kind {
         set.data.as_slice()
     } else {
         &[]
     }
 }
 
-fn push_found(
+/// Adds the addresses of a set's data to those of its owner.
+fn add_addrs(
+    alloc: Global,
+    port: u16,
+    owner: &Name,
+    set: &[Data],
+    index: &mut BTreeMap<Name, Vec<Addr>>,
+) -> Result<(), NoMemory>
+    ensures { OnOk result ((name : Labels) → addrs_at index.new name ≡ addrs_at index.old name ++ (if name_eq owner.now name then flat_map (addr_of port) set.now else [])) }
+{
+    if set.is_empty() {
+        return Ok(());
+    }
+    if let Some(addrs) = index.get_mut(owner) {
+        return push_addrs(port, set, addrs);
+    }
+    let mut addrs = Vec::new(alloc);
+    push_addrs(port, set, &mut addrs)?;
+    index.insert(owner.clone()?, addrs)?;
+    Ok(())
+}
+
+fn add_found(
+    alloc: Global,
     port: u16,
     finds: &[SharedFind],
     kind: u16,
-    name: &Name,
-    out: &mut Vec<Addr>,
+    index: &mut BTreeMap<Name, Vec<Addr>>,
 ) -> Result<(), NoMemory>
-    ensures { OnOk result (out.new.items ≡ out.old.items ++ flat_map (λ said. flat_map (addr_of port) (data_found name.now kind said)) (map said_by finds.now)) }
+    ensures { OnOk result ((name : Labels) → addrs_at index.new name
+        ≡ addrs_at index.old name ++ flat_map (λ said. flat_map (addr_of port) (data_found name kind said)) (map said_by finds.now)) }
 {
     for find in finds {
-        push_addrs(port, data_found(find.find(), name, kind), out)?;
+        let find = find.find();
+        add_addrs(alloc, port, &find.owner, found_of_kind(find, kind), index)?;
     }
     Ok(())
 }
 
-fn push_passing(
+fn add_passing(
+    alloc: Global,
     port: u16,
     passing: &[Shared<PassingSet>],
     kind: u16,
-    name: &Name,
-    out: &mut Vec<Addr>,
+    index: &mut BTreeMap<Name, Vec<Addr>>,
 ) -> Result<(), NoMemory>
-    ensures { OnOk result (out.new.items ≡ out.old.items ++ flat_map (λ set. flat_map (addr_of port) (data_passing name.now kind set)) (map set_of passing.now)) }
+    ensures { OnOk result ((name : Labels) → addrs_at index.new name
+        ≡ addrs_at index.old name ++ flat_map (λ set. flat_map (addr_of port) (data_passing name kind set)) (map set_of passing.now)) }
 {
     for set in passing {
-        push_addrs(port, data_passing(set.get(), name, kind), out)?;
+        let set = set.get();
+        add_addrs(alloc, port, &set.owner, passing_of_kind(set, kind), index)?;
     }
     Ok(())
 }
 
-/// Adds the addresses of a server by its records of one type.
-fn push_kind(
+/// Adds the addresses of each name by its records of one type.
+fn add_kind(
+    alloc: Global,
     port: u16,
     harvest: &Harvest,
     kind: u16,
-    name: &Name,
-    out: &mut Vec<Addr>,
+    index: &mut BTreeMap<Name, Vec<Addr>>,
 ) -> Result<(), NoMemory>
-    ensures { OnOk result (out.new.items ≡ out.old.items ++ addrs_by port (map said_by harvest.now.finds) (map set_of harvest.now.passing) kind name.now) }
+    ensures { OnOk result ((name : Labels) → addrs_at index.new name
+        ≡ addrs_at index.old name ++ addrs_by port (map said_by harvest.now.finds) (map set_of harvest.now.passing) kind name) }
 {
-    push_found(port, harvest.finds.as_slice(), kind, name, out)?;
-    push_passing(port, harvest.passing.as_slice(), kind, name, out)
+    add_found(alloc, port, harvest.finds.as_slice(), kind, index)?;
+    add_passing(alloc, port, harvest.passing.as_slice(), kind, index)
 }
 
-/// The addresses of a server, those of IPv4 first.
-fn addrs_of(alloc: Global, port: u16, harvest: &Harvest, name: &Name) -> Result<Vec<Addr>, NoMemory>
-    ensures { IfOk result (λ addrs. addrs.items ≡ addrs_of port (map said_by harvest.now.finds) (map set_of harvest.now.passing) name.now) }
+/// The addresses that a harvest has of each name, those of IPv4 first.
+pub(crate) fn addrs_by_name(
+    alloc: Global,
+    port: u16,
+    harvest: &Harvest,
+) -> Result<BTreeMap<Name, Vec<Addr>>, NoMemory>
+    ensures { IfOk result (λ index. (name : Labels) → addrs_at index name ≡ addrs_of port (map said_by harvest.now.finds) (map set_of harvest.now.passing) name) }
 {
-    let mut addrs = Vec::new(alloc);
-    push_kind(port, harvest, A, name, &mut addrs)?;
-    push_kind(port, harvest, AAAA, name, &mut addrs)?;
-    Ok(addrs)
+    let mut index = BTreeMap::new(alloc);
+    add_kind(alloc, port, harvest, A, &mut index)?;
+    add_kind(alloc, port, harvest, AAAA, &mut index)?;
+    Ok(index)
+}
+
+fn addrs_at<'a>(index: &'a BTreeMap<Name, Vec<Addr>>, name: &Name) -> &'a [Addr]
+    ensures { result.now ≡ addrs_at index.now name.now }
+{
+    match index.get(name) {
+        None => &[],
+        Some(addrs) => addrs.as_slice(),
+    }
 }
 
 /// Adds the addresses of a server, or itself to those that have none.
 pub(crate) fn add_server(
-    alloc: Global,
-    port: u16,
-    harvest: &Harvest,
+    index: &BTreeMap<Name, Vec<Addr>>,
     target: &Name,
     addrs: &mut Vec<Addr>,
     missing: &mut Vec<Name>,
 ) -> Result<(), NoMemory>
-    ensures addrs { OnOk result (addrs.new.items ≡ addrs.old.items ++ addrs_of port (map said_by harvest.now.finds) (map set_of harvest.now.passing) target.now) }
-    ensures missing { OnOk result (missing.new.items ≡ missing.old.items ++ filter (has_no_addr port (map said_by harvest.now.finds) (map set_of harvest.now.passing)) (target.now ∷ [])) }
+    ensures addrs { OnOk result (addrs.new.items ≡ addrs.old.items ++ addrs_at index.now target.now) }
+    ensures missing { OnOk result (missing.new.items ≡ missing.old.items ++ filter (λ name. length (addrs_at index.now name) == 0) (target.now ∷ [])) }
 {
-    let own = addrs_of(alloc, port, harvest, target)?;
+    let own = addrs_at(index, target);
     if own.is_empty() {
         missing.push(target.clone()?)?;
     }
-    addrs.extend_from_slice(&own)
+    addrs.extend_from_slice(own)
 }

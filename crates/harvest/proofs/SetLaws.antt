@@ -32,7 +32,7 @@ rank_back AuthoritativeAnswer = refl
 level_exact : (a b : Rank) → level_of a ≡ level_of b → a ≡ b
 level_exact a b e = some_same (sym (rank_back a) ∙ ap rank_at e ∙ rank_back b)
 
-same_key_exact : (a b : Key) → same_key a b ≡ true → a ≡ b
+pub same_key_exact : (a b : Key) → same_key a b ≡ true → a ≡ b
 same_key_exact a b e =
     let level = and_parts _ _ e in
     let rest = and_parts _ _ level.1 in
