@@ -5,8 +5,8 @@ A row of tests/resolution:
     == what the row is about
     hints 127.0.0.1@5301                     lines that the program obeys
     ask a.test. A
-    > 127.0.0.1@5301 udp a.test. A           the query that has to come
-    < aa | answer a.test. 60 A 192.0.2.9     what comes of it, as tests/messages.py reads it; `failed`; or `octets 00..`
+    > 127.0.0.1@5301 udp a.test. A           the query that has to come, and what comes of it (tests/talkrows.py)
+    < aa | answer a.test. 60 A 192.0.2.9
     = answer 0 - | a.test. 60 A 192.0.2.9    the answer
     look a.test. A
     : found 4 60 a.test. A 192.0.2.9         what a line is told
@@ -18,33 +18,12 @@ so, or `! TEXT` that none does.
 import os
 
 from checks import Checks
-from messages import question_of, response
 from programs import TALK, TOP, run
+from talkrows import came, query_words, rows_in
 
 FOLDER = os.path.join(TOP, "tests/resolution")
-OWN_LINES = ("hints", "ask", "refuse", "confuse", "at")
+OWN_LINES = ("port", "hints", "ask", "refuse", "confuse", "lie", "at")
 BOOK_LINES = ("look ", "servers ", "admit ", "told ")
-
-
-def rows_in(path):
-    """The rows of a file: what each is about, and its lines."""
-    found = []
-    with open(path, encoding="utf-8") as file:
-        for line in file:
-            if line.startswith("== "):
-                found.append((line[3:].strip(), []))
-            elif line.strip() and not line.startswith("#"):
-                found[-1][1].append(line.strip())
-    return found
-
-
-def came(asked, text):
-    """The line that tells what comes of a query."""
-    if text == "failed":
-        return text
-    if text.startswith("octets"):
-        return "came " + text[len("octets") :].replace(" ", "")
-    return "came " + response(asked, text).hex()
 
 
 def given(lines):
@@ -58,14 +37,6 @@ def given(lines):
             yield came(asked, rest)
         elif mark not in ("=", ":", "?", "!"):
             yield line
-
-
-def query_words(line):
-    """A query that the program sends, in the words of a row; what else its octets say stands behind them."""
-    _, server, over, digits = line.split()
-    octets = bytes.fromhex(digits)
-    words = f"{server} {over} {question_of(octets)}"
-    return words if octets[2:12] == b"\0\0\0\1\0\0\0\0\0\0" else f"{words} {digits}"
 
 
 def difference(lines, told):
@@ -148,7 +119,7 @@ def refuse_each(checks, about, lines):
 def main():
     checks = Checks()
     for file in sorted(os.listdir(FOLDER)):
-        for about, lines in rows_in(os.path.join(FOLDER, file)):
+        for about, lines in rows_in(os.path.join(FOLDER, file))[1:]:
             done = run([TALK], "\n".join([*given(lines), ""]).encode())
             checks.equal(f"{file}: {about}: its status", done.status, 0)
             checks.tell(f"{file}: {about}", difference(lines, done.out.decode().splitlines()))

@@ -20,6 +20,18 @@ class Checks:
         """A check that two texts or numbers are the same."""
         self.tell(name, None if found == wanted else difference(found, wanted))
 
+    def make(self, check, *arguments):
+        """Makes the checks of a function. Where it breaks off, that is a check that failed, and the next is made."""
+        try:
+            check(self, *arguments)
+        except Exception as fault:
+            told = f"it broke off: {type(fault).__name__}: {fault}"
+            self.tell(" ".join([check.__name__, *map(str, arguments)]), told)
+
+    def skip(self, name, why):
+        """A check that cannot be made here; tests/run shows it."""
+        print(f"skipped: {name}: {why}")
+
     def end(self):
         print(f"{self.passed} passed, {self.failed} failed")
         sys.exit(1 if self.failed else 0)

@@ -1,6 +1,6 @@
 -- Turns of a search that are well made.
-use Rattle.std.proofs.Common.{◌≡◌, ℕ, ◌+◌, ◌-◌, ◌<◌, ◌≤◌, List, [], ◌∷◌, ◌++◌, length, take, drop, false, None, Result, Ok, Err, IfOk, sym, ap, ◌∙◌, subst, refl, arith}
-use Rattle.std.specs.List.{AllByRecursion, Contains}
+use Rattle.std.proofs.Common.{◌≡◌, ℕ, ◌+◌, ◌<◌, ◌≤◌, List, [], ◌∷◌, length, drop, false, None, Result, Ok, Err, IfOk, sym, ap, subst, refl, arith}
+use Rattle.std.specs.List.{Contains}
 use Rattle.std.proofs.lemmas.List.{take_all}
 use Rattle.std.proofs.lemmas.List.Elements.{All-from_recursion, All-drop, All-same, All-head}
 use Rattle.dns_name.specs.Labels.{Labels}
@@ -8,64 +8,76 @@ use Rattle.dns_text.specs.declared.addr.Addr.{Addr}
 use Rattle.dns_text.specs.declared.record.Question.{Question}
 use Rattle.dns_query.specs.declared.over.Over.{Over}
 use Rattle.dns_query.specs.Query.{IsQuery}
+use Rattle.rand_core.specs.Stream.{Stream, next_u32}
 use Rattle.undo_book.specs.declared.event.Event.TheVariants.{Look}
 use Rattle.iterate.specs.declared.answer.Answer.TheVariants.{Reply as Replies}
 use Rattle.iterate.specs.declared.path.Path.{Path}
 use Rattle.iterate.specs.declared.phase.Phase.{Phase}
 use Rattle.iterate.specs.declared.phase.Phase.TheVariants.{Seeking, Sent, Ended}
 use Rattle.iterate.specs.declared.phase.Stage.{Stage}
+use Rattle.iterate.specs.declared.phase.Stage.TheVariants as stage
 use Rattle.iterate.specs.declared.phase.Turn.{Turn}
 use Rattle.iterate.specs.declared.search.Frame.{Frame}
 use Rattle.iterate.specs.declared.search.Hunt.{Hunt}
 use Rattle.iterate.specs.declared.search.Search.{Search}
 use Rattle.iterate.specs.declared.want.Want.{Want}
 use Rattle.iterate.specs.declared.want.Want.TheVariants.{Book, Send, Finish}
-use Rattle.iterate.specs.Exchanges.{Exchange, count_sends}
+use Rattle.iterate.specs.Exchanges.{Exchange}
 use Rattle.iterate.specs.Hunting.{IsSmaller}
 use Rattle.iterate.specs.Known.{Known, Serves}
-use Rattle.iterate.specs.Measure.{depths, no_depths, left_in, left_of_search, left_of_sending, looks_left}
-use Rattle.iterate.specs.Phase.{Goes, IsSeeking, ask_at}
+use Rattle.iterate.specs.Measure.{hunts_left, left_in, left_of_search, left_of_seek, left_of_sending}
+use Rattle.iterate.specs.Phase.{Goes, IsSeeking, ask_at, Drawing, idle}
 use Rattle.iterate.specs.Resolved.{ResolvedAs, Fails, Exhausted}
 use Rattle.iterate.specs.Searching.{IsPath, IsHunt, AreFrames, IsSearch, hunt_behind, hunt_of, question_behind, question_of}
-use Rattle.iterate.proofs.Falling.{ended_falls, sending_falls, looks_fall, path_digits, digits_replicated}
-use Rattle.iterate.proofs.Depths.{depths_nine, search_digits}
+use Rattle.iterate.specs.Wanted.{MayCall, MayGo, id_drawn}
+use Rattle.iterate.proofs.Falling.{few_is, less_than, less_twice, begun_falls, sending_falls, coming_falls, looks_fall, ended_falls, path_digits}
+use Rattle.iterate.proofs.Hunts.{search_digits}
 
 -- A turn is what its phase and its want are.
-pub turned : {port : ℕ} {question : Question} {log : List Exchange} {moment id left : ℕ} {phase phase' : Phase} {want want' : Want}
+pub turned : {port : ℕ} {question : Question} {log : List Exchange} {moment : ℕ} {id : Drawing} {left : ℕ} {phase phase' : Phase} {want want' : Want}
     → phase ≡ phase' → want ≡ want' → Goes port question log moment id left phase' want' → Goes port question log moment id left phase want
 turned {port} {question} {log} {moment} {id} {left} {phase} {phase'} {want} {want'} p w g =
     subst (λ (f : Phase). Goes port question log moment id left f want) (sym p) (subst (λ (v : Want). Goes port question log moment id left phase' v) (sym w) g)
 
 -- More may be left before it.
-pub from_more : {port : ℕ} {question : Question} {log : List Exchange} {moment id left more : ℕ} {phase : Phase} {want : Want}
+pub from_more : {port : ℕ} {question : Question} {log : List Exchange} {moment : ℕ} {id : Drawing} {left more : ℕ} {phase : Phase} {want : Want}
     → left ≤ more → Goes port question log moment id left phase want → Goes port question log moment id more phase want
-from_more h g = record { wants = g.wants; fits = g.fits; falls = omega (arith, g.falls) }
+from_more h g = record { wants = g.wants; drawn = g.drawn; fits = g.fits; falls = omega (arith, g.falls) }
+
+pub at_most : (n : ℕ) → n ≤ n
+at_most n = omega arith
 
 -- ---- it fails
 
 -- A question behind a path fails.
-pub failing : (port : ℕ) (question : Question) (log : List Exchange) (moment id left : ℕ) (path : Path) → left_in Ended < left → IsPath port question log path → Fails port log path.last (length path.sets.items)
-    → Goes port question log moment id left Ended (Finish (Replies 2 false [] None None))
+pub failing : (port : ℕ) (question : Question) (log : List Exchange) (moment : ℕ) (id : Stream) (left : ℕ) (path : Path) → left_in Ended < left → IsPath port question log path → Fails port log path.last (length path.sets.items)
+    → Goes port question log moment (idle id) left Ended (Finish (Replies 2 false [] None None))
 failing port question log moment id left path some p fails =
     let there : Fails port log (record { owner = path.last.owner; kind = question.kind }) (length path.sets.items) =
     subst (λ (k : ℕ). Fails port log (record { owner = path.last.owner; kind = k }) (length path.sets.items)) p.kind fails in
     record {
       wants = ResolvedAs.failed {name = path.last.owner} {front = path.sets.items} p.began p.chain there;
+      drawn = refl;
       fits = (_, refl, omega (arith, p.counted, p.few));
       falls = some;
     }
 
 pub ended_search : {port : ℕ} {question : Question} {log : List Exchange} (search : Search) (looks : ℕ) → IsSearch port question log search → left_in Ended < left_of_search search looks
-ended_search search looks s = ended_falls search.path 0 0 looks (depths search.base search.frames.items) s.path.short (depths_nine search.base search.frames.items s.deep)
+ended_search search looks s = ended_falls search.path 0 0 (hunts_left search) looks s.path.short
+
+pub ended_seek : {port : ℕ} {question : Question} {log : List Exchange} (search : Search) (then : Stage) → IsSearch port question log search → left_in Ended < left_of_seek search then
+ended_seek search stage.Address s = ended_search search 3 s
+ended_seek search stage.Alias s = ended_falls search.path 0 2 0 0 s.path.short
+ended_seek search stage.Servers s = ended_falls search.path 0 1 0 0 s.path.short
 
 -- The search fails.
-pub failing_search : (port : ℕ) (question : Question) (log : List Exchange) (moment id looks : ℕ) (search : Search) → IsSearch port question log search → Fails port log search.path.last (length search.path.sets.items)
-    → Goes port question log moment id (left_of_search search looks) Ended (Finish (Replies 2 false [] None None))
+pub failing_search : (port : ℕ) (question : Question) (log : List Exchange) (moment : ℕ) (id : Stream) (looks : ℕ) (search : Search) → IsSearch port question log search → Fails port log search.path.last (length search.path.sets.items)
+    → Goes port question log moment (idle id) (left_of_search search looks) Ended (Finish (Replies 2 false [] None None))
 failing_search port question log moment id looks search s fails = failing port question log moment id (left_of_search search looks) search.path (ended_search search looks s) s.path fails
 
 -- Enough queries were sent.
-pub spent : (port : ℕ) (question : Question) (log : List Exchange) (moment id looks : ℕ) (search : Search) → IsSearch port question log search → 64 ≤ search.path.sent
-    → Goes port question log moment id (left_of_search search looks) Ended (Finish (Replies 2 false [] None None))
+pub spent : (port : ℕ) (question : Question) (log : List Exchange) (moment : ℕ) (id : Stream) (looks : ℕ) (search : Search) → IsSearch port question log search → 64 ≤ search.path.sent
+    → Goes port question log moment (idle id) (left_of_search search looks) Ended (Finish (Replies 2 false [] None None))
 spent port question log moment id looks search s enough =
     failing_search port question log moment id looks search s (Fails.spent (omega (arith, s.path.counted, s.path.few)))
 
@@ -84,9 +96,9 @@ exhausted {port} {question} {log} search s none asked sought =
       sought = λ target may. s.base.sought target (subst (λ (xs : List Labels). Contains xs target) (sym (take_all search.base.sought search.base.servers.missing all_sought)) may.among) may;
     }
 
-pub giving_up : (port : ℕ) (question : Question) (log : List Exchange) (moment id looks : ℕ) (search : Search) → IsSearch port question log search → search.frames.items ≡ []
+pub giving_up : (port : ℕ) (question : Question) (log : List Exchange) (moment : ℕ) (id : Stream) (looks : ℕ) (search : Search) → IsSearch port question log search → search.frames.items ≡ []
     → length (hunt_of search).addrs.items ≤ (hunt_of search).asked → length (hunt_of search).servers.missing ≤ (hunt_of search).sought
-    → Goes port question log moment id (left_of_search search looks) Ended (Finish (Replies 2 false [] None None))
+    → Goes port question log moment (idle id) (left_of_search search looks) Ended (Finish (Replies 2 false [] None None))
 giving_up port question log moment id looks search s none asked sought =
     failing_search port question log moment id looks search s (Fails.exhausted (exhausted search s none asked sought))
 
@@ -101,10 +113,10 @@ hunt_known port log since (f ∷ fs) base last h all = all.0.hunt
 pub innermost_hunt : {port : ℕ} {question : Question} {log : List Exchange} (search : Search) → IsSearch port question log search → IsHunt port log (question_of search).owner (hunt_of search)
 innermost_hunt {port} {question} {log} search s = hunt_known port log s.since search.frames.items search.base search.path.last s.base.is_hunt s.frames
 
-pub sending : (port : ℕ) (question : Question) (log : List Exchange) (moment id left : ℕ) (search : Search) (server : Addr) (over : Over) (bytes : List ℕ) (rest : List Addr)
-    → IsSearch port question log search → search.path.sent < 64 → drop (hunt_of search).asked (hunt_of search).addrs.items ≡ server ∷ rest → left_of_sending search.path < left
-    → (drawn : ℕ) → id ≡ drawn → IsQuery bytes drawn (question_of search) → Goes port question log moment id left (Sent search server drawn over) (Send server over bytes)
-sending port question log moment id left search server over bytes rest s few next less drawn same query =
+pub sending : (port : ℕ) (question : Question) (log : List Exchange) (moment : ℕ) (id : Drawing) (left : ℕ) (search : Search) (server : Addr) (over : Over) (bytes : List ℕ) (rest : List Addr)
+    → IsSearch port question log search → search.path.sent < 64 → drop (hunt_of search).asked (hunt_of search).addrs.items ≡ server ∷ rest → MayGo log server (question_of search) over → left_of_sending search.path < left
+    → (drawn : ℕ) → id_drawn id.before ≡ drawn → id.after ≡ (next_u32 id.before).1 → IsQuery bytes drawn (question_of search) → Goes port question log moment id left (Sent search server drawn over) (Send server over bytes)
+sending port question log moment id left search server over bytes rest s few next goes less drawn same behind query =
     let hunt = innermost_hunt search s in
     let P : Addr → Type 0 = λ addr. Known port log (Serves (hunt_of search).servers.zone addr) in
     let all = All-drop P (hunt_of search).asked (hunt_of search).addrs.items (All-from_recursion P (hunt_of search).addrs.items hunt.serve) in
@@ -115,7 +127,9 @@ sending port question log moment id left search server over bytes rest s few nex
         query = subst (λ (n : ℕ). IsQuery bytes n (question_of search)) (sym same) query;
         serves = All-head P server rest (All-same P (server ∷ rest) (drop (hunt_of search).asked (hunt_of search).addrs.items) (sym next) all);
         within = hunt.zone;
+        goes = goes;
       };
+      drawn = behind;
       fits = record { is_search = s; some = few; rest = rest; next = next; bytes = bytes; wanted = refl; query = query };
       falls = less;
     }
@@ -123,33 +137,59 @@ sending port question log moment id left search server over bytes rest s few nex
 -- less is left where a query is out than where a search goes on
 pub sending_less : {port : ℕ} {question : Question} {log : List Exchange} (search : Search) (looks : ℕ) → IsSearch port question log search → search.path.sent < 64 → left_of_sending search.path < left_of_search search looks
 sending_less search looks s few =
-    sending_falls search.path search.path 1 0 2 0 0 looks no_depths (depths search.base search.frames.items) (omega (arith, few)) (sym (depths_nine search.base search.frames.items s.deep))
-    (path_digits search.path 1 2 0 no_depths (omega arith) (digits_replicated 9) (omega arith))
+    sending_falls search.path search.path 1 0 2 0 0 (hunts_left search) 0 looks refl (omega (arith, few)) (path_digits search.path 1 2 0 0 (omega arith) (omega arith) (omega arith))
 
 -- ---- a server is looked for
 
-pub seeking : (port : ℕ) (question : Question) (log : List Exchange) (moment id left : ℕ) (search : Search) (target : Labels) (stage : Stage) → IsSeeking port question log search target stage
-    → left_of_search search (looks_left stage) < left → Goes port question log moment id left (Seeking search target stage) (Book (Look moment (ask_at stage target)))
-seeking port question log moment id left search target stage s less = record { wants = refl; fits = (s, record { moment = moment; wanted = refl }); falls = less }
+-- Each of these looks may be wanted.
+may_look : (port : ℕ) (log : List Exchange) (moment : ℕ) (target : Labels) (then : Stage) → MayCall port log moment (Look moment (ask_at then target))
+may_look port log moment target stage.Address = refl
+may_look port log moment target stage.Alias = refl
+may_look port log moment target stage.Servers = refl
+
+pub seeking : (port : ℕ) (question : Question) (log : List Exchange) (moment : ℕ) (id : Stream) (left : ℕ) (search : Search) (target : Labels) (then : Stage) → IsSeeking port question log search target then
+    → left_of_seek search then < left → Goes port question log moment (idle id) left (Seeking search target then) (Book (Look moment (ask_at then target)))
+seeking port question log moment id left search target then s less = record { wants = may_look port log moment target then; drawn = refl; fits = (s, record { moment = moment; wanted = refl }); falls = less }
 
 -- ---- a search goes on
 
-pub from_more_ok : {E : Type 0} (port : ℕ) (question : Question) (log : List Exchange) (moment : ℕ) {drawn id left more : ℕ} (r : Result Turn E) → drawn ≡ id → left ≤ more
-    → IfOk r (λ t. Goes port question log moment drawn left t.phase t.want) → IfOk r (λ t. Goes port question log moment id more t.phase t.want)
-from_more_ok {E} port question log moment {drawn} {id} {left} {more} (Ok t) same h g = subst (λ (n : ℕ). Goes port question log moment n more t.phase t.want) same (from_more h g)
+pub from_more_ok : {E : Type 0} (port : ℕ) (question : Question) (log : List Exchange) (moment : ℕ) {ids id : Drawing} {left more : ℕ} (r : Result Turn E) → ids ≡ id → left ≤ more
+    → IfOk r (λ t. Goes port question log moment ids left t.phase t.want) → IfOk r (λ t. Goes port question log moment id more t.phase t.want)
+from_more_ok {E} port question log moment {ids} {id} {left} {more} (Ok t) same h g = subst (λ (d : Drawing). Goes port question log moment d more t.phase t.want) same (from_more h g)
 from_more_ok port question log moment (Err e) same h g = tt
 
 -- one look less is left
 pub looks_less : {port : ℕ} {question : Question} {log : List Exchange} (search : Search) (few many : ℕ) → few ≤ 4 → few < many → IsSearch port question log search → left_of_search search few < left_of_search search many
-looks_less search few many small less s = looks_fall search.path search.path 0 0 0 few many (depths search.base search.frames.items) refl refl less (search_digits search few small s)
+looks_less search few many small less s = looks_fall search.path search.path 0 0 0 (hunts_left search) few many refl refl refl less (search_digits search few small s)
 
 pub address_less : {port : ℕ} {question : Question} {log : List Exchange} (search : Search) (more : ℕ) → IsSearch port question log search → left_of_search search 4 ≤ more → left_of_search search 3 < more
-address_less search more s h = let less = looks_less search 3 4 (omega arith) (omega arith) s in omega (arith, less)
+address_less search more s h = less_than (looks_less search 3 4 (omega arith) (omega arith) s) h
 
 pub smaller_stays : {port : ℕ} {question : Question} {log : List Exchange} (before after : Search) (more : ℕ) → IsSearch port question log before → IsSmaller port question log (left_of_search before 0) after
     → left_of_search before 4 ≤ more → IsSearch port question log after × (left_of_search after 4 ≤ more)
-smaller_stays before after more s k h = let less = looks_less before 0 4 (omega arith) (omega arith) s in (k.is_search, let falls = k.falls in omega (arith, less, falls))
+smaller_stays before after more s k h = (k.is_search, few_is (less_than (less_than k.falls (few_is (looks_less before 0 4 (omega arith) (omega arith) s))) h))
 
 pub smaller_goes : {port : ℕ} {question : Question} {log : List Exchange} (before after : Search) (looks : ℕ) → 0 < looks → IsSearch port question log before → IsSmaller port question log (left_of_search before 0) after
     → left_of_search after 4 ≤ left_of_search before looks
-smaller_goes before after looks some s k = let less = looks_less before 0 looks (omega arith) some s in let falls = k.falls in omega (arith, less, falls)
+smaller_goes before after looks some s k = less_twice k.falls (looks_less before 0 looks (omega arith) some s)
+
+-- ---- a question for the address of a server is begun
+
+-- less is left where one was begun
+pub begun_less : {port : ℕ} {question : Question} {log : List Exchange} (before after : Search) → before.path.begun < 64 → after ≡ record before { path = record before.path { begun = before.path.begun + 1 } }
+    → IsSearch port question log before → left_of_seek after stage.Alias < left_of_search before 3
+begun_less before after some same s =
+    let one : after.path.begun ≡ before.path.begun + 1 = ap (λ (x : Search). x.path.begun) same in
+    begun_falls after.path before.path 0 0 2 0 0 (hunts_left before) 0 3 (omega (arith, one, some)) (path_digits after.path 0 2 0 0 (omega arith) (omega arith) (omega arith))
+
+-- its servers are looked for behind an alias of its name
+pub servers_less : {port : ℕ} {question : Question} {log : List Exchange} (search : Search) → IsSearch port question log search → left_of_seek search stage.Servers < left_of_seek search stage.Alias
+servers_less search s = coming_falls search.path search.path 0 0 1 2 0 0 0 0 refl refl refl (omega arith) (path_digits search.path 0 1 0 0 (omega arith) (omega arith) (omega arith))
+
+-- it is given up
+pub alias_goes : {port : ℕ} {question : Question} {log : List Exchange} (before after : Search) → IsSearch port question log before → IsSmaller port question log (left_of_search before 0) after
+    → left_of_search after 4 ≤ left_of_seek before stage.Alias
+alias_goes before after s k = less_twice k.falls (coming_falls before.path before.path 0 0 0 2 (hunts_left before) 0 0 0 refl refl refl (omega arith) (search_digits before 0 (omega arith) s))
+
+pub goes_on : {port : ℕ} {question : Question} {log : List Exchange} (after : Search) (more : ℕ) → IsSmaller port question log more after → left_of_search after 4 ≤ more
+goes_on after more k = few_is k.falls

@@ -1,15 +1,19 @@
 -- What came of a query.
-use Rattle.std.proofs.Common.{◌≡◌, ℕ, ◌+◌, ◌-◌, ◌^◌, ◌<◌, ◌≤◌, ◌⊎◌, inl, inr, List, [], ◌∷◌, ◌++◌, length, take, drop, get_or, slice_index_or, sym, ap, ◌∙◌, subst, refl, append_assoc, arith}
-use Rattle.std.specs.List.{AllByRecursion, Contains, remove, insert}
+use Rattle.std.proofs.Common.{◌≡◌, ℕ, ◌+◌, ◌<◌, ◌≤◌, inl, inr, List, [], ◌∷◌, ◌++◌, length, take, drop, get_or, slice_index_or, sym, ap, ◌∙◌, subst, refl, arith}
+use Rattle.std.specs.List.{Contains, remove, insert}
 use Rattle.std.proofs.lemmas.List.{length-drop, take_more, get_or-drop}
 use Rattle.std.proofs.lemmas.List.Elements.{Contains-push_cases, All-from_recursion, All-drop, All-same, All-head}
 use Rattle.dns_name.specs.Labels.{Labels}
 use Rattle.dns_text.specs.declared.addr.Addr.{Addr}
 use Rattle.dns_text.specs.declared.record.Question.{Question}
+use Rattle.dns_query.specs.Verdict.{IsSaid, Tells, IsTruncated}
+use Rattle.dns_wire.specs.declared.message.Message.{Message}
 use Rattle.dns_query.specs.declared.over.Over.{Over}
 use Rattle.dns_query.specs.declared.verdict.Heard.{Heard}
+use Rattle.dns_query.specs.declared.verdict.Says.{Says}
+use Rattle.dns_query.specs.declared.verdict.Says.TheVariants.{Answers, Denies, Refers}
 use Rattle.dns_query.specs.declared.verdict.Verdict.{Verdict}
-use Rattle.dns_query.specs.declared.verdict.Verdict.TheVariants.{Struck as StruckVerdict, Heard as HeardVerdict}
+use Rattle.dns_query.specs.declared.verdict.Verdict.TheVariants.{Struck as StruckVerdict, Cut, Heard as HeardVerdict}
 use Rattle.iterate.specs.declared.path.Path.{Path}
 use Rattle.iterate.specs.declared.phase.Phase.{Phase}
 use Rattle.iterate.specs.declared.phase.Phase.TheVariants.{Ended}
@@ -22,13 +26,14 @@ use Rattle.iterate.specs.declared.want.Want.{Want}
 use Rattle.iterate.specs.declared.want.Want.TheVariants.{Send}
 use Rattle.iterate.specs.Exchanges.{Exchange, exchange, Adds}
 use Rattle.iterate.specs.Judged.{IsJudged}
-use Rattle.iterate.specs.Known.{Known, Serves, Responds}
-use Rattle.iterate.specs.Measure.{top, depths, no_depths, left_in, left_of_search, left_of_sending, left_of_hearing}
-use Rattle.iterate.specs.Phase.{Goes, IsWaiting, IsHearing}
+use Rattle.iterate.specs.Known.{Known, Serves}
+use Rattle.iterate.specs.Measure.{top, hunts_left, left_in, left_of_search, left_of_sending, left_of_hearing}
+use Rattle.iterate.specs.Phase.{Goes, IsWaiting, IsHearing, Drawing}
 use Rattle.iterate.specs.Resolved.{CameUseless, Struck}
-use Rattle.iterate.specs.Searching.{IsPath, IsHunt, IsBase, IsFrame, AreFrames, IsSearch, hunt_behind, hunt_of, question_behind, question_of}
-use Rattle.iterate.proofs.Falling.{hearing_falls, sending_falls, ended_falls, path_digits, digits_replicated}
-use Rattle.iterate.proofs.Depths.{depths_nine, search_digits}
+use Rattle.iterate.specs.Searching.{IsPath, IsHunt, IsBase, AreFrames, IsSearch, hunt_behind, hunt_of, question_behind, question_of}
+use Rattle.iterate.specs.Wanted.{WasTruncated}
+use Rattle.iterate.proofs.Falling.{coming_falls, sending_falls, ended_falls, path_digits}
+use Rattle.iterate.proofs.Hunts.{search_digits}
 use Rattle.iterate.proofs.Asking.{innermost_hunt}
 use Rattle.iterate.proofs.PathTurns.{less_left}
 use Rattle.iterate.proofs.Growing.{path_sent, base_more, frames_more, happened_last, search_sent}
@@ -37,7 +42,7 @@ use Rattle.iterate.proofs.Growing.{path_sent, base_more, frames_more, happened_l
 pub below : (a b : ℕ) → a < b → a ≤ b
 below a b h = omega (arith, h)
 
-pub from_less : {port : ℕ} {question : Question} {log : List Exchange} {moment id left more : ℕ} {phase : Phase} {want : Want}
+pub from_less : {port : ℕ} {question : Question} {log : List Exchange} {moment : ℕ} {id : Drawing} {left more : ℕ} {phase : Phase} {want : Want}
     → left < more → Goes port question log moment id left phase want → Goes port question log moment id more phase want
 from_less {left = left} {more = more} h g = less_left (below left more h) g
 
@@ -97,6 +102,27 @@ vain {port} {question} {before} {log} {want} {searching} {server} {id} {over} {i
       };
       struck = record { over = over; bytes = w.bytes; id = id; input = input; asked = happened_last last; query = w.query; useless = no_use };
     })
+
+-- ---- truncated
+
+-- The server's response was truncated.
+pub was_truncated : {question : Question} {before log : List Exchange} {want : Want} {searching : Search} {server : Addr} {id : ℕ} {over : Over} (port : ℕ) (zone : Labels) (input : Input)
+    → (after : Search) → after ≡ counted searching → IsWaiting port question before want searching server id over → Adds before (exchange want input) log
+    → IsJudged port over zone id (question_of searching) input Cut → WasTruncated log server (question_of after)
+was_truncated {before = before} {log = log} {searching = searching} {server = server} {id = id} port zone (Came octets) after same w adds t =
+    let sent = subst (λ (o : Over). Adds before (exchange (Send server o w.bytes) (Came octets)) log) t.cut.udp (here_sent w adds) in
+    subst (λ (a : Search). WasTruncated log server (question_of a)) (sym same) (record {
+      bytes = w.bytes;
+      id = id;
+      octets = octets;
+      came = happened_last sent;
+      query = w.query;
+      truncated = subst (λ (o : Over). IsTruncated o id (question_of searching) octets) t.cut.udp t;
+    })
+was_truncated port zone Failed after same w adds t = let e : ⊥ = cc in absurd e
+was_truncated port zone Begin after same w adds t = absurd t
+was_truncated port zone (Reply reply) after same w adds t = absurd t
+was_truncated port zone (Refused fault) after same w adds t = absurd t
 
 -- ---- one server less is left
 
@@ -216,20 +242,20 @@ struck_inner {port} {question} {log} {server} {rest} searching after removed hun
 pub going_less : {port : ℕ} {question : Question} {log : List Exchange} (path : Path) (after : Search) → after.path ≡ record path { sent = path.sent + 1 } → IsSearch port question log after
     → left_of_search after 4 < left_of_sending path
 going_less path after same s =
-    hearing_falls after.path path 0 1 0 2 4 0 (depths after.base after.frames.items) no_depths (omega (arith, ap (λ (p : Path). p.sent) same)) (ap (λ (p : Path). length p.sets.items) same) (omega arith)
-    (depths_nine after.base after.frames.items s.deep) (search_digits after 4 (omega arith) s)
+    coming_falls after.path path 0 1 0 2 (hunts_left after) 0 4 0 (ap (λ (p : Path). p.begun) same) (omega (arith, ap (λ (p : Path). p.sent) same)) (ap (λ (p : Path). length p.sets.items) same) (omega arith)
+    (search_digits after 4 (omega arith) s)
 
 pub again_less : (path after : Path) → after ≡ record path { sent = path.sent + 1 } → after.sent < 64 → left_of_sending after < left_of_sending path
 again_less path after same few =
-    sending_falls after path 1 1 2 2 0 0 no_depths no_depths (omega (arith, ap (λ (p : Path). p.sent) same)) refl (path_digits after 1 2 0 no_depths (omega arith) (digits_replicated 9) (omega arith))
+    sending_falls after path 1 1 2 2 0 0 0 0 (ap (λ (p : Path). p.begun) same) (omega (arith, ap (λ (p : Path). p.sent) same)) (path_digits after 1 2 0 0 (omega arith) (omega arith) (omega arith))
 
 pub ended_less : {port : ℕ} {question : Question} {log : List Exchange} (path : Path) → IsPath port question log path → left_in Ended < left_of_sending path
-ended_less path p = ended_falls path 1 2 0 no_depths p.short refl
+ended_less path p = ended_falls path 1 2 0 0 p.short
 
 pub hearing_less : (path after : Path) (finds : ℕ) → after ≡ record path { sent = path.sent + 1 } → finds ≤ top → left_of_hearing after finds < left_of_sending path
 hearing_less path after finds same few =
-    hearing_falls after path 0 1 1 2 finds 0 no_depths no_depths (omega (arith, ap (λ (p : Path). p.sent) same)) (ap (λ (p : Path). length p.sets.items) same) (omega arith) refl
-    (path_digits after 0 1 finds no_depths (omega arith) (digits_replicated 9) few)
+    coming_falls after path 0 1 1 2 0 0 finds 0 (ap (λ (p : Path). p.begun) same) (omega (arith, ap (λ (p : Path). p.sent) same)) (ap (λ (p : Path). length p.sets.items) same) (omega arith)
+    (path_digits after 0 1 0 finds (omega arith) (omega arith) few)
 
 -- ---- a response is heard
 
@@ -239,6 +265,13 @@ next_serves {port} {question} {log} {server} {rest} searching s next =
     let P : Addr → Type 0 = λ addr. Known port log (Serves (hunt_of searching).servers.zone addr) in
     let all = All-drop P (hunt_of searching).asked (hunt_of searching).addrs.items (All-from_recursion P (hunt_of searching).addrs.items (innermost_hunt searching s).serve) in
     All-head P server rest (All-same P (server ∷ rest) (drop (hunt_of searching).asked (hunt_of searching).addrs.items) (sym next) all)
+
+-- What it says tells something of the question.
+tells : {port : ℕ} {zone : Labels} {question : Question} {message : Message} (says : Says) → IsSaid port zone question message says
+    → Tells port zone question message
+tells Answers said = inl said
+tells (Denies rcode negative) said = inr (inl said.0.authoritative)
+tells (Refers referral) said = inr (inr (referral, said))
 
 pub hearing : (port : ℕ) (question : Question) (before log : List Exchange) (want : Want) (searching : Search) (server : Addr) (id : ℕ) (over : Over) (input : Input) (after : Search) (heard : Heard)
     → after ≡ counted searching → IsWaiting port question before want searching server id over → Adds before (exchange want input) log
@@ -257,8 +290,7 @@ hearing port question before log want searching server id over (Came octets) aft
       octets = octets;
       came = here;
       split = here.adds;
-      responds = Known.responded here (next_serves searching w.is_search w.next) w.query (innermost_hunt searching w.is_search).zone h.response h.whole;
-      whole = h.whole;
+      responds = Known.responded here (next_serves searching w.is_search w.next) w.query (innermost_hunt searching w.is_search).zone h.response (record { whole = h.whole; says = tells heard.says h.says });
       finds = h.finds;
       passing = h.passing;
       says = h.says;

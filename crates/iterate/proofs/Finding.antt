@@ -1,13 +1,14 @@
 -- Servers without an address are looked for, and servers are named.
-use Rattle.std.proofs.Common.{◌≡◌, ℕ, ◌+◌, ◌<◌, ◌≤◌, List, [], ◌∷◌, ◌++◌, length, take, drop, false, None, sym, ap, ◌∙◌, subst, refl, arith}
+use Rattle.std.proofs.Common.{◌≡◌, ℕ, List, [], ◌∷◌, ◌++◌, take, drop, false, None, sym, subst, refl, arith}
 use Rattle.std.specs.List.{AllByRecursion, Contains}
 use Rattle.std.proofs.lemmas.List.{take-append-drop}
 use Rattle.std.proofs.lemmas.List.Elements.{Contains-append_right}
-use Rattle.dns_name.specs.Labels.{Labels, IsAtOrBelow}
+use Rattle.dns_name.specs.Labels.{Labels}
 use Rattle.dns_text.specs.declared.addr.Addr.{Addr}
 use Rattle.dns_text.specs.declared.record.Question.{Question}
 use Rattle.dns_query.specs.Query.{address_question}
 use Rattle.local_zone.specs.declared.local.Local.TheVariants as local
+use Rattle.rand_core.specs.Stream.{Stream}
 use Rattle.undo_book.specs.declared.event.Ask.{Ask}
 use Rattle.undo_book.specs.declared.event.Ask.TheVariants.{Answer as Asked, Servers as ServersFor}
 use Rattle.undo_book.specs.declared.event.Event.TheVariants.{Look}
@@ -27,16 +28,16 @@ use Rattle.iterate.specs.declared.want.Input.TheVariants.{Reply}
 use Rattle.iterate.specs.declared.want.Want.TheVariants.{Book, Finish}
 use Rattle.iterate.specs.Exchanges.{Exchange, exchange, Adds}
 use Rattle.iterate.specs.Hunting.{AllServe, IsTried, IsAddressSeen}
-use Rattle.iterate.specs.Known.{Known, Had, Listed, Serves}
+use Rattle.iterate.specs.Known.{Known, Had, Listed}
 use Rattle.iterate.specs.Looked.{IsSetSeen}
-use Rattle.iterate.specs.Measure.{no_depths, left_of_path, left_of_search}
-use Rattle.iterate.specs.Phase.{Goes, IsSeeking, IsSought, ask_at}
+use Rattle.iterate.specs.Measure.{top, left_of_path, left_of_seek}
+use Rattle.iterate.specs.Phase.{Goes, IsSeeking, IsSought, ask_at, idle}
 use Rattle.iterate.specs.Resolved.{Fails, ReachedFor, Sought}
-use Rattle.iterate.specs.Searching.{IsPath, IsSearch, IsNext, hunt_of}
+use Rattle.iterate.specs.Searching.{IsPath, IsSearch, hunt_of}
 use Rattle.iterate.specs.Shown.{IsReplyTo, IsMisanswered}
 use Rattle.iterate.proofs.Growing.{happened_last, path_more, base_more, frames_more, search_looked, since_more, sought_more}
 use Rattle.iterate.proofs.Falling.{ended_falls}
-use Rattle.iterate.proofs.Asking.{failing, failing_search, innermost_hunt}
+use Rattle.iterate.proofs.Asking.{failing, ended_seek, innermost_hunt}
 
 -- ---- servers are named
 
@@ -52,19 +53,20 @@ pub listed_named : (port : ℕ) (before log : List Exchange) (m : ℕ) (name : L
     → Adds before (exchange (Book (Look m (ServersFor name))) (Reply (Seen (SeenServers list)))) log → Known port log (Listed list)
 listed_named port before log m name list a = Known.named a
 
-pub failing_listing : (port m : ℕ) (question : Question) (before log : List Exchange) (moment id : ℕ) (path : Path) (input : Input) → IsPath port question before path
+pub failing_listing : (port m : ℕ) (question : Question) (before log : List Exchange) (moment : ℕ) (id : Stream) (path : Path) (input : Input) → IsPath port question before path
     → Adds before (exchange (Book (Look m (ServersFor path.last.owner))) input) log → IsMisanswered (Look m (ServersFor path.last.owner)) input
-    → Goes port question log moment id (left_of_path path 1) Ended (Finish (Replies 2 false [] None None))
+    → Goes port question log moment (idle id) (left_of_path path 1) Ended (Finish (Replies 2 false [] None None))
 failing_listing port m question before log moment id path input p a bad =
-    failing port question log moment id (left_of_path path 1) path (ended_falls path 0 0 1 no_depths p.short refl) (path_more p a refl) (Fails.misanswered (happened_last a) bad)
+    failing port question log moment id (left_of_path path 1) path (ended_falls path 0 0 top 1 p.short) (path_more p a refl) (Fails.misanswered (happened_last a) bad)
 
 -- ---- a look for a server without an address
 
-pub failing_seeking : (port m : ℕ) (question : Question) (before log : List Exchange) (moment id looks : ℕ) (search : Search) (ask : Ask) (input : Input) → IsSearch port question before search
+pub failing_seeking : (port m : ℕ) (question : Question) (before log : List Exchange) (moment : ℕ) (id : Stream) (then : Stage) (search : Search) (ask : Ask) (input : Input) → IsSearch port question before search
     → Adds before (exchange (Book (Look m ask)) input) log → IsMisanswered (Look m ask) input
-    → Goes port question log moment id (left_of_search search looks) Ended (Finish (Replies 2 false [] None None))
-failing_seeking port m question before log moment id looks search ask input s a bad =
-    failing_search port question log moment id looks search (search_looked s a refl) (Fails.misanswered (happened_last a) bad)
+    → Goes port question log moment (idle id) (left_of_seek search then) Ended (Finish (Replies 2 false [] None None))
+failing_seeking port m question before log moment id then search ask input s a bad =
+    let after = search_looked s a refl in
+    failing port question log moment id (left_of_seek search then) search.path (ended_seek search then after) after.path (Fails.misanswered (happened_last a) bad)
 
 -- a search behind a look
 abbrev after_look : {port : ℕ} {question : Question} {before log : List Exchange} (m : ℕ) (ask : Ask) (input : Input) (search : Search) → IsSearch port question before search
@@ -107,6 +109,18 @@ seeking_more port m question before log search target stage then input k a = rec
   next = k.next;
   sought = is_sought then _ target (sought_then m k.is_search.since target stage input k.sought);
 }
+
+-- One question more is begun.
+abbrev begun_path : {port : ℕ} {question : Question} {log : List Exchange} (path : Path) (n : ℕ) → IsPath port question log path → IsPath port question log (record path { begun = n })
+begun_path path n p = record { began = p.began; chain = p.chain; kind = p.kind; short = p.short; counted = p.counted; few = p.few }
+
+abbrev begun_search : {port : ℕ} {question : Question} {log : List Exchange} (search : Search) (n : ℕ) → IsSearch port question log search
+    → IsSearch port question log (record search { path = record search.path { begun = n } })
+begun_search search n s = record { path = begun_path search.path n s.path; since = s.since; base = s.base; frames = s.frames; deep = s.deep }
+
+pub begun_seeking : (port : ℕ) (question : Question) (log : List Exchange) (search : Search) (target : Labels) (stage : Stage) (n : ℕ) → IsSeeking port question log search target stage
+    → IsSeeking port question log (record search { path = record search.path { begun = n } }) target stage
+begun_seeking port question log search target stage n k = record { is_search = begun_search search n k.is_search; shallow = k.shallow; next = k.next; sought = k.sought }
 
 -- ---- its addresses
 

@@ -1,17 +1,18 @@
 -- An answer that resolves can be written: the data of what it tells have their forms.
-use Rattle.std.proofs.Common.{◌≡◌, ℕ, List, [], ◌∷◌, ◌++◌, map, sym, ap, ◌∙◌, subst, refl, Option, Some, None, Bool}
+use Rattle.std.proofs.Common.{ℕ, List, [], ◌∷◌, ◌++◌, map, sym, subst, Option, Some, None, Bool, inl, inr}
 use Rattle.std.specs.List.{AllByRecursion, flat_map}
 use Rattle.std.specs.Option.{option_map, option_to_list}
 use Rattle.std.proofs.lemmas.Grind.{flat_map-append}
 use Rattle.std.proofs.lemmas.List.{append-nil}
 use Rattle.dns_name.specs.Labels.{Labels}
 use Rattle.dns_name.specs.ListLaws.{all-append}
+use Rattle.dns_query.specs.Query.{alias_question}
 use Rattle.dns_text.specs.Data.{HasForm}
 use Rattle.dns_text.specs.declared.record.Data.{Data}
 use Rattle.dns_text.specs.declared.record.Question.{Question}
 use Rattle.dns_text.specs.declared.record.Record.{Record}
 use Rattle.harvest.specs.declared.passing.PassingSet.{PassingSet}
-use Rattle.ranked.specs.Body.{HasForms, data_of, IsSoa}
+use Rattle.ranked.specs.Body.{HasForms, data_of}
 use Rattle.ranked.specs.declared.find.Body.{Body}
 use Rattle.ranked.specs.declared.find.Body.TheVariants.{Set, NoData, NoName}
 use Rattle.ranked.specs.declared.find.Find.{Find}
@@ -26,8 +27,8 @@ use Rattle.iterate.specs.declared.answer.Told.{Told}
 use Rattle.iterate.specs.declared.answer.Told.TheVariants.{Local as LocalTold}
 use Rattle.iterate.specs.Exchanges.{Exchange}
 use Rattle.iterate.specs.Known.{Fact, Had, Listed, Serves, Responds, Known}
-use Rattle.iterate.specs.Resolved.{Chain, IsDenied, ResolvedAs, IsResolved, question_at}
-use Rattle.iterate.specs.Shown.{IsLocalRecord, IsSoaFormed, Ends}
+use Rattle.iterate.specs.Resolved.{Chain, ResolvedAs, IsResolved}
+use Rattle.iterate.specs.Shown.{IsLocalRecord, IsLocalSet, IsSoaFormed, Ends}
 use Rattle.iterate.specs.Told.{IsFormed, IsFit, records_of_find, records_of_passing, records_told, records_of_soa, kinds_of, soa_in, soa_whole, told_of}
 
 -- ---- sets
@@ -55,6 +56,12 @@ local_formed : (question : Question) (records : List Record) → AllByRecursion 
 local_formed question [] all = tt
 local_formed question (r ∷ records) all = (all.0.formed, local_formed question records all.1)
 
+local_set_formed : {question : Question} {records : List Record} → IsLocalSet question records → AllByRecursion IsFormed records
+local_set_formed {question} {records} is = elim is.are [
+  | inl asked ↦ local_formed question records asked
+  | inr alias ↦ local_formed (alias_question question.owner) records alias
+]
+
 -- ---- what is known, and the chain of aliases
 
 IsFormedFact : Fact → Type 0
@@ -67,7 +74,7 @@ known_formed : {port : ℕ} {log : List Exchange} {fact : Fact} → Known port l
 unfolding IsFormedFact
 known_formed (Known.kept a known) = known_formed known
 known_formed (Known.looked {shown = shown} a is) = find_formed shown.left shown.body
-known_formed (Known.local {question = question} {records = records} a is) = local_formed question records is.are
+known_formed (Known.local a is) = local_set_formed is
 known_formed (Known.named a) = tt
 known_formed (Known.referred known refers) = tt
 known_formed (Known.addressed known is) = tt
@@ -119,21 +126,22 @@ ends_formed : {question : Question} {seen : SeenValue} {rcode : ℕ} {last : Opt
 ends_formed (Ends.held {shown = shown} is) = (last_formed (told_of shown) (find_formed shown.left shown.body), tt)
 ends_formed (Ends.held_no_data {shown = shown} is body) = (tt, find_soa_formed shown.left shown.body)
 ends_formed (Ends.held_no_name {shown = shown} is body) = (tt, find_soa_formed shown.left shown.body)
-ends_formed {question = question} (Ends.local_set {records = records} is) = (last_formed (LocalTold records) (local_formed question records is.are), tt)
+ends_formed (Ends.local_set {records = records} is) = (last_formed (LocalTold records) (local_set_formed is), tt)
 ends_formed (Ends.local_no_data {soa = soa} formed) = (tt, local_soa_formed soa formed)
 ends_formed (Ends.local_no_name {soa = soa} formed) = (tt, local_soa_formed soa formed)
 
-resolved_formed : {port : ℕ} {question : Question} {log : List Exchange} {rcode : ℕ} {aa : Bool} {sets : List Told} {authority : Option Soa} → ResolvedAs port question log rcode aa sets authority
-    → AllByRecursion IsFormed (flat_map records_told sets) × AllByRecursion IsFormed (flat_map records_of_soa (option_to_list authority))
-resolved_formed (ResolvedAs.at_once began ends are) =
-    let formed = ends_formed ends in (subst (λ (sets : List Told). AllByRecursion IsFormed (flat_map records_told sets)) (sym are) formed.0, formed.1)
-resolved_formed (ResolvedAs.looked {front = front} {last = last} began chain few happened ends are) =
-    let formed = ends_formed ends in
-    (subst (λ (sets : List Told). AllByRecursion IsFormed (flat_map records_told sets)) (sym are) (joined_formed front (option_to_list last) (chain_formed chain) formed.0), formed.1)
-resolved_formed (ResolvedAs.found {front = front} {told = told} began chain few known are) =
-    (subst (λ (sets : List Told). AllByRecursion IsFormed (flat_map records_told sets)) (sym are) (joined_formed front (told ∷ []) (chain_formed chain) (last_formed told (told_formed known))), tt)
-resolved_formed (ResolvedAs.denied began chain few is) =
-    (chain_formed chain, subst (λ (authority : Option Soa). AllByRecursion IsFormed (flat_map records_of_soa (option_to_list authority))) (sym is.soa) (negative_formed is.negative))
+resolved_formed : {port : ℕ} {question : Question} {log : List Exchange} {rcode : ℕ} {aa : Bool} {aliases : List Told} {last : Option Told} {authority : Option Soa}
+    → ResolvedAs port question log rcode aa aliases last authority
+    → AllByRecursion IsFormed (flat_map records_told (aliases ++ option_to_list last)) × AllByRecursion IsFormed (flat_map records_of_soa (option_to_list authority))
+resolved_formed (ResolvedAs.at_once began ends) = ends_formed ends
+resolved_formed (ResolvedAs.looked {front = front} {last = last} began chain few happened ends) =
+    let formed = ends_formed ends in (joined_formed front (option_to_list last) (chain_formed chain) formed.0, formed.1)
+resolved_formed (ResolvedAs.found {front = front} {told = told} began chain few known) =
+    (joined_formed front (told ∷ []) (chain_formed chain) (last_formed told (told_formed known)), tt)
+resolved_formed (ResolvedAs.denied {front = front} began chain few is) = (
+  joined_formed front [] (chain_formed chain) tt,
+  subst (λ (authority : Option Soa). AllByRecursion IsFormed (flat_map records_of_soa (option_to_list authority))) (sym is.soa) (negative_formed is.negative),
+)
 resolved_formed (ResolvedAs.refused began) = (tt, tt)
 resolved_formed (ResolvedAs.failed began chain fails) = (tt, tt)
 

@@ -17,14 +17,14 @@ use Rattle.iterate.specs.declared.phase.Phase.TheVariants.{Ended}
 use Rattle.iterate.specs.Exchanges.{Exchange}
 use Rattle.iterate.specs.Following.{IsHarvestOf, told_by}
 use Rattle.iterate.specs.Known.{Known, Had}
-use Rattle.iterate.specs.Measure.{left_in, left_of_path, left_of_hearing, no_depths}
+use Rattle.iterate.specs.Measure.{left_in, left_of_path, left_of_hearing, top}
 use Rattle.iterate.specs.Searching.{IsPath, IsLonger}
-use Rattle.iterate.proofs.Falling.{hearing_falls}
+use Rattle.iterate.proofs.Falling.{few_is, less_than, coming_falls}
 use Rattle.iterate.proofs.PathTurns.{path_looks, longer_less, path_some}
 
 -- Less is left than of a response.
 pub hearing_less : (path : Path) → left_of_path path 4 < left_of_hearing path 1
-hearing_less path = hearing_falls path path 0 0 0 1 4 1 no_depths no_depths refl refl (omega arith) refl (path_looks path 4 (omega arith))
+hearing_less path = coming_falls path path 0 0 0 1 top 0 4 1 refl refl refl (omega arith) (path_looks path 4 (omega arith))
 
 -- What a harvest has of a question is known.
 pub harvest_known : {port : ℕ} {log : List Exchange} (harvest : Harvest) (question : Question) (set : Believed) → IsHarvestOf port log harvest
@@ -34,13 +34,10 @@ harvest_known harvest question (Find find) h first =
 harvest_known harvest question (Passing set) h first =
     Known.passed h.responds (subst (λ (xs : List Set). Contains xs (set_of set.now)) h.passing (first_contained _ _ _ first.1)) first.1.holds
 
-less_than : {a b c : ℕ} → a < b → b ≤ c → a < c
-less_than less most = omega (arith, less, most)
-
 -- Less is left behind an alias.
 pub longer_within : {left : ℕ} (path next : Path) (told : Told) (to : Labels) → IsLonger path told to next → left_of_path path 4 ≤ left → left_of_path next 4 ≤ left
 longer_within path next told to longer most =
-    let less = less_than (longer_less path next told to 4 4 longer (omega arith)) most in omega (arith, less)
+    few_is (less_than (longer_less path next told to 4 4 longer (omega arith)) most)
 
 pub path_within : {port : ℕ} {question : Question} {log : List Exchange} {path : Path} {left : ℕ} → IsPath port question log path → left_of_path path 4 ≤ left → left_in Ended < left
 path_within p most = less_than (path_some 4 p) most

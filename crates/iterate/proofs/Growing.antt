@@ -1,7 +1,7 @@
 -- What holds of some exchanges holds with one more.
-use Rattle.std.proofs.Common.{◌≡◌, ℕ, ◌+◌, ◌<◌, ◌≤◌, List, [], ◌∷◌, ◌++◌, length, sym, ap, ◌∙◌, subst, refl, append_assoc, arith, true, false}
-use Rattle.std.specs.List.{AllByRecursion, Contains}
-use Rattle.std.specs.List.{count_by, sum_by}
+use Rattle.std.proofs.Common.{◌≡◌, ℕ, ◌+◌, ◌<◌, List, [], ◌∷◌, ◌++◌, sym, ap, ◌∙◌, subst, refl, append_assoc, arith, true, false}
+use Rattle.std.specs.List.{AllByRecursion}
+use Rattle.std.specs.List.{count_by}
 use Rattle.std.proofs.lemmas.List.Sums.{sum_by-append}
 use Rattle.dns_name.specs.Labels.{Labels}
 use Rattle.dns_text.specs.declared.addr.Addr.{Addr}
@@ -14,8 +14,8 @@ use Rattle.iterate.specs.declared.search.Hunt.{Hunt}
 use Rattle.iterate.specs.declared.search.Search.{Search}
 use Rattle.iterate.specs.Exchanges.{Exchange, Adds, Happened, is_send, count_sends}
 use Rattle.iterate.specs.Known.{Known, Serves}
-use Rattle.iterate.specs.Resolved.{BeganUnanswered, Began, Chain, ReachedFor, Struck, Sought, MaySeek}
-use Rattle.iterate.specs.Searching.{IsPath, IsHunt, IsBase, IsFrame, AreFrames, IsSearch, hunt_behind}
+use Rattle.iterate.specs.Resolved.{BeganUnanswered, Chain, ReachedFor, Struck, Sought}
+use Rattle.iterate.specs.Searching.{IsPath, IsHunt, IsBase, AreFrames, IsSearch}
 
 -- ---- exchanges
 

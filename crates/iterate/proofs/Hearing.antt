@@ -1,5 +1,5 @@
 -- What a response that was heard gives.
-use Rattle.std.proofs.Common.{◌≡◌, ℕ, ◌+◌, ◌-◌, ◌<◌, ◌≤◌, ◌⊎◌, inl, inr, List, [], ◌∷◌, ◌++◌, length, map, drop, get_or, slice_index_or, true, false, None, Option, sym, ap, ◌∙◌, subst, refl, append_assoc, arith}
+use Rattle.std.proofs.Common.{◌≡◌, ℕ, ◌+◌, ◌-◌, ◌<◌, ◌≤◌, ◌⊎◌, inl, inr, List, [], ◌∷◌, ◌++◌, length, map, drop, get_or, slice_index_or, false, None, Option, sym, ap, ◌∙◌, subst, refl, append_assoc, arith}
 use Rattle.std.specs.List.{AllByRecursion, Contains}
 use Rattle.std.specs.Option.{option_map}
 use Rattle.std.proofs.lemmas.List.{append-nil, length-map, get_or-map, length-drop, get_or-drop}
@@ -7,17 +7,15 @@ use Rattle.dns_name.specs.Labels.{Labels, IsAtOrBelow}
 use Rattle.dns_name.specs.ListLaws.{all_weaker}
 use Rattle.dns_text.specs.declared.addr.Addr.{Addr}
 use Rattle.dns_text.specs.declared.record.Question.{Question}
-use Rattle.dns_wire.specs.declared.message.Message.{Message}
-use Rattle.dns_query.specs.Believed.{HasSet}
-use Rattle.dns_query.specs.Query.{address_question, alias_question}
+use Rattle.dns_query.specs.Query.{address_question}
 use Rattle.dns_query.specs.Referral.{IsReferral}
-use Rattle.dns_query.specs.Verdict.{IsSaid, IsUseful, IsAnswer, IsDenial}
+use Rattle.dns_query.specs.Verdict.{IsSaid}
 use Rattle.dns_query.specs.declared.verdict.Heard.{Heard}
 use Rattle.dns_query.specs.declared.verdict.Referral.{Referral}
 use Rattle.dns_query.specs.declared.verdict.Says.{Says}
-use Rattle.dns_query.specs.declared.verdict.Says.TheVariants.{Answers, Denies, Refers}
-use Rattle.harvest.specs.Harvest.{finds_in, passing_in}
-use Rattle.neg_rule.specs.Negative.{Said, said_by, negative_in}
+use Rattle.dns_query.specs.declared.verdict.Says.TheVariants.{Denies, Refers}
+use Rattle.neg_rule.specs.Negative.{Said, said_by}
+use Rattle.rand_core.specs.Stream.{Stream}
 use Rattle.ranked.specs.declared.find.Find.{Find}
 use Rattle.undo_book.specs.declared.event.Event.TheVariants.{Admit}
 use Rattle.undo_book.specs.declared.servers.Servers.{Servers}
@@ -28,15 +26,14 @@ use Rattle.iterate.specs.declared.search.Frame.{Frame}
 use Rattle.iterate.specs.declared.search.Hunt.{Hunt}
 use Rattle.iterate.specs.declared.search.Search.{Search}
 use Rattle.iterate.specs.declared.want.Input.{Input}
-use Rattle.iterate.specs.declared.want.Want.{Want}
 use Rattle.iterate.specs.declared.want.Want.TheVariants.{Book, Finish}
 use Rattle.iterate.specs.Exchanges.{Exchange, exchange, Adds, is_send}
 use Rattle.iterate.specs.Judged.{IsAddressOf}
 use Rattle.iterate.specs.Following.{IsHarvestOf}
 use Rattle.iterate.specs.declared.answer.Told.{Told}
 use Rattle.iterate.specs.Known.{Fact, Known, Had, Listed, Serves, Responds, servers_referred}
-use Rattle.iterate.specs.Measure.{top, depths, no_depths, left_in, left_of_search, left_of_hearing, left_of_path}
-use Rattle.iterate.specs.Phase.{Goes, IsHearing}
+use Rattle.iterate.specs.Measure.{top, hunts_left, left_in, left_of_search, left_of_hearing, left_of_path}
+use Rattle.iterate.specs.Phase.{Goes, IsHearing, idle}
 use Rattle.iterate.specs.Resolved.{IsDenied, Fails, ReachedFor}
 use Rattle.iterate.specs.Searching.{IsPath, IsNext, IsHunt, AreFrames, IsSearch, hunt_behind, hunt_of, question_behind, question_of}
 use Rattle.iterate.specs.Shown.{IsMisanswered}
@@ -44,8 +41,8 @@ use Rattle.iterate.specs.Told.{soa_whole, IsAddressIn}
 use Rattle.iterate.specs.Wanted.{IsHarvested}
 use Rattle.iterate.proofs.PathTurns.{failing}
 use Rattle.iterate.proofs.Coming.{inner, below}
-use Rattle.iterate.proofs.Depths.{depths_nine, search_digits}
-use Rattle.iterate.proofs.Falling.{hearing_falls, looks_fall, ended_falls, path_digits, digits_replicated}
+use Rattle.iterate.proofs.Falling.{few_is, coming_falls, looks_fall, ended_falls, path_digits}
+use Rattle.iterate.proofs.Hunts.{search_digits}
 use Rattle.iterate.proofs.Growing.{path_more, search_looked, happened_last}
 
 -- ---- what is known
@@ -77,17 +74,10 @@ hearing_more {y = y} h a is = record {
   came = h.came;
   split = a.adds ∙ ap (λ (xs : List Exchange). xs ++ y ∷ []) h.split ∙ append_assoc h.before (_ ∷ h.since) (y ∷ []);
   responds = h.responds;
-  whole = h.whole;
   finds = h.finds;
   passing = h.passing;
   says = h.says;
 }
-
-useful : {port : ℕ} {zone : Labels} {question : Question} {message : Message} (says : Says) → IsSaid port zone question message says
-    → IsAnswer zone question message ⊎ ((message.head.aa ≡ true) ⊎ ((referral : Referral) × IsReferral port zone question message referral))
-useful Answers said = inl said
-useful (Denies rcode negative) said = inr (inl said.0.authoritative)
-useful (Refers referral) said = inr (inr (referral, said))
 
 mapped : (finds : List Find) (find : Find) → Contains finds find → Contains (map said_by finds) (said_by find)
 mapped finds find among =
@@ -100,45 +90,54 @@ harvested {searching = searching} {heard = heard} h find among = record {
   question = question_of searching;
   message = h.message;
   responds = responding h;
-  useful = record { whole = h.whole; says = useful heard.says h.says };
   among = subst (λ (xs : List Said). Contains xs (said_by find)) h.finds (mapped heard.harvest.finds find among);
 }
 
 -- ---- the book
 
-pub admitting : (port : ℕ) (question : Question) (log : List Exchange) (moment id left : ℕ) (searching : Search) (heard : Heard) (next : ℕ) (find : Find) → IsHearing port question log searching heard
+pub admitting : (port : ℕ) (question : Question) (log : List Exchange) (moment : ℕ) (id : Stream) (left : ℕ) (searching : Search) (heard : Heard) (next : ℕ) (find : Find) → IsHearing port question log searching heard
     → next < length heard.harvest.finds → Contains heard.harvest.finds find → left_of_hearing searching.path (length heard.harvest.finds - next) < left
-    → Goes port question log moment id left (Admitting searching heard next) (Book (Admit moment find))
+    → Goes port question log moment (idle id) left (Admitting searching heard next) (Book (Admit moment find))
 admitting port question log moment id left searching heard next find h within among less = record {
   wants = (refl, harvested h find among);
+  drawn = refl;
   fits = (h, within, record { moment = moment; find = find; wanted = refl });
   falls = less;
 }
 
 pub ended_hearing : {port : ℕ} {question : Question} {log : List Exchange} (path : Path) (finds : ℕ) → IsPath port question log path → left_in Ended < left_of_hearing path finds
-ended_hearing path finds p = ended_falls path 0 1 finds no_depths p.short refl
+ended_hearing path finds p = ended_falls path 0 1 0 finds p.short
 
 -- A book replied to an admission what it may not.
-pub failing_admission : (port : ℕ) (question : Question) (before log : List Exchange) (m moment id finds : ℕ) (find : Find) (input : Input) (path : Path) → IsPath port question before path
+pub failing_admission : (port : ℕ) (question : Question) (before log : List Exchange) (m moment : ℕ) (id : Stream) (finds : ℕ) (find : Find) (input : Input) (path : Path) → IsPath port question before path
     → Adds before (exchange (Book (Admit m find)) input) log → IsMisanswered (Admit m find) input
-    → Goes port question log moment id (left_of_hearing path finds) Ended (Finish (Replies 2 false [] None None))
+    → Goes port question log moment (idle id) (left_of_hearing path finds) Ended (Finish (Replies 2 false [] None None))
 failing_admission port question before log m moment id finds find input path p adds bad =
     let later = path_more p adds refl in
     failing path (ended_hearing path finds later) later (Fails.misanswered {event = Admit m find} {input = input} (happened_last adds) bad)
 
 -- One find less is left.
 pub find_less : (path : Path) (finds more : ℕ) → finds ≤ top → finds < more → left_of_hearing path finds < left_of_hearing path more
-find_less path finds more few less = looks_fall path path 0 0 1 finds more no_depths refl refl less (path_digits path 0 1 finds no_depths (omega arith) (digits_replicated 9) few)
+find_less path finds more few less = looks_fall path path 0 0 1 0 finds more refl refl refl less (path_digits path 0 1 0 finds (omega arith) (omega arith) few)
+
+one_or_more : (n : ℕ) → 0 < n → (n ≡ 1) ⊎ (1 < n)
+one_or_more n some = grind (arith, some)
+
+at_most : (n : ℕ) → n ≤ n
+at_most n = omega arith
 
 pub finds_at_least : (path : Path) (finds : ℕ) → 0 < finds → left_of_hearing path 1 ≤ left_of_hearing path finds
-finds_at_least path finds some = omega (arith, some)
+finds_at_least path finds some = elim (one_or_more finds some) [
+  | inl one ↦ subst (λ (n : ℕ). left_of_hearing path 1 ≤ left_of_hearing path n) (sym one) (at_most (left_of_hearing path 1))
+  | inr more ↦ few_is (find_less path 1 finds (omega arith) more)
+]
 
 -- Less is left where the search goes on.
 pub concluding_less : {port : ℕ} {question : Question} {log : List Exchange} (path : Path) (after : Search) → after.path ≡ path → IsSearch port question log after
     → left_of_search after 4 < left_of_hearing path 1
 concluding_less path after same s =
-    hearing_falls after.path path 0 0 0 1 4 1 (depths after.base after.frames.items) no_depths (ap (λ (p : Path). 64 - (p.sent + 0)) same) (ap (λ (p : Path). length p.sets.items) same) (omega arith)
-    (depths_nine after.base after.frames.items s.deep) (search_digits after 4 (omega arith) s)
+    coming_falls after.path path 0 0 0 1 (hunts_left after) 0 4 1 (ap (λ (p : Path). p.begun) same) (ap (λ (p : Path). 64 - (p.sent + 0)) same) (ap (λ (p : Path). length p.sets.items) same) (omega arith)
+    (search_digits after 4 (omega arith) s)
 
 -- ---- a response to the last question itself
 
@@ -239,4 +238,4 @@ addresses_known port log question told target had same addrs all =
 -- less is left where the last name is looked at
 pub following_less : (path : Path) → left_of_path path 4 ≤ left_of_hearing path 1
 following_less path =
-    below _ _ (hearing_falls path path 0 0 0 1 4 1 no_depths no_depths refl refl (omega arith) refl (path_digits path 0 0 4 no_depths (omega arith) (digits_replicated 9) (omega arith)))
+    below _ _ (coming_falls path path 0 0 0 1 top 0 4 1 refl refl refl (omega arith) (path_digits path 0 0 top 4 (omega arith) (omega arith) (omega arith)))

@@ -7,7 +7,7 @@ pub mod DueLaws
 pub mod Coming
 pub mod Hearing
 pub mod Stepping
-pub mod Depths
+pub mod Hunts
 pub mod Asking
 pub mod Supplying
 pub mod Finding

@@ -1,12 +1,13 @@
 -- Steps of a path that are well made.
 use Rattle.std.proofs.Common.{◌≡◌, ℕ, ◌+◌, ◌-◌, ◌<◌, ◌≤◌, List, [], ◌∷◌, ◌++◌, length, sym, ap, ◌∙◌, subst, refl, arith, true, false, Option, Some, None}
-use Rattle.std.proofs.lemmas.List.{length-append, append-nil}
+use Rattle.std.proofs.lemmas.List.{length-append}
 use Rattle.dns_name.specs.Labels.{Labels}
 use Rattle.dns_query.specs.Query.{alias_question}
 use Rattle.dns_text.specs.declared.record.Question.{Question}
 use Rattle.dns_text.specs.declared.record.Record.{Record}
 use Rattle.local_zone.specs.declared.local.Local.{Local as LocalAnswer}
 use Rattle.local_zone.specs.declared.local.Local.TheVariants as local
+use Rattle.rand_core.specs.Stream.{Stream}
 use Rattle.undo_book.specs.declared.event.Ask.{Ask}
 use Rattle.undo_book.specs.declared.event.Ask.TheVariants.{Answer as Asked}
 use Rattle.undo_book.specs.declared.event.Event.TheVariants.{Look}
@@ -27,77 +28,74 @@ use Rattle.iterate.specs.declared.want.Want.TheVariants.{Book, Finish}
 use Rattle.iterate.specs.Exchanges.{Exchange, exchange, Adds, Happened, count_sends}
 use Rattle.iterate.specs.Known.{Known, Had}
 use Rattle.iterate.specs.Looked.{IsReplied, IsSetSeen}
-use Rattle.iterate.specs.Measure.{top, Falls, left_in, left_of_path, digits_of_path, no_depths}
-use Rattle.iterate.specs.Phase.{Goes}
+use Rattle.iterate.specs.Measure.{top, Falls, left_in, left_of_path, digits_of_path}
+use Rattle.iterate.specs.Phase.{Goes, Drawing, idle}
 use Rattle.iterate.specs.Resolved.{Began, BeganUnanswered, IsNoAnswer, is_local, Chain, IsDenied, Fails, IsBarred, ResolvedAs, IsResolved, question_at}
 use Rattle.iterate.specs.Searching.{IsPath, IsLonger}
 use Rattle.iterate.specs.Shown.{Ends, IsMisanswered}
 use Rattle.iterate.specs.Told.{IsTarget}
-use Rattle.iterate.proofs.Falling.{Digits, weight_falls, path_digits, digits_replicated, looks_fall, alias_falls, ended_falls}
+use Rattle.iterate.proofs.Falling.{Digits, weight_falls, path_digits, looks_fall, alias_falls, ended_falls}
 use Rattle.iterate.proofs.Growing.{happened_last, path_more, sends_same}
 
 -- A turn is what its phase and its want are.
-pub turned : {port : ℕ} {question : Question} {log : List Exchange} {moment id left : ℕ} {phase phase' : Phase} {want want' : Want}
+pub turned : {port : ℕ} {question : Question} {log : List Exchange} {moment : ℕ} {id : Drawing} {left : ℕ} {phase phase' : Phase} {want want' : Want}
     → phase ≡ phase' → want ≡ want' → Goes port question log moment id left phase' want' → Goes port question log moment id left phase want
 turned {port} {question} {log} {moment} {id} {left} {phase} {phase'} {want} {want'} p w g =
     subst (λ (f : Phase). Goes port question log moment id left f want) (sym p) (subst (λ (v : Want). Goes port question log moment id left phase' v) (sym w) g)
 
-pub less_left : {port : ℕ} {question : Question} {log : List Exchange} {moment id left more : ℕ} {phase : Phase} {want : Want}
+pub less_left : {port : ℕ} {question : Question} {log : List Exchange} {moment : ℕ} {id : Drawing} {left more : ℕ} {phase : Phase} {want : Want}
     → left ≤ more → Goes port question log moment id left phase want → Goes port question log moment id more phase want
-less_left h g = record { wants = g.wants; fits = g.fits; falls = omega (arith, g.falls) }
+less_left h g = record { wants = g.wants; drawn = g.drawn; fits = g.fits; falls = omega (arith, g.falls) }
 
 -- ---- the measure
 
-pub path_looks : (path : Path) (looks : ℕ) → looks ≤ top → Digits (digits_of_path path 0 0 no_depths looks)
-path_looks path looks few = path_digits path 0 0 looks no_depths (omega arith) (digits_replicated 9) few
+pub path_looks : (path : Path) (looks : ℕ) → looks ≤ top → Digits (digits_of_path path 0 0 top looks)
+path_looks path looks few = path_digits path 0 0 top looks (omega arith) (omega arith) few
 
 pub looks_less : (path : Path) (looks more : ℕ) → looks < more → looks ≤ top → left_of_path path looks < left_of_path path more
-looks_less path looks more less few = looks_fall path path 0 0 0 looks more no_depths refl refl less (path_looks path looks few)
+looks_less path looks more less few = looks_fall path path 0 0 0 top looks more refl refl refl less (path_looks path looks few)
 
 pub longer_less : (path next : Path) (told : Told) (to : Labels) (looks more : ℕ) → IsLonger path told to next → looks ≤ top → left_of_path next looks < left_of_path path more
 longer_less path next told to looks more l few =
     let longer : length next.sets.items ≡ length path.sets.items + 1 = ap (λ (xs : List Told). length xs) l.sets ∙ length-append path.sets.items (told ∷ []) in
     let same : 64 - (next.sent + 0) ≡ 64 - (path.sent + 0) = ap (λ (n : ℕ). 64 - (n + 0)) l.sent in
-    alias_falls next path 0 0 0 0 looks more no_depths no_depths same (omega (arith, longer, l.short)) refl (path_looks next looks few)
+    alias_falls next path 0 0 0 0 top top looks more l.begun same (omega (arith, longer, l.short)) (path_looks next looks few)
 
 pub path_some : {port : ℕ} {question : Question} {log : List Exchange} {path : Path} (looks : ℕ) → IsPath port question log path → left_in Ended < left_of_path path looks
-path_some {path = path} looks p = ended_falls path 0 0 looks no_depths p.short refl
+path_some {path = path} looks p = ended_falls path 0 0 top looks p.short
 
-pub start_less : (path : Path) → path.sent ≡ 0 → left_of_path path 3 < left_in First
-start_less path none =
-    let less : 64 - (path.sent + 0) < 65 = omega arith in
-    weight_falls (Falls.here {xs = (17 - length path.sets.items) ∷ 0 ∷ (no_depths ++ 3 ∷ [])} {ys = 0 ∷ 0 ∷ (no_depths ++ 0 ∷ [])} less refl) (path_looks path 3 (omega arith))
+pub start_less : (path : Path) → left_of_path path 3 < left_in First
+start_less path =
+    let f : Falls (digits_of_path path 0 0 top 3) (65 ∷ 0 ∷ 0 ∷ 0 ∷ 0 ∷ 0 ∷ []) = Falls.here (omega arith) refl in weight_falls f (path_looks path 3 (omega arith))
 
 -- ---- the ends
 
 -- An answer that resolves may be given.
-pub answering : {port : ℕ} {question : Question} {log : List Exchange} {moment id left : ℕ} (answer : Answer) → IsResolved port question log answer → count_sends log ≤ 64 → left_in Ended < left
-    → Goes port question log moment id left Ended (Finish answer)
-answering answer resolved few less = record { wants = resolved; fits = (answer, refl, few); falls = less }
+pub answering : {port : ℕ} {question : Question} {log : List Exchange} {moment : ℕ} {id : Stream} {left : ℕ} (answer : Answer) → IsResolved port question log answer → count_sends log ≤ 64 → left_in Ended < left
+    → Goes port question log moment (idle id) left Ended (Finish answer)
+answering answer resolved few less = record { wants = resolved; drawn = refl; fits = (answer, refl, few); falls = less }
 
 few_sent : {port : ℕ} {question : Question} {log : List Exchange} {path : Path} → IsPath port question log path → count_sends log ≤ 64
 few_sent p = omega (arith, p.counted, p.few)
 
 -- A set that is known ends the path.
-pub telling : {port : ℕ} {question : Question} {log : List Exchange} {moment id left : ℕ} (path : Path) (told : Told) → left_in Ended < left → IsPath port question log path → Known port log (Had path.last told)
-    → Goes port question log moment id left Ended (Finish (Replies 0 false path.sets.items (Some told) None))
+pub telling : {port : ℕ} {question : Question} {log : List Exchange} {moment : ℕ} {id : Stream} {left : ℕ} (path : Path) (told : Told) → left_in Ended < left → IsPath port question log path → Known port log (Had path.last told)
+    → Goes port question log moment (idle id) left Ended (Finish (Replies 0 false path.sets.items (Some told) None))
 telling {port} {question} {log} path told less p known =
     let there : Known port log (Had (question_at question path.last.owner) told) = subst (λ (k : ℕ). Known port log (Had (record { owner = path.last.owner; kind = k }) told)) p.kind known in
-    answering (Replies 0 false path.sets.items (Some told) None) (ResolvedAs.found {front = path.sets.items} {told = told} p.began p.chain p.short there refl) (few_sent p) less
+    answering (Replies 0 false path.sets.items (Some told) None) (ResolvedAs.found {front = path.sets.items} {told = told} p.began p.chain p.short there) (few_sent p) less
 
 -- So does what a response denies.
-pub denying : {port : ℕ} {question : Question} {log : List Exchange} {moment id left : ℕ} (path : Path) (rcode : ℕ) (authority : Option Soa) → left_in Ended < left → IsPath port question log path
-    → IsDenied port log path.last rcode authority → Goes port question log moment id left Ended (Finish (Replies rcode false path.sets.items None authority))
+pub denying : {port : ℕ} {question : Question} {log : List Exchange} {moment : ℕ} {id : Stream} {left : ℕ} (path : Path) (rcode : ℕ) (authority : Option Soa) → left_in Ended < left → IsPath port question log path
+    → IsDenied port log path.last rcode authority → Goes port question log moment (idle id) left Ended (Finish (Replies rcode false path.sets.items None authority))
 denying {port} {question} {log} path rcode authority less p denied =
     let there : IsDenied port log (question_at question path.last.owner) rcode authority = subst (λ (k : ℕ). IsDenied port log (record { owner = path.last.owner; kind = k }) rcode authority) p.kind denied in
-    let all : path.sets.items ++ [] ≡ path.sets.items = append-nil path.sets.items in
-    answering (Replies rcode false path.sets.items None authority)
-    (subst (λ (sets : List Told). ResolvedAs port question log rcode false sets authority) (sym all) (ResolvedAs.denied p.began p.chain p.short there)) (few_sent p) less
+    answering (Replies rcode false path.sets.items None authority) (ResolvedAs.denied p.began p.chain p.short there) (few_sent p) less
 
 -- So does what a look sees.
-pub seeing : {port : ℕ} {question : Question} {before log : List Exchange} {m moment id left : ℕ} (path : Path) (seen : SeenValue) {rcode : ℕ} {last : Option Told} {authority : Option Soa}
+pub seeing : {port : ℕ} {question : Question} {before log : List Exchange} {m moment : ℕ} {id : Stream} {left : ℕ} (path : Path) (seen : SeenValue) {rcode : ℕ} {last : Option Told} {authority : Option Soa}
     → left_in Ended < left → IsPath port question before path → Adds before (exchange (Book (Look m (Asked path.last))) (Reply (Seen seen))) log → Ends path.last seen rcode last authority
-    → Goes port question log moment id left Ended (Finish (Replies rcode false path.sets.items last authority))
+    → Goes port question log moment (idle id) left Ended (Finish (Replies rcode false path.sets.items last authority))
 seeing {port} {question} {before} {log} {m} path seen {rcode} {last} {authority} less p adds ends =
     let q = path_more p adds refl in
     let happened : Happened log (exchange (Book (Look m (Asked (question_at question path.last.owner)))) (Reply (Seen seen))) =
@@ -105,36 +103,36 @@ seeing {port} {question} {before} {log} {m} path seen {rcode} {last} {authority}
     let there : Ends (question_at question path.last.owner) seen rcode last authority =
     subst (λ (k : ℕ). Ends (record { owner = path.last.owner; kind = k }) seen rcode last authority) p.kind ends in
     answering (Replies rcode false path.sets.items last authority)
-    (ResolvedAs.looked {front = path.sets.items} {seen = seen} q.began q.chain q.short happened there refl) (few_sent q) less
+    (ResolvedAs.looked {front = path.sets.items} {seen = seen} q.began q.chain q.short happened there) (few_sent q) less
 
 -- ---- failing
 
-pub failing_behind : {port : ℕ} {question : Question} {log : List Exchange} {moment id left : ℕ} (front : List Told) (last : Question) → left_in Ended < left → BeganUnanswered question log
+pub failing_behind : {port : ℕ} {question : Question} {log : List Exchange} {moment : ℕ} {id : Stream} {left : ℕ} (front : List Told) (last : Question) → left_in Ended < left → BeganUnanswered question log
     → Chain port log question.owner front last.owner → last.kind ≡ question.kind → Fails port log last (length front) → count_sends log ≤ 64
-    → Goes port question log moment id left Ended (Finish (Replies 2 false [] None None))
+    → Goes port question log moment (idle id) left Ended (Finish (Replies 2 false [] None None))
 failing_behind {port} {question} {log} front last less began chain kind fails few =
     let there : Fails port log (question_at question last.owner) (length front) = subst (λ (k : ℕ). Fails port log (record { owner = last.owner; kind = k }) (length front)) kind fails in
     answering (Replies 2 false [] None None) (ResolvedAs.failed {front = front} began chain there) few less
 
-pub failing : {port : ℕ} {question : Question} {log : List Exchange} {moment id left : ℕ} (path : Path) → left_in Ended < left → IsPath port question log path → Fails port log path.last (length path.sets.items)
-    → Goes port question log moment id left Ended (Finish (Replies 2 false [] None None))
+pub failing : {port : ℕ} {question : Question} {log : List Exchange} {moment : ℕ} {id : Stream} {left : ℕ} (path : Path) → left_in Ended < left → IsPath port question log path → Fails port log path.last (length path.sets.items)
+    → Goes port question log moment (idle id) left Ended (Finish (Replies 2 false [] None None))
 failing path less p fails = failing_behind path.sets.items path.last less p.began p.chain p.kind fails (few_sent p)
 
 -- A look got what it may not get.
-pub failing_look : {port : ℕ} {question : Question} {before log : List Exchange} {m moment id left : ℕ} (path : Path) (ask : Ask) (input : Input) → left_in Ended < left → IsPath port question before path
-    → Adds before (exchange (Book (Look m ask)) input) log → IsMisanswered (Look m ask) input → Goes port question log moment id left Ended (Finish (Replies 2 false [] None None))
+pub failing_look : {port : ℕ} {question : Question} {before log : List Exchange} {m moment : ℕ} {id : Stream} {left : ℕ} (path : Path) (ask : Ask) (input : Input) → left_in Ended < left → IsPath port question before path
+    → Adds before (exchange (Book (Look m ask)) input) log → IsMisanswered (Look m ask) input → Goes port question log moment (idle id) left Ended (Finish (Replies 2 false [] None None))
 failing_look {m = m} path ask input less p adds bad =
     failing path less (path_more p adds refl) (Fails.misanswered {event = Look m ask} {input = input} (happened_last adds) bad)
 
 -- A look behind an alias got what ends it without an answer.
-pub failing_barred : {port : ℕ} {question : Question} {before log : List Exchange} {m moment id left : ℕ} (path : Path) (seen : SeenValue) → left_in Ended < left → IsPath port question before path → 1 ≤ length path.sets.items
-    → Adds before (exchange (Book (Look m (Asked path.last))) (Reply (Seen seen))) log → IsBarred seen → Goes port question log moment id left Ended (Finish (Replies 2 false [] None None))
+pub failing_barred : {port : ℕ} {question : Question} {before log : List Exchange} {m moment : ℕ} {id : Stream} {left : ℕ} (path : Path) (seen : SeenValue) → left_in Ended < left → IsPath port question before path → 1 ≤ length path.sets.items
+    → Adds before (exchange (Book (Look m (Asked path.last))) (Reply (Seen seen))) log → IsBarred seen → Goes port question log moment (idle id) left Ended (Finish (Replies 2 false [] None None))
 failing_barred {m = m} path seen less p some adds barred =
     failing path less (path_more p adds refl) (Fails.barred {moment = m} {seen = seen} some (happened_last adds) barred)
 
 -- There are more aliases than are followed.
-pub failing_long : {port : ℕ} {question : Question} {log : List Exchange} {moment id left : ℕ} (path : Path) (told : Told) (to : Labels) → left_in Ended < left → IsPath port question log path
-    → Known port log (Had (alias_question path.last.owner) told) → IsTarget told to → 16 ≤ length path.sets.items → Goes port question log moment id left Ended (Finish (Replies 2 false [] None None))
+pub failing_long : {port : ℕ} {question : Question} {log : List Exchange} {moment : ℕ} {id : Stream} {left : ℕ} (path : Path) (told : Told) (to : Labels) → left_in Ended < left → IsPath port question log path
+    → Known port log (Had (alias_question path.last.owner) told) → IsTarget told to → 16 ≤ length path.sets.items → Goes port question log moment (idle id) left Ended (Finish (Replies 2 false [] None None))
 failing_long path told to less p known target long =
     let longer : length (path.sets.items ++ told ∷ []) ≡ length path.sets.items + 1 = length-append path.sets.items (told ∷ []) in
     failing_behind (path.sets.items ++ told ∷ []) (record { owner = to; kind = path.last.kind }) less p.began (Chain.alias p.chain known target refl) p.kind
@@ -192,18 +190,18 @@ pub first_some : left_in Ended < left_in First
 first_some = omega arith
 
 -- What it sees ends the question.
-pub first_seeing : {port : ℕ} {question : Question} {log : List Exchange} {m moment id : ℕ} (seen : SeenValue) {rcode : ℕ} {last : Option Told} {authority : Option Soa}
+pub first_seeing : {port : ℕ} {question : Question} {log : List Exchange} {m moment : ℕ} {id : Stream} (seen : SeenValue) {rcode : ℕ} {last : Option Told} {authority : Option Soa}
     → Adds [] (exchange (Book (Look m (Asked question))) (Reply (Seen seen))) log → Ends question seen rcode last authority
-    → Goes port question log moment id (left_in First) Ended (Finish (Replies rcode (is_local seen) [] last authority))
+    → Goes port question log moment (idle id) (left_in First) Ended (Finish (Replies rcode (is_local seen) [] last authority))
 first_seeing seen {rcode} {last} {authority} adds ends =
-    answering (Replies rcode (is_local seen) [] last authority) (ResolvedAs.at_once {seen = seen} (first_began adds) ends refl) (first_few adds) first_some
+    answering (Replies rcode (is_local seen) [] last authority) (ResolvedAs.at_once {seen = seen} (first_began adds) ends) (first_few adds) first_some
 
-pub first_refusing : {port : ℕ} {question : Question} {log : List Exchange} {m moment id : ℕ} → Adds [] (exchange (Book (Look m (Asked question))) (Reply (Seen (LocalSeen local.Refuse)))) log
-    → Goes port question log moment id (left_in First) Ended (Finish (Replies 5 true [] None None))
+pub first_refusing : {port : ℕ} {question : Question} {log : List Exchange} {m moment : ℕ} {id : Stream} → Adds [] (exchange (Book (Look m (Asked question))) (Reply (Seen (LocalSeen local.Refuse)))) log
+    → Goes port question log moment (idle id) (left_in First) Ended (Finish (Replies 5 true [] None None))
 first_refusing adds = answering (Replies 5 true [] None None) (ResolvedAs.refused (first_began adds)) (first_few adds) first_some
 
-pub first_silent : {port : ℕ} {question : Question} {log : List Exchange} {m moment id : ℕ} → Adds [] (exchange (Book (Look m (Asked question))) (Reply (Seen (LocalSeen local.Drop)))) log
-    → Goes port question log moment id (left_in First) Ended (Finish Silent)
+pub first_silent : {port : ℕ} {question : Question} {log : List Exchange} {m moment : ℕ} {id : Stream} → Adds [] (exchange (Book (Look m (Asked question))) (Reply (Seen (LocalSeen local.Drop)))) log
+    → Goes port question log moment (idle id) (left_in First) Ended (Finish Silent)
 first_silent adds = answering Silent (first_began adds) (first_few adds) first_some
 
 -- What may not be replied to it is no answer.
@@ -230,8 +228,8 @@ no_answer m question Begin bad = tt
 no_answer m question (Came octets) bad = tt
 no_answer m question Failed bad = tt
 
-pub first_failing : {port : ℕ} {question : Question} {log : List Exchange} {m moment id : ℕ} (input : Input) → Adds [] (exchange (Book (Look m (Asked question))) input) log
-    → IsMisanswered (Look m (Asked question)) input → Goes port question log moment id (left_in First) Ended (Finish (Replies 2 false [] None None))
+pub first_failing : {port : ℕ} {question : Question} {log : List Exchange} {m moment : ℕ} {id : Stream} (input : Input) → Adds [] (exchange (Book (Look m (Asked question))) input) log
+    → IsMisanswered (Look m (Asked question)) input → Goes port question log moment (idle id) (left_in First) Ended (Finish (Replies 2 false [] None None))
 first_failing {question = question} {m = m} input adds bad =
     failing_behind [] question first_some (record { input = input; began = first_began adds; no_answer = no_answer m question input bad }) Chain.start refl
     (Fails.misanswered {event = Look m (Asked question)} {input = input} (happened_last adds) bad) (first_few adds)

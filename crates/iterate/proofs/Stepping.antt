@@ -12,11 +12,11 @@ use Rattle.iterate.specs.declared.want.Want.{Want}
 use Rattle.iterate.specs.declared.want.Want.TheVariants.{Finish}
 use Rattle.iterate.specs.Exchanges.{Exchange, exchange, exchanges_behind, exchanges_of, last_behind, Stands, Adds, sends, is_send, wants_send, count_sends, sent_in}
 use Rattle.iterate.specs.Measure.{left_in}
-use Rattle.iterate.specs.Phase.{Fits, Goes, IsDue, Suits}
+use Rattle.iterate.specs.Phase.{Fits, Goes, IsDue, Suits, Drawing}
 use Rattle.iterate.specs.Searching.{IsPath}
 use Rattle.iterate.specs.Task.{IsTask, IsDueAt}
 use Rattle.iterate.specs.Told.{IsFit}
-use Rattle.iterate.specs.Wanted.{MayWant}
+use Rattle.iterate.specs.Wanted.{MayWant, id_drawn, stream_behind}
 use Rattle.iterate.proofs.FitLaws.{resolved_is_fit}
 
 abbrev pub step_of : Input → Want → Step
@@ -112,37 +112,39 @@ task_of port question (Admitting hunting heard next) s f = record { log = _; wan
 task_of port question Ended s f = record { log = _; want = _; stands = s; fits = f }
 
 -- A step is well made.
-pub record IsStep (port : ℕ) (question : Question) (steps : List Step) (moment id left : ℕ) (input : Input) (phase : Phase) (want : Want) : Type 0 where
+pub record IsStep (port : ℕ) (question : Question) (steps : List Step) (moment : ℕ) (id : Drawing) (left : ℕ) (input : Input) (phase : Phase) (want : Want) : Type 0 where
   pub task : IsTask port question (steps ++ step_of input want ∷ []) phase
-  pub wants : MayWant port question (exchanges_of (steps ++ step_of input want ∷ [])) moment id want
+  pub wants : MayWant port question (exchanges_of (steps ++ step_of input want ∷ [])) moment (id_drawn id.before) want
+  pub drawn : id.after ≡ stream_behind want id.before
   pub falls : left_in phase < left
   pub few : sent_in (steps ++ step_of input want ∷ []) ≤ 64
 
-step_made : {port : ℕ} {question : Question} {steps : List Step} {log : List Exchange} {moment id left : ℕ} {input : Input} {phase : Phase} {want : Want}
+step_made : {port : ℕ} {question : Question} {steps : List Step} {log : List Exchange} {moment : ℕ} {id : Drawing} {left : ℕ} {input : Input} {phase : Phase} {want : Want}
     → Stands (steps ++ step_of input want ∷ []) log want → Goes port question log moment id left phase want → IsStep port question steps moment id left input phase want
 step_made {port} {question} {steps} {log} {moment} {id} {left} {input} {phase} {want} s g = record {
   task = task_of port question phase s g.fits;
-  wants = subst (λ (l : List Exchange). MayWant port question l moment id want) (sym (stands_log s)) g.wants;
+  wants = subst (λ (l : List Exchange). MayWant port question l moment (id_drawn id.before) want) (sym (stands_log s)) g.wants;
+  drawn = g.drawn;
   falls = g.falls;
   few = subst (λ (n : ℕ). n ≤ 64) (sym (stands_sent s)) (few_open port question log want phase g.fits);
 }
 
-step_first : {port : ℕ} {question : Question} {steps : List Step} {moment id left : ℕ} {input : Input} {phase : Phase} {want : Want}
+step_first : {port : ℕ} {question : Question} {steps : List Step} {moment : ℕ} {id : Drawing} {left : ℕ} {input : Input} {phase : Phase} {want : Want}
     → steps ≡ [] → Goes port question [] moment id left phase want → IsStep port question steps moment id left input phase want
 step_first {port} {question} {steps} {moment} {id} {left} {input} {phase} {want} none g =
     step_made (subst (λ (xs : List Step). Stands (xs ++ step_of input want ∷ []) [] want) (sym none) (stands_first input want)) g
 
-step_next : {port : ℕ} {question : Question} {steps : List Step} {log : List Exchange} {last : Want} {moment id left : ℕ} {input : Input} {phase : Phase} {want : Want}
+step_next : {port : ℕ} {question : Question} {steps : List Step} {log : List Exchange} {last : Want} {moment : ℕ} {id : Drawing} {left : ℕ} {input : Input} {phase : Phase} {want : Want}
     → Stands steps log last → Goes port question (log ++ exchange last input ∷ []) moment id left phase want → IsStep port question steps moment id left input phase want
 step_next {input = input} {want = want} s g = step_made (stands_more s input want) g
 
 -- what a turn gives of a phase
-abbrev pub Turns : ℕ → Question → ℕ → ℕ → Input → Phase → Phase → Want → Type 0
+abbrev pub Turns : ℕ → Question → ℕ → Drawing → Input → Phase → Phase → Want → Type 0
 Turns port question moment id input before after want =
     (log next : List Exchange) (last : Want) → Fits port question log last before → Suits last input → Adds log (exchange last input) next → Goes port question next moment id (left_in before) after want
 
 -- What a turn of a task gives, by where it stands.
-pub stepping : (port : ℕ) (question : Question) (steps : List Step) (moment id : ℕ) (input : Input) (before after : Phase) (want : Want)
+pub stepping : (port : ℕ) (question : Question) (steps : List Step) (moment : ℕ) (id : Drawing) (input : Input) (before after : Phase) (want : Want)
     → IsTask port question steps before → IsDueAt before steps input → Turns port question moment id input before after want
     → (before ≡ Fresh → Goes port question [] moment id (left_in before) after want) → (before ≡ Broken → ⊥)
     → IsStep port question steps moment id (left_in before) input after want

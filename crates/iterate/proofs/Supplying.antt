@@ -1,7 +1,7 @@
 -- Servers are reached, and servers without an address are done with.
-use Rattle.std.proofs.Common.{zero, suc, ◌≡◌, ℕ, ◌+◌, ◌-◌, ◌^◌, ◌<◌, ◌≤◌, ◌⊎◌, List, [], ◌∷◌, ◌++◌, length, take, drop, get_or, sym, ap, ◌∙◌, subst, refl, inl, inr, arith}
-use Rattle.std.specs.List.{AllByRecursion, Contains, sum_by}
-use Rattle.std.proofs.lemmas.List.{length-append, length-drop, length-take, take-append-drop, take-append-le}
+use Rattle.std.proofs.Common.{suc, ◌≡◌, ℕ, ◌+◌, ◌-◌, ◌^◌, ◌<◌, ◌≤◌, ◌⊎◌, List, [], ◌∷◌, ◌++◌, length, take, drop, get_or, sym, ap, ◌∙◌, subst, refl, inl, inr, arith}
+use Rattle.std.specs.List.{AllByRecursion, Contains}
+use Rattle.std.proofs.lemmas.List.{length-drop, length-take, take-append-drop, take-append-le}
 use Rattle.std.proofs.lemmas.List.Elements.{All-from_recursion, All-contains, Contains-append_left, Contains-append_right, Contains-push, Contains-push_cases}
 use Rattle.std.proofs.Math.Seq.{take-append-add}
 use Rattle.dns_name.specs.Labels.{Labels, IsAtOrBelow}
@@ -11,17 +11,18 @@ use Rattle.undo_book.specs.declared.servers.Servers.{Servers}
 use Rattle.dns_text.specs.declared.types.TheConstants as number
 use Rattle.dns_query.specs.Query.{address_question}
 use Rattle.iterate.specs.declared.path.Path.{Path}
+use Rattle.iterate.specs.declared.phase.Stage.TheVariants as stage
 use Rattle.iterate.specs.declared.search.Frame.{Frame}
 use Rattle.iterate.specs.declared.search.Hunt.{Hunt}
 use Rattle.iterate.specs.declared.search.Search.{Search}
 use Rattle.iterate.specs.Exchanges.{Exchange}
-use Rattle.iterate.specs.Hunting.{AllServe, IsFresh, IsSupplied, AreSupplied, IsTried, IsSmaller, frames_left}
+use Rattle.iterate.specs.Hunting.{AllServe, IsFresh, IsSupplied, AreSupplied, IsTried, IsSmaller}
 use Rattle.iterate.specs.Known.{Known, Listed, Serves}
-use Rattle.iterate.specs.Measure.{top, missing_left, depths, no_depths, Falls, digits_of_search, left_of_path, left_of_search, left_of_hearing}
+use Rattle.iterate.specs.Measure.{top, missing_left, frames_left, hunts_left, left_of_path, left_of_search, left_of_seek, left_of_hearing}
 use Rattle.iterate.specs.Resolved.{ReachedFor, Struck, MaySeek, Sought}
 use Rattle.iterate.specs.Searching.{IsPath, IsHunt, IsNext, IsBase, IsFrame, AreFrames, IsSearch, hunt_behind, hunt_of, question_behind, question_of}
-use Rattle.iterate.proofs.Falling.{Digits, depths_fall, hearing_falls}
-use Rattle.iterate.proofs.Depths.{base_falls, frame_falls, closed_base_falls, closed_frame_falls, opened_falls, depths_nine, missing_digit, search_digits}
+use Rattle.iterate.proofs.Falling.{coming_falls, servers_fall}
+use Rattle.iterate.proofs.Hunts.{hunts_few, search_digits}
 
 -- ---- lists
 
@@ -140,18 +141,17 @@ pub reaching : (port : ℕ) (question : Question) (log since : List Exchange) (p
     → IsPath port question log path → Known port log (Listed list) → ReachedFor port log path.last list since → IsAtOrBelow path.last.owner list.zone → IsSmaller port question log (left_of_path path 1) after
 reaching port question log since path list after same none f p known reached zone =
     let s = reached_search port question log since path list after same none f p known reached zone in
-    let less : Falls (depths after.base after.frames.items) no_depths =
-    subst (λ (fs : List Frame). Falls (depths after.base fs) no_depths) (sym none) (Falls.here (missing_digit after.base s.base.is_hunt) refl) in
     record {
       is_search = s;
-      falls = depths_fall after.path path 0 0 0 4 1 (ap (λ (q : Path). 64 - (q.sent + 0)) same) (ap (λ (q : Path). length q.sets.items) same) less (search_digits after 4 (omega arith) s);
+      falls = servers_fall after.path path 0 0 0 (hunts_left after) top 4 1 (ap (λ (q : Path). q.begun) same) (ap (λ (q : Path). 64 - (q.sent + 0)) same) (ap (λ (q : Path). length q.sets.items) same) (hunts_few after s)
+          (search_digits after 4 (omega arith) s);
     }
 
 -- less is left of a search than of a response
 pub below_hearing : {port : ℕ} {question : Question} {log : List Exchange} (path : Path) (after : Search) → after.path ≡ path → IsSearch port question log after → left_of_search after 4 < left_of_hearing path 1
 below_hearing path after same s =
-    hearing_falls after.path path 0 0 0 1 4 1 (depths after.base after.frames.items) no_depths (ap (λ (q : Path). 64 - (q.sent + 0)) same) (ap (λ (q : Path). length q.sets.items) same) (omega arith)
-    (depths_nine after.base after.frames.items s.deep) (search_digits after 4 (omega arith) s)
+    coming_falls after.path path 0 0 0 1 (hunts_left after) 0 4 1 (ap (λ (q : Path). q.begun) same) (ap (λ (q : Path). 64 - (q.sent + 0)) same) (ap (λ (q : Path). length q.sets.items) same) (omega arith)
+    (search_digits after 4 (omega arith) s)
 
 -- the innermost question is asked of other servers
 referred_frames : (port : ℕ) (log since : List Exchange) (base : Hunt) (fs : List Frame) (last : Question) (list : Servers) (target : Labels) (hunt : Hunt) (g : Frame) (gs : List Frame)
@@ -258,61 +258,6 @@ supplied_stack port log since last target (f ∷ fs) (g ∷ gs) base next found 
     subst (λ (h : Hunt). IsStack port log since last h (g ∷ gs)) (sym i.3)
     (subst (λ (xs : List Frame). IsStack port log since last base (g ∷ xs)) (sym i.2) record { base_known = b; frames_known = (frame, all.1); deep = deep })
 
-supplied_falls : (target : Labels) (fs gs : List Frame) (base next : Hunt) (found : List Addr) → IsNext (hunt_behind fs base) target → AreSupplied fs base found gs next → Falls (depths next gs) (depths base fs)
-supplied_falls target [] [] base next found n i = base_falls base next (supplied_less base found next (next_less base target n) i)
-supplied_falls target [] (g ∷ gs) base next found n i = absurd i
-supplied_falls target (f ∷ fs) [] base next found n i = absurd i
-supplied_falls target (f ∷ fs) (g ∷ gs) base next found n i =
-    subst (λ (h : Hunt). Falls (depths h (g ∷ gs)) (depths base (f ∷ fs))) (sym i.3)
-    (subst (λ (xs : List Frame). Falls (depths base (g ∷ xs)) (depths base (f ∷ fs))) (sym i.2) (frame_falls base f g fs (supplied_less f.hunt found g.hunt (next_less f.hunt target n) i.1)))
-
-closed_falls : (f : Frame) (fs gs : List Frame) (base next : Hunt) (found : List Addr) → length (f ∷ fs) ≤ 8 → IsNext (hunt_behind fs base) f.target → AreSupplied fs base found gs next
-    → Falls (depths next gs) (depths base (f ∷ fs))
-closed_falls f [] [] base next found deep n i = closed_base_falls base next f (supplied_less base found next (next_less base f.target n) i)
-closed_falls f [] (g ∷ gs) base next found deep n i = absurd i
-closed_falls f (h ∷ fs) [] base next found deep n i = absurd i
-closed_falls f (h ∷ fs) (g ∷ gs) base next found deep n i =
-    subst (λ (b : Hunt). Falls (depths b (g ∷ gs)) (depths base (f ∷ h ∷ fs))) (sym i.3)
-    (subst (λ (xs : List Frame). Falls (depths base (g ∷ xs)) (depths base (f ∷ h ∷ fs))) (sym i.2)
-    (closed_frame_falls base f h g fs deep (supplied_less h.hunt found g.hunt (next_less h.hunt f.target n) i.1)))
-
--- A search with less left at some depth.
-smaller : (port : ℕ) (question : Question) (log since : List Exchange) (search after : Search) → after.path ≡ search.path → IsPath port question log search.path
-    → IsStack port log since search.path.last after.base after.frames.items → Falls (depths after.base after.frames.items) (depths search.base search.frames.items)
-    → IsSmaller port question log (left_of_search search 0) after
-smaller port question log since search after same p k less =
-    let s = rebuilt port question log since after (subst (λ (q : Path). IsPath port question log q) (sym same) p)
-    (subst (λ (q : Path). IsBase port log q.last since after.base) (sym same) k.base_known) k.frames_known k.deep in
-    record {
-      is_search = s;
-      falls = depths_fall after.path search.path 0 0 0 4 0 (ap (λ (q : Path). 64 - (q.sent + 0)) same) (ap (λ (q : Path). length q.sets.items) same) less (search_digits after 4 (omega arith) s);
-    }
-
--- The next server without an address is done with.
-pub supplying : (port : ℕ) (question : Question) (log : List Exchange) (target : Labels) (search after : Search) (found : List Addr) → after.path ≡ search.path
-    → AreSupplied search.frames.items search.base found after.frames.items after.base → IsTried port question log search target → AllServe port log (hunt_of search).servers.zone found
-    → IsSmaller port question log (left_of_search search 0) after
-supplying port question log target search after found same i t serve =
-    let s = t.is_search in
-    smaller port question log s.since search after same s.path
-    (supplied_stack port log s.since search.path.last target search.frames.items after.frames.items search.base after.base found s.base s.frames s.deep t.next t.tried serve i)
-    (supplied_falls target search.frames.items after.frames.items search.base after.base found t.next i)
-
-closed_stack : (port : ℕ) (log since : List Exchange) (last : Question) (xs gs : List Frame) (base next : Hunt) (found : List Addr) → 0 < length xs → IsBase port log last since base → AreFrames port log since base xs → length xs ≤ 8
-    → AllServe port log (hunt_behind (drop 1 xs) base).servers.zone found → AreSupplied (drop 1 xs) base found gs next
-    → IsStack port log since last next gs × Falls (depths next gs) (depths base xs)
-closed_stack port log since last [] gs base next found some b all deep serve i = absurd (omega (arith, some))
-closed_stack port log since last (f ∷ fs) gs base next found some b all deep serve i =
-    (supplied_stack port log since last f.target fs gs base next found b all.1 (omega (arith, deep)) all.0.next (λ none may. all.0.sought) serve i, closed_falls f fs gs base next found deep all.0.next i)
-
--- The innermost question is closed.
-pub closing : (port : ℕ) (question : Question) (log : List Exchange) (search after : Search) (found : List Addr) → 0 < length search.frames.items → after.path ≡ search.path
-    → AreSupplied (drop 1 search.frames.items) search.base found after.frames.items after.base → IsSearch port question log search
-    → AllServe port log (hunt_behind (drop 1 search.frames.items) search.base).servers.zone found → IsSmaller port question log (left_of_search search 0) after
-closing port question log search after found some same i s serve =
-    let k = closed_stack port log s.since search.path.last search.frames.items after.frames.items search.base after.base found some s.base s.frames s.deep serve i in
-    smaller port question log s.since search after same s.path k.0 k.1
-
 -- ---- how many are left, whatever is known
 
 pub hunts_fall : (fs gs : List Frame) (base next : Hunt) (found : List Addr) → (hunt_behind fs base).sought < length (hunt_behind fs base).servers.missing → AreSupplied fs base found gs next
@@ -347,11 +292,50 @@ pub hunts_close : (xs gs : List Frame) (base next : Hunt) (found : List Addr) �
 hunts_close [] gs base next found some i = absurd (omega (arith, some))
 hunts_close (f ∷ fs) gs base next found some i = let less = hunts_stay fs gs base next found i in omega (arith, less)
 
+-- ---- a search with less left
+
+-- Less servers are left of it.
+smaller : (port : ℕ) (question : Question) (log since : List Exchange) (search after : Search) → after.path ≡ search.path → IsPath port question log search.path
+    → IsStack port log since search.path.last after.base after.frames.items → hunts_left after < hunts_left search
+    → IsSmaller port question log (left_of_search search 0) after
+smaller port question log since search after same p k less =
+    let s = rebuilt port question log since after (subst (λ (q : Path). IsPath port question log q) (sym same) p)
+    (subst (λ (q : Path). IsBase port log q.last since after.base) (sym same) k.base_known) k.frames_known k.deep in
+    record {
+      is_search = s;
+      falls = servers_fall after.path search.path 0 0 0 (hunts_left after) (hunts_left search) 4 0 (ap (λ (q : Path). q.begun) same) (ap (λ (q : Path). 64 - (q.sent + 0)) same) (ap (λ (q : Path). length q.sets.items) same) less (search_digits after 4 (omega arith) s);
+    }
+
+-- The next server without an address is done with.
+pub supplying : (port : ℕ) (question : Question) (log : List Exchange) (target : Labels) (search after : Search) (found : List Addr) → after.path ≡ search.path
+    → AreSupplied search.frames.items search.base found after.frames.items after.base → IsTried port question log search target → AllServe port log (hunt_of search).servers.zone found
+    → IsSmaller port question log (left_of_search search 0) after
+supplying port question log target search after found same i t serve =
+    let s = t.is_search in
+    smaller port question log s.since search after same s.path
+    (supplied_stack port log s.since search.path.last target search.frames.items after.frames.items search.base after.base found s.base s.frames s.deep t.next t.tried serve i)
+    (hunts_fall search.frames.items after.frames.items search.base after.base found (next_less (hunt_of search) target t.next) i)
+
+closed_stack : (port : ℕ) (log since : List Exchange) (last : Question) (xs gs : List Frame) (base next : Hunt) (found : List Addr) → 0 < length xs → IsBase port log last since base → AreFrames port log since base xs → length xs ≤ 8
+    → AllServe port log (hunt_behind (drop 1 xs) base).servers.zone found → AreSupplied (drop 1 xs) base found gs next
+    → IsStack port log since last next gs
+closed_stack port log since last [] gs base next found some b all deep serve i = absurd (omega (arith, some))
+closed_stack port log since last (f ∷ fs) gs base next found some b all deep serve i =
+    supplied_stack port log since last f.target fs gs base next found b all.1 (omega (arith, deep)) all.0.next (λ none may. all.0.sought) serve i
+
+-- The innermost question is closed.
+pub closing : (port : ℕ) (question : Question) (log : List Exchange) (search after : Search) (found : List Addr) → 0 < length search.frames.items → after.path ≡ search.path
+    → AreSupplied (drop 1 search.frames.items) search.base found after.frames.items after.base → IsSearch port question log search
+    → AllServe port log (hunt_behind (drop 1 search.frames.items) search.base).servers.zone found → IsSmaller port question log (left_of_search search 0) after
+closing port question log search after found some same i s serve =
+    let k = closed_stack port log s.since search.path.last search.frames.items after.frames.items search.base after.base found some s.base s.frames s.deep serve i in
+    smaller port question log s.since search after same s.path k (hunts_close search.frames.items after.frames.items search.base after.base found some i)
+
 -- ---- a question is opened
 
 pub opening : (port : ℕ) (question : Question) (log : List Exchange) (search after : Search) (list : Servers) (target : Labels) (hunt : Hunt) → after.path ≡ search.path → after.base ≡ search.base
     → after.frames.items ≡ record { target = target; hunt = hunt } ∷ search.frames.items → IsFresh list hunt → (s : IsSearch port question log search) → length search.frames.items < 8
-    → IsNext (hunt_of search) target → Sought s.since target → Known port log (Listed list) → IsAtOrBelow target list.zone → IsSmaller port question log (left_of_search search 0) after
+    → IsNext (hunt_of search) target → Sought s.since target → Known port log (Listed list) → IsAtOrBelow target list.zone → IsSmaller port question log (left_of_seek search stage.Servers) after
 opening port question log search after list target hunt path base frames f s shallow n sought known zone =
     let h = fresh_hunt port log target list hunt known zone f in
     let stack : IsStack port log s.since search.path.last search.base (record { target = target; hunt = hunt } ∷ search.frames.items) = record {
@@ -359,8 +343,12 @@ opening port question log search after list target hunt path base frames f s sha
       frames_known = (record { next = n; sought = sought; hunt = h }, s.frames);
       deep = omega (arith, shallow);
     } in
-    let less = opened_falls search.base (record { target = target; hunt = hunt }) search.frames.items shallow (missing_digit hunt h) in
-    smaller port question log s.since search after path s.path
-    (subst (λ (xs : List Frame). IsStack port log s.since search.path.last after.base xs) (sym frames) (subst (λ (b : Hunt). IsStack port log s.since search.path.last b (record { target = target; hunt = hunt } ∷ search.frames.items)) (sym base) stack))
-    (subst (λ (xs : List Frame). Falls (depths after.base xs) (depths search.base search.frames.items)) (sym frames)
-    (subst (λ (b : Hunt). Falls (depths b (record { target = target; hunt = hunt } ∷ search.frames.items)) (depths search.base search.frames.items)) (sym base) less))
+    let t = rebuilt port question log s.since after (subst (λ (q : Path). IsPath port question log q) (sym path) s.path)
+    (subst (λ (q : Path). IsBase port log q.last s.since after.base) (sym path) (subst (λ (b : Hunt). IsBase port log search.path.last s.since b) (sym base) stack.base_known))
+    (subst (λ (xs : List Frame). AreFrames port log s.since after.base xs) (sym frames) (subst (λ (b : Hunt). AreFrames port log s.since b (record { target = target; hunt = hunt } ∷ search.frames.items)) (sym base) stack.frames_known))
+    (subst (λ (xs : List Frame). length xs ≤ 8) (sym frames) stack.deep) in
+    record {
+      is_search = t;
+      falls = coming_falls after.path search.path 0 0 0 1 (hunts_left after) 0 4 0 (ap (λ (q : Path). q.begun) path) (ap (λ (q : Path). 64 - (q.sent + 0)) path) (ap (λ (q : Path). length q.sets.items) path) (omega arith)
+          (search_digits after 4 (omega arith) t);
+    }

@@ -1,4 +1,5 @@
 -- What becomes of the servers that are asked: they are reached, asked in turn, and given the addresses that were found.
+-- (Of the code. What a task is held to stands in Exchanges, Told, Shown, Known, Resolved and Wanted.)
 use Rattle.std.specs.Prelude.{Bool, true, false, ◌≡◌, ℕ, ◌+◌, ◌^◌, ◌<◌, ◌≤◌, ◌⊎◌, List, [], ◌∷◌, length, take, drop}
 use Rattle.std.specs.List.{AllByRecursion, Contains, flat_map}
 use Rattle.dns_name.specs.Labels.{Labels}
@@ -15,7 +16,7 @@ use Rattle.iterate.specs.declared.search.Next.TheVariants.{Ask, Seek, Pass, Clos
 use Rattle.iterate.specs.declared.search.Search.{Search}
 use Rattle.iterate.specs.Exchanges.{Exchange}
 use Rattle.iterate.specs.Known.{Known, Serves}
-use Rattle.iterate.specs.Measure.{missing_left, left_of_search}
+use Rattle.iterate.specs.Measure.{left_of_search}
 use Rattle.iterate.specs.Resolved.{MaySeek, Sought}
 use Rattle.iterate.specs.Searching.{IsSearch, IsNext, hunt_of}
 use Rattle.dns_name.specs.Labels.{IsAtOrBelow}
@@ -37,6 +38,7 @@ use Rattle.iterate.specs.Told.{IsAddressIn}
 use Rattle.ranked.specs.Body.{data_of}
 use Rattle.iterate.specs.declared.answer.Told.{Told}
 use Rattle.iterate.specs.declared.answer.Told.TheVariants.{Find as FindTold, Local as LocalTold, Passing as PassingTold}
+use Rattle.iterate.specs.declared.limits.TheConstants.{MOST_DEPTH}
 
 -- the address that a datum has, with this port, if it is one of IPv4
 abbrev pub v4_of : ℕ → Data → List Addr
@@ -92,14 +94,6 @@ pub record IsSmaller (port : ℕ) (question : Question) (log : List Exchange) (l
   pub is_search : IsSearch port question log search
   pub falls : left_of_search search 4 < left
 
-abbrev pub frames_left : List Frame → ℕ
-frames_left [] = 0
-frames_left (frame ∷ frames) = missing_left frame.hunt + 1 + frames_left frames
-
--- how many servers without an address are left, and questions open
-abbrev pub hunts_left : Search → ℕ
-hunts_left search = missing_left search.base + frames_left search.frames.items
-
 -- An item stands at a place.
 abbrev pub IsAt : {X : Type 0} → List X → ℕ → X → Type 0
 IsAt {X} xs place x = (rest : List X) × (drop place xs ≡ x ∷ rest)
@@ -107,7 +101,7 @@ IsAt {X} xs place x = (rest : List X) × (drop place xs ≡ x ∷ rest)
 -- What comes next for the innermost question.
 abbrev pub IsNextStep : Search → Next → Type 0
 IsNextStep search (Ask server) = (rest : List Addr) × (drop (hunt_of search).asked (hunt_of search).addrs.items ≡ server ∷ rest)
-IsNextStep search (Seek target) = IsNext (hunt_of search) target × (length search.frames.items < 8)
+IsNextStep search (Seek target) = IsNext (hunt_of search) target × (length search.frames.items < MOST_DEPTH)
 IsNextStep search Pass = (target : Labels) × IsNext (hunt_of search) target × (search.frames.items ≡ [] → ¬ (MaySeek search.path.last search.base.servers target))
 IsNextStep search Close = (length (hunt_of search).addrs.items ≤ (hunt_of search).asked) × (length (hunt_of search).servers.missing ≤ (hunt_of search).sought)
 

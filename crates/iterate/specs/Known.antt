@@ -11,7 +11,8 @@ use Rattle.dns_query.specs.declared.verdict.Referral.{Referral}
 use Rattle.dns_query.specs.Believed.{IsFoundFor, IsPassingFor}
 use Rattle.dns_query.specs.Query.{IsQuery, address_question}
 use Rattle.dns_query.specs.Referral.{IsReferral}
-use Rattle.dns_query.specs.Response.{IsResponse, IsWhole}
+use Rattle.dns_query.specs.Response.{IsResponse}
+use Rattle.dns_query.specs.Verdict.{IsUseful}
 use Rattle.harvest.specs.Harvest.{finds_in, passing_in}
 use Rattle.harvest.specs.Learnt.{set_of}
 use Rattle.harvest.specs.declared.passing.PassingSet.{PassingSet}
@@ -38,7 +39,7 @@ pub data Fact : Type 0 where
   Had : Question → Told → Fact  -- the question is answered by this set
   Listed : Servers → Fact  -- these are the servers of their zone, some still without an address
   Serves : Labels → Addr → Fact  -- this address is a server of this zone
-  Responds : Labels → Question → Message → Fact  -- a server of this zone says this of the question
+  Responds : Labels → Question → Message → Fact  -- a server of this zone says this of the question, and it is of use
 
 -- the servers to which a response refers
 abbrev pub servers_referred : Referral → Servers
@@ -73,11 +74,11 @@ pub data Known (port : ℕ) : List Exchange → Fact → Type 0 where
   found : {log : List Exchange} {servers : Servers} {target : Labels} {told : Told} {addr : Addr}
       → Known port log (Listed servers) → Contains servers.missing target
       → Known port log (Had (address_question target) told) → IsAddressIn port told addr → Known port log (Serves servers.zone addr)
-  -- A server of a zone in which the name lies was asked, and responded.
+  -- A server of a zone in which the name lies was asked, and its response is of use.
   responded : {before after : List Exchange} {zone : Labels} {server : Addr} {over : Over} {bytes octets : List ℕ} {id : ℕ} {question : Question} {v : Message}
       → Adds before (exchange (Send server over bytes) (Came octets)) after
       → Known port before (Serves zone server) → IsQuery bytes id question → IsAtOrBelow question.owner zone
-      → IsResponse id question octets v → IsWhole v
+      → IsResponse id question octets v → IsUseful port zone question v
       → Known port after (Responds zone question v)
   -- The harvest of a response has it, at rank 2 or more.
   harvested : {log : List Exchange} {zone : Labels} {question asked : Question} {v : Message} {find : Find}

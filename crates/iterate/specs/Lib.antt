@@ -1,14 +1,16 @@
+-- What a task is held to.
 pub mod Exchanges
 pub mod Told
-pub mod Known
 pub mod Shown
-pub mod Looked
-pub mod Following
+pub mod Known
 pub mod Resolved
 pub mod Wanted
-pub mod Searching
-pub mod Phase
-pub mod Measure
-pub mod Task
+-- What its code remembers, and how far it is.
+pub mod Looked
+pub mod Following
 pub mod Judged
+pub mod Searching
+pub mod Measure
+pub mod Phase
 pub mod Hunting
+pub mod Task

@@ -1,4 +1,5 @@
 -- What a look was answered, as the code tells it.
+-- (Of the code. What a task is held to stands in Exchanges, Told, Shown, Known, Resolved and Wanted.)
 use Rattle.std.specs.Prelude.{◌≡◌, false}
 use Rattle.dns_text.specs.declared.record.Question.{Question}
 use Rattle.local_zone.specs.declared.local.Local.TheVariants.{Data as LocalData}

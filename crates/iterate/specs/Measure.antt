@@ -1,5 +1,7 @@
 -- How much is left of a task: digits, the weightiest first. With each step one falls; those before it stay, and those behind it may be any.
-use Rattle.std.specs.Prelude.{ℕ, ◌+◌, ◌-◌, ◌*◌, ◌^◌, ◌<◌, ◌≡◌, List, [], ◌∷◌, ◌++◌, length, map, replicate, reverse}
+-- (Of the code. What a task is held to stands in Exchanges, Told, Shown, Known, Resolved and Wanted.)
+use Rattle.std.specs.Prelude.{ℕ, ◌+◌, ◌-◌, ◌*◌, ◌^◌, ◌<◌, ◌≡◌, List, [], ◌∷◌, length}
+use Rattle.iterate.specs.declared.limits.TheConstants.{MOST_ALIASES, MOST_BEGUN, MOST_SENDS}
 use Rattle.iterate.specs.declared.path.Path.{Path}
 use Rattle.iterate.specs.declared.phase.Phase.{Phase}
 use Rattle.iterate.specs.declared.phase.Phase.TheVariants.{Fresh, First, Aliasing, Looking, Listing, Seeking, Sent, Admitting, Ended, Broken}
@@ -11,7 +13,7 @@ use Rattle.iterate.specs.declared.search.Search.{Search}
 
 -- above every digit
 abbrev pub top : ℕ
-top = 2 ^ 64 + 1
+top = 2 ^ 68
 
 abbrev pub weight : List ℕ → ℕ
 weight [] = 0
@@ -25,37 +27,39 @@ pub data Falls : List ℕ → List ℕ → Type 0 where
 abbrev pub missing_left : Hunt → ℕ
 missing_left hunt = length hunt.servers.missing - hunt.sought
 
--- one digit for each depth, the outermost first: what is left there, and the most where no question is open
-abbrev pub depths : Hunt → List Frame → List ℕ
-depths base frames = missing_left base ∷ (map (λ frame. missing_left frame.hunt) (reverse frames) ++ replicate (8 - length frames) top)
+abbrev pub frames_left : List Frame → ℕ
+frames_left [] = 0
+frames_left (frame ∷ frames) = missing_left frame.hunt + 1 + frames_left frames
 
-abbrev pub no_depths : List ℕ
-no_depths = replicate 9 top
+-- how many servers without an address are left, and questions open
+abbrev pub hunts_left : Search → ℕ
+hunts_left search = missing_left search.base + frames_left search.frames.items
 
--- queries left, aliases left, what may yet come of a response, the depths, and the looks that are left
-abbrev pub digits_of_path : Path → ℕ → ℕ → List ℕ → ℕ → List ℕ
-digits_of_path path sending hearing depths looks = (64 - (path.sent + sending)) ∷ (17 - length path.sets.items) ∷ hearing ∷ (depths ++ looks ∷ [])
+-- questions for addresses that may yet be begun, queries left, aliases left, what may yet come of what is open, servers left, and looks left
+abbrev pub digits_of_path : Path → ℕ → ℕ → ℕ → ℕ → List ℕ
+digits_of_path path sending coming hunts looks = (MOST_BEGUN - path.begun) ∷ (MOST_SENDS - (path.sent + sending)) ∷ (MOST_ALIASES + 1 - length path.sets.items) ∷ coming ∷ hunts ∷ looks ∷ []
 
 -- a search that is about to go on
 abbrev pub digits_of_search : Search → ℕ → List ℕ
-digits_of_search search looks = digits_of_path search.path 0 0 (depths search.base search.frames.items) looks
+digits_of_search search looks = digits_of_path search.path 0 0 (hunts_left search) looks
 
-abbrev pub looks_left : Stage → ℕ
-looks_left Address = 3
-looks_left Alias = 2
-looks_left Servers = 1
+-- a search for the address of a server
+abbrev pub digits_of_seek : Search → Stage → List ℕ
+digits_of_seek search Address = digits_of_search search 3
+digits_of_seek search Alias = digits_of_path search.path 0 2 0 0
+digits_of_seek search Servers = digits_of_path search.path 0 1 0 0
 
 abbrev pub digits_in : Phase → List ℕ
-digits_in Fresh = 66 ∷ 0 ∷ 0 ∷ (no_depths ++ 0 ∷ [])
-digits_in First = 65 ∷ 0 ∷ 0 ∷ (no_depths ++ 0 ∷ [])
-digits_in (Looking path) = digits_of_path path 0 0 no_depths 3
-digits_in (Aliasing path) = digits_of_path path 0 0 no_depths 2
-digits_in (Listing path) = digits_of_path path 0 0 no_depths 1
-digits_in (Seeking search target stage) = digits_of_search search (looks_left stage)
-digits_in (Sent search server id over) = digits_of_path search.path 1 2 no_depths 0
-digits_in (Admitting search heard next) = digits_of_path search.path 0 1 no_depths (length heard.harvest.finds - next)
-digits_in Ended = 0 ∷ 0 ∷ 0 ∷ (replicate 9 0 ++ 0 ∷ [])
-digits_in Broken = 0 ∷ 0 ∷ 0 ∷ (replicate 9 0 ++ 0 ∷ [])
+digits_in Fresh = 66 ∷ 0 ∷ 0 ∷ 0 ∷ 0 ∷ 0 ∷ []
+digits_in First = 65 ∷ 0 ∷ 0 ∷ 0 ∷ 0 ∷ 0 ∷ []
+digits_in (Looking path) = digits_of_path path 0 0 top 3
+digits_in (Aliasing path) = digits_of_path path 0 0 top 2
+digits_in (Listing path) = digits_of_path path 0 0 top 1
+digits_in (Seeking search target stage) = digits_of_seek search stage
+digits_in (Sent search server id over) = digits_of_path search.path 1 2 0 0
+digits_in (Admitting search heard next) = digits_of_path search.path 0 1 0 (length heard.harvest.finds - next)
+digits_in Ended = 0 ∷ 0 ∷ 0 ∷ 0 ∷ 0 ∷ 0 ∷ []
+digits_in Broken = 0 ∷ 0 ∷ 0 ∷ 0 ∷ 0 ∷ 0 ∷ []
 
 -- how much is left
 abbrev pub left_in : Phase → ℕ
@@ -63,14 +67,17 @@ left_in phase = weight (digits_in phase)
 
 -- how much is left where a path is about to be looked at, and where a search is about to go on
 abbrev pub left_of_path : Path → ℕ → ℕ
-left_of_path path looks = weight (digits_of_path path 0 0 no_depths looks)
+left_of_path path looks = weight (digits_of_path path 0 0 top looks)
 
 abbrev pub left_of_search : Search → ℕ → ℕ
 left_of_search search looks = weight (digits_of_search search looks)
 
+abbrev pub left_of_seek : Search → Stage → ℕ
+left_of_seek search stage = weight (digits_of_seek search stage)
+
 -- how much is left where a query of this path is out, and where a response to it is heard, of which so many finds were not yet handed to the book
 abbrev pub left_of_sending : Path → ℕ
-left_of_sending path = weight (digits_of_path path 1 2 no_depths 0)
+left_of_sending path = weight (digits_of_path path 1 2 0 0)
 
 abbrev pub left_of_hearing : Path → ℕ → ℕ
-left_of_hearing path finds = weight (digits_of_path path 0 1 no_depths finds)
+left_of_hearing path finds = weight (digits_of_path path 0 1 0 finds)

@@ -1,4 +1,5 @@
 -- Where a task stands: what is remembered in each phase, and what a step has to bring.
+-- (Of the code. What a task is held to stands in Exchanges, Told, Shown, Known, Resolved and Wanted.)
 use Rattle.std.specs.Prelude.{◌≡◌, ℕ, ◌<◌, ◌≤◌, List, [], ◌∷◌, ◌++◌, length, map, drop}
 use Rattle.dns_name.specs.Labels.{Labels}
 use Rattle.dns_text.specs.declared.addr.Addr.{Addr}
@@ -8,15 +9,16 @@ use Rattle.dns_query.specs.declared.over.Over.{Over}
 use Rattle.dns_query.specs.declared.verdict.Heard.{Heard}
 use Rattle.dns_query.specs.Query.{IsQuery, address_question, alias_question}
 use Rattle.dns_query.specs.Verdict.{IsSaid}
-use Rattle.dns_query.specs.Response.{IsWhole}
 use Rattle.harvest.specs.Harvest.{finds_in, passing_in}
 use Rattle.harvest.specs.Learnt.{set_of}
 use Rattle.neg_rule.specs.Negative.{said_by}
+use Rattle.rand_core.specs.Stream.{Stream}
 use Rattle.ranked.specs.declared.find.Find.{Find}
 use Rattle.undo_book.specs.declared.event.Ask.{Ask}
 use Rattle.undo_book.specs.declared.event.Ask.TheVariants.{Answer as Asked, Servers as ServersFor}
 use Rattle.undo_book.specs.declared.event.Event.TheVariants.{Admit, Look}
 use Rattle.iterate.specs.declared.answer.Answer.{Answer}
+use Rattle.iterate.specs.declared.limits.TheConstants.{MOST_DEPTH, MOST_SENDS}
 use Rattle.iterate.specs.declared.phase.Phase.{Phase}
 use Rattle.iterate.specs.declared.phase.Phase.TheVariants.{Fresh, First, Aliasing, Looking, Listing, Seeking, Sent, Admitting, Ended, Broken}
 use Rattle.iterate.specs.declared.phase.Stage.{Stage}
@@ -32,7 +34,7 @@ use Rattle.iterate.specs.Known.{Known, Responds}
 use Rattle.iterate.specs.Measure.{left_in}
 use Rattle.iterate.specs.Resolved.{Sought}
 use Rattle.iterate.specs.Searching.{IsPath, IsSearch, IsNext, hunt_of, question_of}
-use Rattle.iterate.specs.Wanted.{MayWant}
+use Rattle.iterate.specs.Wanted.{MayWant, id_drawn, stream_behind}
 
 -- ---- what comes next
 
@@ -77,14 +79,14 @@ IsSought stage since target = Sought since target
 -- A server without an address is being looked for.
 pub record IsSeeking (port : ℕ) (question : Question) (log : List Exchange) (search : Search) (target : Labels) (stage : Stage) : Type 0 where
   pub is_search : IsSearch port question log search
-  pub shallow : length search.frames.items < 8
+  pub shallow : length search.frames.items < MOST_DEPTH
   pub next : IsNext (hunt_of search) target
   pub sought : IsSought stage is_search.since target
 
 -- The next server is being asked.
 pub record IsWaiting (port : ℕ) (question : Question) (log : List Exchange) (want : Want) (search : Search) (server : Addr) (id : ℕ) (over : Over) : Type 0 where
   pub is_search : IsSearch port question log search
-  pub some : search.path.sent < 64
+  pub some : search.path.sent < MOST_SENDS
   pub rest : List Addr
   pub next : drop (hunt_of search).asked (hunt_of search).addrs.items ≡ server ∷ rest
   pub bytes : List ℕ
@@ -105,7 +107,6 @@ pub record IsHearing (port : ℕ) (question : Question) (log : List Exchange) (s
   pub came : Adds before (exchange (Send server over bytes) (Came octets)) upto
   pub split : log ≡ before ++ exchange (Send server over bytes) (Came octets) ∷ since
   pub responds : Known port upto (Responds (hunt_of search).servers.zone (question_of search) message)
-  pub whole : IsWhole message
   pub finds : map said_by heard.harvest.finds ≡ finds_in message (question_of search) (hunt_of search).servers.zone
   pub passing : map set_of heard.harvest.passing ≡ passing_in message (question_of search) (hunt_of search).servers.zone
   pub says : IsSaid port (hunt_of search).servers.zone (question_of search) message heard.says
@@ -120,11 +121,24 @@ Fits port question log want (Listing path) = IsPath port question log path × Is
 Fits port question log want (Seeking search target stage) = IsSeeking port question log search target stage × IsLook want (ask_at stage target)
 Fits port question log want (Sent search server id over) = IsWaiting port question log want search server id over
 Fits port question log want (Admitting search heard next) = IsHearing port question log search heard × (next < length heard.harvest.finds) × IsAdmission want
-Fits port question log want Ended = (answer : Answer) × (want ≡ Finish answer) × (count_sends log ≤ 64)
+Fits port question log want Ended = (answer : Answer) × (want ≡ Finish answer) × (count_sends log ≤ MOST_SENDS)
 Fits port question log want Broken = ⊥
 
+-- the stream of numbers as a step finds it, and as it leaves it
+pub record Drawing : Type 0 where
+  pub before : Stream
+  pub after : Stream
+
+abbrev pub drawing : Stream → Stream → Drawing
+drawing before after = record { before = before; after = after }
+
+-- none is drawn
+abbrev pub idle : Stream → Drawing
+idle stream = drawing stream stream
+
 -- A step is well made, by the exchanges so far, and less is left than was.
-pub record Goes (port : ℕ) (question : Question) (log : List Exchange) (moment id left : ℕ) (phase : Phase) (want : Want) : Type 0 where
-  pub wants : MayWant port question log moment id want
+pub record Goes (port : ℕ) (question : Question) (log : List Exchange) (moment : ℕ) (ids : Drawing) (left : ℕ) (phase : Phase) (want : Want) : Type 0 where
+  pub wants : MayWant port question log moment (id_drawn ids.before) want
+  pub drawn : ids.after ≡ stream_behind want ids.before
   pub fits : Fits port question log want phase
   pub falls : left_in phase < left

@@ -1,7 +1,7 @@
 -- When an answer resolves a question.
-use Rattle.std.specs.Prelude.{◌≡◌, ℕ, ◌≤◌, Bool, true, false, List, [], ◌∷◌, ◌++◌, length, Option, None}
+use Rattle.std.specs.Prelude.{◌≡◌, ℕ, ◌+◌, ◌≤◌, Bool, true, false, List, [], ◌∷◌, ◌++◌, length, Option, Some, None}
 use Rattle.std.specs.List.{Contains}
-use Rattle.std.specs.Option.{option_map, option_to_list}
+use Rattle.std.specs.Option.{option_map}
 use Rattle.dns_name.specs.Labels.{Labels, IsAtOrBelow}
 use Rattle.dns_text.specs.declared.addr.Addr.{Addr}
 use Rattle.dns_text.specs.declared.record.Question.{Question}
@@ -25,6 +25,7 @@ use Rattle.iterate.specs.declared.answer.Answer.{Answer}
 use Rattle.iterate.specs.declared.answer.Answer.TheVariants.{Reply as Replies, Silent}
 use Rattle.iterate.specs.declared.answer.Soa.{Soa}
 use Rattle.iterate.specs.declared.answer.Told.{Told}
+use Rattle.iterate.specs.declared.limits.TheConstants.{MOST_ALIASES, MOST_SENDS}
 use Rattle.iterate.specs.declared.want.Input.{Input}
 use Rattle.iterate.specs.declared.want.Input.TheVariants.{Reply, Came, Failed}
 use Rattle.iterate.specs.declared.want.Want.TheVariants.{Book, Send}
@@ -136,8 +137,8 @@ pub data IsBarred : SeenValue → Type 0 where
 -- Behind so many aliases the question fails.
 pub data Fails (port : ℕ) (log : List Exchange) (question : Question) (aliases : ℕ) : Type 0 where
   misanswered : {event : Event} {input : Input} → Happened log (exchange (Book event) input) → IsMisanswered event input → Fails port log question aliases
-  spent : count_sends log ≡ 64 → Fails port log question aliases
-  long : aliases ≡ 17 → Fails port log question aliases
+  spent : count_sends log ≡ MOST_SENDS → Fails port log question aliases
+  long : aliases ≡ MOST_ALIASES + 1 → Fails port log question aliases
   barred : {moment : ℕ} {seen : SeenValue} → 1 ≤ aliases → Happened log (exchange (Book (Look moment (Asked question))) (Reply (Seen seen))) → IsBarred seen → Fails port log question aliases
   exhausted : Exhausted port log question → Fails port log question aliases
 
@@ -147,33 +148,33 @@ pub data Fails (port : ℕ) (log : List Exchange) (question : Question) (aliases
 abbrev pub question_at : Question → Labels → Question
 question_at question name = record { owner = name; kind = question.kind }
 
--- A question is answered with this RCODE, whether with authority, these sets and this SOA record. It is authoritative where local data or a local zone answered the first look.
-pub data ResolvedAs (port : ℕ) (question : Question) (log : List Exchange) : ℕ → Bool → List Told → Option Soa → Type 0 where
+-- A question is answered with this RCODE, whether with authority, these aliases, this last set and this SOA record. It is authoritative where local data or a local zone answered the first look.
+pub data ResolvedAs (port : ℕ) (question : Question) (log : List Exchange) : ℕ → Bool → List Told → Option Told → Option Soa → Type 0 where
   -- The first look ends it.
-  at_once : {seen : SeenValue} {rcode : ℕ} {sets : List Told} {last : Option Told} {authority : Option Soa}
-      → Began question (Reply (Seen seen)) log → Ends question seen rcode last authority → sets ≡ option_to_list last
-      → ResolvedAs port question log rcode (is_local seen) sets authority
+  at_once : {seen : SeenValue} {rcode : ℕ} {last : Option Told} {authority : Option Soa}
+      → Began question (Reply (Seen seen)) log → Ends question seen rcode last authority
+      → ResolvedAs port question log rcode (is_local seen) [] last authority
   -- A chain of aliases ends in what a look says.
-  looked : {name : Labels} {front sets : List Told} {moment : ℕ} {seen : SeenValue} {rcode : ℕ} {last : Option Told} {authority : Option Soa}
-      → BeganUnanswered question log → Chain port log question.owner front name → length front ≤ 16
+  looked : {name : Labels} {front : List Told} {moment : ℕ} {seen : SeenValue} {rcode : ℕ} {last : Option Told} {authority : Option Soa}
+      → BeganUnanswered question log → Chain port log question.owner front name → length front ≤ MOST_ALIASES
       → Happened log (exchange (Book (Look moment (Asked (question_at question name)))) (Reply (Seen seen))) → Ends (question_at question name) seen rcode last authority
-      → sets ≡ front ++ option_to_list last → ResolvedAs port question log rcode false sets authority
+      → ResolvedAs port question log rcode false front last authority
   -- A chain ends in a set.
-  found : {name : Labels} {front sets : List Told} {told : Told}
-      → BeganUnanswered question log → Chain port log question.owner front name → length front ≤ 16
-      → Known port log (Had (question_at question name) told) → sets ≡ front ++ told ∷ [] → ResolvedAs port question log 0 false sets None
+  found : {name : Labels} {front : List Told} {told : Told}
+      → BeganUnanswered question log → Chain port log question.owner front name → length front ≤ MOST_ALIASES
+      → Known port log (Had (question_at question name) told) → ResolvedAs port question log 0 false front (Some told) None
   -- A chain ends where a response denies.
-  denied : {name : Labels} {sets : List Told} {rcode : ℕ} {authority : Option Soa}
-      → BeganUnanswered question log → Chain port log question.owner sets name → length sets ≤ 16
-      → IsDenied port log (question_at question name) rcode authority → ResolvedAs port question log rcode false sets authority
+  denied : {name : Labels} {front : List Told} {rcode : ℕ} {authority : Option Soa}
+      → BeganUnanswered question log → Chain port log question.owner front name → length front ≤ MOST_ALIASES
+      → IsDenied port log (question_at question name) rcode authority → ResolvedAs port question log rcode false front None authority
   -- The first look was refused by a local zone.
-  refused : Began question (Reply (Seen (LocalSeen local.Refuse))) log → ResolvedAs port question log 5 true [] None
+  refused : Began question (Reply (Seen (LocalSeen local.Refuse))) log → ResolvedAs port question log 5 true [] None None
   -- A chain ends where nothing more can be had: SERVFAIL.
   failed : {name : Labels} {front : List Told}
       → BeganUnanswered question log → Chain port log question.owner front name → Fails port log (question_at question name) (length front)
-      → ResolvedAs port question log 2 false [] None
+      → ResolvedAs port question log 2 false [] None None
 
 -- The answer resolves the question, by the exchanges so far.
 abbrev pub IsResolved : ℕ → Question → List Exchange → Answer → Type 0
-IsResolved port question log (Replies rcode aa aliases last authority) = ResolvedAs port question log rcode aa (aliases ++ option_to_list last) authority
+IsResolved port question log (Replies rcode aa aliases last authority) = ResolvedAs port question log rcode aa aliases last authority
 IsResolved port question log Silent = Began question (Reply (Seen (LocalSeen local.Drop))) log

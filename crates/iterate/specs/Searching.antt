@@ -1,4 +1,5 @@
 -- What a task remembers, and why it holds of the exchanges so far.
+-- (Of the code. What a task is held to stands in Exchanges, Told, Shown, Known, Resolved and Wanted.)
 use Rattle.std.specs.Prelude.{◌≡◌, ℕ, ◌^◌, ◌<◌, ◌≤◌, List, [], ◌∷◌, ◌++◌, length, take, drop}
 use Rattle.std.specs.List.{AllByRecursion, Contains}
 use Rattle.dns_name.specs.Labels.{Labels, IsAtOrBelow}
@@ -6,6 +7,7 @@ use Rattle.dns_text.specs.declared.addr.Addr.{Addr}
 use Rattle.dns_text.specs.declared.record.Question.{Question}
 use Rattle.dns_query.specs.Query.{address_question}
 use Rattle.iterate.specs.declared.answer.Told.{Told}
+use Rattle.iterate.specs.declared.limits.TheConstants.{MOST_ALIASES, MOST_DEPTH, MOST_SENDS}
 use Rattle.iterate.specs.declared.path.Path.{Path}
 use Rattle.iterate.specs.declared.search.Frame.{Frame}
 use Rattle.iterate.specs.declared.search.Hunt.{Hunt}
@@ -19,16 +21,17 @@ pub record IsPath (port : ℕ) (question : Question) (log : List Exchange) (path
   pub began : BeganUnanswered question log
   pub chain : Chain port log question.owner path.sets.items path.last.owner
   pub kind : path.last.kind ≡ question.kind
-  pub short : length path.sets.items ≤ 16
+  pub short : length path.sets.items ≤ MOST_ALIASES
   pub counted : path.sent ≡ count_sends log
-  pub few : path.sent ≤ 64
+  pub few : path.sent ≤ MOST_SENDS
 
 -- A path with one alias more, which leads to this name.
 pub record IsLonger (path : Path) (told : Told) (to : Labels) (next : Path) : Type 0 where
   pub sets : next.sets.items ≡ path.sets.items ++ told ∷ []
   pub last : next.last ≡ record { owner = to; kind = path.last.kind }
   pub sent : next.sent ≡ path.sent
-  pub short : length next.sets.items ≤ 16
+  pub begun : next.begun ≡ path.begun
+  pub short : length next.sets.items ≤ MOST_ALIASES
 
 -- Servers that are asked about a name.
 pub record IsHunt (port : ℕ) (log : List Exchange) (name : Labels) (hunt : Hunt) : Type 0 where
@@ -84,4 +87,4 @@ pub record IsSearch (port : ℕ) (question : Question) (log : List Exchange) (se
   pub since : List Exchange
   pub base : IsBase port log search.path.last since search.base
   pub frames : AreFrames port log since search.base search.frames.items
-  pub deep : length search.frames.items ≤ 8
+  pub deep : length search.frames.items ≤ MOST_DEPTH

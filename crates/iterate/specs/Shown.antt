@@ -5,7 +5,7 @@ use Rattle.std.specs.Option.{option_map}
 use Rattle.dns_name.specs.Labels.{IsAtOrBelow}
 use Rattle.dns_text.specs.declared.record.Question.{Question}
 use Rattle.dns_text.specs.declared.record.Record.{Record}
-use Rattle.dns_text.specs.declared.types.TheConstants as number
+use Rattle.dns_query.specs.Query.{alias_question}
 use Rattle.local_zone.specs.declared.local.Local.{Local}
 use Rattle.local_zone.specs.declared.local.Local.TheVariants as local
 use Rattle.ranked.specs.Body.{is_negative}
@@ -37,15 +37,19 @@ pub record IsShownFor (question : Question) (shown : Shown Find) : Type 0 where
   pub touches : touches shown.body question ≡ true
   pub trusted : 2 ≤ level_of shown.body.rank
 
--- A local record is of the question's name, and of its type or an alias, and its data have their form.
+-- A local record is of the question's name and type, and its data have their form.
 pub record IsLocalRecord (question : Question) (r : Record) : Type 0 where
   pub owner : r.owner ≡ question.owner
-  pub kind : (r.kind ≡ question.kind) ⊎ (r.kind ≡ number.CNAME)
+  pub kind : r.kind ≡ question.kind
   pub formed : IsFormed r
 
+abbrev pub AreLocal : Question → List Record → Type 0
+AreLocal question records = AllByRecursion (IsLocalRecord question) records
+
+-- A local set is of the type asked, or is what the name is an alias of (RFC 1034, section 3.6.2).
 pub record IsLocalSet (question : Question) (records : List Record) : Type 0 where
   pub some : 1 ≤ length records
-  pub are : AllByRecursion (IsLocalRecord question) records
+  pub are : AreLocal question records ⊎ AreLocal (alias_question question.owner) records
 
 abbrev pub IsSoaFormed : Option Record → Type 0
 IsSoaFormed None = Unit {0}
@@ -65,8 +69,10 @@ abbrev pub IsReplyTo : Ask → BookReply → Type 0
 IsReplyTo (Asked question) (Seen Unknown) = Unit {0}
 IsReplyTo (Asked question) (Seen (Held shown)) = IsShownFor question shown
 IsReplyTo (Asked question) (Seen (LocalSeen answer)) = IsLocalFor question answer
+IsReplyTo (Asked question) reply = ⊥
 IsReplyTo (ServersFor name) (Seen (SeenServers servers)) = IsAtOrBelow name servers.zone
-IsReplyTo ask reply = ⊥
+IsReplyTo (ServersFor name) reply = ⊥
+IsReplyTo ask reply = Unit {0}
 
 -- What may be replied to an admission.
 abbrev pub IsAdmitted : BookReply → Type 0

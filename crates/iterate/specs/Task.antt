@@ -1,4 +1,5 @@
 -- A task before its first step, in the midst, and with no memory.
+-- (Of the code. What a task is held to stands in Exchanges, Told, Shown, Known, Resolved and Wanted.)
 use Rattle.std.specs.Prelude.{◌≡◌, ℕ, List, []}
 use Rattle.dns_text.specs.declared.record.Question.{Question}
 use Rattle.iterate.specs.declared.phase.Phase.{Phase}

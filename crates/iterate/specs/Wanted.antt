@@ -5,49 +5,75 @@ use Rattle.dns_name.specs.Labels.{Labels, IsAtOrBelow}
 use Rattle.dns_text.specs.declared.addr.Addr.{Addr}
 use Rattle.dns_text.specs.declared.record.Question.{Question}
 use Rattle.dns_wire.specs.declared.message.Message.{Message}
+use Rattle.dns_query.specs.declared.over.Over.{Over}
+use Rattle.dns_query.specs.declared.over.Over.TheVariants.{Udp, Tcp}
 use Rattle.dns_query.specs.Query.{IsQuery}
-use Rattle.dns_query.specs.Verdict.{IsUseful}
+use Rattle.dns_query.specs.Verdict.{IsTruncated}
 use Rattle.harvest.specs.Harvest.{finds_in}
 use Rattle.neg_rule.specs.Negative.{said_by}
 use Rattle.rand_core.specs.Stream.{Stream, next_u32}
 use Rattle.ranked.specs.declared.find.Find.{Find}
+use Rattle.undo_book.specs.declared.event.Ask.TheVariants.{Answer as Asked, Servers as ServersFor}
 use Rattle.undo_book.specs.declared.event.Event.{Event}
 use Rattle.undo_book.specs.declared.event.Event.TheVariants.{Admit, Look}
+use Rattle.iterate.specs.declared.want.Input.TheVariants.{Came}
 use Rattle.iterate.specs.declared.want.Want.{Want}
 use Rattle.iterate.specs.declared.want.Want.TheVariants.{Book, Send, Finish}
-use Rattle.iterate.specs.Exchanges.{Exchange}
+use Rattle.iterate.specs.Exchanges.{Exchange, exchange, Happened}
 use Rattle.iterate.specs.Known.{Known, Serves, Responds}
 use Rattle.iterate.specs.Resolved.{IsResolved}
 
--- A find is in the harvest of a response that is of use.
+-- A find is in the harvest of a response.
 pub record IsHarvested (port : ℕ) (log : List Exchange) (find : Find) : Type 0 where
   pub zone : Labels
   pub question : Question
   pub message : Message
   pub responds : Known port log (Responds zone question message)
-  pub useful : IsUseful port zone question message
   pub among : Contains (finds_in message question zone) (said_by find)
 
+-- The server was asked the question over UDP, and its response was truncated.
+pub record WasTruncated (log : List Exchange) (server : Addr) (question : Question) : Type 0 where
+  pub bytes : List ℕ
+  pub id : ℕ
+  pub octets : List ℕ
+  pub came : Happened log (exchange (Send server Udp bytes) (Came octets))
+  pub query : IsQuery bytes id question
+  pub truncated : IsTruncated Udp id question octets
+
+-- A server is asked over TCP behind a response that was truncated, else over UDP (RFC 2181, section 9).
+abbrev pub MayGo : List Exchange → Addr → Question → Over → Type 0
+MayGo log server question Udp = Unit {0}
+MayGo log server question Tcp = WasTruncated log server question
+
 -- A query with this identifier asks a server of a zone in which its name lies.
-pub record AsksZone (port : ℕ) (log : List Exchange) (id : ℕ) (server : Addr) (bytes : List ℕ) : Type 0 where
+pub record AsksZone (port : ℕ) (log : List Exchange) (id : ℕ) (server : Addr) (over : Over) (bytes : List ℕ) : Type 0 where
   pub question : Question
   pub zone : Labels
   pub query : IsQuery bytes id question
   pub serves : Known port log (Serves zone server)
   pub within : IsAtOrBelow question.owner zone
+  pub goes : MayGo log server question over
+
+-- ---- the numbers that are drawn
+
+-- the stream of numbers behind a want: a query takes a word of it
+abbrev pub stream_behind : Want → Stream → Stream
+stream_behind (Send server over bytes) stream = (next_u32 stream).1
+stream_behind want stream = stream
 
 -- the identifier that is drawn: the low 16 bits of a word
 abbrev pub id_drawn : Stream → ℕ
 id_drawn stream = (next_u32 stream).0 % 2 ^ 16
 
--- An event with the moment that was handed in: a look, or an admission of what was harvested.
+-- An event with the moment that was handed in: a look at a question or for servers, or an admission of what was harvested.
 abbrev pub MayCall : ℕ → List Exchange → ℕ → Event → Type 0
-MayCall port log moment (Look m ask) = m ≡ moment
+MayCall port log moment (Look m (Asked question)) = m ≡ moment
+MayCall port log moment (Look m (ServersFor name)) = m ≡ moment
 MayCall port log moment (Admit m find) = (m ≡ moment) × IsHarvested port log find
 MayCall port log moment event = ⊥
 
 -- What may be wanted after these exchanges, at this moment, by a task that draws this identifier.
 abbrev pub MayWant : ℕ → Question → List Exchange → ℕ → ℕ → Want → Type 0
 MayWant port question log moment id (Book event) = MayCall port log moment event
-MayWant port question log moment id (Send server over bytes) = AsksZone port log id server bytes
+MayWant port question log moment id (Send server over bytes) = AsksZone port log id server over bytes
 MayWant port question log moment id (Finish answer) = IsResolved port question log answer

@@ -8,9 +8,8 @@ ghost use Rattle.iterate.specs.declared.want.Want.{Want};
 ghost use Rattle.iterate.specs.declared.want.Want.TheVariants.{Book};
 ghost use Rattle.iterate.specs.Exchanges.{Exchange, exchange, Adds};
 ghost use Rattle.iterate.specs.Measure.{left_of_hearing};
-ghost use Rattle.iterate.specs.Phase.{Goes, IsAdmission, IsHearing, Suits};
+ghost use Rattle.iterate.specs.Phase.{Goes, IsAdmission, IsHearing, Suits, drawing};
 ghost use Rattle.iterate.specs.Shown.{IsMisanswered};
-ghost use Rattle.iterate.specs.Wanted.{id_drawn};
 
 use crate::concluding::conclude;
 use crate::finishing::failed;
@@ -43,7 +42,7 @@ pub(crate) fn admit<R: Rng>(
 ) -> Result<Turn, NoMemory>
     ensures { (question : Question) (log : List Exchange) (left : ℕ) → IsHearing port question log search heard → left_of_hearing search.path 1 ≤ left
         → (length heard.harvest.finds < 2 ^ 64 → left_of_hearing search.path (length heard.harvest.finds - next) < left)
-        → IfOk result (λ t. Goes port question log moment (id_drawn (R.stream ids.old)) left t.phase t.want) }
+        → IfOk result (λ t. Goes port question log moment (drawing (R.stream ids.old) (R.stream ids.new)) left t.phase t.want) }
 {
     if next >= count_finds(&heard) {
         return conclude(alloc, port, moment, ids, search, heard);
@@ -82,7 +81,7 @@ pub(crate) fn admitted<R: Rng>(
 ) -> Result<Turn, NoMemory>
     ensures { (question : Question) (before log : List Exchange) (want : Want) → IsHearing port question before search heard → next < length heard.harvest.finds → IsAdmission want
         → Suits want input.now → Adds before (exchange want input.now) log
-        → IfOk result (λ t. Goes port question log moment (id_drawn (R.stream ids.old)) (left_of_hearing search.path (length heard.harvest.finds - next)) t.phase t.want) }
+        → IfOk result (λ t. Goes port question log moment (drawing (R.stream ids.old) (R.stream ids.new)) (left_of_hearing search.path (length heard.harvest.finds - next)) t.phase t.want) }
 {
     if !is_passed(input) {
         return Ok(failed(alloc));

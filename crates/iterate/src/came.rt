@@ -10,16 +10,17 @@ ghost use Rattle.iterate.specs.declared.want.Want.TheVariants.{Send as SendWant}
 ghost use Rattle.iterate.specs.Exchanges.{Exchange, exchange, Adds};
 ghost use Rattle.iterate.specs.Judged.{IsJudged};
 ghost use Rattle.iterate.specs.Measure.{left_in, left_of_sending};
-ghost use Rattle.iterate.specs.Phase.{Goes, IsWaiting, Suits};
+ghost use Rattle.iterate.specs.Phase.{Goes, IsWaiting, Suits, drawing};
 ghost use Rattle.iterate.specs.Resolved.{Struck};
 ghost use Rattle.iterate.specs.Searching.{IsSearch, hunt_of, question_of};
-ghost use Rattle.iterate.specs.Wanted.{id_drawn};
+ghost use Rattle.iterate.specs.Wanted.{WasTruncated};
 
 use crate::admitting::admit;
 use crate::finishing::failed;
+use crate::limits::MOST_SENDS;
 use crate::phase::{Phase, Turn};
 use crate::search::{Frame, Hunt, Search, go_on};
-use crate::sending::{MOST_SENDS, send};
+use crate::sending::send;
 use crate::want::Input;
 use dns_name::{Name, NoMemory};
 use dns_query::{Over, Verdict, judge};
@@ -101,8 +102,8 @@ fn strike(search: Search) -> Result<Search, NoMemory>
 /// The same server is asked once more, by a stream (RFC 2181, section 9).
 fn again<R: Rng>(alloc: Global, ids: &mut R, search: Search, server: Addr) -> Result<Turn, NoMemory>
     ensures { (port moment left : ℕ) (question : Question) (log : List Exchange) (rest : List Addr) → IsSearch port question log search
-        → drop (hunt_of search).asked (hunt_of search).addrs.items ≡ server ∷ rest → (search.path.sent < 64 → left_of_sending search.path < left) → left_in Phase.Ended < left
-        → IfOk result (λ t. Goes port question log moment (id_drawn (R.stream ids.old)) left t.phase t.want) }
+        → drop (hunt_of search).asked (hunt_of search).addrs.items ≡ server ∷ rest → WasTruncated log server (question_of search) → (search.path.sent < MOST_SENDS → left_of_sending search.path < left) → left_in Phase.Ended < left
+        → IfOk result (λ t. Goes port question log moment (drawing (R.stream ids.old) (R.stream ids.new)) left t.phase t.want) }
 {
     if search.path.sent >= MOST_SENDS {
         return Ok(failed(alloc));
@@ -123,7 +124,7 @@ pub(crate) fn came<R: Rng>(
     input: &Input,
 ) -> Result<Turn, NoMemory>
     ensures { (question : Question) (before log : List Exchange) (want : Want) → IsWaiting port question before want search server id over → Suits want input.now
-        → Adds before (exchange want input.now) log → IfOk result (λ t. Goes port question log moment (id_drawn (R.stream ids.old)) (left_of_sending search.path) t.phase t.want) }
+        → Adds before (exchange want input.now) log → IfOk result (λ t. Goes port question log moment (drawing (R.stream ids.old) (R.stream ids.new)) (left_of_sending search.path) t.phase t.want) }
 {
     let question = search.question()?;
     let zone = &search.hunt().servers.get().zone;

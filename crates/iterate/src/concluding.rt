@@ -8,8 +8,7 @@ ghost use Rattle.iterate.specs.Following.{IsHarvestOf};
 ghost use Rattle.iterate.specs.Judged.{IsAddressOf};
 ghost use Rattle.iterate.specs.Known.{servers_referred};
 ghost use Rattle.iterate.specs.Measure.{left_of_hearing};
-ghost use Rattle.iterate.specs.Phase.{Goes, IsHearing};
-ghost use Rattle.iterate.specs.Wanted.{id_drawn};
+ghost use Rattle.iterate.specs.Phase.{Goes, IsHearing, drawing};
 
 use crate::addresses::addresses;
 use crate::finishing::denied;
@@ -46,7 +45,7 @@ fn servers_of(alloc: Global, referral: Referral) -> Result<Shared<Servers>, NoMe
 }
 
 /// The addresses of a server that a harvest has. A name that is an alias has none.
-fn addresses_in(
+fn addresses_harvested(
     alloc: Global,
     port: u16,
     target: &Name,
@@ -70,7 +69,7 @@ fn conclude_last<R: Rng>(
 ) -> Result<Turn, NoMemory>
     requires { search.frames.items ≡ [] }
     ensures { (port : ℕ) (question : Question) (log : List Exchange) → IsHearing port question log search heard
-        → IfOk result (λ t. Goes port question log moment (id_drawn (R.stream ids.old)) (left_of_hearing search.path 1) t.phase t.want) }
+        → IfOk result (λ t. Goes port question log moment (drawing (R.stream ids.old) (R.stream ids.new)) (left_of_hearing search.path 1) t.phase t.want) }
 {
     let Heard { harvest, says } = heard;
     match says {
@@ -94,12 +93,12 @@ fn conclude_frame<R: Rng>(
 ) -> Result<Turn, NoMemory>
     requires { 0 < length search.frames.items }
     ensures { (question : Question) (log : List Exchange) → IsHearing port question log search heard
-        → IfOk result (λ t. Goes port question log moment (id_drawn (R.stream ids.old)) (left_of_hearing search.path 1) t.phase t.want) }
+        → IfOk result (λ t. Goes port question log moment (drawing (R.stream ids.old) (R.stream ids.new)) (left_of_hearing search.path 1) t.phase t.want) }
 {
     let Heard { harvest, says } = heard;
     match says {
         Says::Answers => {
-            let addrs = addresses_in(alloc, port, &search.frames[0].target, &harvest)?;
+            let addrs = addresses_harvested(alloc, port, &search.frames[0].target, &harvest)?;
             go_on(alloc, ids, moment, close(search, &addrs)?)
         }
         Says::Denies { .. } => go_on(alloc, ids, moment, close(search, &[])?),
@@ -121,7 +120,7 @@ pub(crate) fn conclude<R: Rng>(
     heard: Heard,
 ) -> Result<Turn, NoMemory>
     ensures { (question : Question) (log : List Exchange) → IsHearing port question log search heard
-        → IfOk result (λ t. Goes port question log moment (id_drawn (R.stream ids.old)) (left_of_hearing search.path 1) t.phase t.want) }
+        → IfOk result (λ t. Goes port question log moment (drawing (R.stream ids.old) (R.stream ids.new)) (left_of_hearing search.path 1) t.phase t.want) }
 {
     if search.frames.is_empty() {
         return conclude_last(alloc, moment, ids, search, heard);

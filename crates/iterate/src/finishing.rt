@@ -8,11 +8,12 @@ ghost use Rattle.iterate.specs.declared.answer.Soa.TheVariants.{Find as FindSoa,
 ghost use Rattle.iterate.specs.Exchanges.{Exchange};
 ghost use Rattle.iterate.specs.Known.{Known, Had};
 ghost use Rattle.iterate.specs.Measure.{left_in};
-ghost use Rattle.iterate.specs.Phase.{Goes};
+ghost use Rattle.iterate.specs.Phase.{Goes, idle};
 ghost use Rattle.iterate.specs.Resolved.{IsBarred, IsDenied};
 ghost use Rattle.iterate.specs.Searching.{IsPath};
 ghost use Rattle.iterate.specs.Shown.{Ends, IsShownFor, IsLocalFor};
 ghost use Rattle.iterate.specs.Told.{soa_whole};
+ghost use Rattle.rand_core.specs.Stream.{Stream};
 
 use crate::answer::{Answer, Soa, Told};
 use crate::path::Path;
@@ -77,8 +78,8 @@ pub(crate) fn silent() -> Turn
 
 /// A set ends the path.
 pub(crate) fn found(path: Path, told: Told) -> Turn
-    ensures { (port moment id left : ℕ) (question : Question) (log : List Exchange) → left_in Phase.Ended < left → IsPath port question log path
-        → Known port log (Had path.last told) → Goes port question log moment id left result.phase result.want }
+    ensures { (port moment : ℕ) (ids : Stream) (left : ℕ) (question : Question) (log : List Exchange) → left_in Phase.Ended < left → IsPath port question log path
+        → Known port log (Had path.last told) → Goes port question log moment (idle ids) left result.phase result.want }
 {
     let Path { sets, .. } = path;
     finished(Rcode::NO_ERROR, false, sets, Some(told), None)
@@ -99,8 +100,8 @@ fn soa_told(negative: Option<SharedFind>) -> Option<Soa>
 
 /// A response denies what the path leads to.
 pub(crate) fn denied(path: Path, rcode: Rcode, negative: Option<SharedFind>) -> Turn
-    ensures { (port moment id left : ℕ) (question : Question) (log : List Exchange) → left_in Phase.Ended < left → IsPath port question log path
-        → IsDenied port log path.last rcode (option_map soa_whole negative) → Goes port question log moment id left result.phase result.want }
+    ensures { (port moment : ℕ) (ids : Stream) (left : ℕ) (question : Question) (log : List Exchange) → left_in Phase.Ended < left → IsPath port question log path
+        → IsDenied port log path.last rcode (option_map soa_whole negative) → Goes port question log moment (idle ids) left result.phase result.want }
 {
     let Path { sets, .. } = path;
     finished(rcode, false, sets, None, soa_told(negative))

@@ -11,9 +11,10 @@ ghost use Rattle.iterate.specs.declared.want.Want.TheVariants.{Book};
 ghost use Rattle.iterate.specs.Exchanges.{Exchange, exchange, Adds};
 ghost use Rattle.iterate.specs.Looked.{seen_of, IsReplied};
 ghost use Rattle.iterate.specs.Measure.{left_in};
-ghost use Rattle.iterate.specs.Phase.{Goes, Suits};
+ghost use Rattle.iterate.specs.Phase.{Goes, Suits, idle};
 ghost use Rattle.iterate.specs.Resolved.{IsBarred};
 ghost use Rattle.iterate.specs.Shown.{IsLocalFor};
+ghost use Rattle.rand_core.specs.Stream.{Stream};
 
 use crate::finishing::{ended, failed, held_ending, local_ending, refused, silent};
 use crate::path::{Path, alias};
@@ -37,7 +38,7 @@ fn copy_question(question: &Question) -> Result<Question, NoMemory>
 
 /// Looks at the question.
 pub(crate) fn begin(question: &Question, moment: u64) -> Result<Turn, NoMemory>
-    ensures { (port id : ℕ) → IfOk result (λ t. Goes port question.now [] moment id (left_in Phase.Fresh) t.phase t.want) }
+    ensures { (port : ℕ) (ids : Stream) → IfOk result (λ t. Goes port question.now [] moment (idle ids) (left_in Phase.Fresh) t.phase t.want) }
 {
     Ok(Turn {
         phase: Phase::First,
@@ -58,14 +59,15 @@ fn start(alloc: Global, question: &Question) -> Result<Path, NoMemory>
         sets: Vec::new(alloc),
         last: copy_question(question)?,
         sent: 0,
+        begun: 0,
     })
 }
 
 /// A local zone refuses the question or drops it.
 fn barred(alloc: Global, answer: &Local<Items<SeenRecord>, LocalRecord>) -> Turn
-    ensures { (port m moment id : ℕ) (question : Question) (log : List Exchange) → IsBarred (SeenLocal answer.now)
+    ensures { (port m moment : ℕ) (ids : Stream) (question : Question) (log : List Exchange) → IsBarred (SeenLocal answer.now)
         → Adds [] (exchange (Book (Look m (Asked question))) (Replied (SeenReply (SeenLocal answer.now)))) log
-        → Goes port question log moment id (left_in Phase.First) result.phase result.want }
+        → Goes port question log moment (idle ids) (left_in Phase.First) result.phase result.want }
 {
     match answer {
         Local::Drop => silent(),
@@ -78,9 +80,9 @@ fn local_first(
     alloc: Global,
     answer: &Local<Items<SeenRecord>, LocalRecord>,
 ) -> Result<Turn, NoMemory>
-    ensures { (port m moment id : ℕ) (question : Question) (log : List Exchange) → IsLocalFor question answer.now
+    ensures { (port m moment : ℕ) (ids : Stream) (question : Question) (log : List Exchange) → IsLocalFor question answer.now
         → Adds [] (exchange (Book (Look m (Asked question))) (Replied (SeenReply (SeenLocal answer.now)))) log
-        → IfOk result (λ t. Goes port question log moment id (left_in Phase.First) t.phase t.want) }
+        → IfOk result (λ t. Goes port question log moment (idle ids) (left_in Phase.First) t.phase t.want) }
 {
     match local_ending(alloc, answer)? {
         Some(ending) => Ok(ended(true, Vec::new(alloc), ending)),
@@ -95,9 +97,9 @@ fn seen_first(
     moment: u64,
     what: Looked<'_>,
 ) -> Result<Turn, NoMemory>
-    ensures { (port m id : ℕ) (input : InputValue) (log : List Exchange) → IsReplied question.now input (seen_of what.entry)
+    ensures { (port m : ℕ) (ids : Stream) (input : InputValue) (log : List Exchange) → IsReplied question.now input (seen_of what.entry)
         → Adds [] (exchange (Book (Look m (Asked question.now))) input) log
-        → IfOk result (λ t. Goes port question.now log moment id (left_in Phase.First) t.phase t.want) }
+        → IfOk result (λ t. Goes port question.now log moment (idle ids) (left_in Phase.First) t.phase t.want) }
 {
     match what {
         Looked::Unknown => alias(start(alloc, question)?, moment),
@@ -113,9 +115,9 @@ pub(crate) fn looked_first(
     moment: u64,
     input: &Input,
 ) -> Result<Turn, NoMemory>
-    ensures { (port m id : ℕ) (log : List Exchange) → Adds [] (exchange (Book (Look m (Asked question.now))) input.now) log
+    ensures { (port m : ℕ) (ids : Stream) (log : List Exchange) → Adds [] (exchange (Book (Look m (Asked question.now))) input.now) log
         → Suits (Book (Look m (Asked question.now))) input.now
-        → IfOk result (λ t. Goes port question.now log moment id (left_in Phase.First) t.phase t.want) }
+        → IfOk result (λ t. Goes port question.now log moment (idle ids) (left_in Phase.First) t.phase t.want) }
 {
     match replied(input, &question.owner, question.kind) {
         Some(what) => seen_first(alloc, question, moment, what),

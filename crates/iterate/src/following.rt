@@ -6,8 +6,9 @@ ghost use Rattle.iterate.specs.Exchanges.{Exchange};
 ghost use Rattle.iterate.specs.Following.{told_by, IsHarvestOf, Leads};
 ghost use Rattle.iterate.specs.Known.{Known, Had};
 ghost use Rattle.iterate.specs.Measure.{left_of_path};
-ghost use Rattle.iterate.specs.Phase.{Goes};
+ghost use Rattle.iterate.specs.Phase.{Goes, idle};
 ghost use Rattle.iterate.specs.Searching.{IsPath};
+ghost use Rattle.rand_core.specs.Stream.{Stream};
 
 use crate::answer::Told;
 use crate::finishing::{failed, found};
@@ -92,8 +93,8 @@ fn next_hop(harvest: &Harvest, last: &Question) -> Result<Hop, NoMemory>
 
 /// Goes on where a harvest leads no further: behind an alias by a look at the last name, else by its servers.
 fn leave(path: Path, moment: u64) -> Result<Turn, NoMemory>
-    ensures { (port id : ℕ) (question : Question) (log : List Exchange) → IsPath port question log path
-        → IfOk result (λ t. Goes port question log moment id (left_of_path path 4) t.phase t.want) }
+    ensures { (port : ℕ) (ids : Stream) (question : Question) (log : List Exchange) → IsPath port question log path
+        → IfOk result (λ t. Goes port question log moment (idle ids) (left_of_path path 4) t.phase t.want) }
 {
     if path.sets.is_empty() {
         return list(path, moment);
@@ -108,8 +109,8 @@ pub(crate) fn follow_in(
     harvest: &Harvest,
     moment: u64,
 ) -> Result<Turn, NoMemory>
-    ensures { (port id left : ℕ) (question : Question) (log : List Exchange) → left_of_path path 4 ≤ left → IsHarvestOf port log harvest.now → IsPath port question log path
-        → IfOk result (λ t. Goes port question log moment id left t.phase t.want) }
+    ensures { (port : ℕ) (ids : Stream) (left : ℕ) (question : Question) (log : List Exchange) → left_of_path path 4 ≤ left → IsHarvestOf port log harvest.now → IsPath port question log path
+        → IfOk result (λ t. Goes port question log moment (idle ids) left t.phase t.want) }
 {
     match next_hop(harvest, &path.last)? {
         Hop::Set(told) => Ok(found(path, told)),

@@ -4,6 +4,7 @@ ghost use Rattle.std.specs.Prelude.{◌≡◌, ◌+◌, ◌-◌, ◌^◌, ◌<�
 ghost use Rattle.dns_query.specs.Query.{address_question};
 ghost use Rattle.iterate.specs.Searching.{hunt_of, question_of};
 
+use crate::limits::MOST_BEGUN;
 use crate::path::Path;
 use crate::search::{Hunt, Search};
 use dns_name::{Name, NoMemory};
@@ -48,12 +49,42 @@ impl Search {
         ensures { self.path.sent < 2 ^ 64 - 1 → result ≡ record self { path = record self.path { sent = self.path.sent + 1 } } }
     {
         let Search { path, base, frames } = self;
-        let Path { sets, last, sent } = path;
+        let Path {
+            sets,
+            last,
+            sent,
+            begun,
+        } = path;
         Search {
             path: Path {
                 sets,
                 last,
                 sent: sent.saturating_add(1),
+                begun,
+            },
+            base,
+            frames,
+        }
+    }
+
+    /// One question more for the address of a server is begun.
+    pub(crate) fn begun(self) -> Search
+        requires { self.path.begun < MOST_BEGUN }
+        ensures { result ≡ record self { path = record self.path { begun = self.path.begun + 1 } } }
+    {
+        let Search { path, base, frames } = self;
+        let Path {
+            sets,
+            last,
+            sent,
+            begun,
+        } = path;
+        Search {
+            path: Path {
+                sets,
+                last,
+                sent,
+                begun: begun + 1,
             },
             base,
             frames,

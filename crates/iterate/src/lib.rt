@@ -4,6 +4,8 @@
 
 // In the order in which to read them.
 
+// How much is done for a question.
+mod limits;
 // What a question is answered.
 mod answer;
 // What comes to a task, and what it wants.
@@ -46,6 +48,7 @@ mod laws;
 
 pub use answer::{Answer, Soa, Told};
 pub use laws::{due_law, resolved_law};
+pub use limits::{MOST_ALIASES, MOST_BEGUN, MOST_DEPTH, MOST_SENDS};
 pub use path::Path;
 pub use phase::{Phase, Stage};
 pub use search::{Frame, Hunt, Search};

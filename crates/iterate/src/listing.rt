@@ -11,9 +11,8 @@ ghost use Rattle.iterate.specs.declared.want.Want.TheVariants.{Book};
 ghost use Rattle.iterate.specs.Exchanges.{Exchange, exchange, Adds};
 ghost use Rattle.iterate.specs.Hunting.{IsUnlisted, IsUnnamed, Names};
 ghost use Rattle.iterate.specs.Measure.{left_of_path};
-ghost use Rattle.iterate.specs.Phase.{Goes, Suits};
+ghost use Rattle.iterate.specs.Phase.{Goes, Suits, drawing};
 ghost use Rattle.iterate.specs.Searching.{IsPath};
-ghost use Rattle.iterate.specs.Wanted.{id_drawn};
 
 use crate::finishing::failed;
 use crate::path::Path;
@@ -61,7 +60,7 @@ pub(crate) fn listed<R: Rng>(
 ) -> Result<Turn, NoMemory>
     ensures { (port m : ℕ) (question : Question) (before log : List Exchange) → IsPath port question before path
         → Adds before (exchange (Book (Look m (ServersFor path.last.owner))) input.now) log → Suits (Book (Look m (ServersFor path.last.owner))) input.now
-        → IfOk result (λ t. Goes port question log moment (id_drawn (R.stream ids.old)) (left_of_path path 1) t.phase t.want) }
+        → IfOk result (λ t. Goes port question log moment (drawing (R.stream ids.old) (R.stream ids.new)) (left_of_path path 1) t.phase t.want) }
 {
     match servers_for(&path.last.owner, input) {
         Some(servers) => {

@@ -4,8 +4,7 @@ ghost use Rattle.std.specs.Prelude.{◌≡◌, [], List, IfOk, IsErr};
 ghost use Rattle.iterate.specs.declared.want.Want.{Want};
 ghost use Rattle.iterate.specs.Exchanges.{Exchange, exchange, Adds};
 ghost use Rattle.iterate.specs.Measure.{left_in};
-ghost use Rattle.iterate.specs.Phase.{Fits, Goes, Suits};
-ghost use Rattle.iterate.specs.Wanted.{id_drawn};
+ghost use Rattle.iterate.specs.Phase.{Fits, Goes, Suits, drawing};
 
 use crate::admitting::admitted;
 use crate::came::came;
@@ -93,8 +92,8 @@ pub(crate) fn advance<R: Rng>(
     input: &Input,
 ) -> Result<Turn, NoMemory>
     ensures goes { (before log : List Exchange) (want : Want) → Fits port question.now before want phase → Suits want input.now
-        → Adds before (exchange want input.now) log → IfOk result (λ t. Goes port question.now log moment (id_drawn (R.stream ids.old)) (left_in phase) t.phase t.want) }
-    ensures fresh { phase ≡ Phase.Fresh → IfOk result (λ t. Goes port question.now [] moment (id_drawn (R.stream ids.old)) (left_in phase) t.phase t.want) }
+        → Adds before (exchange want input.now) log → IfOk result (λ t. Goes port question.now log moment (drawing (R.stream ids.old) (R.stream ids.new)) (left_in phase) t.phase t.want) }
+    ensures fresh { phase ≡ Phase.Fresh → IfOk result (λ t. Goes port question.now [] moment (drawing (R.stream ids.old) (R.stream ids.new)) (left_in phase) t.phase t.want) }
     ensures broken { phase ≡ Phase.Broken → IsErr result }
 {
     match phase {

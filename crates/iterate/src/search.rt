@@ -7,28 +7,26 @@ ghost use Rattle.dns_text.specs.declared.addr.Addr.{Addr};
 ghost use Rattle.dns_text.specs.declared.record.Question.{Question};
 ghost use Rattle.dns_query.specs.Query.{address_question};
 ghost use Rattle.iterate.specs.Exchanges.{Exchange};
-ghost use Rattle.iterate.specs.Hunting.{AllServe, IsFresh, IsSupplied, AreSupplied, IsTried, IsSmaller, IsAt, IsNextStep, hunts_left};
+ghost use Rattle.iterate.specs.Hunting.{AllServe, IsFresh, IsSupplied, AreSupplied, IsTried, IsSmaller, IsAt, IsNextStep};
 ghost use Rattle.iterate.specs.Known.{Known, Listed};
-ghost use Rattle.iterate.specs.Measure.{left_of_path, left_of_search, left_of_hearing};
-ghost use Rattle.iterate.specs.Phase.{Goes, IsSeeking};
+ghost use Rattle.iterate.specs.Measure.{hunts_left, left_of_path, left_of_search, left_of_seek, left_of_hearing};
+ghost use Rattle.iterate.specs.Phase.{Goes, IsSeeking, drawing};
 ghost use Rattle.iterate.specs.Resolved.{ReachedFor, MaySeek};
 ghost use Rattle.iterate.specs.Searching.{IsPath, IsSearch, IsNext, hunt_of, hunt_behind, question_of};
-ghost use Rattle.iterate.specs.Wanted.{id_drawn};
 
 use crate::finishing::failed;
+use crate::limits::MOST_DEPTH;
 use crate::path::Path;
 use crate::phase::{Stage, Turn};
 use crate::seeking::seek;
 use crate::sending::ask;
+use crate::shown::is_name;
 use dns_name::{Name, NoMemory};
 use dns_text::types::A;
 use dns_text::{Addr, Question, Shared};
 use rand_core::Rng;
 use std::alloc::Global;
 use undo_book::Servers;
-
-/// So many questions for addresses may be open inside one another.
-const MOST_DEPTH: usize = 8;
 
 /// The servers of a zone, as they are asked about a name.
 #[derive(Debug, Drop)]
@@ -179,7 +177,7 @@ pub(crate) fn open(
     servers: Shared<Servers>,
 ) -> Result<Search, NoMemory>
     ensures { (port : ℕ) (question : Question) (log : List Exchange) → IsSeeking port question log search target Stage.Servers → Known port log (Listed servers)
-        → IsAtOrBelow target servers.zone → IfOk result (IsSmaller port question log (left_of_search search 0)) }
+        → IsAtOrBelow target servers.zone → IfOk result (IsSmaller port question log (left_of_seek search Stage.Servers)) }
 {
     let hunt = begin_hunt(alloc, servers)?;
     let Search {
@@ -275,12 +273,6 @@ pub(crate) enum Next {
     Close,
 }
 
-fn is_name(name: &Name, other: &Name) -> bool
-    ensures { IsTrue result → name.now ≡ other.now }
-{
-    name == other
-}
-
 /// Whether a question is for the address of this server.
 fn asks_address(question: &Question, target: &Name) -> bool
     ensures { IsTrue result → address_question target.now ≡ question.now }
@@ -300,7 +292,7 @@ fn is_sought(search: &Search, target: &Name) -> bool
 
 /// Whether a server without an address may be looked for: it does not lie in the zone, and its address is not asked already.
 fn may_seek(search: &Search, target: &Name) -> bool
-    ensures shallow { IsTrue result → length search.now.frames.items < 8 }
+    ensures shallow { IsTrue result → length search.now.frames.items < MOST_DEPTH }
     ensures passes { search.now.frames.items ≡ [] → MaySeek search.now.path.last search.now.base.servers target.now → IsTrue result }
 {
     let zone = &search.hunt().servers.get().zone;
@@ -371,7 +363,7 @@ pub(crate) fn go_on<R: Rng>(
     search: Search,
 ) -> Result<Turn, NoMemory>
     ensures { (port : ℕ) (question : Question) (log : List Exchange) → IsSearch port question log search
-        → IfOk result (λ t. Goes port question log moment (id_drawn (R.stream ids.old)) (left_of_search search 4) t.phase t.want) }
+        → IfOk result (λ t. Goes port question log moment (drawing (R.stream ids.old) (R.stream ids.new)) (left_of_search search 4) t.phase t.want) }
 {
     let mut current = search;
     'going: loop {

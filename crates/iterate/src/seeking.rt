@@ -10,15 +10,16 @@ ghost use Rattle.undo_book.specs.declared.event.Reply.TheVariants.{Seen as SeenR
 ghost use Rattle.iterate.specs.declared.want.Input.TheVariants.{Reply as Replied};
 ghost use Rattle.iterate.specs.declared.want.Want.TheVariants.{Book};
 ghost use Rattle.iterate.specs.Exchanges.{Exchange, exchange, Adds};
-ghost use Rattle.iterate.specs.Hunting.{IsAddressSeen, is_set_seen};
+ghost use Rattle.iterate.specs.Hunting.{IsAddressSeen, IsTried, is_set_seen};
 ghost use Rattle.iterate.specs.Looked.{seen_of};
-ghost use Rattle.iterate.specs.Measure.{left_of_search, looks_left};
-ghost use Rattle.iterate.specs.Phase.{Goes, Suits, IsSeeking, ask_at};
+ghost use Rattle.iterate.specs.Measure.{left_of_search, left_of_seek};
+ghost use Rattle.iterate.specs.Phase.{Goes, Suits, IsSeeking, ask_at, drawing, idle};
 ghost use Rattle.iterate.specs.Shown.{IsReplyTo};
-ghost use Rattle.iterate.specs.Wanted.{id_drawn};
+ghost use Rattle.rand_core.specs.Stream.{Stream};
 
 use crate::addresses::addresses;
 use crate::finishing::failed;
+use crate::limits::MOST_BEGUN;
 use crate::listing::servers_for;
 use crate::phase::{Phase, Stage, Turn};
 use crate::search::{Search, go_on, open, supply};
@@ -52,8 +53,8 @@ pub(crate) fn seek(
     target: Name,
     stage: Stage,
 ) -> Result<Turn, NoMemory>
-    ensures { (port id left : ℕ) (question : Question) (log : List Exchange) → IsSeeking port question log search target stage
-        → left_of_search search (looks_left stage) < left → IfOk result (λ t. Goes port question log moment id left t.phase t.want) }
+    ensures { (port : ℕ) (ids : Stream) (left : ℕ) (question : Question) (log : List Exchange) → IsSeeking port question log search target stage
+        → left_of_seek search stage < left → IfOk result (λ t. Goes port question log moment (idle ids) left t.phase t.want) }
 {
     let ask = ask_at(stage, &target)?;
     Ok(Turn {
@@ -67,13 +68,31 @@ pub(crate) fn seek(
 }
 
 /// The IPv4 addresses of what a look was answered.
-fn addresses_in(alloc: Global, port: u16, what: Looked<'_>) -> Result<Vec<Addr>, NoMemory>
+fn addresses_seen(alloc: Global, port: u16, what: Looked<'_>) -> Result<Vec<Addr>, NoMemory>
     ensures { IfOk result (λ v. AllByRecursion (IsAddressSeen port (seen_of what.entry)) v.items) }
 {
     match set_in(alloc, what)? {
         Some(told) => addresses(alloc, port, &told),
         None => Ok(Vec::new(alloc)),
     }
+}
+
+/// Looks further for a server whose address is not known: a question for it is begun, unless enough were.
+fn seek_on<R: Rng>(
+    alloc: Global,
+    ids: &mut R,
+    moment: u64,
+    search: Search,
+    target: Name,
+) -> Result<Turn, NoMemory>
+    ensures { (port : ℕ) (question : Question) (log : List Exchange) → IsTried port question log search target → IsSeeking port question log search target Stage.Alias
+        → IfOk result (λ t. Goes port question log moment (drawing (R.stream ids.old) (R.stream ids.new)) (left_of_search search 3) t.phase t.want) }
+{
+    if search.path.begun < MOST_BEGUN {
+        return seek(moment, search.begun(), target, Stage::Alias);
+    }
+    let after = supply(search, &[])?;
+    go_on(alloc, ids, moment, after)
 }
 
 /// Goes on from what the look for an address was answered: behind an answer of any kind the server is done with.
@@ -89,12 +108,12 @@ fn address_seen<R: Rng>(
     ensures { (m : ℕ) (question : Question) (before log : List Exchange) → IsSeeking port question before search target Stage.Address
         → Adds before (exchange (Book (Look m (Asked (address_question target)))) (Replied (SeenReply (seen_of what.entry)))) log
         → IsReplyTo (Asked (address_question target)) (SeenReply (seen_of what.entry))
-        → IfOk result (λ t. Goes port question log moment (id_drawn (R.stream ids.old)) (left_of_search search 3) t.phase t.want) }
+        → IfOk result (λ t. Goes port question log moment (drawing (R.stream ids.old) (R.stream ids.new)) (left_of_search search 3) t.phase t.want) }
 {
     match what {
-        Looked::Unknown => seek(moment, search, target, Stage::Alias),
+        Looked::Unknown => seek_on(alloc, ids, moment, search, target),
         _ => {
-            let found = addresses_in(alloc, port, what)?;
+            let found = addresses_seen(alloc, port, what)?;
             let after = supply(search, &found)?;
             go_on(alloc, ids, moment, after)
         }
@@ -113,7 +132,7 @@ fn address_came<R: Rng>(
 ) -> Result<Turn, NoMemory>
     ensures { (m : ℕ) (question : Question) (before log : List Exchange) → IsSeeking port question before search target Stage.Address
         → Adds before (exchange (Book (Look m (ask_at Stage.Address target))) input.now) log → Suits (Book (Look m (ask_at Stage.Address target))) input.now
-        → IfOk result (λ t. Goes port question log moment (id_drawn (R.stream ids.old)) (left_of_search search 3) t.phase t.want) }
+        → IfOk result (λ t. Goes port question log moment (drawing (R.stream ids.old) (R.stream ids.new)) (left_of_search search 3) t.phase t.want) }
 {
     match replied(input, &target, A) {
         Some(what) => address_seen(alloc, port, ids, moment, search, target, what),
@@ -143,7 +162,7 @@ fn alias_came<R: Rng>(
 ) -> Result<Turn, NoMemory>
     ensures { (port m : ℕ) (question : Question) (before log : List Exchange) → IsSeeking port question before search target Stage.Alias
         → Adds before (exchange (Book (Look m (ask_at Stage.Alias target))) input.now) log → Suits (Book (Look m (ask_at Stage.Alias target))) input.now
-        → IfOk result (λ t. Goes port question log moment (id_drawn (R.stream ids.old)) (left_of_search search 2) t.phase t.want) }
+        → IfOk result (λ t. Goes port question log moment (drawing (R.stream ids.old) (R.stream ids.new)) (left_of_seek search Stage.Alias) t.phase t.want) }
 {
     match replied(input, &target, CNAME) {
         Some(what) => {
@@ -169,7 +188,7 @@ fn servers_came<R: Rng>(
 ) -> Result<Turn, NoMemory>
     ensures { (port m : ℕ) (question : Question) (before log : List Exchange) → IsSeeking port question before search target Stage.Servers
         → Adds before (exchange (Book (Look m (ask_at Stage.Servers target))) input.now) log → Suits (Book (Look m (ask_at Stage.Servers target))) input.now
-        → IfOk result (λ t. Goes port question log moment (id_drawn (R.stream ids.old)) (left_of_search search 1) t.phase t.want) }
+        → IfOk result (λ t. Goes port question log moment (drawing (R.stream ids.old) (R.stream ids.new)) (left_of_seek search Stage.Servers) t.phase t.want) }
 {
     match servers_for(&target, input) {
         Some(servers) => {
@@ -194,7 +213,7 @@ pub(crate) fn sought<R: Rng>(
 ) -> Result<Turn, NoMemory>
     ensures { (m : ℕ) (question : Question) (before log : List Exchange) → IsSeeking port question before search target stage
         → Adds before (exchange (Book (Look m (ask_at stage target))) input.now) log → Suits (Book (Look m (ask_at stage target))) input.now
-        → IfOk result (λ t. Goes port question log moment (id_drawn (R.stream ids.old)) (left_of_search search (looks_left stage)) t.phase t.want) }
+        → IfOk result (λ t. Goes port question log moment (drawing (R.stream ids.old) (R.stream ids.new)) (left_of_seek search stage) t.phase t.want) }
 {
     match stage {
         Stage::Address => address_came(alloc, port, ids, moment, search, target, input),

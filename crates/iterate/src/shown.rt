@@ -48,7 +48,8 @@ pub(crate) fn is_shown_for(shown: &Shown<SharedFind>, owner: &Name, kind: u16) -
     find.touches(owner, kind) && find.rank.level() >= 2
 }
 
-fn is_same(name: &Name, other: &Name) -> bool
+/// Whether two names are the same.
+pub(crate) fn is_name(name: &Name, other: &Name) -> bool
     ensures { IsTrue result ↔ (name.now ≡ other.now) }
 {
     name == other
@@ -57,9 +58,7 @@ fn is_same(name: &Name, other: &Name) -> bool
 fn is_local_record(r: &SeenRecord, owner: &Name, kind: u16) -> bool
     ensures { IsTrue result ↔ IsLocalRecord (record { owner = owner.now; kind = kind }) r.now }
 {
-    (r.kind() == kind || r.kind() == CNAME)
-        && r.body().has_form(r.kind())
-        && is_same(r.owner(), owner)
+    r.kind() == kind && r.body().has_form(r.kind()) && is_name(r.owner(), owner)
 }
 
 fn are_local(records: &[SeenRecord], owner: &Name, kind: u16) -> bool
@@ -76,7 +75,7 @@ fn are_local(records: &[SeenRecord], owner: &Name, kind: u16) -> bool
 fn is_local_set(records: &[SeenRecord], owner: &Name, kind: u16) -> bool
     ensures { IsTrue result ↔ IsLocalSet (record { owner = owner.now; kind = kind }) records.now }
 {
-    !records.is_empty() && are_local(records, owner, kind)
+    !records.is_empty() && (are_local(records, owner, kind) || are_local(records, owner, CNAME))
 }
 
 fn is_soa_formed(soa: &Option<LocalRecord>) -> bool

@@ -7,8 +7,9 @@ ghost use Rattle.iterate.specs.Exchanges.{exchanges_of, sent_in};
 ghost use Rattle.iterate.specs.Measure.{left_in};
 ghost use Rattle.iterate.specs.Task.{IsTask, IsDueAt};
 ghost use Rattle.iterate.specs.Told.{IsFit};
-ghost use Rattle.iterate.specs.Wanted.{MayWant, id_drawn};
+ghost use Rattle.iterate.specs.Wanted.{MayWant, id_drawn, stream_behind};
 
+use crate::limits::MOST_SENDS;
 use crate::phase::{Phase, Turn, advance};
 use crate::want::{Input, Step, Want};
 use dns_name::NoMemory;
@@ -43,9 +44,10 @@ fn take_step<R: Rng>(
     ensures port { state.new.port ≡ state.old.port }
     ensures ok { IfOk result (λ want. state.new.steps.items ≡ state.old.steps.items ++ record { input = input; want = want } ∷ []) }
     ensures wants { IfOk result (λ want. MayWant state.old.port state.old.question (exchanges_of state.new.steps.items) moment (id_drawn (R.stream ids.old)) want) }
+    ensures drawn { IfOk result (λ want. R.stream ids.new ≡ stream_behind want (R.stream ids.old)) }
     ensures fit { IfOk result (λ want. (answer : Answer) → want ≡ Finish answer → IsFit answer) }
     ensures left { OnOk result (left_in state.new.phase < left_in state.old.phase) }
-    ensures few { OnOk result (sent_in state.new.steps.items ≤ 64) }
+    ensures few { OnOk result (sent_in state.new.steps.items ≤ MOST_SENDS) }
     ensures err { OnErr result ((state.new.steps.items ≡ state.old.steps.items) × (state.new.phase ≡ Phase.Broken)) }
     ensures broken { state.old.phase ≡ Phase.Broken → IsErr result }
 {
@@ -120,12 +122,15 @@ impl Task {
         // What is wanted may be wanted by the exchanges so far; an answer resolves the question.
         ensures wants { IfOk result (λ want. MayWant self.old.port self.old.question (exchanges_of self.new.steps.items) moment (id_drawn (R.stream ids.old)) want) }
 
+        // A query takes one word of the generator, and nothing else takes any.
+        ensures drawn { IfOk result (λ want. R.stream ids.new ≡ stream_behind want (R.stream ids.old)) }
+
         // The answer can be written.
         ensures fit { IfOk result (λ want. (answer : Answer) → want ≡ Finish answer → IsFit answer) }
 
         // It ends.
         ensures left { OnOk result (left_in self.new.phase < left_in self.old.phase) }
-        ensures few { OnOk result (sent_in self.new.steps.items ≤ 64) }
+        ensures few { OnOk result (sent_in self.new.steps.items ≤ MOST_SENDS) }
 
         // Without memory nothing is added, then or later.
         ensures err { OnErr result ((self.new.steps.items ≡ self.old.steps.items) × (self.new.phase ≡ Phase.Broken)) }

@@ -123,7 +123,7 @@ pub fn ask<I: BufRead>(
     question: Question,
 ) -> Result<(), Stop> {
     due_law();
-    let mut task = Task::new(rt.alloc(), question, 53);
+    let mut task = Task::new(rt.alloc(), question, world.port);
     let mut input = Input::Begin;
     for _ in 0..u64::MAX {
         match turn(rt, lines, world, &mut task, input)? {

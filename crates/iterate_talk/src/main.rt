@@ -2,9 +2,11 @@
 //!
 //! | Line | What it does |
 //! |---|---|
+//! | `port N` | where servers listen whose addresses come from records, from the next `hints` on; else 53 |
 //! | `hints ADDR..` | begins with an empty book, whose root has these servers |
 //! | `refuse N` | the Nth event that the next task gives the book is not taken: it is told that there was no memory |
 //! | `confuse N` | the Nth event that the next task gives the book gets a reply of another kind |
+//! | `lie N LINE` | the Nth event that the next task gives the book is told that what `LINE` admits is held, or what the book says now where `LINE` looks |
 //! | `ask NAME TYPE` | resolves a question, at the moment that `at` gave last |
 //! | a line of a script | is obeyed by the book |
 //!
@@ -18,6 +20,7 @@
 #![tactic(auto)]
 
 mod asking; // a question is resolved
+mod lying; // what an event is told that is not so
 mod obeying; // a line is obeyed
 mod records; // records in words
 mod stop; // why the program ends

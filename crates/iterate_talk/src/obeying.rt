@@ -1,6 +1,7 @@
 //! A line is obeyed.
 
-use crate::asking::{ask, tell};
+use crate::asking::ask;
+use crate::lying::lie_in;
 use crate::stop::Stop;
 use crate::world::{World, book_with};
 use command_text::run_script;
@@ -49,6 +50,24 @@ fn number_in(text: &[u8]) -> Result<u64, Stop> {
     }
 }
 
+/// A port.
+fn port_in(text: &[u8]) -> Result<u16, Stop> {
+    match u16::try_from(number_in(text)?) {
+        Ok(port) => Ok(port),
+        Err(_) => Err(Stop::Device),
+    }
+}
+
+/// Which event is lied to, and what it is told.
+fn obey_lie(rt: &HostRuntime, world: &mut World, text: &[u8]) -> Result<(), Stop> {
+    let Some((_, line)) = next_word(text) else {
+        return Err(Stop::Device);
+    };
+    world.lie = lie_in(rt.alloc(), world, line)?;
+    world.lied = number_in(text)?;
+    Ok(())
+}
+
 /// Hands a line of a script to the book behind the moment, and writes what both are told.
 fn obey_line(rt: &HostRuntime, world: &mut World, line: &[u8]) -> Result<(), Stop> {
     let moment = world.moment;
@@ -62,6 +81,38 @@ fn obey_line(rt: &HostRuntime, world: &mut World, line: &[u8]) -> Result<(), Sto
     }
 }
 
+/// Begins with an empty book.
+fn begin(rt: &HostRuntime, world: &mut World, text: &[u8]) -> Result<(), Stop> {
+    world.book = book_with(rt.alloc(), addrs_in(rt.alloc(), text)?, world.port)?;
+    world.moment = 0;
+    Ok(())
+}
+
+/// Obeys a line that says how the next task is answered. False where it is none.
+fn is_set(rt: &HostRuntime, world: &mut World, line: &[u8]) -> Result<bool, Stop> {
+    if let Some(rest) = line.strip_prefix(b"hints") {
+        begin(rt, world, rest)?;
+    } else if let Some(rest) = line.strip_prefix(b"port ") {
+        world.port = port_in(rest)?;
+    } else if let Some(rest) = line.strip_prefix(b"at ") {
+        world.moment = number_in(rest)?;
+    } else if let Some(rest) = line.strip_prefix(b"refuse ") {
+        world.refused = number_in(rest)?;
+    } else if let Some(rest) = line.strip_prefix(b"confuse ") {
+        world.confused = number_in(rest)?;
+    } else if let Some(rest) = line.strip_prefix(b"lie ") {
+        obey_lie(rt, world, rest)?;
+    } else {
+        return Ok(false);
+    }
+    Ok(true)
+}
+
+/// Whether a line says what comes of a query.
+fn is_came(line: &[u8]) -> bool {
+    line.starts_with(b"came ") || line.starts_with(b"asked ") || line == b"failed".as_slice()
+}
+
 /// Obeys a line.
 pub fn obey<I: BufRead>(
     rt: &HostRuntime,
@@ -69,25 +120,8 @@ pub fn obey<I: BufRead>(
     world: &mut World,
     line: &[u8],
 ) -> Result<(), Stop> {
-    if let Some(rest) = line.strip_prefix(b"hints") {
-        world.book = book_with(rt.alloc(), addrs_in(rt.alloc(), rest)?)?;
-        world.moment = 0;
-        return Ok(());
-    }
-    // What comes of a query that no task sent.
-    if line.starts_with(b"came ") || line.starts_with(b"asked ") || line == b"failed".as_slice() {
-        return Ok(());
-    }
-    if let Some(rest) = line.strip_prefix(b"at ") {
-        world.moment = number_in(rest)?;
-        return Ok(());
-    }
-    if let Some(rest) = line.strip_prefix(b"refuse ") {
-        world.refused = number_in(rest)?;
-        return Ok(());
-    }
-    if let Some(rest) = line.strip_prefix(b"confuse ") {
-        world.confused = number_in(rest)?;
+    // What comes of a query that no task sent is passed over.
+    if is_came(line) || is_set(rt, world, line)? {
         return Ok(());
     }
     if let Some(rest) = line.strip_prefix(b"ask ") {

@@ -9,12 +9,18 @@ use iterate::Input;
 use rand_pcg::Pcg32;
 use std::alloc::Global;
 use std::io::BufRead;
+use std::mem;
 use undo_book::{Desk, DeskFault, Event, PlainBook, Reply, Settings, StepFault};
+
+/// Where servers listen (RFC 1035, section 4.2).
+const DNS_PORT: u16 = 53;
 
 /// A book, and how the next task is answered.
 #[derive(Drop)]
 pub struct World {
     pub book: PlainBook,
+    /// Where servers listen whose addresses come from records.
+    pub port: u16,
     /// In seconds.
     pub moment: u64,
     pub ids: Pcg32,
@@ -24,15 +30,18 @@ pub struct World {
     pub refused: u64,
     /// Which of them gets a reply of another kind; 0 for none.
     pub confused: u64,
+    /// Which of them gets the reply in `lie`; 0 for none.
+    pub lied: u64,
+    pub lie: Reply,
 }
 
-/// An empty book whose root has these servers.
-pub fn book_with(alloc: Global, hints: Vec<Addr>) -> Result<PlainBook, Stop> {
+/// An empty book whose root has these servers, and where servers listen whose addresses come from records.
+pub fn book_with(alloc: Global, hints: Vec<Addr>, port: u16) -> Result<PlainBook, Stop> {
     let settings = Settings {
         journal: 64,
         cells: 100_000,
         hints: Items::new(hints),
-        server_port: 53,
+        server_port: port,
     };
     match PlainBook::new(alloc, settings) {
         Ok(book) => Ok(book),
@@ -43,12 +52,15 @@ pub fn book_with(alloc: Global, hints: Vec<Addr>) -> Result<PlainBook, Stop> {
 impl World {
     pub fn new(alloc: Global) -> Result<World, Stop> {
         Ok(World {
-            book: book_with(alloc, Vec::new(alloc))?,
+            book: book_with(alloc, Vec::new(alloc), DNS_PORT)?,
+            port: DNS_PORT,
             moment: 0,
             ids: Pcg32::new(1, 1),
             calls: 0,
             refused: 0,
             confused: 0,
+            lied: 0,
+            lie: Reply::Swept,
         })
     }
 
@@ -63,6 +75,9 @@ impl World {
         if self.calls == self.confused {
             return Input::Reply(Reply::Swept);
         }
+        if self.calls == self.lied {
+            return Input::Reply(mem::replace(&mut self.lie, Reply::Swept));
+        }
         match self.book.call(event) {
             Ok(reply) => Input::Reply(reply),
             Err(fault) => Input::Refused(fault),
@@ -74,6 +89,7 @@ impl World {
         self.calls = 0;
         self.refused = 0;
         self.confused = 0;
+        self.lied = 0;
     }
 }
 

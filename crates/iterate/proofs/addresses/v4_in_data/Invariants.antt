@@ -1,4 +1,4 @@
-use Rattle.std.proofs.Common.{◌≡◌, ℕ, take}
+use Rattle.std.proofs.Common.{◌≡◌, take}
 use Rattle.iterate.specs.Hunting.{v4_in}
 use Rattle.iterate.proofs.addresses.v4_in_data.Given as goal
 

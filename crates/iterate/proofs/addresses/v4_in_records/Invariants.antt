@@ -1,4 +1,4 @@
-use Rattle.std.proofs.Common.{◌≡◌, ℕ, take}
+use Rattle.std.proofs.Common.{◌≡◌, take}
 use Rattle.std.specs.List.{flat_map}
 use Rattle.iterate.specs.Hunting.{v4_of}
 use Rattle.iterate.proofs.addresses.v4_in_records.Given as goal

@@ -1,4 +1,4 @@
-use Rattle.std.proofs.Common.{◌≡◌, ◌+◌, ◌-◌, ◌<◌, ◌≤◌, ℕ, true, false, List, [], ◌∷◌, ◌++◌, length, drop, sym, ap, ◌∙◌, subst, refl, arith, rules}
+use Rattle.std.proofs.Common.{◌-◌, length, subst, refl, arith}
 use Rattle.iterate.specs.declared.want.Want.{Want}
 use Rattle.iterate.specs.Exchanges.{exchange, Adds}
 use Rattle.iterate.specs.Measure.{left_of_hearing}

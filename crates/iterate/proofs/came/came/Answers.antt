@@ -1,7 +1,5 @@
-use Rattle.std.proofs.Common.{◌≡◌, ◌+◌, ◌-◌, ◌<◌, ◌≤◌, ℕ, true, false, List, [], ◌∷◌, ◌++◌, length, drop, sym, ap, ◌∙◌, subst, refl, arith, rules}
+use Rattle.std.proofs.Common.{◌≡◌, ◌-◌, length, ap, ◌∙◌, subst, arith}
 use Rattle.std.proofs.lemmas.Result.{IfOk-weaker}
-use Rattle.dns_name.specs.Labels.{Labels}
-use Rattle.iterate.specs.declared.path.Path.{Path}
 use Rattle.iterate.specs.declared.search.Hunt.{Hunt}
 use Rattle.iterate.specs.declared.search.Search.{Search}
 use Rattle.iterate.specs.declared.want.Want.{Want}
@@ -9,7 +7,7 @@ use Rattle.iterate.specs.Measure.{left_of_sending}
 use Rattle.iterate.specs.Phase.{Suits}
 use Rattle.iterate.specs.Searching.{hunt_of, question_of}
 use Rattle.undo_book.specs.declared.servers.Servers.{Servers}
-use Rattle.iterate.proofs.Coming.{counted, asked_once, same_next, meant, useless, vain, from_less, below, going_less, again_less, ended_less, hearing_less, hearing}
+use Rattle.iterate.proofs.Coming.{counted, asked_once, same_next, meant, useless, vain, was_truncated, from_less, below, going_less, again_less, ended_less, hearing_less, hearing}
 use Rattle.iterate.proofs.came.came.Goals as goal
 
 pub returns-in-Struck : goal.returns-in-Struck
@@ -28,10 +26,13 @@ returns-in-Struck g c = λ question before log want w suits adds.
 pub returns-in-Cut : goal.returns-in-Cut
 returns-in-Cut g c = λ question before log want w suits adds.
     let search_in = c.args.search in
+    let here = subst (λ (v : Want). Suits v c.args.input.now) w.wanted suits in
+    let zone : c.get.result.now.zone ≡ (hunt_of search_in).servers.zone = ap (λ (s : Servers). s.zone) c.get.ensures ∙ ap (λ (h : Hunt). h.servers.zone) c.hunt.ensures in
+    let judged = meant c.args.port c.args.over c.args.id c.args.input.now _ zone c.in_ok-question.ensures (rw c.in-Cut.is at (c.in_ok-judged.ensures c.args.server w.bytes here)) in
     let same : c.counted-in-Cut.result ≡ counted search_in = c.counted-in-Cut.ensures (omega (arith, w.some)) in
     let path = ap (λ (x : Search). x.path) same in
     c.again.ensures c.args.port c.args.moment (left_of_sending search_in.path) question log w.rest (asked_once c.counted-in-Cut.result same w adds) (same_next c.counted-in-Cut.result same w)
-    (λ few. again_less search_in.path c.counted-in-Cut.result.path path few) (ended_less search_in.path w.is_search.path)
+    (was_truncated c.args.port (hunt_of search_in).servers.zone c.args.input.now c.counted-in-Cut.result same w adds judged) (λ few. again_less search_in.path c.counted-in-Cut.result.path path few) (ended_less search_in.path w.is_search.path)
 
 pub returns : goal.returns
 returns g c = λ question before log want w suits adds.

@@ -1,9 +1,9 @@
-use Rattle.std.proofs.Common.{◌≡◌, ◌<◌, ℕ, List, [], ◌∷◌, length, drop, sym, ap, ◌∙◌, subst, refl, arith, rules}
+use Rattle.std.proofs.Common.{List, drop, sym, subst}
 use Rattle.std.specs.List.{AllByRecursion}
 use Rattle.std.proofs.lemmas.Result.{IfOk-weaker}
 use Rattle.dns_text.specs.declared.addr.Addr.{Addr}
 use Rattle.iterate.specs.Known.{Known, Serves}
-use Rattle.iterate.specs.Searching.{hunt_behind, hunt_of, question_of}
+use Rattle.iterate.specs.Searching.{hunt_behind}
 use Rattle.iterate.proofs.Coming.{from_less}
 use Rattle.iterate.proofs.Hearing.{harvest_heard, referring, addresses_serve, concluding_less}
 use Rattle.iterate.proofs.concluding.conclude_frame.Goals as goal

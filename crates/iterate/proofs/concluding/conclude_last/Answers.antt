@@ -1,7 +1,6 @@
-use Rattle.std.proofs.Common.{◌≡◌, ◌+◌, ◌-◌, ◌<◌, ◌≤◌, ℕ, true, false, List, [], ◌∷◌, ◌++◌, length, drop, sym, ap, ◌∙◌, subst, refl, arith, rules}
 use Rattle.std.proofs.lemmas.Result.{IfOk-weaker}
 use Rattle.iterate.proofs.Coming.{from_less}
-use Rattle.iterate.proofs.Hearing.{harvest_heard, following_less, denying_last, referring_last, ended_hearing, concluding_less}
+use Rattle.iterate.proofs.Hearing.{harvest_heard, following_less, denying_last, referring_last, ended_hearing}
 use Rattle.iterate.proofs.concluding.conclude_last.Goals as goal
 
 pub returns-in-Answers : goal.returns-in-Answers

@@ -1,4 +1,4 @@
-use Rattle.std.proofs.Common.{false, [], List, ap, ◌∙◌, subst, arith}
+use Rattle.std.proofs.Common.{false, [], List, ap, ◌∙◌, subst}
 use Rattle.std.proofs.lemmas.Result.{IfOk-weaker}
 use Rattle.undo_book.specs.declared.event.Ask.TheVariants.{Answer as Asked}
 use Rattle.undo_book.specs.declared.event.Event.TheVariants.{Look}
@@ -10,6 +10,7 @@ use Rattle.iterate.specs.declared.want.Input.{Input}
 use Rattle.iterate.specs.declared.want.Want.TheVariants.{Book, Finish}
 use Rattle.iterate.specs.Exchanges.{exchange, Adds}
 use Rattle.iterate.specs.Looked.{seen_of, IsReplied}
+use Rattle.iterate.proofs.Falling.{few_is}
 use Rattle.iterate.proofs.PathTurns.{turned, less_left, start_less, first_path, first_seeing}
 use Rattle.iterate.proofs.first.seen_first.Goals as goal
 
@@ -19,8 +20,8 @@ returns-in_ok-start-in-Unknown c = λ port m id input log replied adds.
     let knows = subst (λ (i : Input). Adds [] (exchange (Book (Look m (Asked c.args.question.now))) i) log) here.replied adds in
     let path = c.in_ok-start-in-Unknown.field-0 in
     let start = c.in_ok-start-in-Unknown.ensures in
-    let less = start_less path start.sent in
-    IfOk-weaker c.alias.result _ _ (λ t g. less_left (omega (arith, less)) g)
+    let less = start_less path in
+    IfOk-weaker c.alias.result _ _ (λ t g. less_left (few_is less) g)
     (c.alias.ensures port id c.args.question.now log (first_path path knows start.last start.sets start.sent))
 
 pub returns-in_ok-held_ending-in-Held : goal.returns-in_ok-held_ending-in-Held

@@ -1,4 +1,4 @@
-use Rattle.std.proofs.Common.{suc, ◌≡◌, ◌⊎◌, ◌+◌, ◌-◌, ◌<◌, ◌≤◌, ℕ, List, [], ◌∷◌, ◌++◌, length, take, drop, inl, inr, false, true, IfOk, sym, ap, ◌∙◌, subst, refl, arith, rules}
+use Rattle.std.proofs.Common.{[], sym, subst, refl}
 use Rattle.undo_book.specs.declared.event.Ask.TheVariants.{Servers as ServersFor}
 use Rattle.undo_book.specs.declared.event.Event.TheVariants.{Look}
 use Rattle.undo_book.specs.declared.servers.Servers.{Servers}
@@ -6,6 +6,7 @@ use Rattle.iterate.specs.declared.want.Input.{Input}
 use Rattle.iterate.specs.declared.want.Want.TheVariants.{Book}
 use Rattle.iterate.specs.Exchanges.{exchange, Adds}
 use Rattle.iterate.specs.Hunting.{Names}
+use Rattle.iterate.proofs.Falling.{few_is}
 use Rattle.iterate.proofs.Asking.{turned, from_more_ok}
 use Rattle.iterate.proofs.Finding.{path_named, listed_named, reached_named, failing_listing}
 use Rattle.iterate.proofs.listing.listed.Goals as goal
@@ -17,7 +18,7 @@ returns-in_ok-search-in-Some g c = λ port m question before log p adds suits.
     let k = c.in_ok-search-in-Some.ensures.reached port question log [] (path_named port question before log m c.args.path c.in_ok-list-in-Some.list p here) (listed_named port before log m c.args.path.last.owner c.in_ok-list-in-Some.list here)
     (reached_named port before log m c.args.path.last c.in_ok-list-in-Some.list here) named.zone in
     let less = k.falls in
-    from_more_ok port question log c.args.moment c.go_on.result refl (omega (arith, less)) (c.go_on.ensures port question log k.is_search)
+    from_more_ok port question log c.args.moment c.go_on.result refl (few_is less) (c.go_on.ensures port question log k.is_search)
 
 pub returns-in-None : goal.returns-in-None
 returns-in-None g c = λ port m question before log p adds suits.

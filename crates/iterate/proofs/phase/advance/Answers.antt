@@ -1,4 +1,4 @@
-use Rattle.std.proofs.Common.{◌≡◌, ◌+◌, ◌-◌, ◌<◌, ◌≤◌, ℕ, true, false, List, [], ◌∷◌, ◌++◌, length, drop, sym, ap, ◌∙◌, subst, refl, arith, rules}
+use Rattle.std.proofs.Common.{List, [], subst}
 use Rattle.iterate.specs.declared.want.Want.{Want}
 use Rattle.iterate.specs.Exchanges.{Exchange, exchange, Adds}
 use Rattle.iterate.specs.Phase.{Suits}

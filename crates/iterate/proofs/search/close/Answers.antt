@@ -1,4 +1,4 @@
-use Rattle.std.proofs.Common.{suc, ◌≡◌, ◌⊎◌, ◌+◌, ◌-◌, ◌<◌, ◌≤◌, ℕ, List, [], ◌∷◌, ◌++◌, length, take, drop, inl, inr, false, true, IfOk, sym, ap, ◌∙◌, subst, refl, arith, rules}
+use Rattle.std.proofs.Common.{List, subst}
 use Rattle.iterate.specs.declared.search.Frame.{Frame}
 use Rattle.iterate.specs.Hunting.{AreSupplied}
 use Rattle.iterate.proofs.Supplying.{closing, hunts_close}

@@ -1,8 +1,7 @@
 use Rattle.std.proofs.Common.{◌≡◌, ℕ, ◌≤◌, List}
 use Rattle.dns_text.specs.declared.record.Question.{Question}
 use Rattle.iterate.specs.Exchanges.{Exchange}
-use Rattle.iterate.specs.Hunting.{hunts_left}
-use Rattle.iterate.specs.Measure.{left_of_search}
+use Rattle.iterate.specs.Measure.{hunts_left, left_of_search}
 use Rattle.iterate.specs.Searching.{IsSearch}
 use Rattle.iterate.proofs.search.go_on.Given as goal
 

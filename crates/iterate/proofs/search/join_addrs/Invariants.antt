@@ -1,4 +1,4 @@
-use Rattle.std.proofs.Common.{◌≡◌, ◌⊎◌, ℕ, List, length, take}
+use Rattle.std.proofs.Common.{◌≡◌, ◌⊎◌, length, take}
 use Rattle.std.specs.List.{Contains}
 use Rattle.dns_text.specs.declared.addr.Addr.{Addr}
 use Rattle.iterate.proofs.search.join_addrs.Given as goal

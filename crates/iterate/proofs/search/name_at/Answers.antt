@@ -1,4 +1,4 @@
-use Rattle.std.proofs.Common.{suc, ◌≡◌, ◌⊎◌, ◌+◌, ◌-◌, ◌<◌, ◌≤◌, ℕ, List, [], ◌∷◌, ◌++◌, length, take, drop, inl, inr, false, true, IfOk, sym, ap, ◌∙◌, subst, refl, arith, rules}
+use Rattle.std.proofs.Common.{suc, ◌∷◌, drop, sym, ap, ◌∙◌, arith}
 use Rattle.dns_name.specs.Labels.{Labels}
 use Rattle.std.proofs.Math.Seq.{drop-cons}
 use Rattle.iterate.proofs.search.name_at.Goals as goal

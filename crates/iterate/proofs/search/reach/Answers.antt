@@ -1,4 +1,4 @@
-use Rattle.std.proofs.Common.{suc, ◌≡◌, ◌⊎◌, ◌+◌, ◌-◌, ◌<◌, ◌≤◌, ℕ, List, [], ◌∷◌, ◌++◌, length, take, drop, inl, inr, false, true, IfOk, sym, ap, ◌∙◌, subst, refl, arith, rules}
+use Rattle.std.proofs.Common.{refl}
 use Rattle.iterate.proofs.Supplying.{reaching}
 use Rattle.iterate.proofs.search.reach.Goals as goal
 

@@ -1,4 +1,3 @@
-use Rattle.std.proofs.Common.{suc, ◌≡◌, ◌⊎◌, ◌+◌, ◌-◌, ◌<◌, ◌≤◌, ℕ, List, [], ◌∷◌, ◌++◌, length, take, drop, inl, inr, false, true, IfOk, sym, ap, ◌∙◌, subst, refl, arith, rules}
 use Rattle.iterate.proofs.Supplying.{below_hearing}
 use Rattle.iterate.proofs.search.refer_base.Goals as goal
 

@@ -1,4 +1,4 @@
-use Rattle.std.proofs.Common.{suc, ◌≡◌, ◌⊎◌, ◌+◌, ◌-◌, ◌<◌, ◌≤◌, ℕ, List, [], ◌∷◌, ◌++◌, length, take, drop, inl, inr, false, true, IfOk, sym, ap, ◌∙◌, subst, refl, arith, rules}
+use Rattle.std.proofs.Common.{◌≡◌, List, ◌∷◌, drop, ap, ◌∙◌, refl}
 use Rattle.iterate.specs.declared.search.Frame.{Frame}
 use Rattle.iterate.proofs.Supplying.{referring, first_frame, removed_first}
 use Rattle.iterate.proofs.search.refer_frame.Goals as goal

@@ -1,23 +1,13 @@
-use Rattle.std.proofs.Common.{suc, ◌≡◌, ◌⊎◌, ◌+◌, ◌-◌, ◌<◌, ◌≤◌, ℕ, List, [], ◌∷◌, ◌++◌, length, take, drop, inl, inr, false, true, IfOk, sym, ap, ◌∙◌, subst, refl, arith, rules}
-use Rattle.dns_text.specs.declared.addr.Addr.{Addr}
-use Rattle.undo_book.specs.declared.event.Ask.TheVariants.{Answer as Asked, Servers as ServersFor}
+use Rattle.std.proofs.Common.{subst}
+use Rattle.undo_book.specs.declared.event.Ask.TheVariants.{Answer as Asked}
 use Rattle.undo_book.specs.declared.event.Event.TheVariants.{Look}
-use Rattle.undo_book.specs.declared.event.Reply.TheVariants.{Seen as SeenReply}
-use Rattle.undo_book.specs.declared.servers.Servers.{Servers}
-use Rattle.dns_query.specs.Query.{address_question, alias_question}
-use Rattle.iterate.specs.declared.phase.Stage.{Stage}
+use Rattle.dns_query.specs.Query.{address_question}
 use Rattle.iterate.specs.declared.phase.Stage.TheVariants as stage
-use Rattle.iterate.specs.declared.shown.Looked.{Looked}
 use Rattle.iterate.specs.declared.want.Input.{Input}
-use Rattle.iterate.specs.declared.want.Input.TheVariants.{Reply as Replied}
 use Rattle.iterate.specs.declared.want.Want.TheVariants.{Book}
 use Rattle.iterate.specs.Exchanges.{exchange, Adds}
-use Rattle.iterate.specs.Hunting.{AllServe, Names}
-use Rattle.iterate.specs.Looked.{seen_of}
-use Rattle.iterate.specs.Measure.{left_of_search}
-use Rattle.iterate.specs.Searching.{hunt_of}
-use Rattle.iterate.proofs.Asking.{turned, from_more_ok, looks_less, smaller_goes}
-use Rattle.iterate.proofs.Finding.{failing_seeking, tried_more, seeking_more, serving, listed_named}
+use Rattle.iterate.proofs.Asking.{turned}
+use Rattle.iterate.proofs.Finding.{failing_seeking}
 use Rattle.iterate.proofs.seeking.address_came.Goals as goal
 
 pub returns-in-Some : goal.returns-in-Some
@@ -28,4 +18,4 @@ returns-in-Some g c = λ m question before log k adds suits.
 
 pub returns-in-None : goal.returns-in-None
 returns-in-None g c = λ m question before log k adds suits.
-    turned c.failed.ensures.phase c.failed.ensures.want (failing_seeking c.args.port m question before log c.args.moment _ 3 c.args.search (Asked (address_question c.args.target)) c.args.input.now k.is_search adds (c.in-None.ensures m suits))
+    turned c.failed.ensures.phase c.failed.ensures.want (failing_seeking c.args.port m question before log c.args.moment _ stage.Address c.args.search (Asked (address_question c.args.target)) c.args.input.now k.is_search adds (c.in-None.ensures m suits))

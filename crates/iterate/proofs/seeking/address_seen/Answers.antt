@@ -1,29 +1,19 @@
-use Rattle.std.proofs.Common.{suc, ◌≡◌, ◌⊎◌, ◌+◌, ◌-◌, ◌<◌, ◌≤◌, ℕ, List, [], ◌∷◌, ◌++◌, length, take, drop, inl, inr, false, true, IfOk, sym, ap, ◌∙◌, subst, refl, arith, rules}
+use Rattle.std.proofs.Common.{List, sym, subst, refl, arith}
 use Rattle.dns_text.specs.declared.addr.Addr.{Addr}
-use Rattle.undo_book.specs.declared.event.Ask.TheVariants.{Answer as Asked, Servers as ServersFor}
-use Rattle.undo_book.specs.declared.event.Event.TheVariants.{Look}
 use Rattle.undo_book.specs.declared.event.Reply.TheVariants.{Seen as SeenReply}
-use Rattle.undo_book.specs.declared.servers.Servers.{Servers}
-use Rattle.dns_query.specs.Query.{address_question, alias_question}
-use Rattle.iterate.specs.declared.phase.Stage.{Stage}
 use Rattle.iterate.specs.declared.phase.Stage.TheVariants as stage
-use Rattle.iterate.specs.declared.shown.Looked.{Looked}
-use Rattle.iterate.specs.declared.want.Input.{Input}
 use Rattle.iterate.specs.declared.want.Input.TheVariants.{Reply as Replied}
-use Rattle.iterate.specs.declared.want.Want.TheVariants.{Book}
-use Rattle.iterate.specs.Exchanges.{exchange, Adds}
-use Rattle.iterate.specs.Hunting.{AllServe, Names}
+use Rattle.iterate.specs.Hunting.{AllServe}
 use Rattle.iterate.specs.Looked.{seen_of}
-use Rattle.iterate.specs.Measure.{left_of_search}
 use Rattle.iterate.specs.Searching.{hunt_of}
-use Rattle.iterate.proofs.Asking.{turned, from_more_ok, looks_less, smaller_goes}
-use Rattle.iterate.proofs.Finding.{failing_seeking, tried_more, seeking_more, serving, listed_named}
+use Rattle.iterate.proofs.Asking.{from_more_ok, smaller_goes}
+use Rattle.iterate.proofs.Finding.{tried_more, seeking_more, serving}
 use Rattle.iterate.proofs.seeking.address_seen.Goals as goal
 
 pub returns-in-Unknown : goal.returns-in-Unknown
 returns-in-Unknown g c = λ m question before log k adds lawful.
     let more = seeking_more c.args.port m question before log c.args.search c.args.target stage.Address stage.Alias _ k adds in
-    c.seek.ensures c.args.port _ (left_of_search c.args.search 3) question log more (looks_less c.args.search 2 3 (omega arith) (omega arith) more.is_search)
+    c.seek_on.ensures c.args.port question log (tried_more c.args.port m question before log c.args.search c.args.target stage.Address _ k adds) more
 
 pub returns-in_ok-after-in_default : goal.returns-in_ok-after-in_default
 returns-in_ok-after-in_default g c = λ m question before log k adds lawful.

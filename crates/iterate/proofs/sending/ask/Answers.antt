@@ -1,4 +1,4 @@
-use Rattle.std.proofs.Common.{◌≡◌, ◌+◌, ◌-◌, ◌<◌, ◌≤◌, ℕ, List, [], ◌∷◌, length, drop, sym, ap, ◌∙◌, subst, refl, arith, rules}
+use Rattle.std.proofs.Common.{arith}
 use Rattle.iterate.proofs.Asking.{turned, spent, sending_less}
 use Rattle.iterate.proofs.sending.ask.Goals as goal
 
@@ -8,4 +8,4 @@ returns-then-search-ge-MOST_SENDS g c = λ port moment question log rest s next.
 
 pub returns : goal.returns
 returns g c = λ port moment question log rest s next.
-    c.send.ensures port moment _ question log rest s (omega arith) next (sending_less c.args.search 4 s (omega arith))
+    c.send.ensures port moment _ question log rest s (omega arith) next tt (sending_less c.args.search 4 s (omega arith))

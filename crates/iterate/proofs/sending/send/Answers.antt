@@ -1,16 +1,14 @@
-use Rattle.std.proofs.Common.{◌≡◌, ◌+◌, ◌-◌, ◌<◌, ◌≤◌, ◌%◌, ◌^◌, ℕ, List, [], ◌∷◌, length, drop, sym, ap, ◌∙◌, subst, refl, arith, rules}
+use Rattle.std.proofs.Common.{◌%◌, ℕ, List, sym, ap, subst, refl}
 use Rattle.dns_text.specs.declared.record.Question.{Question}
 use Rattle.rand_core.specs.Stream.{Stream}
 use Rattle.dns_query.specs.Query.{IsQuery}
-use Rattle.iterate.specs.declared.want.Want.{Want}
 use Rattle.iterate.specs.declared.want.Want.TheVariants.{Send}
-use Rattle.iterate.specs.Phase.{Goes}
 use Rattle.iterate.proofs.Asking.{turned, sending}
 use Rattle.iterate.proofs.sending.send.Goals as goal
 
 pub returns : goal.returns
-returns g c = λ port moment left question log rest s few next less.
+returns g c = λ port moment left question log rest s few next goes less.
     let query = subst (λ (q : Question). IsQuery c.in_ok-bytes.bytes (c.next_u32.result % 65536) q) c.in_ok-question.ensures c.in_ok-bytes.ensures in
     turned refl (ap (λ (bytes : List ℕ). Send c.args.server c.args.over bytes) c.in_ok-new.ensures)
-    (sending port question log moment _ left c.args.search c.args.server c.args.over c.in_ok-bytes.bytes rest s few next less (c.next_u32.result % 65536)
-    (ap (λ (p : ℕ × Stream). p.0 % 65536) (sym c.next_u32.ensures)) query)
+    (sending port question log moment _ left c.args.search c.args.server c.args.over c.in_ok-bytes.bytes rest s few next goes less (c.next_u32.result % 65536)
+    (ap (λ (p : ℕ × Stream). p.0 % 65536) (sym c.next_u32.ensures)) (ap (λ (p : ℕ × Stream). p.1) c.next_u32.ensures) query)

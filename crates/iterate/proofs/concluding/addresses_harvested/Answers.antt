@@ -1,7 +1,6 @@
-use Rattle.std.proofs.Common.{◌≡◌, ℕ, List, sym, ap, ◌∙◌, subst, refl, arith, rules}
 use Rattle.std.proofs.lemmas.Result.{IfOk-weaker}
 use Rattle.iterate.proofs.Hearing.{addresses_known}
-use Rattle.iterate.proofs.concluding.addresses_in.Goals as goal
+use Rattle.iterate.proofs.concluding.addresses_harvested.Goals as goal
 
 pub returns-in-Some : goal.returns-in-Some
 returns-in-Some c = λ log is.

@@ -1,6 +1,6 @@
 use Rattle.std.proofs.Common.{◌≡◌, true, sym, ◌∙◌}
 use Rattle.dns_name.specs.Order.{name_eq, name_eq_exact, name_eq_itself}
-use Rattle.iterate.proofs.shown.is_same.Goals as goal
+use Rattle.iterate.proofs.shown.is_name.Goals as goal
 
 pub returns : goal.returns
 returns c = (

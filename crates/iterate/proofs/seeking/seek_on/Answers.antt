@@ -1,0 +1,19 @@
+use Rattle.std.proofs.Common.{◌+◌, sym, subst, refl, arith}
+use Rattle.iterate.specs.declared.phase.Stage.TheVariants as stage
+use Rattle.iterate.specs.declared.search.Search.{Search}
+use Rattle.iterate.specs.Measure.{left_of_search}
+use Rattle.iterate.specs.Phase.{IsSeeking}
+use Rattle.iterate.proofs.Asking.{from_more_ok, begun_less, smaller_goes}
+use Rattle.iterate.proofs.Finding.{begun_seeking}
+use Rattle.iterate.proofs.seeking.seek_on.Goals as goal
+
+pub returns-then-search-lt-MOST_BEGUN : goal.returns-then-search-lt-MOST_BEGUN
+returns-then-search-lt-MOST_BEGUN g c = λ port question log tried k.
+    let more = subst (λ (s : Search). IsSeeking port question log s c.args.target stage.Alias) (sym c.begun.ensures) (begun_seeking port question log c.args.search c.args.target stage.Alias (c.args.search.path.begun + 1) k) in
+    let less = begun_less c.args.search c.begun.result (omega arith) c.begun.ensures tried.is_search in
+    c.seek.ensures port _ (left_of_search c.args.search 3) question log more less
+
+pub returns : goal.returns
+returns g c = λ port question log tried k.
+    let small = c.in_ok-after.ensures.further port question log c.args.target tried tt in
+    from_more_ok port question log c.args.moment c.go_on.result refl (smaller_goes c.args.search c.in_ok-after.after 3 (omega arith) tried.is_search small) (c.go_on.ensures port question log small.is_search)
