@@ -1,0 +1,9 @@
+mod Asked
+mod Counting
+mod Failing
+mod Formed
+mod Framed
+mod Headers
+mod Leading
+mod Parts
+mod Streaming

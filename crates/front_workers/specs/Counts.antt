@@ -1,0 +1,14 @@
+-- How failures are counted.
+use Rattle.std.specs.Prelude.{◌≡◌, ◌⊎◌, ℕ, ◌+◌, ◌-◌, ◌^◌, Result, Ok, Err}
+use Rattle.front_workers.specs.declared.device.DeviceFault.{DeviceFault}
+use Rattle.front_workers.specs.declared.device.DeviceFault.TheVariants.{Device, NoMemory}
+
+-- one more is counted, unless the count stands at its last value
+abbrev pub Rises : ℕ → ℕ → Type 0
+Rises old new = (new ≡ old + 1) ⊎ ((old ≡ 2 ^ 64 - 1) × (new ≡ old))
+
+-- A call that fails is counted, and no other is.
+abbrev pub Counts : {A : Type 0} → Result A DeviceFault → ℕ → ℕ → Type 0
+Counts (Ok _) old new = new ≡ old
+Counts (Err Device) old new = Rises old new
+Counts (Err NoMemory) old new = new ≡ old

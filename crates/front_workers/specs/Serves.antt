@@ -1,0 +1,69 @@
+-- What a query is told (RFC 1035, section 4.1).
+use Rattle.std.specs.Prelude.{◌≡◌, ◌<◌, ◌≤◌, ℕ, Bool, true, false, Option, Some, None, List, [], ◌∷◌, length}
+use Rattle.dns_query.specs.declared.over.Over.{Over}
+use Rattle.dns_query.specs.declared.over.Over.TheVariants.{Udp, Tcp}
+use Rattle.dns_wire.specs.declared.message.Head.{Head}
+use Rattle.dns_wire.specs.declared.message.Message.{Message}
+use Rattle.dns_wire.specs.declared.server.query.Query.{Query}
+use Rattle.dns_wire.specs.declared.server.query.Asked.TheVariants.{Drop, Fault, Good}
+use Rattle.dns_wire.specs.Lent.{lent_reply}
+use Rattle.dns_wire.specs.Read.Header.{head_in}
+use Rattle.dns_wire.specs.Server.Asking.{AsksFor}
+use Rattle.dns_wire.specs.Server.Replying.{fault_head, cut_reply}
+use Rattle.dns_wire.specs.Write.Header.{header_octets}
+use Rattle.dns_wire.specs.Write.Message.{octets_with, IsTooLong}
+use Rattle.iterate.specs.declared.answer.Answer.{Answer}
+use Rattle.iterate.specs.declared.answer.Answer.TheVariants.{Reply as Replies, Silent}
+use Rattle.iterate.specs.declared.answer.Soa.{Soa}
+use Rattle.iterate.specs.declared.answer.Told.{Told}
+use Rattle.front_workers.specs.Leads.{Calls, Asks, Ticks, Ends, BreaksOff}
+use Rattle.front_workers.specs.Lending.{answer_parts, authority_parts}
+
+-- how many octets a reply may have (RFC 1035, section 4.2)
+abbrev pub most_octets : Over → ℕ
+most_octets Udp = 512
+most_octets Tcp = 65535
+
+-- the reply that tells a fault: a header alone
+abbrev pub fault_octets : List ℕ → ℕ → List ℕ
+fault_octets m rcode = header_octets (fault_head (head_in m) rcode) 0 0 0 0
+
+-- the head of a reply: RD is copied, RA is set, Z is 0
+abbrev pub head_told : Query → ℕ → Bool → Head
+head_told query rcode aa = record { id = query.id; qr = true; opcode = 0; aa = aa; tc = false; rd = query.rd; ra = true; z = 0; rcode = rcode }
+
+-- the reply of an answer
+abbrev pub reply_told : Query → ℕ → Bool → List Told → Option Told → Option Soa → Message
+reply_told query rcode aa aliases last authority = lent_reply (head_told query rcode aa) query.question (answer_parts aliases last) (authority_parts authority)
+
+-- Over UDP a reply of more than 512 octets is cut to its head, with TC set, and the question (RFC 2181, section 9).
+abbrev pub IsSent : Over → Query → List ℕ → List ℕ → Type 0
+IsSent Tcp query octets out = out ≡ octets
+IsSent Udp query octets out = (length octets ≤ 512 → out ≡ octets) × (512 < length octets → out ≡ octets_with query.octets (cut_reply (head_in octets) query.question))
+
+-- These octets go out for a reply to a query: the reply's, or, where it has too many for any message, those that tell that the server failed.
+pub data Written (over : Over) (m : List ℕ) (query : Query) (reply : Message) (out : List ℕ) : Type 0 where
+  whole : ¬ (IsTooLong reply) → IsSent over query (octets_with query.octets reply) out → Written over m query reply out
+  too_long : IsTooLong reply → out ≡ fault_octets m 2 → Written over m query reply out
+
+-- Octets came to a desk, an exchange and a clock: they get this reply, or none, and leave these.
+pub data Serves {D X C : Type 0} (calls : Calls D) (asks : Asks X) (ticks : Ticks C) (port : ℕ) (over : Over) (m : List ℕ) (desk : D) (exchange : X) (clock : C)
+    : Option (List ℕ) → D → X → C → Type 0 where
+  dropped : AsksFor m Drop → Serves calls asks ticks port over m desk exchange clock None desk exchange clock
+  faulty : {rcode : ℕ} {out : List ℕ} → AsksFor m (Fault rcode) → out ≡ fault_octets m rcode
+      → Serves calls asks ticks port over m desk exchange clock (Some out) desk exchange clock
+  silent : {query : Query} {d : D} {x : X} {c : C} → AsksFor m (Good query) → Ends calls asks ticks port query.question desk exchange clock Silent d x c
+      → Serves calls asks ticks port over m desk exchange clock None d x c
+  answered : {query : Query} {rcode : ℕ} {aa : Bool} {aliases : List Told} {last : Option Told} {authority : Option Soa} {out : List ℕ} {d : D} {x : X} {c : C}
+      → AsksFor m (Good query) → Ends calls asks ticks port query.question desk exchange clock (Replies rcode aa aliases last authority) d x c
+      → Written over m query (reply_told query rcode aa aliases last authority) out
+      → Serves calls asks ticks port over m desk exchange clock (Some out) d x c
+
+-- They get no reply for want of memory, and leave these.
+pub data Unserved {D X C : Type 0} (calls : Calls D) (asks : Asks X) (ticks : Ticks C) (port : ℕ) (m : List ℕ) (desk : D) (exchange : X) (clock : C)
+    : D → X → C → Type 0 where
+  unread : ¬ (AsksFor m Drop) → Unserved calls asks ticks port m desk exchange clock desk exchange clock
+  broken_off : {query : Query} {d : D} {x : X} {c : C} → AsksFor m (Good query) → BreaksOff calls asks ticks port query.question desk exchange clock d x c
+      → Unserved calls asks ticks port m desk exchange clock d x c
+  unwritten : {query : Query} {answer : Answer} {d : D} {x : X} {c : C} → AsksFor m (Good query) → Ends calls asks ticks port query.question desk exchange clock answer d x c
+      → Unserved calls asks ticks port m desk exchange clock d x c

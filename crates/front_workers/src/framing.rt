@@ -1,0 +1,95 @@
+//! Messages behind their length in two octets (RFC 1035, section 4.2.2).
+
+ghost use Rattle.std.specs.Prelude.{◌≡◌, [], ◌∷◌, ◌+◌, ◌^◌, ◌<◌, ◌≤◌, length, IfOk, OnOk};
+ghost use Rattle.streams.specs.declared.source.TheConstants.{MOST_COUNTED};
+ghost use Rattle.front_workers.specs.Framing.{length_octets, framed, SizeCame, BodyCame, MessageCame, CountsRead};
+
+use crate::fault::StreamFault;
+use dns_name::NoMemory;
+use dns_text::Octets;
+use std::alloc::Global;
+use streams::{Source, fill};
+
+/// The number that two octets spell.
+fn size_of(high: u8, low: u8) -> usize
+    ensures spelled { length_octets result ≡ high ∷ low ∷ [] }
+    ensures range { result < 2 ^ 16 }
+{
+    usize::from(high) * 256 + usize::from(low)
+}
+
+/// The length of the next message. None where no more comes.
+fn take_size<S: Source>(reader: &mut S, left: &mut u64) -> Result<Option<usize>, StreamFault>
+    requires { S.calls reader.old + left.old ≤ MOST_COUNTED }
+    ensures came { SizeCame result (S.remaining reader.old) (S.remaining reader.new) }
+    ensures calls { S.calls reader.new + left.new ≡ S.calls reader.old + left.old }
+    ensures no_more { left.new ≤ left.old }
+    ensures falls { OnOk result (left.new < left.old) }
+    ensures failures { CountsRead result left.new (S.failures reader.old) (S.failures reader.new) }
+{
+    let mut octets = [0u8; 2];
+    let came = fill(reader, left, &mut octets)?;
+    if came == 0 {
+        return Ok(None);
+    }
+    if came == 1 {
+        return Err(StreamFault::Short);
+    }
+    let [high, low] = octets;
+    Ok(Some(size_of(high, low)))
+}
+
+/// A message of so many octets.
+fn take_body<S: Source>(
+    alloc: Global,
+    reader: &mut S,
+    left: &mut u64,
+    size: usize,
+) -> Result<Octets, StreamFault>
+    requires { S.calls reader.old + left.old ≤ MOST_COUNTED }
+    ensures came { BodyCame result size (S.remaining reader.old) (S.remaining reader.new) }
+    ensures calls { S.calls reader.new + left.new ≡ S.calls reader.old + left.old }
+    ensures no_more { left.new ≤ left.old }
+    ensures failures { CountsRead result left.new (S.failures reader.old) (S.failures reader.new) }
+{
+    let mut body = vec![in alloc; 0u8; size]?;
+    let came = fill(reader, left, &mut body)?;
+    if came < size {
+        return Err(StreamFault::Short);
+    }
+    Ok(Octets::new(body))
+}
+
+/// The next message, in so many reads at most as are left. None where no more comes.
+pub(crate) fn take_message<S: Source>(
+    alloc: Global,
+    reader: &mut S,
+    left: &mut u64,
+) -> Result<Option<Octets>, StreamFault>
+    requires { S.calls reader.old + left.old ≤ MOST_COUNTED }
+    ensures came { MessageCame result (S.remaining reader.old) (S.remaining reader.new) }
+    ensures calls { S.calls reader.new + left.new ≡ S.calls reader.old + left.old }
+    ensures falls { OnOk result (left.new < left.old) }
+    ensures failures { CountsRead result left.new (S.failures reader.old) (S.failures reader.new) }
+{
+    match take_size(reader, left)? {
+        None => Ok(None),
+        Some(size) => match take_body(alloc, reader, left, size) {
+            Ok(body) => Ok(Some(body)),
+            Err(fault) => Err(fault),
+        },
+    }
+}
+
+/// A message behind its length.
+pub(crate) fn frame(alloc: Global, message: &[u8]) -> Result<Vec<u8>, NoMemory>
+    requires { length message.now ≤ 65535 }
+    ensures { IfOk result (λ out. out.items ≡ framed message.now) }
+{
+    let size = message.len();
+    let mut out = Vec::with_capacity(alloc, size + 2)?;
+    out.push((size / 256) as u8)?;
+    out.push((size % 256) as u8)?;
+    out.extend_from_slice(message)?;
+    Ok(out)
+}

@@ -1,0 +1,39 @@
+//! Questions are served, over any desk, exchange, clock and port.
+#![tactic(auto)]
+
+// In the order in which to read them.
+
+// What a device failed by.
+mod device;
+// A query to a name server, and what comes of it.
+mod exchange;
+// Where queries come in: datagrams, and connections.
+mod port;
+// What a task is run with.
+mod tools;
+// A task from its question to its answer.
+mod run;
+// What an answer tells, lent as the sections of a reply.
+mod lending;
+// Replies as octets.
+mod reply;
+// One query.
+mod query;
+// Why a stream is served no further.
+mod fault;
+// Messages behind their length.
+mod framing;
+// A stream of messages.
+mod stream;
+// Workers, each of which serves what comes in.
+mod working;
+
+pub use device::DeviceFault;
+pub use exchange::Exchange;
+pub use fault::StreamFault;
+pub use port::{Came, Listener, Port};
+pub use query::serve_query;
+pub use run::run_task;
+pub use stream::serve_stream;
+pub use tools::Tools;
+pub use working::{MOST_DATAGRAM, MOST_FAILURES, WorkEnd, work_tcp, work_udp};

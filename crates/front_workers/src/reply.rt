@@ -1,0 +1,80 @@
+//! Replies as octets.
+
+ghost use Rattle.std.specs.Prelude.{◌≡◌, true, false, ◌≤◌, length, IfOk};
+ghost use Rattle.std.specs.List.{AllByRecursion};
+ghost use Rattle.dns_wire.specs.Lent.{lent_reply};
+ghost use Rattle.dns_wire.specs.WellFormed.{HasItsForm};
+ghost use Rattle.front_workers.specs.Serves.{fault_octets, head_told, most_octets, IsSent, Written};
+
+use dns_name::NoMemory;
+use dns_query::Over;
+use dns_wire::{
+    EncodeFault, Head, Opcode, Query, Rcode, Reserved, Section, cut_for_udp, encode_lent,
+    fault_reply,
+};
+use std::alloc::{AllocError, Global};
+
+/// The head of a reply to a query.
+pub(crate) fn head_of(query: &Query, rcode: Rcode, aa: bool) -> Head
+    ensures { result ≡ head_told query.now rcode aa }
+{
+    Head {
+        id: query.id,
+        qr: true,
+        opcode: Opcode::QUERY,
+        aa,
+        tc: false,
+        rd: query.rd,
+        ra: true,
+        z: Reserved::ZERO,
+        rcode,
+    }
+}
+
+/// The reply that tells a fault: a header alone.
+pub(crate) fn write_fault(alloc: Global, octets: &[u8], rcode: Rcode) -> Result<Vec<u8>, NoMemory>
+    requires { 12 ≤ length octets.now }
+    ensures octets { IfOk result (λ out. out.items ≡ fault_octets octets.now rcode) }
+    ensures short { IfOk result (λ out. length out.items ≡ 12) }
+{
+    let reply = fault_reply(octets, rcode).unwrap();
+    Vec::from_slice(alloc, &reply)
+}
+
+/// Cuts a reply that is too long for UDP.
+fn cut(over: Over, query: &Query, mut out: Vec<u8>) -> Vec<u8>
+    requires { length out.items ≤ 65535 }
+    ensures sent { IsSent over query.now out.items result.items }
+    ensures short { length result.items ≤ most_octets over }
+{
+    match over {
+        Over::Tcp => out,
+        Over::Udp => {
+            cut_for_udp(&mut out, query);
+            out
+        }
+    }
+}
+
+/// A reply as it goes out. Where it has too many octets for any message, it tells that the server failed.
+pub(crate) fn write_reply<A: Section, B: Section>(
+    alloc: Global,
+    over: Over,
+    octets: &[u8],
+    query: &Query,
+    head: &Head,
+    answer: &A,
+    authority: &B,
+) -> Result<Vec<u8>, NoMemory>
+    requires header { 12 ≤ length octets.now }
+    requires answer { AllByRecursion (AllByRecursion HasItsForm) (A.parts answer.now) }
+    requires authority { AllByRecursion (AllByRecursion HasItsForm) (B.parts authority.now) }
+    ensures short { IfOk result (λ out. length out.items ≤ most_octets over) }
+    ensures written { IfOk result (λ out. Written over octets.now query.now (lent_reply head.now query.now.question (A.parts answer.now) (B.parts authority.now)) out.items) }
+{
+    match encode_lent(alloc, query, head, answer, authority) {
+        Ok(out) => Ok(cut(over, query, out)),
+        Err(EncodeFault::TooLong) => write_fault(alloc, octets, Rcode::SERVER_FAILURE),
+        Err(EncodeFault::NoMemory) => Err(AllocError),
+    }
+}

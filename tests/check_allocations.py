@@ -1,0 +1,40 @@
+"""How often memory is asked for: no more than these many times for each call, counted by a library in front of malloc.
+
+A run of twice the calls less one of the calls takes off what starting up asks for.
+"""
+
+from checks import Checks
+from programs import QUERIES, run
+
+COUNT = 1000
+
+# A query, from octets in to octets out: the question's octets, the list of steps, and the reply. Of local data besides: the
+# records that the look tells, and the set that the task makes of them, its records and what shares them.
+MOST_OF_A_QUERY = {"held": 3, "local": 6, "refused": 3}
+
+
+def counted(program, call, count):
+    """How often a run asks for memory; None where the program did otherwise than it should."""
+    done = run([program, call, str(count)], preload="count")
+    word, _, answered = done.out.decode().strip().partition(" ")
+    if done.status or word != call or not answered.isdigit() or int(answered) < count:
+        return None
+    return next((int(line.split()[1]) for line in done.told if line.startswith("allocations ")), None)
+
+
+def of_a_call(program, call):
+    """How often one call asks for memory."""
+    once, twice = counted(program, call, COUNT), counted(program, call, 2 * COUNT)
+    return None if once is None or twice is None else (twice - once) / COUNT
+
+
+def main():
+    checks = Checks()
+    for call, most in MOST_OF_A_QUERY.items():
+        blocks = of_a_call(QUERIES, call)
+        told = "not counted" if blocks is None else f"{blocks} allocations, at most {most}"
+        checks.tell(f"{call}: a query", None if blocks is not None and 0 < blocks <= most else told)
+    checks.end()
+
+
+main()

@@ -1,0 +1,35 @@
+/* Counts growths of memory: preloaded into a finished program, it counts the calls of malloc, realloc, calloc, posix_memalign
+   and aligned_alloc, and at the end writes a line "allocations N" on the file descriptor TELL. Nothing links it. */
+#define _GNU_SOURCE
+#include <errno.h>
+#include <stddef.h>
+#include <stdio.h>
+#include <stdlib.h>
+#include <sys/syscall.h>
+#include <unistd.h>
+
+extern void *__libc_malloc(size_t);
+extern void *__libc_realloc(void *, size_t);
+extern void *__libc_calloc(size_t, size_t);
+extern void *__libc_memalign(size_t, size_t);
+
+static long counted;
+
+__attribute__((destructor)) static void end(void) {
+    const char *teller = getenv("TELL");
+    char text[64];
+    int len = snprintf(text, sizeof text, "allocations %ld\n", counted);
+    if (teller) syscall(SYS_write, atoi(teller), text, (size_t)len);
+}
+
+void *malloc(size_t size) { counted++; return __libc_malloc(size); }
+void *realloc(void *block, size_t size) { counted++; return __libc_realloc(block, size); }
+void *calloc(size_t count, size_t size) { counted++; return __libc_calloc(count, size); }
+int posix_memalign(void **block, size_t alignment, size_t size) {
+    counted++;
+    void *made = __libc_memalign(alignment, size);
+    if (!made) return ENOMEM;
+    *block = made;
+    return 0;
+}
+void *aligned_alloc(size_t alignment, size_t size) { counted++; return __libc_memalign(alignment, size); }
