@@ -51,6 +51,10 @@ def check_help(checks):
         (["help"], "resolver.txt"),
         (["script", "--help"], "script.txt"),
         (["help", "script"], "script.txt"),
+        (["serve", "--help"], "serve.txt"),
+        (["help", "serve"], "serve.txt"),
+        (["control", "--help"], "control.txt"),
+        (["help", "control"], "control.txt"),
         ([], "no_mode.txt"),
         (["bogus"], "another_mode.txt"),
     ]:
@@ -119,7 +123,7 @@ def check_starter(checks):
         add_builder(tools)
         done = start(folder, tools, "script", "--journal", "2")
         checks.equal("./resolver that builds", (done.returncode, done.stdout), (0, ranks))
-        checks.tell("./resolver that builds, how long", is_in(b"about ten minutes", done.stderr))
+        checks.tell("./resolver that builds, how long", is_in(b"some forty minutes", done.stderr))
         checks.tell("./resolver that builds, at once", is_in(b"rt try -- script", done.stderr))
         done = start(folder, tools, "script", "--journal", "2", "--cells=5")
         checks.equal("./resolver with arguments", (done.returncode, done.stdout, done.stderr), (0, ranks, b""))

@@ -17,6 +17,8 @@ BOOKS = os.path.join(TOP, "crates/shared_book_drawn/out/shared_book_drawn")
 ZONES = os.path.join(TOP, "crates/local_zone_tests/out/local_zone_tests")
 STUBS = os.path.join(TOP, "crates/stub_table_tests/out/stub_table_tests")
 TALK = os.path.join(TOP, "crates/iterate_talk/out/iterate_talk")
+QUERIES = os.path.join(TOP, "crates/front_bench/out/front_bench")
+FRONT = os.path.join(TOP, "crates/front_talk/out/front_talk")
 
 # No run takes longer than this many seconds.
 PATIENCE = 600

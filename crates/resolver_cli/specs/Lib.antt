@@ -1,1 +1,3 @@
-pub mod Args
+pub mod Fault
+pub mod Given
+pub mod Mode

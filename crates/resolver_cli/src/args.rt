@@ -1,61 +1,27 @@
-//! The arguments of the program.
+//! What the arguments of the program say.
 
-ghost use Rattle.std.specs.Prelude.{◌≡◌, ◌↔◌, ◌++◌, ◌∷◌, [], Some, IsSome, IfOk, IfErr, IfSome, OnOk};
+ghost use Rattle.std.specs.Prelude.{◌≡◌, ◌++◌, ◌∷◌, [], Some, codes, IfOk, IfErr, IfSome, OnOk};
 ghost use Rattle.dns_text.specs.declared.addr.Addr.{Addr};
 ghost use Rattle.dns_text.specs.Addr.{addr_in};
 ghost use Rattle.undo_book.specs.Event.{AreSettings};
-ghost use Rattle.resolver_cli.specs.Args.{IsInRange, HasStatus};
+ghost use Rattle.clap.specs.Words.{found_of};
+ghost use Rattle.resolver_cli.specs.Fault.{IsNoMemory, IsBadArguments, IsRefusal};
+ghost use Rattle.resolver_cli.specs.Mode.{IsInRange, IsService};
+ghost use Rattle.resolver_cli.specs.Given.{GivesAddr};
 
+use crate::fault::CliFault;
+use crate::mode::{Mode, Service, settings_of};
+use crate::options::{LinesHelp, command};
 use clap::error::ErrorKind;
-use clap::{Arg, ArgAction, ArgMatches, Command, Error, value_parser};
-use command_text::{Channel, help_text};
+use clap::{ArgMatches, Error};
 use dns_text::{Addr, Items, read_addr};
 use std::alloc::{AllocError, Global};
 use streams::Text;
-use undo_book::{MOST_CELLS, MOST_COMMANDS, MOST_HINTS, Settings};
-
-/// What the program is to do.
-#[derive(Debug, Drop)]
-pub enum Mode {
-    /// It obeys the lines of standard input.
-    Script(Settings),
-}
-
-/// Why the program does not begin.
-#[derive(Debug, Drop, thiserror::Error)]
-#[error("the program ends with status {status}")]
-pub struct CliFault {
-    /// The program's exit status.
-    pub status: u8,
-    /// What standard error gets.
-    pub text: Text,
-}
-
-impl CliFault {
-    /// Memory is refused at the start.
-    pub fn no_memory() -> CliFault
-        ensures { HasStatus result }
-    {
-        CliFault {
-            status: 1,
-            text: Text::Fixed(b"resolver: no memory\n"),
-        }
-    }
-
-    /// The arguments are no text, a number is out of its range, a hint is no address, or there are too many.
-    pub fn bad_arguments() -> CliFault
-        ensures { HasStatus result }
-    {
-        CliFault {
-            status: 2,
-            text: Text::Fixed(b"resolver: bad arguments\n"),
-        }
-    }
-}
+use undo_book::Settings;
 
 /// What `clap` says of the arguments, a call for help included, unless memory was refused while it read them.
 fn usage(alloc: Global, error: Error) -> CliFault
-    ensures { HasStatus result }
+    ensures { IsRefusal result }
 {
     if matches!(error.kind(), ErrorKind::OutOfMemory) {
         return CliFault::no_memory();
@@ -69,96 +35,9 @@ fn usage(alloc: Global, error: Error) -> CliFault
     }
 }
 
-/// An option with a number.
-fn number<'a>(alloc: Global, name: &'a str, default: &'a str, help: &'a str) -> Arg<'a> {
-    Arg::new(alloc, name)
-        .long(name)
-        .value_name("N")
-        .help(help)
-        .action(ArgAction::Set)
-        .default_value(default)
-}
-
-/// The arguments that say where servers are.
-fn with_servers<'a>(alloc: Global, command: Command<'a>) -> Result<Command<'a>, AllocError> {
-    let port = number(
-        alloc,
-        "server-port",
-        "53",
-        "The port of the servers whose addresses are learnt, 1 to 65535",
-    )
-    .value_parser(value_parser!(u16).range(1..));
-    let hints = Arg::new(alloc, "HINT")
-        .help("The addresses of the root's servers, each IP or IP@PORT, at most 16")
-        .action(ArgAction::Append)
-        .num_args(0..);
-    command.arg(port)?.arg(hints)
-}
-
-/// The command `script`, whose help ends with these lines.
-fn script_command<'a>(alloc: Global, lines: &'a str) -> Result<Command<'a>, AllocError> {
-    let journal = number(
-        alloc,
-        "journal",
-        "64",
-        "How many commands can be undone, 1 to 256",
-    )
-    .value_parser(value_parser!(u16).range(1..=MOST_COMMANDS as i64));
-    let cells = number(
-        alloc,
-        "cells",
-        "100000",
-        "How many cells there may be, 1 to 1000000",
-    )
-    .value_parser(value_parser!(u32).range(1..=MOST_CELLS as i64));
-    let command = Command::new(alloc, "script")
-        .about("Obeys the lines of standard input and writes a reply to each")
-        .after_help(lines)
-        .arg(journal)?
-        .arg(cells)?;
-    with_servers(alloc, command)
-}
-
-/// The program is called `resolver`, whatever its file is called.
-fn command<'a>(alloc: Global, lines: &'a str) -> Result<Command<'a>, AllocError> {
-    Command::new(alloc, "resolver")
-        .bin_name("resolver")?
-        .subcommand_required(true)
-        .subcommand(script_command(alloc, lines)?)
-}
-
-/// The lines of a script, as help shows them.
-fn lines_help(alloc: Global) -> Result<String, AllocError> {
-    let mut text = String::from_str(alloc, "Lines:\n")?;
-    let lines = help_text(alloc, Channel::Script)?;
-    text.push_str(lines.as_str())?;
-    Ok(text)
-}
-
-/// These settings, if each is in its range.
-fn settings_of(journal: u16, cells: u32, hints: Items<Addr>, server_port: u16) -> Option<Settings>
-    ensures some { IsSome result ↔ AreSettings (record { journal = journal; cells = cells; hints = hints; server_port = server_port }) }
-    ensures value { IfSome result (λ settings. settings ≡ record { journal = journal; cells = cells; hints = hints; server_port = server_port }) }
-{
-    let settings = Settings {
-        journal: journal as usize,
-        cells: cells as usize,
-        hints,
-        server_port,
-    };
-    let has_journal = settings.journal >= 1 && settings.journal <= MOST_COMMANDS;
-    let has_cells = settings.cells >= 1 && settings.cells <= MOST_CELLS;
-    let has_hints = settings.hints.as_slice().len() <= MOST_HINTS;
-    if has_journal && has_cells && has_hints && settings.server_port >= 1 {
-        Some(settings)
-    } else {
-        None
-    }
-}
-
 /// The settings that were given, with these hints. `clap` has tested the ranges of numbers and told which is wrong, but states them of a top command alone.
 fn settings_in(found: &ArgMatches<'_>, hints: Items<Addr>) -> Option<Settings>
-    ensures { IfSome result (λ settings. AreSettings settings) }
+    ensures { IfSome result (λ settings. AreSettings settings × (settings.hints ≡ hints)) }
 {
     let journal = found.get_one::<u16>("journal")?;
     let cells = found.get_one::<u32>("cells")?;
@@ -168,7 +47,7 @@ fn settings_in(found: &ArgMatches<'_>, hints: Items<Addr>) -> Option<Settings>
 
 /// The hints that were given, in order.
 fn hints_in(alloc: Global, found: &ArgMatches<'_>) -> Result<Vec<Addr>, CliFault>
-    ensures { IfErr result (λ fault. HasStatus fault) }
+    ensures { IfErr result IsRefusal }
 {
     let mut hints = Vec::new(alloc);
     let Some(texts) = found.get_strs("HINT") else {
@@ -183,7 +62,7 @@ fn hints_in(alloc: Global, found: &ArgMatches<'_>) -> Result<Vec<Addr>, CliFault
 /// Adds a hint behind the others.
 fn push_hint(text: &[u8], hints: &mut Vec<Addr>) -> Result<(), CliFault>
     ensures added { OnOk result ((addr : Addr) × (addr_in text.now ≡ Some addr) × (hints.new.items ≡ hints.old.items ++ addr ∷ [])) }
-    ensures fault { IfErr result (λ fault. HasStatus fault) }
+    ensures fault { IfErr result IsRefusal }
 {
     let Ok(hint) = read_addr(text) else {
         return Err(CliFault::bad_arguments());
@@ -194,29 +73,120 @@ fn push_hint(text: &[u8], hints: &mut Vec<Addr>) -> Result<(), CliFault>
     }
 }
 
-fn mode_in(alloc: Global, found: &ArgMatches<'_>) -> Result<Mode, CliFault>
-    ensures mode { IfOk result (λ mode. IsInRange mode) }
-    ensures fault { IfErr result (λ fault. HasStatus fault) }
+/// The settings with their hints that were given.
+fn whole_settings_in(alloc: Global, found: &ArgMatches<'_>) -> Result<Settings, CliFault>
+    ensures settings { IfOk result (λ settings. AreSettings settings) }
+    ensures fault { IfErr result IsRefusal }
 {
-    let Some((_, inner)) = found.subcommand() else {
+    let hints = hints_in(alloc, found)?;
+    match settings_in(found, Items::new(hints)) {
+        Some(settings) => Ok(settings),
+        None => Err(CliFault::bad_arguments()),
+    }
+}
+
+/// The address that was given under this name.
+fn addr_given(found: &ArgMatches<'_>, name: &str) -> Result<Addr, CliFault>
+    ensures given { IfOk result (GivesAddr (found_of found.now) name.now) }
+    ensures fault { IfErr result IsBadArguments }
+{
+    let Some(text) = found.get_str(name) else {
         return Err(CliFault::bad_arguments());
     };
-    let hints = hints_in(alloc, inner)?;
-    match settings_in(inner, Items::new(hints)) {
-        Some(settings) => Ok(Mode::Script(settings)),
-        None => Err(CliFault::bad_arguments()),
+    match read_addr(text.as_bytes()) {
+        Ok(addr) => Ok(addr),
+        Err(_) => Err(CliFault::bad_arguments()),
+    }
+}
+
+/// How many workers of each kind were given, and how many calls are recorded.
+fn counts_in(found: &ArgMatches<'_>) -> Option<(u8, u8, u32)> {
+    let udp = found.get_one::<u8>("udp")?;
+    let tcp = found.get_one::<u8>("tcp")?;
+    let record = found.get_one::<u32>("record")?;
+    Some((udp, tcp, record))
+}
+
+/// The service that was given.
+fn service_in(alloc: Global, found: &ArgMatches<'_>) -> Result<Service, CliFault>
+    ensures fit { IfOk result IsService }
+    ensures listen { IfOk result (λ service. GivesAddr (found_of found.now) (codes "listen") service.listen) }
+    ensures control { IfOk result (λ service. GivesAddr (found_of found.now) (codes "control") service.control) }
+    ensures fault { IfErr result IsRefusal }
+{
+    let listen = addr_given(found, "listen")?;
+    let control = addr_given(found, "control")?;
+    let settings = whole_settings_in(alloc, found)?;
+    let Some((udp, tcp, record)) = counts_in(found) else {
+        return Err(CliFault::bad_arguments());
+    };
+    let service = Service {
+        settings,
+        listen,
+        control,
+        udp,
+        tcp,
+        record_limit: u64::from(record),
+        seed: found.get_one::<u32>("seed"),
+    };
+    service.checked()
+}
+
+/// These words as one line, each behind a blank but the first.
+fn joined(alloc: Global, words: &[&str]) -> Result<String, AllocError> {
+    let mut line = String::new(alloc);
+    for word in words {
+        if !line.is_empty() {
+            line.push(' ')?;
+        }
+        line.push_str(word)?;
+    }
+    Ok(line)
+}
+
+/// The line that was given, if any was.
+fn line_in(alloc: Global, found: &ArgMatches<'_>) -> Result<Option<String>, AllocError> {
+    match found.get_strs("LINE") {
+        Some(words) => Ok(Some(joined(alloc, words)?)),
+        None => Ok(None),
+    }
+}
+
+/// Where a line is to go, and the line.
+fn control_in(alloc: Global, found: &ArgMatches<'_>) -> Result<Mode, CliFault>
+    ensures mode { IfOk result IsInRange }
+    ensures fault { IfErr result IsRefusal }
+{
+    let addr = addr_given(found, "ADDR")?;
+    match line_in(alloc, found) {
+        Ok(line) => Ok(Mode::Control { addr, line }),
+        Err(_) => Err(CliFault::no_memory()),
+    }
+}
+
+fn mode_in(alloc: Global, found: &ArgMatches<'_>) -> Result<Mode, CliFault>
+    ensures mode { IfOk result IsInRange }
+    ensures fault { IfErr result IsRefusal }
+{
+    let Some((name, inner)) = found.subcommand() else {
+        return Err(CliFault::bad_arguments());
+    };
+    match name {
+        "serve" => Ok(Mode::Serve(service_in(alloc, inner)?)),
+        "control" => control_in(alloc, inner),
+        _ => Ok(Mode::Script(whole_settings_in(alloc, inner)?)),
     }
 }
 
 /// Reads the arguments, of which the first is the program's own name.
 pub fn read_args(alloc: Global, words: &[&str]) -> Result<Mode, CliFault>
-    ensures mode { IfOk result (λ mode. IsInRange mode) }
-    ensures fault { IfErr result (λ fault. HasStatus fault) }
+    ensures mode { IfOk result IsInRange }
+    ensures fault { IfErr result IsRefusal }
 {
-    let Ok(lines) = lines_help(alloc) else {
+    let Ok(lines) = LinesHelp::new(alloc) else {
         return Err(CliFault::no_memory());
     };
-    let Ok(command) = command(alloc, lines.as_str()) else {
+    let Ok(command) = command(alloc, &lines) else {
         return Err(CliFault::no_memory());
     };
     match command.try_get_matches_from(words) {

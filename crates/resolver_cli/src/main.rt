@@ -1,20 +1,33 @@
-//! `resolver script` obeys the lines of standard input and writes a reply to each.
+//! `resolver script` obeys the lines of standard input and writes a reply to each, `resolver serve` answers questions until an
+//! operator stops it, and `resolver control` sends a service an operator's lines.
 #![tactic(auto)]
 
-mod args; // what the program is to do
+mod fault; // why the program does not begin, or does not go on
+mod mode; // what the program is to do
+mod options; // the commands of the program, as help shows them
+mod args; // what the arguments say
+mod script; // standard input is obeyed
+mod client; // lines for a service
+mod sockets; // the sockets of a service
+mod worker; // one worker
+mod operators; // the control socket
+mod service; // workers over one shared book, and an operator's lines
 
-ghost use Rattle.std.specs.Prelude.{IfOk};
-ghost use Rattle.undo_book.specs.Event.{AreSettings};
-ghost use Rattle.resolver_cli.specs.Args.{IsInRange};
+ghost use Rattle.std.specs.Prelude.{IfOk, IfErr};
+ghost use Rattle.resolver_cli.specs.Fault.{IsRefusal};
+ghost use Rattle.resolver_cli.specs.Mode.{IsInRange};
 
-use args::{CliFault, Mode, read_args};
-use command_text::run_script;
+use args::read_args;
+use client::send;
+use dns_text::Addr;
+use fault::CliFault;
+use mode::Mode;
+use script::obey_input;
+use service::serve;
 use std::alloc::{AllocError, Global};
 use std::io::{ErrorKind, Write};
 use std::process::ExitCode;
 use std::{env, io};
-use streams::{CountedReader, CountedWriter, ScriptFault};
-use undo_book::{PlainBook, Settings};
 
 fn texts_of(alloc: Global, words: &[String]) -> Result<Vec<&str>, AllocError> {
     let mut texts = Vec::new(alloc);
@@ -25,7 +38,8 @@ fn texts_of(alloc: Global, words: &[String]) -> Result<Vec<&str>, AllocError> {
 }
 
 fn mode_of(alloc: Global, words: &[String]) -> Result<Mode, CliFault>
-    ensures { IfOk result (λ mode. IsInRange mode) }
+    ensures mode { IfOk result IsInRange }
+    ensures fault { IfErr result IsRefusal }
 {
     match texts_of(alloc, words) {
         Ok(texts) => read_args(alloc, texts.as_slice()),
@@ -38,7 +52,8 @@ fn words_of(rt: &HostRuntime) -> io::Result<Vec<String>> {
 }
 
 fn arguments(rt: &HostRuntime) -> Result<Mode, CliFault>
-    ensures { IfOk result (λ mode. IsInRange mode) }
+    ensures mode { IfOk result IsInRange }
+    ensures fault { IfErr result IsRefusal }
 {
     match words_of(rt) {
         Ok(words) => mode_of(rt.alloc(), words.as_slice()),
@@ -51,29 +66,34 @@ fn arguments(rt: &HostRuntime) -> Result<Mode, CliFault>
     }
 }
 
-/// Obeys standard input.
-fn obey_input(rt: &HostRuntime, settings: Settings) -> Result<(), ScriptFault>
-    requires { AreSettings settings }
-{
-    let mut book = PlainBook::new(rt.alloc(), settings).unwrap();
-    let mut reader = CountedReader::new(rt.stdin());
-    let mut writer = CountedWriter::new(rt.stdout());
-    run_script(rt.alloc(), &mut book, &mut reader, &mut writer)
+/// Sends lines, and ends with status 1 where one was not obeyed.
+fn command(rt: &HostRuntime, addr: &Addr, line: Option<String>) -> ExitCode {
+    match send(rt, addr, line) {
+        Ok(true) => ExitCode::SUCCESS,
+        Ok(false) => ExitCode::from(1),
+        Err(fault) => exit_with(rt, &fault),
+    }
 }
 
 /// Says why the program ends. Where that cannot be written, the status alone tells.
-fn exit_with(rt: &HostRuntime, status: u8, text: &[u8]) -> ExitCode {
-    let _ = rt.stderr().write_all(text);
-    ExitCode::from(status)
+fn exit_with(rt: &HostRuntime, fault: &CliFault) -> ExitCode {
+    let _ = rt.stderr().write_all(fault.text.as_slice());
+    ExitCode::from(fault.status)
+}
+
+/// With status 0, or as the fault says.
+fn end(rt: &HostRuntime, ended: Result<(), CliFault>) -> ExitCode {
+    match ended {
+        Ok(()) => ExitCode::SUCCESS,
+        Err(fault) => exit_with(rt, &fault),
+    }
 }
 
 fn main(rt: HostRuntime) -> ExitCode {
     match arguments(&rt) {
-        Ok(Mode::Script(settings)) => match obey_input(&rt, settings) {
-            Ok(()) => ExitCode::SUCCESS,
-            Err(ScriptFault::Read) => exit_with(&rt, 1, b"resolver: read failed\n"),
-            Err(ScriptFault::Write) => exit_with(&rt, 1, b"resolver: write failed\n"),
-        },
-        Err(fault) => exit_with(&rt, fault.status, fault.text.as_slice()),
+        Ok(Mode::Script(settings)) => end(&rt, obey_input(&rt, settings)),
+        Ok(Mode::Serve(service)) => end(&rt, serve(&rt, rt.alloc(), service)),
+        Ok(Mode::Control { addr, line }) => command(&rt, &addr, line),
+        Err(fault) => exit_with(&rt, &fault),
     }
 }

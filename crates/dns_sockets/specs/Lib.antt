@@ -1,0 +1,4 @@
+pub mod Answerable
+pub mod Fits
+pub mod Place
+pub mod Spots

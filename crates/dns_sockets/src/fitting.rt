@@ -1,0 +1,24 @@
+//! Which octets may be the reply to a query.
+
+ghost use Rattle.std.specs.Prelude.{◌≡◌, ◌↔◌, IsTrue};
+ghost use Rattle.dns_sockets.specs.Fits.{Fits};
+
+fn same(one: &[u8], other: &[u8]) -> bool
+    ensures { IsTrue result ↔ (one.now ≡ other.now) }
+{
+    one == other
+}
+
+/// Whether octets may be the reply to a query.
+pub(crate) fn fits(query: &[u8], reply: &[u8]) -> bool
+    ensures { IsTrue result ↔ Fits query.now reply.now }
+{
+    let end = query.len();
+    if end < 16 || reply.len() < end || reply[2] < 128 {
+        return false;
+    }
+    same(&reply[..2], &query[..2])
+        && same(&reply[4..6], &query[4..6])
+        && reply[12..end - 4].eq_ignore_ascii_case(&query[12..end - 4])
+        && same(&reply[end - 4..end], &query[end - 4..end])
+}

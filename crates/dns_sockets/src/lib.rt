@@ -1,0 +1,40 @@
+//! Queries come in and go out over sockets.
+#![tactic(auto)]
+
+// In the order in which to read them.
+
+// How long is waited.
+mod deadline;
+// What tells the moment.
+mod seconds;
+// Options of sockets that std does not set.
+mod options;
+// The sockets of the service, and how what waits at them is woken.
+mod binding;
+// Datagrams.
+mod udp_port;
+// Where messages begin in what comes over a connection.
+mod spot;
+// What is read of a connection.
+mod frame_reader;
+// What is written to it.
+mod frame_writer;
+// Connections.
+mod connections;
+// Where a server is.
+mod place;
+// Which octets may be the reply to a query.
+mod fitting;
+// A connection whose calls end by a deadline.
+mod timed;
+// Queries to name servers.
+mod socket_exchange;
+
+pub use binding::{bind_tcp, bind_udp, wake_tcp, wake_udp};
+pub use connections::Connections;
+pub use frame_reader::FrameReader;
+pub use frame_writer::{FrameWriter, Outgoing};
+pub use place::place_of;
+pub use seconds::SecondsClock;
+pub use socket_exchange::SocketExchange;
+pub use udp_port::UdpPort;

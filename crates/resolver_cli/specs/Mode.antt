@@ -1,0 +1,34 @@
+-- What the arguments come to.
+use Rattle.std.specs.Prelude.{◌≡◌, ◌≤◌, ◌+◌, ℕ, List, [], ◌∷◌, length, slice_index}
+use Rattle.dns_text.specs.declared.addr.Ip.{Ip}
+use Rattle.dns_text.specs.declared.addr.Ip.TheVariants.{V4, V6}
+use Rattle.undo_book.specs.Event.{AreSettings}
+use Rattle.shared_book.specs.declared.kept.TheConstants.{MOST_RECORDED}
+use Rattle.resolver_cli.specs.declared.mode.Mode.{Mode}
+use Rattle.resolver_cli.specs.declared.mode.Mode.TheVariants.{Script, Serve, Control}
+use Rattle.resolver_cli.specs.declared.mode.Service.{Service}
+use Rattle.resolver_cli.specs.declared.mode.TheConstants.{MOST_WORKERS}
+
+-- 127.0.0.0/8 or ::1: only this machine can send to it
+abbrev pub IsLoopback : Ip → Type 0
+IsLoopback (V4 octets) = slice_index octets 0 ≡ 127
+IsLoopback (V6 octets) = octets ≡ 0 ∷ 0 ∷ 0 ∷ 0 ∷ 0 ∷ 0 ∷ 0 ∷ 0 ∷ 0 ∷ 0 ∷ 0 ∷ 0 ∷ 0 ∷ 0 ∷ 0 ∷ 1 ∷ []
+
+-- a root server is known, there is a worker of each kind and not too many, and some calls are recorded
+pub record HasCounts (service : Service) : Type 0 where
+  pub some_hints : 1 ≤ length service.settings.hints
+  pub some_udp : 1 ≤ service.udp
+  pub some_tcp : 1 ≤ service.tcp
+  pub few_workers : service.udp + service.tcp ≤ MOST_WORKERS
+  pub some_recorded : 1 ≤ service.record_limit
+  pub few_recorded : service.record_limit ≤ MOST_RECORDED
+
+-- a service that can be served
+abbrev pub IsService : Service → Type 0
+IsService service = AreSettings service.settings × (HasCounts service × IsLoopback service.control.ip)
+
+-- each number of a mode is in its range, and commands come from this machine alone
+abbrev pub IsInRange : Mode → Type 0
+IsInRange (Script settings) = AreSettings settings
+IsInRange (Serve service) = IsService service
+IsInRange (Control _ _) = Unit {0}

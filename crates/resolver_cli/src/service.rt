@@ -1,0 +1,179 @@
+//! `resolver serve`: workers over one shared book, and an operator's lines.
+
+ghost use Rattle.std.specs.Prelude.{◌≡◌, ◌+◌, ◌≤◌, []};
+ghost use Rattle.shared_book.specs.declared.kept.TheConstants.{MOST_RECORDED};
+ghost use Rattle.resolver_cli.specs.declared.mode.TheConstants.{MOST_WORKERS};
+ghost use Rattle.resolver_cli.specs.Mode.{IsService};
+
+use crate::fault::CliFault;
+use crate::mode::Service;
+use crate::operators::obey_operators;
+use crate::sockets::{Sockets, wake_all};
+use crate::worker::{Lent, Terms, Worker, run_tcp, run_udp, workers};
+use dns_sockets::place_of;
+use log::{Log, info};
+use shared_book::{Blank, CallLedger, Pass, Seat, SharedBook};
+use std::alloc::Global;
+use std::marker::Brand;
+use std::net::{Net, TcpListener, TcpStream};
+use std::random::RandomSource;
+use std::rt::Clock;
+use std::sync::Wait;
+use std::sync::atomic::{AtomicBool, Ordering};
+use std::thread;
+use std::thread::Threads;
+use std::time::Instant;
+use undo_book::{Book, PlainBook};
+
+/// Into how many passes the first one can be split at most. Each new one takes half of its parts.
+const PARTS: u64 = 1 << 32;
+
+/// The workers of a service, before they begin.
+#[derive(Drop)]
+struct Workers<'a, L: CallLedger, R: Wait + Clock + Net<Stream = TcpStream>> {
+    udp: Vec<Worker<'a, L, R>>,
+    tcp: Vec<Worker<'a, L, R>>,
+}
+
+/// Tells that the service is there, and obeys operators until `stop`.
+fn obey<L: CallLedger, R: Wait + Clock + Log + Print>(
+    rt: &R,
+    alloc: Global,
+    lent: &Lent<'_, L>,
+    pass: Pass<L>,
+) -> Result<(), CliFault> {
+    info!(rt; "resolver: started");
+    if println!(rt; "ready").is_err() {
+        return Err(CliFault::failed_write());
+    }
+    let desk = Seat::new(rt, alloc, lent.book, pass);
+    obey_operators(rt, alloc, lent, desk);
+    Ok(())
+}
+
+/// Runs each worker in a thread of its own, and obeys operators in this one. Once they are obeyed no more, each worker is
+/// woken, and the last one's end is waited for.
+fn run<L: CallLedger + Send + Sync, R>(
+    rt: &R,
+    alloc: Global,
+    lent: &Lent<'_, L>,
+    workers: Workers<'_, L, R>,
+    pass: Pass<L>,
+) -> Result<(), CliFault>
+where
+    R: Threads
+        + Wait
+        + Clock
+        + Log
+        + Print
+        + Sync
+        + Net<Stream = TcpStream, Listener = TcpListener>,
+{
+    let Workers { udp, tcp } = workers;
+    thread::scope(thread::scope_env(), rt, |scope| {
+        let mut started = true;
+        for worker in udp {
+            started &= scope
+                .spawn(move || run_udp(rt, alloc, lent, worker))
+                .is_ok();
+        }
+        for worker in tcp {
+            started &= scope
+                .spawn(move || run_tcp(rt, alloc, lent, worker))
+                .is_ok();
+        }
+        let ended = if started {
+            obey(rt, alloc, lent, pass)
+        } else {
+            // As std has it, a thread is wanting where memory is.
+            Err(CliFault::no_memory())
+        };
+        lent.stop.store(true, Ordering::SeqCst);
+        wake_all(rt, lent.terms.place, lent.terms.udp, lent.terms.tcp);
+        ended
+    })
+}
+
+/// Serves over a book that has taken no event, at these sockets.
+fn serve_over<L: CallLedger + Send + Sync, R>(
+    rt: &R,
+    alloc: Global,
+    blank: Blank,
+    book: PlainBook,
+    record_limit: u64,
+    terms: Terms,
+    sockets: &Sockets,
+) -> Result<(), CliFault>
+where
+    R: Threads
+        + Wait
+        + Clock
+        + Log
+        + Print
+        + RandomSource
+        + Sync
+        + Net<Stream = TcpStream, Listener = TcpListener>,
+    requires name { blank.name ≡ L.name }
+    requires parts { blank.parts ≡ L.parts }
+    requires some_parts { 1 ≤ blank.parts }
+    requires limit { record_limit ≡ L.limit }
+    requires some_recorded { 1 ≤ record_limit }
+    requires few_recorded { record_limit ≤ MOST_RECORDED }
+    requires settings { ⟦<PlainBook as Book>⟧.settings book ≡ L.settings }
+    requires few_workers { terms.udp + terms.tcp ≤ MOST_WORKERS }
+    requires fresh { ⟦<PlainBook as Book>⟧.stands_for book [] }
+{
+    let (shared, mut pass) = SharedBook::<PlainBook, L>::new(
+        alloc,
+        blank,
+        book,
+        record_limit,
+    ).unwrap();
+    let workers = Workers {
+        udp: workers(rt, alloc, &shared, &mut pass, terms.seed, 0, terms.udp)?,
+        tcp: workers(
+            rt, alloc, &shared, &mut pass, terms.seed, terms.udp, terms.tcp,
+        )?,
+    };
+    let stop = AtomicBool::new(false);
+    let lent = Lent {
+        book: &shared,
+        sockets,
+        stop: &stop,
+        terms,
+    };
+    run(rt, alloc, &lent, workers, pass)
+}
+
+/// Serves until an operator stops it.
+pub(crate) fn serve<R>(rt: &R, alloc: Global, service: Service) -> Result<(), CliFault>
+where
+    R: Threads
+        + Wait
+        + Clock
+        + Log
+        + Print
+        + RandomSource
+        + Sync
+        + Net<Stream = TcpStream, Listener = TcpListener>,
+    requires { IsService service }
+{
+    let sockets = Sockets::bind(rt, alloc, &service.listen, &service.control)?;
+    let Ok(start) = Instant::now(rt) else {
+        return Err(CliFault::cannot_start());
+    };
+    let terms = Terms {
+        place: place_of(&service.listen),
+        udp: service.udp,
+        tcp: service.tcp,
+        seed: service.seed,
+        server_port: service.settings.server_port,
+        start,
+    };
+    let record_limit = service.record_limit;
+    let book = PlainBook::new(alloc, service.settings).unwrap();
+    let blank = Blank::new(PARTS);
+    serve_over::<Brand, R>(rt, alloc, blank, book, record_limit, terms, &sockets)?;
+    info!(rt; "resolver: stopped");
+    Ok(())
+}
