@@ -19,6 +19,8 @@ mod spot;
 mod frame_reader;
 // What is written to it.
 mod frame_writer;
+// What a want of descriptors is told by.
+mod descriptors;
 // Connections.
 mod connections;
 // Where a server is.

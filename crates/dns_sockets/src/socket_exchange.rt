@@ -12,6 +12,7 @@ use crate::timed::Timed;
 use dns_query::Over;
 use dns_text::{Addr, NoMemory, Octets};
 use front_workers::{DeviceFault, Exchange};
+use log::{Log, warn};
 use std::alloc::Global;
 use std::io;
 use std::io::{ErrorKind, Read, Write};
@@ -32,7 +33,8 @@ const MOST_DATAGRAMS: u32 = 65_536;
 /// An exchange has two seconds for all of it, connecting included. Over UDP the socket is connected to the server
 /// (RFC 5452, section 9.2), at a port that the system draws, and each datagram that does not fit the query is passed
 /// over. Over TCP a message stands behind its length in two octets (RFC 1035, section 4.2.2), and the exchange fails
-/// where the first message does not fit. A reply fits that has the query's identifier and question.
+/// where the first message does not fit. A reply fits that has the query's identifier and question. Each exchange that
+/// fails is logged.
 #[derive(Drop)]
 pub struct SocketExchange<'a, R: Net<Stream = TcpStream> + Clock> {
     rt: &'a R,
@@ -159,7 +161,7 @@ fn ask_over<R: Net<Stream = TcpStream> + Clock>(
     }
 }
 
-impl<'a, R: Net<Stream = TcpStream> + Clock> Exchange for SocketExchange<'a, R> {
+impl<'a, R: Net<Stream = TcpStream> + Clock + Log> Exchange for SocketExchange<'a, R> {
     // What comes fits the query.
     ghost asks = { λ _ _ _ query came _. IfOk came (λ reply. (length reply ≤ MOST_MESSAGE) × Fits query reply) };
 
@@ -172,6 +174,7 @@ impl<'a, R: Net<Stream = TcpStream> + Clock> Exchange for SocketExchange<'a, R> 
                 Err(_) => Err(DeviceFault::NoMemory),
             },
             Err(_) => {
+                warn!(self.rt; "resolver: device fault");
                 self.failures = self.failures.saturating_add(1);
                 Err(DeviceFault::Device)
             }
