@@ -2,4 +2,5 @@ pub mod Answerable
 pub mod Descriptors
 pub mod Fits
 pub mod Place
+pub mod Seconds
 pub mod Spots

@@ -1,18 +1,18 @@
 //! Connections.
 
-ghost use Rattle.std.specs.Prelude.{◌≡◌, IfOk, IfErr, IfSome};
+ghost use Rattle.std.specs.Prelude.{◌≡◌, IfOk, IfErr, IfSome, IsNone};
 ghost use Rattle.dns_sockets.specs.Descriptors.{IsWantOfDescriptors};
 
 use crate::descriptors::is_want_of_descriptors;
 use crate::frame_reader::FrameReader;
 use crate::frame_writer::{FrameWriter, Outgoing};
+use crate::stop_flag::StopFlag;
 use front_workers::{DeviceFault, Listener};
 use log::{Log, warn};
 use std::alloc::Global;
 use std::net::{TcpListener, TcpStream};
 use std::rt::Clock;
 use std::sync::Wait;
-use std::sync::atomic::{AtomicBool, Ordering};
 use std::time::Duration;
 use std::{io, thread};
 use streams::CountedWriter;
@@ -25,22 +25,22 @@ const REST_SECONDS: u64 = 1;
 /// Where accepting fails it rests for a second. A want of descriptors is no failure of the listener's: it is logged, and
 /// accepting is tried again, however long there are none.
 #[derive(Drop)]
-pub struct Connections<'a, R: Clock> {
+pub struct Connections<'a, R: Clock, F: StopFlag> {
     rt: &'a R,
     alloc: Global,
     listener: &'a TcpListener,
-    stop: &'a AtomicBool,
+    stop: &'a F,
     failures: u64,
 }
 
-impl<'a, R: Clock> Connections<'a, R> {
+impl<'a, R: Clock, F: StopFlag> Connections<'a, R, F> {
     /// Accepts connections at a socket of `bind_tcp`.
     pub fn new(
         rt: &'a R,
         alloc: Global,
         listener: &'a TcpListener,
-        stop: &'a AtomicBool,
-    ) -> Connections<'a, R>
+        stop: &'a F,
+    ) -> Connections<'a, R, F>
         ensures { result.failures ≡ 0 }
     {
         Connections {
@@ -65,14 +65,15 @@ impl<'a, R: Clock> Connections<'a, R> {
     }
 }
 
-impl<'a, R: Wait + Clock + Log> Connections<'a, R> {
+impl<'a, R: Wait + Clock + Log, F: StopFlag> Connections<'a, R, F> {
     /// Goes round on a want of descriptors until a connection comes or the stop flag is set, or accepting fails.
     fn come(&self) -> io::Result<Option<(TcpStream, TcpStream)>>
-        // What is told is never a want of descriptors.
-        ensures { IfErr result (λ error. ¬ IsWantOfDescriptors error) }
+        // It ends where the flag is set alone, and what is told is never a want of descriptors.
+        ensures ended { IfOk result (λ came. IsNone came → F.stopped) }
+        ensures err { IfErr result (λ error. ¬ IsWantOfDescriptors error) }
     {
         for _ in self.rt.forever() {
-            if self.stop.load(Ordering::SeqCst) {
+            if self.stop.is_set() {
                 return Ok(None);
             }
             match self.next() {
@@ -90,14 +91,16 @@ impl<'a, R: Wait + Clock + Log> Connections<'a, R> {
     }
 }
 
-impl<'a, R: Wait + Clock + Log> Listener<FrameReader<'a, R>, FrameWriter<'a, R>>
-    for Connections<'a, R> {
-    // Nothing is known of who connects.
-    ghost accepts = { λ _ _ _. Unit {0} };
+impl<'a, R: Wait + Clock + Log, F: StopFlag> Listener<FrameReader<'a, R, F>, FrameWriter<'a, R>>
+    for Connections<'a, R, F> {
+    // It ends where the flag is set alone. Nothing is known of who connects.
+    ghost accepts = { λ _ came _. IfOk came (λ came. IsNone came → F.stopped) };
 
     ghost failures = { λ connections. connections.failures };
 
-    fn accept(&mut self) -> Result<Option<(FrameReader<'a, R>, FrameWriter<'a, R>)>, DeviceFault> {
+    fn accept(
+        &mut self,
+    ) -> Result<Option<(FrameReader<'a, R, F>, FrameWriter<'a, R>)>, DeviceFault> {
         let (stream, other) = match self.come() {
             Ok(Some(connection)) => connection,
             Ok(None) => return Ok(None),
@@ -108,7 +111,7 @@ impl<'a, R: Wait + Clock + Log> Listener<FrameReader<'a, R>, FrameWriter<'a, R>>
             }
         };
         // It came to wake.
-        if self.stop.load(Ordering::SeqCst) {
+        if self.stop.is_set() {
             return Ok(None);
         }
         match FrameReader::new(self.rt, self.alloc, stream, self.stop) {

@@ -6,12 +6,12 @@ ghost use Rattle.dns_sockets.specs.Spots.{spot_after, IsOfOneMessage};
 
 use crate::deadline::{Deadline, begin_wait, glance, is_wait_over};
 use crate::spot::Spot;
+use crate::stop_flag::StopFlag;
 use std::alloc::Global;
 use std::io;
 use std::io::{BufRead, BufReader};
 use std::net::TcpStream;
 use std::rt::Clock;
-use std::sync::atomic::{AtomicBool, Ordering};
 use streams::{ReadFailed, Source};
 
 /// The octets that are read ahead: the longest message behind its length, or many short ones.
@@ -23,9 +23,9 @@ const MOST_AHEAD: usize = 2 + 65_535;
 /// read, and so does one that does not begin. Where a message would begin and the stop flag is set, the connection is
 /// at its end.
 #[derive(Drop)]
-pub struct FrameReader<'a, R: Clock> {
+pub struct FrameReader<'a, R: Clock, F: StopFlag> {
     rt: &'a R,
-    stop: &'a AtomicBool,
+    stop: &'a F,
     stream: BufReader<TcpStream>,
     spot: Spot,
     /// By when the message has to come, once it was waited for.
@@ -35,13 +35,13 @@ pub struct FrameReader<'a, R: Clock> {
     ghost fewer: { failures ≤ calls },
 }
 
-impl<'a, R: Clock> FrameReader<'a, R> {
+impl<'a, R: Clock, F: StopFlag> FrameReader<'a, R, F> {
     pub(crate) fn new(
         rt: &'a R,
         alloc: Global,
         stream: TcpStream,
-        stop: &'a AtomicBool,
-    ) -> io::Result<FrameReader<'a, R>>
+        stop: &'a F,
+    ) -> io::Result<FrameReader<'a, R, F>>
         ensures { IfOk result (λ reader. reader.calls ≡ 0) }
     {
         Ok(FrameReader {
@@ -66,7 +66,7 @@ fn limit_wait<R: Clock>(
     stream.set_read_timeout(Some(left.min(glance())))
 }
 
-impl<'a, R: Clock> FrameReader<'a, R> {
+impl<'a, R: Clock, F: StopFlag> FrameReader<'a, R, F> {
     /// Hands out octets of one message.
     fn hand_out(&mut self, room: &mut [u8]) -> usize
         ensures within { result ≤ length room.new }
@@ -93,7 +93,7 @@ impl<'a, R: Clock> FrameReader<'a, R> {
         ensures one { IfOk result (λ came. IfSome came (λ count. IsOfOneMessage self.old.spot (take count room.new))) }
         ensures counts { (self.new.calls ≡ self.old.calls) × (self.new.failures ≡ self.old.failures) }
     {
-        if self.spot == Spot::Beginning && self.stop.load(Ordering::SeqCst) {
+        if self.spot == Spot::Beginning && self.stop.is_set() {
             return Ok(None);
         }
         if self.stream.buffer().is_empty() {
@@ -117,7 +117,7 @@ impl<'a, R: Clock> FrameReader<'a, R> {
     }
 }
 
-impl<'a, R: Clock> Source for FrameReader<'a, R> {
+impl<'a, R: Clock, F: StopFlag> Source for FrameReader<'a, R, F> {
     // Nothing is known of what a peer sends.
     ghost remaining = { λ _. None };
 

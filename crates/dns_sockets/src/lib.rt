@@ -11,6 +11,10 @@ mod seconds;
 mod options;
 // The sockets of the service, and how what waits at them is woken.
 mod binding;
+// What workers are told to stop by.
+mod stop_flag;
+// What datagrams come and leave by.
+mod datagram_socket;
 // Datagrams.
 mod udp_port;
 // Where messages begin in what comes over a connection.
@@ -34,9 +38,11 @@ mod socket_exchange;
 
 pub use binding::{bind_tcp, bind_udp, wake_tcp, wake_udp};
 pub use connections::Connections;
+pub use datagram_socket::DatagramSocket;
 pub use frame_reader::FrameReader;
 pub use frame_writer::{FrameWriter, Outgoing};
 pub use place::place_of;
-pub use seconds::SecondsClock;
+pub use seconds::{Elapsing, SecondsClock};
 pub use socket_exchange::SocketExchange;
+pub use stop_flag::StopFlag;
 pub use udp_port::UdpPort;
