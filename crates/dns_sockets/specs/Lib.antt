@@ -1,4 +1,5 @@
 pub mod Answerable
+pub mod Asked
 pub mod Descriptors
 pub mod Fits
 pub mod Place

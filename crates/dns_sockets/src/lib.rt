@@ -31,6 +31,8 @@ mod connections;
 mod place;
 // Which octets may be the reply to a query.
 mod fitting;
+// The network in which name servers are.
+mod server_net;
 // A connection whose calls end by a deadline.
 mod timed;
 // Queries to name servers.
@@ -43,6 +45,7 @@ pub use frame_reader::FrameReader;
 pub use frame_writer::{FrameWriter, Outgoing};
 pub use place::place_of;
 pub use seconds::{Elapsing, SecondsClock};
+pub use server_net::ServerNet;
 pub use socket_exchange::SocketExchange;
 pub use stop_flag::StopFlag;
 pub use udp_port::UdpPort;
