@@ -11,7 +11,7 @@ use crate::engine::Flight;
 use crate::job::Job;
 use crate::line::Line;
 use crate::numbered::Numbered;
-use crate::telling::tell;
+use crate::telling::{refuse, tell};
 use crate::world::{Client, Unserved, World};
 use command_text::Clock;
 use dns_text::Octets;
@@ -61,7 +61,7 @@ impl<D: Numbered, L: Line, C: Clock, G: Rng, K: Client> Flight<D, L, C, G, K> {
         ensures limit { self.new.limit ≡ self.old.limit }
     {
         if desk.seen() < asking.seen || world.server_port() != asking.port {
-            world.fail(asking.client, octets.as_slice(), Unserved::Elsewhere);
+            refuse::<D, L, C, K, W>(world, asking, octets.as_slice(), Unserved::Elsewhere);
             return;
         }
         self.drive(desk, world, now, asking, octets.as_slice(), input);
@@ -93,7 +93,7 @@ impl<D: Numbered, L: Line, C: Clock, G: Rng, K: Client> Flight<D, L, C, G, K> {
         loop {
             let moment = self.clock.now();
             let Ok(want) = asking.task.step(moment, &mut self.ids, input) else {
-                world.fail(asking.client, octets, Unserved::NoMemory);
+                refuse::<D, L, C, K, W>(world, asking, octets, Unserved::NoMemory);
                 return;
             };
             match want {
@@ -110,7 +110,7 @@ impl<D: Numbered, L: Line, C: Clock, G: Rng, K: Client> Flight<D, L, C, G, K> {
                     let copy = match self.table.make_room(octets) {
                         Ok(copy) => copy,
                         Err(why) => {
-                            world.fail(asking.client, octets, why);
+                            refuse::<D, L, C, K, W>(world, asking, octets, why);
                             return;
                         }
                     };

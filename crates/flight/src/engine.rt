@@ -10,7 +10,7 @@ use crate::job::Job;
 use crate::line::Line;
 use crate::numbered::Numbered;
 use crate::table::Table;
-use crate::telling::give_fault;
+use crate::telling::{fault_of, refuse};
 use crate::world::{Client, Heard, Unserved, World};
 use command_text::Clock;
 use dns_wire::{Asked, Query, read_question};
@@ -83,7 +83,7 @@ impl<D: Numbered, L: Line, C: Clock, G: Rng, K: Client> Flight<D, L, C, G, K> {
     {
         match read_question(self.alloc, octets) {
             Ok(Asked::Drop) => world.pass_over(client, octets),
-            Ok(Asked::Fault(rcode)) => give_fault::<D, L, C, K, W>(world, client, octets, rcode),
+            Ok(Asked::Fault(rcode)) => world.give(client, octets, &fault_of(octets, rcode)),
             Ok(Asked::Good(query)) => self.begin_query(desk, world, now, client, octets, query),
             Err(_) => world.fail(client, octets, Unserved::NoMemory),
         }
@@ -157,7 +157,9 @@ impl<D: Numbered, L: Line, C: Clock, G: Rng, K: Client> Flight<D, L, C, G, K> {
                 drop(line);
                 self.go_on(desk, world, now, asking, octets, Input::Failed);
             }
-            Heard::NoMemory => world.fail(asking.client, octets.as_slice(), Unserved::NoMemory),
+            Heard::NoMemory => {
+                refuse::<D, L, C, K, W>(world, asking, octets.as_slice(), Unserved::NoMemory);
+            }
         }
     }
 
