@@ -77,7 +77,10 @@ impl<'a, R: Net + Log + std::rt::Clock> UdpWorker<'a, R> {
     }
 
     /// How long the next wait may be: until an exchange is overdue, and no longer than until the stop flag is looked at.
-    fn patience<D: Numbered, C: Clock, G: Rng>(&mut self, questions: &Questions<D, C, G>) -> Duration
+    fn patience<D: Numbered, C: Clock, G: Rng>(
+        &mut self,
+        questions: &Questions<D, C, G>,
+    ) -> Duration
         ensures { self.new ≡ self.old }
     {
         let now = self.millis.now();
@@ -200,12 +203,7 @@ fn look_all<D: Numbered, C: Clock, G: Rng, R: Net + Log + std::rt::Clock>(
 ///
 /// A line of the log tells of each turn, reply and exchange that this machine failed, of each client that is told that the
 /// server failed since there is no memory, and of each that is told so since it would need one exchange more.
-pub fn fly_udp<
-    D: Numbered,
-    C: Clock + Drop,
-    G: Rng + Drop,
-    R: Wait + Net + Log + std::rt::Clock,
->(
+pub fn fly_udp<D: Numbered, C: Clock + Drop, G: Rng + Drop, R: Wait + Net + Log + std::rt::Clock>(
     rt: &R,
     alloc: Global,
     desk: &mut D,
