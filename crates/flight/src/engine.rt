@@ -81,11 +81,14 @@ impl<D: Numbered, L: Line, C: Clock, G: Rng, K: Client> Flight<D, L, C, G, K> {
         ensures within { self.old.outstanding ≤ self.old.limit → self.new.outstanding ≤ self.old.limit }
         ensures limit { self.new.limit ≡ self.old.limit }
     {
-        match read_question(self.alloc, octets) {
-            Ok(Asked::Drop) => world.pass_over(client, octets),
-            Ok(Asked::Fault(rcode)) => world.give(client, octets, &fault_of(octets, rcode)),
-            Ok(Asked::Good(query)) => self.begin_query(desk, world, now, client, octets, query),
-            Err(_) => world.fail(client, octets, Unserved::NoMemory),
+        let Ok(asked) = read_question(self.alloc, octets) else {
+            world.fail(client, octets, Unserved::NoMemory);
+            return;
+        };
+        match asked {
+            Asked::Drop => world.pass_over(client, octets),
+            Asked::Fault(rcode) => world.give(client, octets, &fault_of(octets, rcode)),
+            Asked::Good(query) => self.begin_query(desk, world, now, client, octets, query),
         }
     }
 
