@@ -3,6 +3,7 @@
 ghost use Rattle.std.specs.Prelude.{◌≡◌, ◌≤◌, ℕ, IfOk};
 ghost use Rattle.front_workers.specs.declared.working.TheConstants.{MOST_FAILURES};
 ghost use Rattle.front_workers.specs.declared.working.WorkEnd.TheVariants.{Failing};
+ghost use Rattle.front_workers.specs.Counts.{Rises};
 ghost use Rattle.front_workers.specs.Working.{HasFailed};
 ghost use Rattle.flight.specs.Waiting.{IsAccounted};
 ghost use Rattle.flight_sockets.specs.Accounts.{Accounts};
@@ -90,6 +91,22 @@ impl<'a, R: Net + Log + std::rt::Clock> UdpWorker<'a, R> {
         }
     }
 
+    fn count_taken(&mut self)
+        ensures taken { Rises self.old.taken self.new.taken }
+        ensures settled { self.new.settled ≡ self.old.settled }
+        ensures failures { self.new.failures ≡ self.old.failures }
+    {
+        self.taken = self.taken.saturating_add(1);
+    }
+
+    fn count_failure(&mut self)
+        ensures failures { Rises self.old.failures self.new.failures }
+        ensures taken { self.new.taken ≡ self.old.taken }
+        ensures settled { self.new.settled ≡ self.old.settled }
+    {
+        self.failures = self.failures.saturating_add(1);
+    }
+
     /// Takes one datagram. Whether more may be there.
     fn take<D: Numbered, C: Clock, G: Rng>(
         &mut self,
@@ -109,7 +126,7 @@ impl<'a, R: Net + Log + std::rt::Clock> UdpWorker<'a, R> {
             Taken::Query(client) => {
                 let now = self.millis.now();
                 let octets = &room[..client.count()];
-                self.taken = self.taken.saturating_add(1);
+                self.count_taken();
                 questions.begin(desk, &mut self.sockets, now, client, octets);
             }
         }
@@ -136,8 +153,34 @@ impl<'a, R: Net + Log + std::rt::Clock> UdpWorker<'a, R> {
         Ok(true)
     }
 
+    /// Goes on with those that wait: what came of their exchanges is heard, and what is overdue ends. Whether the events name
+    /// the service's socket.
+    fn go_on<D: Numbered, C: Clock, G: Rng>(
+        &mut self,
+        desk: &mut D,
+        questions: &mut Questions<D, C, G>,
+    ) -> bool
+        ensures accounts { Accounts questions.old.outstanding self.old questions.new.outstanding self.new }
+        ensures no_more { questions.new.outstanding ≤ questions.old.outstanding }
+        ensures limit { questions.new.limit ≡ questions.old.limit }
+        ensures failures { self.new.failures ≡ self.old.failures }
+    {
+        let polled = self.millis.now();
+        let came = look_all(
+            &self.events,
+            &mut self.sockets,
+            &mut self.millis,
+            desk,
+            questions,
+        );
+        // What had come when the wait ended was looked at, so what was overdue then is.
+        questions.expire(desk, &mut self.sockets, polled);
+        came
+    }
+
     /// Waits for what comes, and goes on with it. Where datagrams were left, nothing is waited for. Whether more may be
     /// there.
+    #[tactic(auto, using(crate::proofs::Accounting::followed))]
     fn turn<D: Numbered, C: Clock, G: Rng>(
         &mut self,
         desk: &mut D,
@@ -156,16 +199,7 @@ impl<'a, R: Net + Log + std::rt::Clock> UdpWorker<'a, R> {
             self.patience(questions)
         };
         self.sockets.wait(&mut self.events, wait)?;
-        let polled = self.millis.now();
-        let came = look_all(
-            &self.events,
-            &mut self.sockets,
-            &mut self.millis,
-            desk,
-            questions,
-        );
-        // What had come when the wait ended was looked at, so what was overdue then is.
-        questions.expire(desk, &mut self.sockets, polled);
+        let came = self.go_on(desk, questions);
         if came || were_left {
             return self.take_batch(desk, questions, room);
         }
@@ -232,7 +266,7 @@ pub fn fly_udp<D: Numbered, C: Clock + Drop, G: Rng + Drop, R: Wait + Net + Log 
             }
             Err(_) => {
                 warn!(rt; "resolver: device fault");
-                worker.failures = worker.failures.saturating_add(1);
+                worker.count_failure();
                 more = true;
                 failed += 1;
                 if failed == MOST_FAILURES {

@@ -1,6 +1,6 @@
 //! The sockets of one worker.
 
-ghost use Rattle.std.specs.Prelude.{◌≡◌, ◌≤◌, length, vec_len, IfOk};
+ghost use Rattle.std.specs.Prelude.{◌≡◌, ◌≤◌, ◌-◌, ◌^◌, length, vec_len, IfOk};
 ghost use Rattle.dns_sockets.specs.declared.socket_exchange.TheConstants.{MOST_MESSAGE};
 ghost use Rattle.front_workers.specs.Counts.{Rises};
 ghost use Rattle.flight_sockets.specs.Taken.{IsTakenFrom};
@@ -46,6 +46,7 @@ pub struct WorkerSockets<'a, R: Net + Log> {
     room: Vec<u8>,
     settled: u64,
     ghost whole: { vec_len room ≡ MOST_MESSAGE },
+    ghost counted: { settled ≤ 2 ^ 64 - 1 },
 }
 
 /// Whether a fault is one of this machine, and not that of a server that refuses or cannot be reached.
