@@ -17,6 +17,8 @@ mod stop_flag;
 mod datagram_socket;
 // Datagrams.
 mod udp_port;
+// Calls of a connection that are limited in time.
+mod limits;
 // Where messages begin in what comes over a connection.
 mod spot;
 // What is read of a connection.
@@ -43,6 +45,7 @@ pub use connections::Connections;
 pub use datagram_socket::DatagramSocket;
 pub use frame_reader::FrameReader;
 pub use frame_writer::{FrameWriter, Outgoing};
+pub use limits::Limits;
 pub use place::place_of;
 pub use seconds::{Elapsing, SecondsClock};
 pub use server_net::ServerNet;
