@@ -91,8 +91,10 @@ impl<'a, R: Wait + Clock + Log, F: StopFlag> Connections<'a, R, F> {
     }
 }
 
-impl<'a, R: Wait + Clock + Log, F: StopFlag> Listener<FrameReader<'a, R, F>, FrameWriter<'a, R>>
-    for Connections<'a, R, F> {
+impl<'a, R: Wait + Clock + Log, F: StopFlag> Listener<
+    FrameReader<'a, R, F, TcpStream>,
+    FrameWriter<'a, R, TcpStream>,
+> for Connections<'a, R, F> {
     // It ends where the flag is set alone. Nothing is known of who connects.
     ghost accepts = { λ _ came _. IfOk came (λ came. IsNone came → F.stopped) };
 
@@ -100,7 +102,15 @@ impl<'a, R: Wait + Clock + Log, F: StopFlag> Listener<FrameReader<'a, R, F>, Fra
 
     fn accept(
         &mut self,
-    ) -> Result<Option<(FrameReader<'a, R, F>, FrameWriter<'a, R>)>, DeviceFault> {
+    ) -> Result<
+        Option<
+            (
+                FrameReader<'a, R, F, TcpStream>,
+                FrameWriter<'a, R, TcpStream>,
+            ),
+        >,
+        DeviceFault,
+    > {
         let (stream, other) = match self.come() {
             Ok(Some(connection)) => connection,
             Ok(None) => return Ok(None),

@@ -19,6 +19,8 @@ mod stop_flag;
 mod datagram_socket;
 // Datagrams.
 mod udp_port;
+// Calls of a connection that are limited in time.
+mod limits;
 // Where messages begin in what comes over a connection.
 mod spot;
 // What is read of a connection.
@@ -47,6 +49,7 @@ pub use deadline::glance;
 pub use fitting::fits;
 pub use frame_reader::FrameReader;
 pub use frame_writer::{FrameWriter, Outgoing};
+pub use limits::Limits;
 pub use options::descriptor_limit;
 pub use place::place_of;
 pub use seconds::{Elapsing, SecondsClock};

@@ -4,6 +4,7 @@ ghost use Rattle.std.specs.Prelude.{ℕ, List, ◌≤◌, length, take, IfOk, On
 ghost use Rattle.std.specs.declared.net.SocketAddr.{SocketAddr};
 
 use crate::binding::bind_any;
+use crate::limits::Limits;
 use std::io;
 use std::io::{Read, Write};
 use std::net::{Net, SocketAddr, TcpStream, UdpSocket};
@@ -15,7 +16,7 @@ pub trait ServerNet {
     type Datagrams: Drop;
 
     /// A connection to one server.
-    type Connection: Read + Write + Drop;
+    type Connection: Read + Write + Limits + Drop;
 
     /// The socket is connected to this place.
     ghost opened: { Self.Datagrams → SocketAddr → Type 0 };
@@ -49,12 +50,6 @@ pub trait ServerNet {
     /// A connection, which comes in so long at most.
     fn open_connection(&self, place: SocketAddr, most: Duration) -> io::Result<Self::Connection>
         ensures { IfOk result (λ connection. connected connection place) };
-
-    /// Has the next read wait so long at most.
-    fn limit_read(&self, connection: &Self::Connection, most: Duration) -> io::Result<()>;
-
-    /// Has the next write wait so long at most.
-    fn limit_write(&self, connection: &Self::Connection, most: Duration) -> io::Result<()>;
 }
 
 impl<R: Net<Stream = TcpStream>> ServerNet for R {
@@ -96,13 +91,5 @@ impl<R: Net<Stream = TcpStream>> ServerNet for R {
         let stream = TcpStream::connect_timeout(self, &place, most)?;
         stream.set_nodelay(true)?;
         Ok(stream)
-    }
-
-    fn limit_read(&self, connection: &TcpStream, most: Duration) -> io::Result<()> {
-        connection.set_read_timeout(Some(most))
-    }
-
-    fn limit_write(&self, connection: &TcpStream, most: Duration) -> io::Result<()> {
-        connection.set_write_timeout(Some(most))
     }
 }

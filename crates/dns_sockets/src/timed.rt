@@ -1,6 +1,7 @@
 //! A connection whose calls end by a deadline.
 
 use crate::deadline::Deadline;
+use crate::limits::Limits;
 use crate::server_net::ServerNet;
 use std::io;
 use std::io::{Read, Write};
@@ -18,8 +19,7 @@ impl<'a, R: ServerNet + Clock> Read for Timed<'a, R> {
     ghost remaining = { λ timed. R.Connection.remaining timed.stream };
 
     fn read(&mut self, buf: &mut [u8]) -> io::Result<usize> {
-        self.rt
-            .limit_read(&self.stream, self.deadline.left(self.rt)?)?;
+        self.stream.limit_read(self.deadline.left(self.rt)?)?;
         self.stream.read(buf)
     }
 }
@@ -28,8 +28,7 @@ impl<'a, R: ServerNet + Clock> Write for Timed<'a, R> {
     ghost contents = { λ timed. R.Connection.contents timed.stream };
 
     fn write(&mut self, buf: &[u8]) -> io::Result<usize> {
-        self.rt
-            .limit_write(&self.stream, self.deadline.left(self.rt)?)?;
+        self.stream.limit_write(self.deadline.left(self.rt)?)?;
         self.stream.write(buf)
     }
 
