@@ -22,6 +22,12 @@ __attribute__((destructor)) static void end(void) {
     if (teller) syscall(SYS_write, atoi(teller), text, (size_t)len);
 }
 
+/* A program with threads ends by this call, which runs no destructor. */
+__attribute__((noreturn)) void _exit(int status) {
+    end();
+    for (;;) syscall(SYS_exit_group, status);
+}
+
 void *malloc(size_t size) { counted++; return __libc_malloc(size); }
 void *realloc(void *block, size_t size) { counted++; return __libc_realloc(block, size); }
 void *calloc(size_t count, size_t size) { counted++; return __libc_calloc(count, size); }

@@ -23,6 +23,12 @@ __attribute__((destructor)) static void end(void) {
     if (teller >= 0) syscall(SYS_write, teller, text, len);
 }
 
+/* A program with threads ends by this call, which runs no destructor. */
+__attribute__((noreturn)) void _exit(int status) {
+    end();
+    for (;;) syscall(SYS_exit_group, status);
+}
+
 /* How many octets a call may move, or -1 where a signal interrupts it. */
 static ssize_t may_move(size_t len) {
     if (!disturbs) return (ssize_t)len;

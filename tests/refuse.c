@@ -42,6 +42,12 @@ __attribute__((destructor)) static void end(void) {
     tell(text, (size_t)snprintf(text, sizeof text, "largest %zu\n", largest));
 }
 
+/* A program with threads ends by this call, which runs no destructor. */
+__attribute__((noreturn)) void _exit(int status) {
+    end();
+    for (;;) syscall(SYS_exit_group, status);
+}
+
 static int refused(size_t size) {
     if (written && size > largest) largest = size;
     if (left <= 0 || --left != 0) return 0;
