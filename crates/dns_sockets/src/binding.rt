@@ -1,7 +1,10 @@
 //! The sockets of the service, and how what waits at them is woken.
 
+ghost use Rattle.std.specs.Prelude.{◌≡◌, IfOk, vec_len};
+
 use crate::deadline::glance;
-use crate::options::widen_receive_buffer;
+use crate::options::{bind_beside, widen_receive_buffer};
+use std::alloc::Global;
 use std::io;
 use std::net::{IpAddr, Ipv4Addr, Ipv6Addr, Net, SocketAddr, TcpListener, TcpStream, UdpSocket};
 use std::time::Duration;
@@ -18,6 +21,28 @@ pub fn bind_udp<R: Net>(rt: &R, addr: SocketAddr) -> io::Result<UdpSocket> {
     Ok(socket)
 }
 
+/// So many sockets with one address, each for a worker of its own: calls do not wait, and there is room for bursts. `[::]`
+/// takes IPv4 as well. Where another process has the address already, the error is that of `bind_udp`.
+pub fn bind_each<R: Net>(
+    rt: &R,
+    alloc: Global,
+    addr: SocketAddr,
+    count: u8,
+) -> io::Result<Vec<UdpSocket>>
+    ensures { IfOk result (λ sockets. vec_len sockets ≡ count) }
+{
+    // A socket that stands beside others does not tell that another process has some there, so one is bound alone before.
+    drop(UdpSocket::bind(rt, addr)?);
+    let mut sockets = Vec::with_capacity(alloc, usize::from(count))?;
+    for _ in 0..count {
+        let socket = bind_beside(rt, addr)?;
+        widen_receive_buffer(&socket)?;
+        socket.set_nonblocking(true)?;
+        sockets.push(socket)?;
+    }
+    Ok(sockets)
+}
+
 /// A socket at which `Connections` come in. `[::]` takes IPv4 as well.
 pub fn bind_tcp<R: Net<Stream = TcpStream, Listener = TcpListener>>(
     rt: &R,
@@ -27,7 +52,7 @@ pub fn bind_tcp<R: Net<Stream = TcpStream, Listener = TcpListener>>(
 }
 
 /// A socket of one's own, at a port that the system picks, for peers of this family.
-pub(crate) fn bind_any<R: Net>(rt: &R, peer: SocketAddr) -> io::Result<UdpSocket> {
+pub fn bind_any<R: Net>(rt: &R, peer: SocketAddr) -> io::Result<UdpSocket> {
     let ip = if peer.is_ipv4() {
         IpAddr::V4(Ipv4Addr::UNSPECIFIED)
     } else {

@@ -22,7 +22,7 @@ pub(crate) fn patience() -> Duration
 }
 
 /// How long a socket waits before the stop flag is looked at again.
-pub(crate) fn glance() -> Duration
+pub fn glance() -> Duration
     ensures { 0 < as_nanos result }
 {
     Duration::from_millis(GLANCE_MILLISECONDS)

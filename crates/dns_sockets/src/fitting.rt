@@ -10,7 +10,7 @@ fn same(one: &[u8], other: &[u8]) -> bool
 }
 
 /// Whether octets may be the reply to a query.
-pub(crate) fn fits(query: &[u8], reply: &[u8]) -> bool
+pub fn fits(query: &[u8], reply: &[u8]) -> bool
     ensures { IsTrue result ↔ Fits query.now reply.now }
 {
     let end = query.len();

@@ -7,7 +7,9 @@
 mod deadline;
 // What tells the moment.
 mod seconds;
-// Options of sockets that std does not set.
+// An address as the C library takes it.
+mod c_address;
+// What std does not offer of sockets and descriptors.
 mod options;
 // The sockets of the service, and how what waits at them is woken.
 mod binding;
@@ -30,11 +32,14 @@ mod timed;
 // Queries to name servers.
 mod socket_exchange;
 
-pub use binding::{bind_tcp, bind_udp, wake_tcp, wake_udp};
+pub use binding::{bind_any, bind_each, bind_tcp, bind_udp, wake_tcp, wake_udp};
 pub use connections::Connections;
+pub use deadline::glance;
+pub use fitting::fits;
 pub use frame_reader::FrameReader;
 pub use frame_writer::{FrameWriter, Outgoing};
+pub use options::descriptor_limit;
 pub use place::place_of;
 pub use seconds::SecondsClock;
-pub use socket_exchange::SocketExchange;
-pub use udp_port::UdpPort;
+pub use socket_exchange::{MOST_MESSAGE, SocketExchange};
+pub use udp_port::{UdpPort, is_answerable};

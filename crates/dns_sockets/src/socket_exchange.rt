@@ -19,7 +19,7 @@ use std::net::{Net, SocketAddr, TcpStream};
 use std::rt::Clock;
 
 /// The octets of the longest message (RFC 1035, section 4.2.2).
-const MOST_MESSAGE: usize = 65_535;
+pub const MOST_MESSAGE: usize = 65_535;
 
 /// The octets of the longest message behind its length.
 const MOST_FRAMED: usize = 2 + MOST_MESSAGE;

@@ -36,7 +36,7 @@ impl<'a, R: Wait> UdpPort<'a, R> {
 }
 
 /// No reply reaches port 0, and an empty datagram only wakes.
-fn is_answerable(peer: SocketAddr, count: usize) -> bool
+pub fn is_answerable(peer: SocketAddr, count: usize) -> bool
     ensures { IsTrue result ↔ IsAnswerable peer count }
 {
     peer.port() != 0 && count != 0

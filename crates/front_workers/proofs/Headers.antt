@@ -9,7 +9,7 @@ use Rattle.front_workers.specs.Serves.{Unserved, unread, broken_off, unwritten}
 answer_header : {m : List ℕ} {query : Query} → AsksFor m (Good query) → 12 ≤ length m
 answer_header (good query question is of) = query.header
 
-undropped_header : (m : List ℕ) → ¬ (AsksFor m Drop) → 12 ≤ length m
+pub undropped_header : (m : List ℕ) → ¬ (AsksFor m Drop) → 12 ≤ length m
 undropped_header m wanted = let short : ¬ (length m < 12) = λ is. wanted (no_header is) in omega arith
 
 pub unserved_header : {D X C : Type 0} {calls : Calls D} {asks : Asks X} {ticks : Ticks C} {port : ℕ} {m : List ℕ} {desk d : D} {exchange x : X} {clock c : C}

@@ -1,9 +1,10 @@
-mod Asked
+pub mod Asked
 mod Counting
 mod Failing
 mod Formed
 mod Framed
-mod Headers
-mod Leading
+pub mod Headers
+pub mod Leading
 mod Parts
 mod Streaming
+mod Telling

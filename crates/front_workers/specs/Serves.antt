@@ -46,6 +46,12 @@ pub data Written (over : Over) (m : List ℕ) (query : Query) (reply : Message) 
   whole : ¬ (IsTooLong reply) → IsSent over query (octets_with query.octets reply) out → Written over m query reply out
   too_long : IsTooLong reply → out ≡ fault_octets m 2 → Written over m query reply out
 
+-- What a query is told of an answer: a reply in these octets, or none where the answer is silence.
+abbrev pub Tells : Over → List ℕ → Query → Answer → Option (List ℕ) → Type 0
+Tells over m query (Replies rcode aa aliases last authority) (Some out) = Written over m query (reply_told query rcode aa aliases last authority) out
+Tells over m query Silent None = Unit {0}
+Tells over m query _ _ = ⊥
+
 -- Octets came to a desk, an exchange and a clock: they get this reply, or none, and leave these.
 pub data Serves {D X C : Type 0} (calls : Calls D) (asks : Asks X) (ticks : Ticks C) (port : ℕ) (over : Over) (m : List ℕ) (desk : D) (exchange : X) (clock : C)
     : Option (List ℕ) → D → X → C → Type 0 where

@@ -11,7 +11,7 @@ use std::alloc::Global;
 use streams::{Source, fill};
 
 /// The number that two octets spell.
-fn size_of(high: u8, low: u8) -> usize
+pub fn size_of(high: u8, low: u8) -> usize
     ensures spelled { length_octets result ≡ high ∷ low ∷ [] }
     ensures range { result < 2 ^ 16 }
 {
@@ -82,7 +82,7 @@ pub(crate) fn take_message<S: Source>(
 }
 
 /// A message behind its length.
-pub(crate) fn frame(alloc: Global, message: &[u8]) -> Result<Vec<u8>, NoMemory>
+pub fn frame(alloc: Global, message: &[u8]) -> Result<Vec<u8>, NoMemory>
     requires { length message.now ≤ 65535 }
     ensures { IfOk result (λ out. out.items ≡ framed message.now) }
 {

@@ -6,8 +6,7 @@ ghost use Rattle.dns_wire.specs.Server.Asking.{AsksFor};
 ghost use Rattle.front_workers.specs.Serves.{most_octets, Serves, Unserved};
 
 use crate::exchange::Exchange;
-use crate::lending::{AnswerSection, AuthoritySection};
-use crate::reply::{head_of, write_fault, write_reply};
+use crate::reply::{write_answer, write_fault};
 use crate::run::run_task;
 use crate::tools::Tools;
 use command_text::Clock;
@@ -15,13 +14,12 @@ use dns_name::NoMemory;
 use dns_query::Over;
 use dns_text::Question;
 use dns_wire::{Asked, Query, read_question};
-use iterate::Answer;
 use rand_core::Rng;
 use std::alloc::Global;
 use undo_book::Desk;
 
 /// The same question, which takes no memory.
-fn copy_question(question: &Question) -> Result<Question, NoMemory>
+pub fn copy_question(question: &Question) -> Result<Question, NoMemory>
     ensures { IfOk result (λ copy. copy ≡ question.now) }
 {
     Ok(Question {
@@ -47,27 +45,8 @@ fn answer_query<D: Desk, X: Exchange, C: Clock, R: Rng>(
     ensures unserved { OnErr result (Unserved D.calls X.asks C.ticks tools.old.server_port octets.now desk.old tools.old.exchange tools.old.clock desk.new tools.new.exchange tools.new.clock) }
 {
     let question = copy_question(&query.question)?;
-    match run_task(alloc, desk, tools, question)? {
-        Answer::Silent => Ok(None),
-        Answer::Reply {
-            rcode,
-            aa,
-            aliases,
-            last,
-            authority,
-        } => {
-            let head = head_of(query, rcode, aa);
-            let answer = AnswerSection {
-                aliases: &aliases,
-                last: &last,
-            };
-            let authority = AuthoritySection {
-                authority: &authority,
-            };
-            let out = write_reply(alloc, over, octets, query, &head, &answer, &authority)?;
-            Ok(Some(out))
-        }
-    }
+    let answer = run_task(alloc, desk, tools, question)?;
+    Ok(write_answer(alloc, over, octets, query, &answer)?)
 }
 
 /// Serves a query that came in these octets. None where it gets no reply.

@@ -1,21 +1,26 @@
 //! Replies as octets.
 
-ghost use Rattle.std.specs.Prelude.{◌≡◌, true, false, ◌≤◌, length, IfOk};
+ghost use Rattle.std.specs.Prelude.{◌≡◌, true, false, ◌≤◌, length, option_map, IfOk, IfSome};
 ghost use Rattle.std.specs.List.{AllByRecursion};
+ghost use Rattle.dns_wire.specs.declared.server.query.Asked.TheVariants.{Good};
 ghost use Rattle.dns_wire.specs.Lent.{lent_reply};
+ghost use Rattle.dns_wire.specs.Server.Asking.{AsksFor};
 ghost use Rattle.dns_wire.specs.WellFormed.{HasItsForm};
-ghost use Rattle.front_workers.specs.Serves.{fault_octets, head_told, most_octets, IsSent, Written};
+ghost use Rattle.iterate.specs.Told.{IsFit};
+ghost use Rattle.front_workers.specs.Serves.{fault_octets, head_told, most_octets, IsSent, Tells, Written};
 
+use crate::lending::{AnswerSection, AuthoritySection};
 use dns_name::NoMemory;
 use dns_query::Over;
 use dns_wire::{
     EncodeFault, Head, Opcode, Query, Rcode, Reserved, Section, cut_for_udp, encode_lent,
     fault_reply,
 };
+use iterate::Answer;
 use std::alloc::{AllocError, Global};
 
 /// The head of a reply to a query.
-pub(crate) fn head_of(query: &Query, rcode: Rcode, aa: bool) -> Head
+fn head_of(query: &Query, rcode: Rcode, aa: bool) -> Head
     ensures { result ≡ head_told query.now rcode aa }
 {
     Head {
@@ -57,7 +62,7 @@ fn cut(over: Over, query: &Query, mut out: Vec<u8>) -> Vec<u8>
 }
 
 /// A reply as it goes out. Where it has too many octets for any message, it tells that the server failed.
-pub(crate) fn write_reply<A: Section, B: Section>(
+fn write_reply<A: Section, B: Section>(
     alloc: Global,
     over: Over,
     octets: &[u8],
@@ -76,5 +81,36 @@ pub(crate) fn write_reply<A: Section, B: Section>(
         Ok(out) => Ok(cut(over, query, out)),
         Err(EncodeFault::TooLong) => write_fault(alloc, octets, Rcode::SERVER_FAILURE),
         Err(EncodeFault::NoMemory) => Err(AllocError),
+    }
+}
+
+/// What a query is told of an answer, as it goes out. None where the answer is silence.
+pub fn write_answer(
+    alloc: Global,
+    over: Over,
+    octets: &[u8],
+    query: &Query,
+    answer: &Answer,
+) -> Result<Option<Vec<u8>>, NoMemory>
+    requires asks { AsksFor octets.now (Good query.now) }
+    requires fit { IsFit answer.now }
+    ensures short { IfOk result (λ reply. IfSome reply (λ out. length out.items ≤ most_octets over)) }
+    ensures tells { IfOk result (λ reply. Tells over octets.now query.now answer.now (option_map (λ out. out.items) reply)) }
+{
+    match answer {
+        Answer::Silent => Ok(None),
+        Answer::Reply {
+            rcode,
+            aa,
+            aliases,
+            last,
+            authority,
+        } => {
+            let head = head_of(query, *rcode, *aa);
+            let answer = AnswerSection { aliases, last };
+            let authority = AuthoritySection { authority };
+            let out = write_reply(alloc, over, octets, query, &head, &answer, &authority)?;
+            Ok(Some(out))
+        }
     }
 }

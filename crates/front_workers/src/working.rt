@@ -67,7 +67,7 @@ fn give_fault<P: Port, R: Log>(rt: &R, port: &mut P, peer: SocketAddr, octets: &
 }
 
 /// Whether octets get any reply: they have a header, and are no reply themselves.
-fn wants_reply(alloc: Global, octets: &[u8]) -> bool
+pub fn wants_reply(alloc: Global, octets: &[u8]) -> bool
     ensures { MatchBool result (¬ (AsksFor octets.now Drop)) (AsksFor octets.now Drop) }
 {
     one_verdict();

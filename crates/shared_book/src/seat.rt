@@ -40,6 +40,13 @@ impl<'a, B: Book, L: CallLedger, R: Wait> Seat<'a, B, L, R> {
         }
     }
 
+    /// The number of the latest call that its pass knows of.
+    pub fn seen(&self) -> u64
+        ensures { result ≡ self.now.pass.seen }
+    {
+        self.pass.seen()
+    }
+
     /// The pass.
     pub fn into_pass(self) -> Pass<L>
         ensures { result ≡ self.entry.pass }

@@ -1,0 +1,24 @@
+-- What an answer tells a client may be told.
+use Rattle.std.proofs.Common.{ℕ, List}
+use Rattle.std.specs.Prelude.{Some, None}
+use Rattle.dns_query.specs.declared.over.Over.TheVariants.{Udp}
+use Rattle.dns_wire.specs.declared.server.query.Query.{Query}
+use Rattle.dns_wire.specs.declared.server.query.Asked.TheVariants.{Good}
+use Rattle.dns_wire.specs.Server.Asking.{AsksFor}
+use Rattle.iterate.specs.declared.answer.Answer.{Answer}
+use Rattle.iterate.specs.declared.answer.Answer.TheVariants.{Reply as Replies, Silent}
+use Rattle.front_workers.specs.Leads.{Calls, Ticks}
+use Rattle.front_workers.specs.Serves.{Tells}
+use Rattle.flight.specs.Flight.{Hears, Lands}
+use Rattle.flight.specs.Told.{IsTold, answered, IsUntold, silent}
+
+module _ {D C : Type 0} {calls : Calls D} {seen : D → ℕ} {hears : Hears} {ticks : Ticks C} {port : ℕ} {m : List ℕ} {query : Query} where
+  pub told_by : {out : List ℕ} → (answer : Answer) → AsksFor m (Good query) → Lands calls seen hears ticks port query.question answer → Tells Udp m query answer (Some out)
+      → IsTold calls seen hears ticks port m out
+  told_by (Replies rcode aa aliases last authority) wanted lands tells = answered wanted lands tells
+  told_by Silent wanted lands tells = absurd tells
+
+  pub untold_by : (answer : Answer) → AsksFor m (Good query) → Lands calls seen hears ticks port query.question answer → Tells Udp m query answer None
+      → IsUntold calls seen hears ticks port m
+  untold_by (Replies rcode aa aliases last authority) wanted lands tells = absurd tells
+  untold_by Silent wanted lands tells = silent wanted lands

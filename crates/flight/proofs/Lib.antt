@@ -1,0 +1,4 @@
+mod Flying
+mod Seats
+mod Answering
+mod Counting

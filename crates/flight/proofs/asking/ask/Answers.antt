@@ -1,0 +1,8 @@
+use Rattle.flight.specs.Flight.{replied, refused}
+use Rattle.flight.proofs.asking.ask.Goals as goal
+
+pub returns-in-Ok-clause-answered : goal.returns-in-Ok-clause-answered
+returns-in-Ok-clause-answered g c = replied c.requires.known c.in-Ok.ensures c.seen.ensures
+
+pub returns-in-Err-clause-answered : goal.returns-in-Err-clause-answered
+returns-in-Err-clause-answered g c = refused c.requires.known c.in-Err.ensures c.seen.ensures

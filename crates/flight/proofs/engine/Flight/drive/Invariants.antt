@@ -1,0 +1,22 @@
+use Rattle.std.proofs.Common.{◌≡◌, ◌≤◌}
+use Rattle.slab.specs.Slab.{slab_len}
+use Rattle.iterate.specs.Measure.{left_in}
+use Rattle.flight.specs.Asking.{IsAskedBy}
+use Rattle.flight.specs.Flight.{Flies}
+use Rattle.flight.proofs.engine.Flight.drive.Given as goal
+
+-- The question's steps lead here, and nothing else has changed.
+abbrev pub invariant-loop-want : goal.invariant-loop-want
+invariant-loop-want g l = record {
+  asked : IsAskedBy g.K.Client.sent l.asking.port l.octets l.asking.client l.asking.query l.asking.task;
+  flies : Flies g.D.Desk.calls g.D.Numbered.seen g.L.Line.hears g.C.Clock.ticks l.asking.port l.asking.query.question l.asking.task.steps.items l.input l.asking.seen;
+  port : l.asking.port ≡ g.W.World.server_port l.world;
+  known : l.asking.seen ≤ g.D.Numbered.seen l.desk;
+  port_kept : g.W.World.server_port l.world ≡ g.W.World.server_port l.fn.world;
+  settled_kept : g.W.World.settled l.world ≡ g.W.World.settled l.fn.world;
+  waiting_kept : slab_len l.self-inside.table.jobs ≡ l.fn.self.outstanding;
+  limit_kept : l.self-inside.table.limit ≡ l.fn.self.limit;
+}
+
+abbrev pub decreases-loop-want : goal.decreases-loop-want
+decreases-loop-want g l = left_in l.asking.task.phase

@@ -1,0 +1,62 @@
+-- Questions in flight: what one of them asks of the desk and of name servers, while others ask between.
+use Rattle.std.specs.Prelude.{◌≡◌, ◌≤◌, ℕ, Ok, Err, List, []}
+use Rattle.dns_query.specs.declared.over.Over.{Over}
+use Rattle.dns_text.specs.declared.addr.Addr.{Addr}
+use Rattle.dns_text.specs.declared.record.Question.{Question}
+use Rattle.undo_book.specs.declared.desk.DeskFault.{DeskFault}
+use Rattle.undo_book.specs.declared.event.Event.{Event}
+use Rattle.undo_book.specs.declared.event.Reply.{Reply}
+use Rattle.iterate.specs.declared.answer.Answer.{Answer}
+use Rattle.iterate.specs.declared.want.Input.{Input}
+use Rattle.iterate.specs.declared.want.Input.TheVariants.{Begin, Reply as Replied, Refused, Came, Failed}
+use Rattle.iterate.specs.declared.want.Step.{Step}
+use Rattle.iterate.specs.declared.want.Want.{Want}
+use Rattle.iterate.specs.declared.want.Want.TheVariants.{Book, Send, Finish}
+use Rattle.front_workers.specs.Leads.{Calls, Ticks, Wants}
+
+-- a query that went out: to which server, over what, its octets
+pub record Sent : Type 0 where
+  pub server : Addr
+  pub over : Over
+  pub query : List ℕ
+
+abbrev pub query_to : Addr → Over → List ℕ → Sent
+query_to server over query = record { server = server; over = over; query = query }
+
+-- what may be heard of a query
+abbrev pub Hears : Type 1
+Hears = Sent → List ℕ → Type 0
+
+-- What a question wants is answered by one call of the desk, whose calls are numbered, or by one exchange. The first number is that of the latest call that the desk knew of when this question last called it, 0 before; the last is the same afterwards. Between two calls of this question others may lie.
+pub data Answered {D : Type 0} (calls : Calls D) (seen : D → ℕ) (hears : Hears) : ℕ → Want → Input → ℕ → Type 0 where
+  replied : {n n' : ℕ} {d d' : D} {event : Event} {reply : Reply} → n ≤ seen d → calls d event (Ok reply) d' → n' ≡ seen d' → Answered calls seen hears n (Book event) (Replied reply) n'
+  refused : {n n' : ℕ} {d d' : D} {event : Event} {fault : DeskFault} → n ≤ seen d → calls d event (Err fault) d' → n' ≡ seen d' → Answered calls seen hears n (Book event) (Refused fault) n'
+  came : {n : ℕ} {server : Addr} {over : Over} {query octets : List ℕ} → hears (query_to server over query) octets → Answered calls seen hears n (Send server over query) (Came octets) n
+  failed : {n : ℕ} {server : Addr} {over : Over} {query : List ℕ} → Answered calls seen hears n (Send server over query) Failed n
+
+-- The task of a question took these steps, each at a reading of the clock and each after the first behind the answer to the want before it. This input comes next, and this is the number of the desk's latest call that it knows of.
+pub data Flies {D C : Type 0} (calls : Calls D) (seen : D → ℕ) (hears : Hears) (ticks : Ticks C) (port : ℕ) (question : Question) : List Step → Input → ℕ → Type 0 where
+  begins : Flies calls seen hears ticks port question [] Begin 0
+  goes_on : {steps after : List Step} {input next : Input} {want : Want} {c c' : C} {n n' : ℕ}
+      → Flies calls seen hears ticks port question steps input n
+      → Wants ticks port question steps input c want after c' → Answered calls seen hears n want next n'
+      → Flies calls seen hears ticks port question after next n'
+
+-- After these steps a question's task wants this, and nothing has come of it.
+pub record IsOpen {D C : Type 0} (calls : Calls D) (seen : D → ℕ) (hears : Hears) (ticks : Ticks C) (port : ℕ) (question : Question) (steps : List Step) (want : Want) (n : ℕ) : Type 0 where
+  pub before : List Step
+  pub input : Input
+  pub c : C
+  pub c' : C
+  pub flies : Flies calls seen hears ticks port question before input n
+  pub wants : Wants ticks port question before input c want steps c'
+
+-- It waits for the reply to a query.
+abbrev pub Awaits : {D C : Type 0} → Calls D → (D → ℕ) → Hears → Ticks C → ℕ → Question → List Step → Sent → ℕ → Type 0
+Awaits calls seen hears ticks port question steps query n = IsOpen calls seen hears ticks port question steps (Send query.server query.over query.query) n
+
+-- It ends in this answer, which a task may give after its steps (what it may give resolves the question).
+pub record Lands {D C : Type 0} (calls : Calls D) (seen : D → ℕ) (hears : Hears) (ticks : Ticks C) (port : ℕ) (question : Question) (answer : Answer) : Type 0 where
+  pub steps : List Step
+  pub n : ℕ
+  pub ends : IsOpen calls seen hears ticks port question steps (Finish answer) n

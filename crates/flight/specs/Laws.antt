@@ -1,0 +1,21 @@
+-- What the definitions come to at a seat of a shared book.
+use Rattle.std.specs.Prelude.{◌≤◌, ◌<◌, ℕ}
+use Rattle.undo_book.specs.declared.event.Event.{Event}
+use Rattle.undo_book.specs.declared.event.Reply.{Reply}
+use Rattle.undo_book.specs.declared.event.Settings.{Settings}
+use Rattle.iterate.specs.declared.want.Input.{Input}
+use Rattle.iterate.specs.declared.want.Input.TheVariants.{Reply as Replied}
+use Rattle.iterate.specs.declared.want.Want.{Want}
+use Rattle.iterate.specs.declared.want.Want.TheVariants.{Book}
+use Rattle.shared_book.specs.Calling.{IsJustified}
+use Rattle.front_workers.specs.Leads.{Calls}
+use Rattle.flight.specs.Flight.{Hears, Answered}
+
+-- The number that a question knows of never falls.
+abbrev pub NumbersNeverFall : {D : Type 0} → Calls D → (D → ℕ) → Hears → Type 0
+NumbersNeverFall calls seen hears = (n n' : ℕ) (want : Want) (input : Input) → Answered calls seen hears n want input n' → n ≤ n'
+
+-- Each reply of the book to a question has a receipt with a higher number than those before it, and is that of some history of as many events as there were calls before that.
+abbrev pub ReceiptsRise : {D : Type 0} → Calls D → (D → ℕ) → Hears → Settings → Type 0
+ReceiptsRise calls seen hears settings =
+    (n n' : ℕ) (event : Event) (reply : Reply) → Answered calls seen hears n (Book event) (Replied reply) n' → (n < n') × IsJustified settings n' event reply

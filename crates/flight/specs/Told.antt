@@ -1,0 +1,33 @@
+-- What a client is told over UDP.
+use Rattle.std.specs.Prelude.{◌≡◌, ℕ, Option, Some, None, Bool, List}
+use Rattle.dns_query.specs.declared.over.Over.TheVariants.{Udp}
+use Rattle.dns_wire.specs.declared.server.query.Query.{Query}
+use Rattle.dns_wire.specs.declared.server.query.Asked.TheVariants.{Drop, Fault, Good}
+use Rattle.dns_wire.specs.Server.Asking.{AsksFor}
+use Rattle.iterate.specs.declared.answer.Answer.{Answer}
+use Rattle.iterate.specs.declared.answer.Answer.TheVariants.{Reply as Replies, Silent}
+use Rattle.iterate.specs.declared.answer.Soa.{Soa}
+use Rattle.iterate.specs.declared.answer.Told.{Told}
+use Rattle.front_workers.specs.Leads.{Calls, Ticks}
+use Rattle.front_workers.specs.Serves.{fault_octets, reply_told, Written}
+use Rattle.flight.specs.declared.world.Heard.{Heard}
+use Rattle.flight.specs.declared.world.Heard.TheVariants.{Came}
+use Rattle.flight.specs.Flight.{Hears, Lands}
+
+-- Octets may be told this reply: that of their fault, or that of an answer in which their question ended.
+pub data IsTold {D C : Type 0} (calls : Calls D) (seen : D → ℕ) (hears : Hears) (ticks : Ticks C) (port : ℕ) (m out : List ℕ) : Type 0 where
+  faulty : {rcode : ℕ} → AsksFor m (Fault rcode) → out ≡ fault_octets m rcode → IsTold calls seen hears ticks port m out
+  answered : {query : Query} {rcode : ℕ} {aa : Bool} {aliases : List Told} {last : Option Told} {authority : Option Soa}
+      → AsksFor m (Good query) → Lands calls seen hears ticks port query.question (Replies rcode aa aliases last authority)
+      → Written Udp m query (reply_told query rcode aa aliases last authority) out
+      → IsTold calls seen hears ticks port m out
+
+-- No reply is owed: the octets ask for none, or their question ended in silence.
+pub data IsUntold {D C : Type 0} (calls : Calls D) (seen : D → ℕ) (hears : Hears) (ticks : Ticks C) (port : ℕ) (m : List ℕ) : Type 0 where
+  dropped : AsksFor m Drop → IsUntold calls seen hears ticks port m
+  silent : {query : Query} → AsksFor m (Good query) → Lands calls seen hears ticks port query.question Silent → IsUntold calls seen hears ticks port m
+
+-- What came is such.
+abbrev pub IsHeard : (List ℕ → Type 0) → Heard → Type 0
+IsHeard may (Came octets) = may octets
+IsHeard may _ = Unit {0}

@@ -1,0 +1,138 @@
+//! How a question goes on.
+
+ghost use Rattle.std.specs.Prelude.{◌≡◌, ◌≤◌, ◌+◌};
+ghost use Rattle.flight.specs.Asking.{IsAskedBy};
+ghost use Rattle.flight.specs.Flight.{Flies, IsOpen, query_to};
+ghost use Rattle.flight.specs.Waiting.{IsAccounted};
+ghost use Rattle.iterate.specs.declared.want.Want.{Want};
+
+use crate::asking::{Asking, ask};
+use crate::engine::Flight;
+use crate::job::Job;
+use crate::line::Line;
+use crate::numbered::Numbered;
+use crate::telling::{refuse, tell};
+use crate::world::{Client, Unserved, World};
+use command_text::Clock;
+use dns_text::Octets;
+use iterate::{Input, Want, due_law};
+use rand_core::Rng;
+use std::marker::PhantomData;
+
+impl<D: Numbered, L: Line, C: Clock, G: Rng, K: Client> Flight<D, L, C, G, K> {
+    /// Ends the exchange of a question that waited, with nothing.
+    pub(crate) fn end<W: World<D, L, C, K>>(
+        &mut self,
+        desk: &mut D,
+        world: &mut W,
+        now: u64,
+        job: Job<D, L, C, K>,
+    )
+        ensures port { W.server_port world.new ≡ W.server_port world.old }
+        ensures accounted { IsAccounted 1 self.old.outstanding (W.settled world.old) self.new.outstanding (W.settled world.new) }
+        ensures one { self.new.outstanding ≤ self.old.outstanding + 1 }
+        ensures limit { self.new.limit ≡ self.old.limit }
+    {
+        let Job {
+            asking,
+            octets,
+            line,
+            ..
+        } = job;
+        drop(line);
+        self.go_on(desk, world, now, asking, octets, Input::Failed);
+    }
+
+    /// Goes on with a question that waited. What it began with is where it began, unless the caller mixed two.
+    pub(crate) fn go_on<W: World<D, L, C, K>>(
+        &mut self,
+        desk: &mut D,
+        world: &mut W,
+        now: u64,
+        asking: Asking<K>,
+        octets: Octets,
+        input: Input,
+    )
+        requires asked { IsAskedBy K.sent asking.port octets asking.client asking.query asking.task }
+        requires flies { Flies D.calls D.seen L.hears C.ticks asking.port asking.query.question asking.task.steps.items input asking.seen }
+        ensures port { W.server_port world.new ≡ W.server_port world.old }
+        ensures accounted { IsAccounted 1 self.old.outstanding (W.settled world.old) self.new.outstanding (W.settled world.new) }
+        ensures one { self.new.outstanding ≤ self.old.outstanding + 1 }
+        ensures limit { self.new.limit ≡ self.old.limit }
+    {
+        if desk.seen() < asking.seen || world.server_port() != asking.port {
+            refuse::<D, L, C, K, W>(world, asking, octets.as_slice(), Unserved::Elsewhere);
+            return;
+        }
+        self.drive(desk, world, now, asking, octets.as_slice(), input);
+    }
+
+    /// Goes on with a question until it waits for an exchange or its client is settled.
+    pub(crate) fn drive<W: World<D, L, C, K>>(
+        &mut self,
+        desk: &mut D,
+        world: &mut W,
+        now: u64,
+        asking: Asking<K>,
+        octets: &[u8],
+        first: Input,
+    )
+        requires asked { IsAskedBy K.sent asking.port octets.now asking.client asking.query asking.task }
+        requires flies { Flies D.calls D.seen L.hears C.ticks asking.port asking.query.question asking.task.steps.items first asking.seen }
+        requires port { asking.port ≡ W.server_port world.old }
+        requires known { asking.seen ≤ D.seen desk.old }
+        ensures port { W.server_port world.new ≡ W.server_port world.old }
+        ensures accounted { IsAccounted 1 self.old.outstanding (W.settled world.old) self.new.outstanding (W.settled world.new) }
+        ensures one { self.new.outstanding ≤ self.old.outstanding + 1 }
+        ensures within { self.old.outstanding ≤ self.old.limit → self.new.outstanding ≤ self.old.limit }
+        ensures limit { self.new.limit ≡ self.old.limit }
+    {
+        due_law();
+        let mut asking = asking;
+        let mut input = first;
+        loop {
+            let moment = self.clock.now();
+            let Ok(want) = asking.task.step(moment, &mut self.ids, input) else {
+                refuse::<D, L, C, K, W>(world, asking, octets, Unserved::NoMemory);
+                return;
+            };
+            match want {
+                Want::Book(event) => input = ask::<D, L>(desk, &mut asking.seen, event),
+                Want::Finish(answer) => {
+                    tell::<D, L, C, K, W>(self.alloc, world, asking, octets, &answer);
+                    return;
+                }
+                Want::Send {
+                    server,
+                    over,
+                    bytes,
+                } => {
+                    let copy = match self.table.make_room(octets) {
+                        Ok(copy) => copy,
+                        Err(why) => {
+                            refuse::<D, L, C, K, W>(world, asking, octets, why);
+                            return;
+                        }
+                    };
+                    let key = self.table.vacant_key();
+                    if let Some(line) = world.open(key, &server, over, bytes) {
+                        let serial = self.table.next_serial();
+                        self.table.keep(
+                            now,
+                            Job {
+                                asking,
+                                octets: copy,
+                                line,
+                                serial,
+                                desk: PhantomData,
+                                clock: PhantomData,
+                            },
+                        );
+                        return;
+                    }
+                    input = Input::Failed;
+                }
+            }
+        }
+    }
+}

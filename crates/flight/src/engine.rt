@@ -1,0 +1,186 @@
+//! Questions in flight.
+
+ghost use Rattle.std.specs.Prelude.{◌≡◌, ◌≤◌, ◌+◌};
+ghost use Rattle.dns_wire.specs.declared.server.query.Asked.TheVariants.{Good};
+ghost use Rattle.dns_wire.specs.Server.Asking.{AsksFor};
+ghost use Rattle.flight.specs.Waiting.{IsAccounted};
+
+use crate::asking::Asking;
+use crate::job::Job;
+use crate::line::Line;
+use crate::numbered::Numbered;
+use crate::table::Table;
+use crate::telling::{fault_of, refuse};
+use crate::world::{Client, Heard, Unserved, World};
+use command_text::Clock;
+use dns_wire::{Asked, Query, read_question};
+use front_workers::copy_question;
+use iterate::{Input, Task};
+use rand_core::Rng;
+use std::alloc::Global;
+use std::marker::Model;
+
+/// The questions of a worker that are in flight. Contracts see how many wait, and how many may.
+#[derive(Drop)]
+pub struct Flight<D: Numbered, L: Line, C: Clock, G: Rng, K: Client> {
+    pub(crate) alloc: Global,
+    pub(crate) clock: C,
+    /// Draws the identifiers of queries.
+    pub(crate) ids: G,
+    pub(crate) table: Table<D, L, C, K>,
+}
+
+impl<D: Numbered, L: Line, C: Clock, G: Rng, K: Client> Model for Flight<D, L, C, G, K> {
+    ghost use Rattle.slab.specs.Slab.{slab_len};
+    ghost use Rattle.flight.specs.Waiting.{FlightState};
+
+    ghost Value = { FlightState };
+
+    ghost view = { λ f. record { outstanding = slab_len f.table.jobs; limit = f.table.limit } };
+}
+
+impl<D: Numbered, L: Line, C: Clock, G: Rng, K: Client> Flight<D, L, C, G, K> {
+    /// None in flight, and at most so many exchanges under way.
+    pub fn new(alloc: Global, clock: C, ids: G, limit: usize) -> Flight<D, L, C, G, K>
+        ensures none { result.outstanding ≡ 0 }
+        ensures limit { result.limit ≡ limit }
+    {
+        Flight {
+            alloc,
+            clock,
+            ids,
+            table: Table::new(alloc, limit),
+        }
+    }
+
+    /// How many exchanges are under way, each of which a client waits for.
+    pub fn outstanding(&self) -> usize
+        ensures { result ≡ self.now.outstanding }
+    {
+        self.table.jobs.len()
+    }
+
+    /// How many milliseconds until `expire` has something to do. None where no exchange is under way.
+    pub fn next_expiry(&self, now: u64) -> Option<u64> {
+        self.table.next_expiry(now)
+    }
+
+    /// Takes octets that came from a client: it is told at once, or waits for an exchange. `now` is in milliseconds.
+    pub fn begin<W: World<D, L, C, K>>(
+        &mut self,
+        desk: &mut D,
+        world: &mut W,
+        now: u64,
+        client: K,
+        octets: &[u8],
+    )
+        requires own { K.sent client octets.now }
+        ensures port { W.server_port world.new ≡ W.server_port world.old }
+        ensures accounted { IsAccounted 1 self.old.outstanding (W.settled world.old) self.new.outstanding (W.settled world.new) }
+        ensures one { self.new.outstanding ≤ self.old.outstanding + 1 }
+        ensures within { self.old.outstanding ≤ self.old.limit → self.new.outstanding ≤ self.old.limit }
+        ensures limit { self.new.limit ≡ self.old.limit }
+    {
+        let Ok(asked) = read_question(self.alloc, octets) else {
+            world.fail(client, octets, Unserved::NoMemory);
+            return;
+        };
+        match asked {
+            Asked::Drop => world.pass_over(client, octets),
+            Asked::Fault(rcode) => world.give(client, octets, &fault_of(octets, rcode)),
+            Asked::Good(query) => self.begin_query(desk, world, now, client, octets, query),
+        }
+    }
+
+    /// Begins the question of a query.
+    fn begin_query<W: World<D, L, C, K>>(
+        &mut self,
+        desk: &mut D,
+        world: &mut W,
+        now: u64,
+        client: K,
+        octets: &[u8],
+        query: Query,
+    )
+        requires own { K.sent client octets.now }
+        requires good { AsksFor octets.now (Good query) }
+        ensures port { W.server_port world.new ≡ W.server_port world.old }
+        ensures accounted { IsAccounted 1 self.old.outstanding (W.settled world.old) self.new.outstanding (W.settled world.new) }
+        ensures one { self.new.outstanding ≤ self.old.outstanding + 1 }
+        ensures within { self.old.outstanding ≤ self.old.limit → self.new.outstanding ≤ self.old.limit }
+        ensures limit { self.new.limit ≡ self.old.limit }
+    {
+        let Ok(question) = copy_question(&query.question) else {
+            world.fail(client, octets, Unserved::NoMemory);
+            return;
+        };
+        let port = world.server_port();
+        let asking = Asking {
+            client,
+            query,
+            port,
+            task: Task::new(self.alloc, question, port),
+            seen: 0,
+        };
+        self.drive(desk, world, now, asking, octets, Input::Begin);
+    }
+
+    /// Listens on the line under a key. There may be nothing yet, and no line: an event of readiness is only a hint.
+    pub fn look<W: World<D, L, C, K>>(&mut self, desk: &mut D, world: &mut W, now: u64, key: usize)
+        ensures port { W.server_port world.new ≡ W.server_port world.old }
+        ensures accounted { IsAccounted 0 self.old.outstanding (W.settled world.old) self.new.outstanding (W.settled world.new) }
+        ensures no_more { self.new.outstanding ≤ self.old.outstanding }
+        ensures limit { self.new.limit ≡ self.old.limit }
+    {
+        let Some(job) = self.table.take(key) else {
+            return;
+        };
+        let Job {
+            asking,
+            octets,
+            mut line,
+            serial,
+            desk: of,
+            clock,
+        } = job;
+        match world.hear(&mut line) {
+            Heard::Nothing => self.table.put_back(Job {
+                asking,
+                octets,
+                line,
+                serial,
+                desk: of,
+                clock,
+            }),
+            Heard::Came(reply) => {
+                drop(line);
+                self.go_on(desk, world, now, asking, octets, Input::Came(reply));
+            }
+            Heard::Broken => {
+                drop(line);
+                self.go_on(desk, world, now, asking, octets, Input::Failed);
+            }
+            Heard::NoMemory => {
+                refuse::<D, L, C, K, W>(world, asking, octets.as_slice(), Unserved::NoMemory);
+            }
+        }
+    }
+
+    /// Ends each exchange that has taken `PATIENCE` milliseconds.
+    pub fn expire<W: World<D, L, C, K>>(&mut self, desk: &mut D, world: &mut W, now: u64)
+        ensures port { W.server_port world.new ≡ W.server_port world.old }
+        ensures accounted { IsAccounted 0 self.old.outstanding (W.settled world.old) self.new.outstanding (W.settled world.new) }
+        ensures no_more { self.new.outstanding ≤ self.old.outstanding }
+        ensures limit { self.new.limit ≡ self.old.limit }
+    {
+        // What begins here is not due yet.
+        for _ in 0..self.table.wait_count() {
+            let Some(wait) = self.table.next_due(now) else {
+                return;
+            };
+            if let Some(job) = self.table.take_due(wait) {
+                self.end(desk, world, now, job);
+            }
+        }
+    }
+}

@@ -1,0 +1,34 @@
+//! Many questions in flight in one worker: each is a task that waits for one reply, and the worker carries octets between
+//! tasks, the desk and the lines. It owns no socket.
+#![tactic(auto)]
+
+// In the order in which to read them.
+
+// A desk whose calls are numbered.
+mod numbered;
+// An exchange under way.
+mod line;
+// Clients and the sockets of a worker.
+mod world;
+// A question on its way.
+mod asking;
+// A question that waits for the reply to a query.
+mod job;
+// The questions that wait, and since when.
+mod table;
+// What a client is told.
+mod telling;
+// Questions in flight.
+mod engine;
+// How a question goes on.
+mod driving;
+
+// What the definitions come to at a seat of a shared book.
+mod laws;
+
+pub use engine::Flight;
+pub use laws::{fall_law, rise_law};
+pub use line::Line;
+pub use numbered::Numbered;
+pub use table::PATIENCE;
+pub use world::{Client, Heard, Unserved, World};

@@ -1,0 +1,64 @@
+//! What a client is told.
+
+ghost use Rattle.std.specs.Prelude.{◌≡◌};
+ghost use Rattle.dns_wire.specs.declared.server.query.Asked.TheVariants.{Fault};
+ghost use Rattle.dns_wire.specs.Server.Asking.{AsksFor};
+ghost use Rattle.front_workers.specs.Counts.{Rises};
+ghost use Rattle.front_workers.specs.Serves.{fault_octets};
+ghost use Rattle.iterate.specs.Told.{IsFit};
+ghost use Rattle.flight.specs.Asking.{IsAskedBy};
+ghost use Rattle.flight.specs.Flight.{Lands};
+
+use crate::asking::Asking;
+use crate::line::Line;
+use crate::numbered::Numbered;
+use crate::world::{Client, Unserved, World};
+use command_text::Clock;
+use dns_query::Over;
+use dns_wire::{Rcode, fault_reply};
+use front_workers::write_answer;
+use iterate::Answer;
+use std::alloc::Global;
+
+/// The reply that tells the fault of octets. It takes no memory.
+pub(crate) fn fault_of(octets: &[u8], rcode: Rcode) -> [u8; 12]
+    requires { AsksFor octets.now (Fault rcode) }
+    ensures { result ≡ fault_octets octets.now rcode }
+{
+    fault_reply(octets, rcode).unwrap()
+}
+
+/// Tells a client that the server failed.
+pub(crate) fn refuse<D: Numbered, L: Line, C: Clock, K: Client, W: World<D, L, C, K>>(
+    world: &mut W,
+    asking: Asking<K>,
+    octets: &[u8],
+    why: Unserved,
+)
+    requires asked { IsAskedBy K.sent asking.port octets.now asking.client asking.query asking.task }
+    ensures port { W.server_port world.new ≡ W.server_port world.old }
+    ensures settled { Rises (W.settled world.old) (W.settled world.new) }
+{
+    world.fail(asking.client, octets, why);
+}
+
+/// Tells a client the answer to its question, or nothing where that is silence.
+pub(crate) fn tell<D: Numbered, L: Line, C: Clock, K: Client, W: World<D, L, C, K>>(
+    alloc: Global,
+    world: &mut W,
+    asking: Asking<K>,
+    octets: &[u8],
+    answer: &Answer,
+)
+    requires asked { IsAskedBy K.sent asking.port octets.now asking.client asking.query asking.task }
+    requires lands { Lands D.calls D.seen L.hears C.ticks (W.server_port world.old) asking.query.question answer.now }
+    requires fit { IsFit answer.now }
+    ensures port { W.server_port world.new ≡ W.server_port world.old }
+    ensures settled { Rises (W.settled world.old) (W.settled world.new) }
+{
+    match write_answer(alloc, Over::Udp, octets, &asking.query, answer) {
+        Ok(Some(reply)) => world.give(asking.client, octets, &reply),
+        Ok(None) => world.pass_over(asking.client, octets),
+        Err(_) => refuse::<D, L, C, K, W>(world, asking, octets, Unserved::NoMemory),
+    }
+}

@@ -1,0 +1,93 @@
+//! Clients and the sockets of a worker.
+
+ghost use Rattle.std.specs.Prelude.{◌≡◌, ◌≤◌, ℕ, List, length, IfSome};
+ghost use Rattle.dns_wire.specs.declared.server.query.Asked.TheVariants.{Drop};
+ghost use Rattle.dns_wire.specs.Server.Asking.{AsksFor};
+ghost use Rattle.front_workers.specs.Counts.{Rises};
+ghost use Rattle.flight.specs.Flight.{query_to};
+ghost use Rattle.flight.specs.Told.{IsHeard, IsTold, IsUntold};
+
+use crate::line::Line;
+use crate::numbered::Numbered;
+use command_text::Clock;
+use dns_query::Over;
+use dns_text::{Addr, Octets, Shared};
+
+/// Someone who waits for the reply to what it sent. It has no copy, and each end takes it.
+pub trait Client: Drop {
+    /// It may have sent these octets.
+    ghost sent: { Self → List ℕ → Type 0 };
+}
+
+/// What listening gave.
+#[derive(Debug, Drop)]
+pub enum Heard {
+    /// Nothing yet.
+    Nothing,
+    /// These octets, and nothing more.
+    Came(Octets),
+    /// Nothing, then or later: the device failed, or the server closed.
+    Broken,
+    /// Something for which there is no memory.
+    NoMemory,
+}
+
+/// Why a client is told that the server failed.
+#[derive(Clone, Copy, Debug, PartialEq, Eq)]
+pub enum Unserved {
+    /// There was no memory.
+    NoMemory,
+    /// As many exchanges are under way as there may be.
+    TooMany,
+    /// The desk or the port of name servers is not that with which the question began.
+    Elsewhere,
+}
+
+/// The sockets of a worker: those on which clients are told, and those of exchanges.
+pub trait World<D: Numbered, L: Line, C: Clock, K: Client> {
+    /// The port of name servers that are known by name.
+    ghost server_port: { Self → ℕ };
+
+    /// How many clients were settled. At most 2^64 - 1 are counted.
+    ghost settled: { Self → ℕ };
+
+    /// The port of name servers that are known by name.
+    fn server_port(&self) -> u16
+        ensures { result ≡ server_port self.now };
+
+    /// Begins an exchange, which is watched under the key. None where the device failed.
+    fn open(&mut self, key: usize, server: &Addr, over: Over, query: Shared<Octets>) -> Option<L>
+        ensures asked { IfSome result (λ line. L.asked line ≡ query_to server.now over query) }
+        ensures port { server_port self.new ≡ server_port self.old }
+        ensures settled { settled self.new ≡ settled self.old };
+
+    /// Goes on with an exchange, without waiting.
+    fn hear(&mut self, line: &mut L) -> Heard
+        ensures heard { IsHeard (L.hears (L.asked line.old)) result }
+        ensures asked { L.asked line.new ≡ L.asked line.old }
+        ensures port { server_port self.new ≡ server_port self.old }
+        ensures settled { settled self.new ≡ settled self.old };
+
+    /// Tells a client the reply to its octets. Whether it reaches the client is not known.
+    fn give(&mut self, client: K, octets: &[u8], reply: &[u8])
+        requires own { K.sent client octets.now }
+        requires told { IsTold D.calls D.seen L.hears C.ticks (server_port self.old) octets.now reply.now }
+        requires short { length reply.now ≤ 512 }
+        ensures port { server_port self.new ≡ server_port self.old }
+        ensures settled { Rises (settled self.old) (settled self.new) };
+
+    /// Tells a client that the server failed (RFC 1035, section 4.1.1, RCODE 2), by the header alone.
+    fn fail(&mut self, client: K, octets: &[u8], why: Unserved)
+        requires own { K.sent client octets.now }
+        requires header { 12 ≤ length octets.now }
+        requires owed { ¬ (AsksFor octets.now Drop) }
+        ensures port { server_port self.new ≡ server_port self.old }
+        ensures settled { Rises (settled self.old) (settled self.new) };
+
+    /// Lets a client go to whom no reply is owed.
+    fn pass_over(&mut self, client: K, octets: &[u8])
+        requires own { K.sent client octets.now }
+        requires untold { IsUntold D.calls D.seen L.hears C.ticks (server_port self.old) octets.now }
+        ensures port { server_port self.new ≡ server_port self.old }
+        ensures settled { Rises (settled self.old) (settled self.new) };
+}

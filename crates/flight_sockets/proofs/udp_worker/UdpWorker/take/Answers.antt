@@ -1,0 +1,7 @@
+use Rattle.std.proofs.Common.{rules}
+use Rattle.flight_sockets.proofs.Accounting.{begun}
+use Rattle.flight_sockets.proofs.udp_worker.UdpWorker.take.Goals as goal
+
+pub returns-in-Query-clause-accounts : goal.returns-in-Query-clause-accounts
+returns-in-Query-clause-accounts g c =
+    begun _ _ _ _ (search rules) (search rules) c.begin.ensures.one (search rules)

@@ -1,0 +1,4 @@
+pub mod Accounts
+pub mod Replies
+pub mod Taken
+pub mod Wanting

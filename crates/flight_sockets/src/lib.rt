@@ -1,0 +1,31 @@
+//! Many questions in flight over sockets.
+#![tactic(auto)]
+
+// In the order in which to read them.
+
+// How many exchanges a worker may have under way.
+mod limit;
+// Where datagrams come in for one worker, and what wakes it.
+mod listener;
+// Who waits for the reply to a datagram.
+mod client;
+// What a call that never waits tells where it would.
+mod waiting;
+// A query and its reply over a connection, without waiting.
+mod tcp_line;
+// An exchange over a socket of its own.
+mod socket_line;
+// The sockets of one worker.
+mod worker_sockets;
+// How long exchanges take.
+mod millis;
+// A worker that keeps many questions in flight.
+mod udp_worker;
+
+pub use client::UdpClient;
+pub use limit::{MOST_EXCHANGES, SPARE_DESCRIPTORS, most_exchanges};
+pub use listener::{UdpListener, listen_each};
+pub use mio::Waker;
+pub use socket_line::SocketLine;
+pub use udp_worker::{UdpWorker, fly_udp};
+pub use worker_sockets::WorkerSockets;

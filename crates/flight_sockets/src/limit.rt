@@ -1,0 +1,20 @@
+//! How many exchanges a worker may have under way.
+
+ghost use Rattle.std.specs.Prelude.{◌≡◌, ◌*◌, ◌+◌, ◌-◌, ◌/◌, ◌<◌, ◌≤◌, min};
+
+/// So many exchanges at most has a worker under way, whatever the process may have.
+pub const MOST_EXCHANGES: usize = 512;
+
+/// The descriptors that are left to everything else: three for each of 16 workers, and those of the program itself.
+pub const SPARE_DESCRIPTORS: u64 = 64;
+
+/// How many exchanges each of so many workers may have under way, where the process may have so many descriptors. Each
+/// exchange holds one.
+pub fn most_exchanges(descriptors: u64, workers: u8) -> usize
+    requires { 1 ≤ workers }
+    ensures most { result ≡ min MOST_EXCHANGES ((descriptors - SPARE_DESCRIPTORS) / workers) }
+    ensures room { result * workers ≤ descriptors - SPARE_DESCRIPTORS }
+{
+    let left = descriptors.saturating_sub(SPARE_DESCRIPTORS);
+    (left / u64::from(workers)).min(MOST_EXCHANGES as u64) as usize
+}

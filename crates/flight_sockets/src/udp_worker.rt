@@ -1,0 +1,280 @@
+//! A worker that keeps many questions in flight.
+
+ghost use Rattle.std.specs.Prelude.{◌≡◌, ◌≤◌, ℕ, IfOk};
+ghost use Rattle.front_workers.specs.declared.working.TheConstants.{MOST_FAILURES};
+ghost use Rattle.front_workers.specs.declared.working.WorkEnd.TheVariants.{Failing};
+ghost use Rattle.front_workers.specs.Counts.{Rises};
+ghost use Rattle.front_workers.specs.Working.{HasFailed};
+ghost use Rattle.flight.specs.Waiting.{IsAccounted};
+ghost use Rattle.flight_sockets.specs.Accounts.{Accounts};
+
+use crate::client::{ROOM, UdpClient};
+use crate::listener::{SERVICE, UdpListener};
+use crate::millis::Millis;
+use crate::socket_line::SocketLine;
+use crate::worker_sockets::{Taken, WorkerSockets};
+use command_text::Clock;
+use dns_sockets::glance;
+use dns_text::NoMemory;
+use flight::{Flight, Numbered};
+use front_workers::{MOST_FAILURES, WorkEnd};
+use log::{Log, warn};
+use mio::{Events, Token};
+use rand_core::Rng;
+use std::alloc::Global;
+use std::io;
+use std::marker::Model;
+use std::net::Net;
+use std::sync::Wait;
+use std::sync::atomic::{AtomicBool, Ordering};
+use std::time::{Duration, Instant};
+
+/// So many datagrams at most are taken in one turn.
+const MOST_TAKEN: u32 = 256;
+
+/// So many events at most are looked at in one turn.
+const MOST_EVENTS: usize = 1024;
+
+/// The questions of a worker that are in flight.
+type Questions<D, C, G> = Flight<D, SocketLine, C, G, UdpClient>;
+
+/// A worker that takes datagrams. Contracts see its counts.
+#[derive(Drop)]
+pub struct UdpWorker<'a, R: Net + Log + std::rt::Clock> {
+    sockets: WorkerSockets<'a, R>,
+    millis: Millis<'a, R>,
+    events: Events,
+    taken: u64,
+    failures: u64,
+}
+
+impl<'a, R: Net + Log + std::rt::Clock> Model for UdpWorker<'a, R> {
+    ghost use Rattle.flight_sockets.specs.Accounts.{WorkerCounts};
+
+    ghost Value = { WorkerCounts };
+
+    ghost view = { λ worker. record { taken = worker.taken; settled = worker.sockets.settled; failures = worker.failures } };
+}
+
+impl<'a, R: Net + Log + std::rt::Clock> UdpWorker<'a, R> {
+    /// Takes datagrams at a listener. Name servers that are known by name are asked at this port. Exchanges are timed from
+    /// the start on.
+    pub fn new(
+        rt: &'a R,
+        alloc: Global,
+        listener: UdpListener,
+        server_port: u16,
+        start: Instant,
+    ) -> Result<UdpWorker<'a, R>, NoMemory>
+        ensures { IfOk result (λ worker. worker ≡ record { taken = 0; settled = 0; failures = 0 }) }
+    {
+        Ok(UdpWorker {
+            sockets: WorkerSockets::new(rt, alloc, listener, server_port)?,
+            millis: Millis::new(rt, start),
+            events: Events::with_capacity(alloc, MOST_EVENTS)?,
+            taken: 0,
+            failures: 0,
+        })
+    }
+
+    /// How long the next wait may be: until an exchange is overdue, and no longer than until the stop flag is looked at.
+    fn patience<D: Numbered, C: Clock, G: Rng>(
+        &mut self,
+        questions: &Questions<D, C, G>,
+    ) -> Duration
+        ensures { self.new ≡ self.old }
+    {
+        let now = self.millis.now();
+        match questions.next_expiry(now) {
+            Some(left) => glance().min(Duration::from_millis(left)),
+            None => glance(),
+        }
+    }
+
+    fn count_taken(&mut self)
+        ensures taken { Rises self.old.taken self.new.taken }
+        ensures settled { self.new.settled ≡ self.old.settled }
+        ensures failures { self.new.failures ≡ self.old.failures }
+    {
+        self.taken = self.taken.saturating_add(1);
+    }
+
+    fn count_failure(&mut self)
+        ensures failures { Rises self.old.failures self.new.failures }
+        ensures taken { self.new.taken ≡ self.old.taken }
+        ensures settled { self.new.settled ≡ self.old.settled }
+    {
+        self.failures = self.failures.saturating_add(1);
+    }
+
+    /// Takes one datagram. Whether more may be there.
+    fn take<D: Numbered, C: Clock, G: Rng>(
+        &mut self,
+        desk: &mut D,
+        questions: &mut Questions<D, C, G>,
+        room: &mut [u8; ROOM],
+    ) -> io::Result<bool>
+        ensures accounts { Accounts questions.old.outstanding self.old questions.new.outstanding self.new }
+        ensures within { questions.old.outstanding ≤ questions.old.limit → questions.new.outstanding ≤ questions.old.limit }
+        ensures limit { questions.new.limit ≡ questions.old.limit }
+        ensures failures { self.new.failures ≡ self.old.failures }
+    {
+        match self.sockets.take(room)? {
+            Taken::Nothing => return Ok(false),
+            Taken::Passed => {}
+            Taken::TooLong(peer) => self.sockets.refuse(peer, room),
+            Taken::Query(client) => {
+                let now = self.millis.now();
+                let octets = &room[..client.count()];
+                self.count_taken();
+                questions.begin(desk, &mut self.sockets, now, client, octets);
+            }
+        }
+        Ok(true)
+    }
+
+    /// Takes a batch of datagrams. Whether more may be there.
+    fn take_batch<D: Numbered, C: Clock, G: Rng>(
+        &mut self,
+        desk: &mut D,
+        questions: &mut Questions<D, C, G>,
+        room: &mut [u8; ROOM],
+    ) -> io::Result<bool>
+        ensures accounts { Accounts questions.old.outstanding self.old questions.new.outstanding self.new }
+        ensures within { questions.old.outstanding ≤ questions.old.limit → questions.new.outstanding ≤ questions.old.limit }
+        ensures limit { questions.new.limit ≡ questions.old.limit }
+        ensures failures { self.new.failures ≡ self.old.failures }
+    {
+        for _ in 0..MOST_TAKEN {
+            if !self.take(desk, questions, room)? {
+                return Ok(false);
+            }
+        }
+        Ok(true)
+    }
+
+    /// Goes on with those that wait: what came of their exchanges is heard, and what is overdue ends. Whether the events name
+    /// the service's socket.
+    fn go_on<D: Numbered, C: Clock, G: Rng>(
+        &mut self,
+        desk: &mut D,
+        questions: &mut Questions<D, C, G>,
+    ) -> bool
+        ensures accounts { Accounts questions.old.outstanding self.old questions.new.outstanding self.new }
+        ensures no_more { questions.new.outstanding ≤ questions.old.outstanding }
+        ensures limit { questions.new.limit ≡ questions.old.limit }
+        ensures failures { self.new.failures ≡ self.old.failures }
+    {
+        let polled = self.millis.now();
+        let came = look_all(
+            &self.events,
+            &mut self.sockets,
+            &mut self.millis,
+            desk,
+            questions,
+        );
+        // What had come when the wait ended was looked at, so what was overdue then is.
+        questions.expire(desk, &mut self.sockets, polled);
+        came
+    }
+
+    /// Waits for what comes, and goes on with it. Where datagrams were left, nothing is waited for. Whether more may be
+    /// there.
+    #[tactic(auto, using(crate::proofs::Accounting::followed))]
+    fn turn<D: Numbered, C: Clock, G: Rng>(
+        &mut self,
+        desk: &mut D,
+        questions: &mut Questions<D, C, G>,
+        room: &mut [u8; ROOM],
+        were_left: bool,
+    ) -> io::Result<bool>
+        ensures accounts { Accounts questions.old.outstanding self.old questions.new.outstanding self.new }
+        ensures within { questions.old.outstanding ≤ questions.old.limit → questions.new.outstanding ≤ questions.old.limit }
+        ensures limit { questions.new.limit ≡ questions.old.limit }
+        ensures failures { self.new.failures ≡ self.old.failures }
+    {
+        let wait = if were_left {
+            Duration::ZERO
+        } else {
+            self.patience(questions)
+        };
+        self.sockets.wait(&mut self.events, wait)?;
+        let came = self.go_on(desk, questions);
+        if came || were_left {
+            return self.take_batch(desk, questions, room);
+        }
+        Ok(false)
+    }
+}
+
+/// Looks at the exchanges that events name. Whether they name the service's socket.
+fn look_all<D: Numbered, C: Clock, G: Rng, R: Net + Log + std::rt::Clock>(
+    events: &Events,
+    sockets: &mut WorkerSockets<'_, R>,
+    millis: &mut Millis<'_, R>,
+    desk: &mut D,
+    questions: &mut Questions<D, C, G>,
+) -> bool
+    ensures accounted { IsAccounted 0 questions.old.outstanding sockets.old.settled questions.new.outstanding sockets.new.settled }
+    ensures no_more { questions.new.outstanding ≤ questions.old.outstanding }
+    ensures limit { questions.new.limit ≡ questions.old.limit }
+{
+    let mut came = false;
+    for event in events.iter() {
+        if event.token() == SERVICE {
+            came = true;
+        } else {
+            let Token(key) = event.token();
+            questions.look(desk, sockets, millis.now(), key);
+        }
+    }
+    came
+}
+
+/// Answers datagrams until the stop flag is set, or until turns have failed as often in a row as ends a worker. At most so
+/// many exchanges are under way, and a question that waits for one keeps no other waiting. The listener's waker has the
+/// flag seen at once; questions under way are dropped then.
+///
+/// A line of the log tells of each turn, reply and exchange that this machine failed, of each client that is told that the
+/// server failed since there is no memory, and of each that is told so since it would need one exchange more.
+pub fn fly_udp<D: Numbered, C: Clock + Drop, G: Rng + Drop, R: Wait + Net + Log + std::rt::Clock>(
+    rt: &R,
+    alloc: Global,
+    desk: &mut D,
+    clock: C,
+    ids: G,
+    worker: &mut UdpWorker<'_, R>,
+    limit: usize,
+    stop: &AtomicBool,
+) -> WorkEnd
+    // Each query that was taken was settled once, but for those that wait at the end.
+    ensures accounts { (waiting : ℕ) × (waiting ≤ limit) × Accounts 0 worker.old waiting worker.new }
+    ensures failing { result ≡ Failing → HasFailed MOST_FAILURES worker.old.failures worker.new.failures }
+{
+    let mut questions = Flight::new(alloc, clock, ids, limit);
+    let mut room = [0u8; ROOM];
+    let mut more = false;
+    let mut failed = 0u8;
+    for _ in rt.forever() {
+        if stop.load(Ordering::SeqCst) {
+            return WorkEnd::Ended;
+        }
+        match worker.turn(desk, &mut questions, &mut room, more) {
+            Ok(left) => {
+                more = left;
+                failed = 0;
+            }
+            Err(_) => {
+                warn!(rt; "resolver: device fault");
+                worker.count_failure();
+                more = true;
+                failed += 1;
+                if failed == MOST_FAILURES {
+                    warn!(rt; "resolver: worker ended by failures");
+                    return WorkEnd::Failing;
+                }
+            }
+        }
+    }
+    unreachable!()
+}
