@@ -1,15 +1,16 @@
-"""With which status `resolver serve` and `resolver control` end, and what they then tell: arguments, binding, log, and the lines
-that `resolver control` sends."""
+"""With which status `resolver serve` and `resolver control` end, and what they then tell: arguments, binding, refused memory, log,
+how soon `stop` ends it, and the lines that `resolver control` sends."""
 
 import signal
 import socket
+import threading
 import time
 from concurrent.futures import ThreadPoolExecutor
 
 from checks import Checks
 from nameserver import NameServers, bound
-from programs import RESOLVER, run
-from service import CANNOT_LISTEN, HOST, STOPPED, Service, free_port, until
+from programs import RESOLVER, library, run
+from service import CANNOT_LISTEN, HOST, STOPPED, NotReady, Service, free_port, query, until
 
 BAD = b"resolver: bad arguments\n"
 NOT_LOOPBACK = b"resolver: control must be loopback\n"
@@ -201,6 +202,98 @@ def check_signal(checks):
         checks.equal("SIGTERM: the log", words, [b"started"])
 
 
+NO_MEMORY = b"resolver: no memory\n"
+
+# The service makes fewer growths of memory than this before it is ready.
+MOST_GROWTHS = 1_000
+
+
+def refused_start(nth, *options):
+    """Starts a service whose growth of memory of this number is refused. Whether it was, and what is wrong with what came of it.
+
+    It ends and says why. Or it asked for less then, and serves as ever.
+    """
+    environment = {"LD_PRELOAD": library("refuse"), "REFUSE_NTH": str(nth), "TELL": "2"}
+    try:
+        with Service(["192.0.2.1"], *options, environment=environment) as service:
+            # What comes behind `ready` may be refused too, and is no start.
+            was_refused = b"refused\n" in service.log()
+            if not was_refused:
+                return False, None
+            service.obey("local_data a. 60 A 192.0.2.1")
+            answer = service.ask("a.").words()
+            ended = service.stop()
+            is_right = (answer, ended) == ("aa | answer a. A 192.0.2.1", STOPPED)
+            return True, None if is_right else f"it is ready, and answers {answer!r}, {ended}"
+    except NotReady as fault:
+        is_right = fault.status == 1 and b"refused\n" + NO_MEMORY in fault.told
+        return True, None if is_right else str(fault)
+
+
+def check_refused_start(checks):
+    """Each growth of memory up to `ready` is refused in turn."""
+    for options in ([], ["--udp", "3", "--tcp", "2", "--seed", "1"]):
+        name = " ".join(["serve", *options])
+        for nth in range(1, MOST_GROWTHS):
+            was_refused, fault = refused_start(nth, *options)
+            if not was_refused:
+                break
+            checks.tell(f"{name}, growth {nth} refused", fault)
+        checks.tell(f"{name}, growths refused", None if 50 < nth < MOST_GROWTHS - 1 else f"{nth - 1} were")
+
+
+# `stop` ends a service in a tenth of a second; on a machine that does other things beside, no later than this.
+STOP_SECONDS = 0.5
+
+
+def seconds_to_stop(service):
+    """How long it took from `stop` to the end of the program, which is with status 0."""
+    with service.control() as control:
+        began = time.monotonic()
+        told = control.tell("stop")
+        status, rest = service.wait()
+        took = time.monotonic() - began
+    return took, (told, status, rest)
+
+
+def ask_on(service, over, ending):
+    """Asks for what is held, and does not stop before the service does."""
+    try:
+        with service.client(over) as client:
+            client.sock.settimeout(5)
+            while not ending.is_set():
+                client.ask("held.test.", "A")
+    except (OSError, EOFError):
+        pass
+
+
+def check_stop(checks, name, is_asked, is_loaded):
+    """How soon `stop` ends a service: one at rest, one of whose questions wait for a silent name server, one that is asked without end."""
+    silent = {HOST: {"*": None}}
+    with NameServers(silent) as servers, Service([f"{HOST}@{servers.port}"], "--udp", "2", "--tcp", "2") as service:
+        service.obey("local_data held.test. 60 A 192.0.2.1")
+        ending = threading.Event()
+        threads = [threading.Thread(target=ask_on, args=(service, over, ending)) for over in ("udp", "tcp") for _ in range(2)]
+        if is_loaded:
+            for thread in threads:
+                thread.start()
+        with service.client() as client:
+            if is_asked:
+                for place in range(100):
+                    client.send(query(f"silent{place}.test.", "A"))
+                checks.tell(f"stop {name}: asked", None if servers.wait_for("silent99.test. A") else "it is not")
+            if is_loaded:
+                time.sleep(0.5)
+            took, ended = seconds_to_stop(service)
+        ending.set()
+        if is_loaded:
+            for thread in threads:
+                thread.join()
+        checks.equal(f"stop {name}", ended, STOPPED)
+        print(f"stop {name}: {took * 1000:.0f} ms")
+        checks.tell(f"stop {name}: how soon", None if took < STOP_SECONDS else f"{took:.3f} s")
+
+
 def outlive_want():
     """A worker that cannot accept for eighteen seconds, while nobody connects: the faults in the log, whether it ended, and what it answers then."""
     with Service(["192.0.2.1"]) as service:
@@ -224,6 +317,11 @@ def make_all(checks):
     checks.make(check_seed)
     checks.make(check_control_program)
     checks.make(check_silent_server)
+    checks.make(check_refused_start)
+    checks.make(check_stop, "at rest", False, False)
+    checks.make(check_stop, "with questions that wait", True, False)
+    checks.make(check_stop, "under load", False, True)
+    checks.make(check_stop, "under load, with questions that wait", True, True)
     checks.make(check_signal)
 
 

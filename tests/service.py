@@ -123,6 +123,14 @@ class Control:
         return line[:-1].decode()
 
 
+class NotReady(RuntimeError):
+    """A service ended before it was ready, with this status and these octets on standard error."""
+
+    def __init__(self, status, told):
+        super().__init__(f"the service is not ready: status {status}, {told!r}")
+        self.status, self.told = status, told
+
+
 class Service:
     """A service that is ready, until it is stopped; at the end of a `with` it is ended whatever it does."""
 
@@ -132,21 +140,28 @@ class Service:
             self.port, self.control_port = free_port(host), free_port(host)
             self.errors = tempfile.TemporaryFile()
             self._start([*options, *hints], environment or {})
-            line = self.process.stdout.readline()
-            if line == b"ready\n":
+            if self._is_ready():
                 return
             self._end()
             told = self.log()
             self.errors.close()
             if CANNOT_LISTEN not in told:
                 break
-        raise RuntimeError(f"the service is not ready: {line!r}, {told!r}")
+        raise NotReady(self.process.returncode, told)
 
     def _start(self, arguments, environment):
         command = [RESOLVER, "serve", "--listen", f"{self.host}@{self.port}", "--control", f"{self.host}@{self.control_port}"]
         self.process = subprocess.Popen(
             command + arguments, stdin=subprocess.DEVNULL, stdout=subprocess.PIPE, stderr=self.errors, env=environment,
         )
+
+    def _is_ready(self):
+        """Whether it says so, and not that it has ended. One that says neither is killed."""
+        came, _, _ = select.select([self.process.stdout], [], [], PATIENCE)
+        line = self.process.stdout.readline() if came else None
+        if line == b"":
+            self.process.wait(PATIENCE)
+        return line == b"ready\n"
 
     def _end(self):
         if self.process.poll() is None:

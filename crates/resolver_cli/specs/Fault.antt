@@ -1,7 +1,9 @@
 -- How the program ends where it does not begin, or does not go on.
-use Rattle.std.specs.Prelude.{◌≡◌, ◌++◌, ◌⊎◌, ℕ, List, codes}
+use Rattle.std.specs.Prelude.{◌≡◌, ◌++◌, ℕ, List, codes}
 use Rattle.dns_text.specs.declared.addr.Addr.{Addr}
 use Rattle.dns_text.specs.Addr.{addr_text}
+use Rattle.resolver_args.specs.declared.fault.ArgsFault.{ArgsFault}
+use Rattle.resolver_args.specs.declared.fault.ArgsFault.TheVariants.{NoMemory, Usage, BadArguments, NotLoopback}
 use Rattle.resolver_cli.specs.declared.fault.CliFault.{CliFault}
 use Rattle.streams.specs.Split.{with_end}
 use Rattle.streams.specs.Text.{octets_in}
@@ -34,6 +36,13 @@ CannotListen addr fault = Ends fault 1 (codes "resolver: cannot listen on " ++ a
 abbrev pub HasNoService : Addr → CliFault → Type 0
 HasNoService addr fault = Ends fault 1 (codes "resolver: no service at " ++ addr_text addr)
 
--- Arguments are refused with status 2, and status 1 is for memory.
-abbrev pub IsRefusal : CliFault → Type 0
-IsRefusal fault = IsNoMemory fault ⊎ (fault.status ≡ 2)
+-- what clap says of the arguments, with this status
+abbrev pub IsUsage : List ℕ → CliFault → Type 0
+IsUsage lines fault = (fault.status ≡ 2) × (octets_in fault.text ≡ lines)
+
+-- how the program ends where its arguments say nothing
+abbrev pub EndsFor : ArgsFault → CliFault → Type 0
+EndsFor NoMemory fault = IsNoMemory fault
+EndsFor (Usage lines) fault = IsUsage lines.bytes.items fault
+EndsFor BadArguments fault = IsBadArguments fault
+EndsFor NotLoopback fault = IsNotLoopback fault

@@ -3,10 +3,11 @@
 ghost use Rattle.std.specs.Prelude.{◌≡◌, ◌++◌, ◌⊎◌, IfOk};
 ghost use Rattle.dns_text.specs.Addr.{addr_text};
 ghost use Rattle.streams.specs.Split.{with_end};
-ghost use Rattle.resolver_cli.specs.Fault.{Ends, IsNoMemory, IsBadArguments, IsNotLoopback, IsFailedRead, IsFailedWrite, CannotStart, CannotListen, HasNoService};
+ghost use Rattle.resolver_cli.specs.Fault.{Ends, IsNoMemory, IsBadArguments, IsNotLoopback, EndsFor, IsFailedRead, IsFailedWrite, CannotStart, CannotListen, HasNoService};
 
 use dns_name::NoMemory;
 use dns_text::{Addr, push_addr};
+use resolver_args::ArgsFault;
 use std::alloc::Global;
 use streams::Text;
 
@@ -91,6 +92,22 @@ impl CliFault {
         ensures { HasNoService addr.now result ⊎ IsNoMemory result }
     {
         at_addr(alloc, b"resolver: no service at ", addr)
+    }
+}
+
+impl From<ArgsFault> for CliFault {
+    ghost from_gives = { λ fault ended. EndsFor fault ended };
+
+    fn from(fault: ArgsFault) -> CliFault {
+        match fault {
+            ArgsFault::NoMemory => CliFault::no_memory(),
+            ArgsFault::Usage(lines) => CliFault {
+                status: 2,
+                text: Text::Made(lines.into_bytes()),
+            },
+            ArgsFault::BadArguments => CliFault::bad_arguments(),
+            ArgsFault::NotLoopback => CliFault::not_loopback(),
+        }
     }
 }
 

@@ -3,9 +3,6 @@
 #![tactic(auto)]
 
 mod fault; // why the program does not begin, or does not go on
-mod mode; // what the program is to do
-mod options; // the commands of the program, as help shows them
-mod args; // what the arguments say
 mod script; // standard input is obeyed
 mod client; // lines for a service
 mod sockets; // the sockets of a service
@@ -13,15 +10,14 @@ mod worker; // one worker
 mod operators; // the control socket
 mod service; // workers over one shared book, and an operator's lines
 
-ghost use Rattle.std.specs.Prelude.{IfOk, IfErr};
-ghost use Rattle.resolver_cli.specs.Fault.{IsRefusal};
-ghost use Rattle.resolver_cli.specs.Mode.{IsInRange};
+ghost use Rattle.std.specs.Prelude.{◌≡◌, map, IfOk};
+ghost use Rattle.resolver_args.specs.Mode.{HasNumbers};
+ghost use Rattle.resolver_args.specs.Says.{Says, IsGuarded};
 
-use args::read_args;
 use client::send;
 use dns_text::Addr;
 use fault::CliFault;
-use mode::Mode;
+use resolver_args::{Mode, read_args};
 use script::obey_input;
 use service::serve;
 use std::alloc::{AllocError, Global};
@@ -29,7 +25,9 @@ use std::io::{ErrorKind, Write};
 use std::process::ExitCode;
 use std::{env, io};
 
-fn texts_of(alloc: Global, words: &[String]) -> Result<Vec<&str>, AllocError> {
+fn texts_of(alloc: Global, words: &[String]) -> Result<Vec<&str>, AllocError>
+    ensures { IfOk result (λ texts. map (λ text. text.now) texts.items ≡ map (λ word. word.bytes.items) words.now) }
+{
     let mut texts = Vec::new(alloc);
     for word in words {
         texts.push(word.as_str())?;
@@ -38,11 +36,11 @@ fn texts_of(alloc: Global, words: &[String]) -> Result<Vec<&str>, AllocError> {
 }
 
 fn mode_of(alloc: Global, words: &[String]) -> Result<Mode, CliFault>
-    ensures mode { IfOk result IsInRange }
-    ensures fault { IfErr result IsRefusal }
+    ensures said { IfOk result (Says (map (λ word. word.bytes.items) words.now)) }
+    ensures guarded { IfOk result IsGuarded }
 {
     match texts_of(alloc, words) {
-        Ok(texts) => read_args(alloc, texts.as_slice()),
+        Ok(texts) => Ok(read_args(alloc, texts.as_slice())?),
         Err(_) => Err(CliFault::no_memory()),
     }
 }
@@ -52,8 +50,7 @@ fn words_of(rt: &HostRuntime) -> io::Result<Vec<String>> {
 }
 
 fn arguments(rt: &HostRuntime) -> Result<Mode, CliFault>
-    ensures mode { IfOk result IsInRange }
-    ensures fault { IfErr result IsRefusal }
+    ensures fit { IfOk result (λ mode. HasNumbers mode × IsGuarded mode) }
 {
     match words_of(rt) {
         Ok(words) => mode_of(rt.alloc(), words.as_slice()),

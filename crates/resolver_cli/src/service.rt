@@ -2,16 +2,16 @@
 
 ghost use Rattle.std.specs.Prelude.{◌≡◌, ◌+◌, ◌≤◌, []};
 ghost use Rattle.shared_book.specs.declared.kept.TheConstants.{MOST_RECORDED};
-ghost use Rattle.resolver_cli.specs.declared.mode.TheConstants.{MOST_WORKERS};
-ghost use Rattle.resolver_cli.specs.Mode.{IsService};
+ghost use Rattle.resolver_args.specs.declared.mode.TheConstants.{MOST_WORKERS};
+ghost use Rattle.resolver_args.specs.Mode.{IsService};
 
 use crate::fault::CliFault;
-use crate::mode::Service;
 use crate::operators::obey_operators;
 use crate::sockets::{Sockets, wake_all};
 use crate::worker::{Lent, Terms, Worker, run_tcp, run_udp, workers};
 use dns_sockets::place_of;
 use log::{Log, info};
+use resolver_args::Service;
 use shared_book::{Blank, CallLedger, Pass, Seat, SharedBook};
 use std::alloc::Global;
 use std::marker::Brand;

@@ -1,7 +1,7 @@
 //! One worker, in a thread of its own.
 
 ghost use Rattle.std.specs.Prelude.{◌+◌, ◌≤◌};
-ghost use Rattle.resolver_cli.specs.declared.mode.TheConstants.{MOST_WORKERS};
+ghost use Rattle.resolver_args.specs.declared.mode.TheConstants.{MOST_WORKERS};
 
 use crate::fault::CliFault;
 use crate::sockets::Sockets;

@@ -1,7 +1,16 @@
 //! The commands of the program and their options, as `clap` is told them and as help shows them.
 
+ghost use Rattle.std.specs.Prelude.{◌≡◌, false, IfOk};
+ghost use Rattle.clap.specs.declared.builder.command.Command.TheViews.{out-Command as fields_of};
+ghost use Rattle.clap.specs.Walk.{rule_of};
+ghost use Rattle.clap.specs.Simple.{app_of, shape_of};
+ghost use Rattle.resolver_args.specs.CommandLine.{AddsRules, option_rule, number_rule, count_rule};
+ghost use Rattle.resolver_args.specs.CommandLine.{limit_rules, server_rules, address_rules, worker_rules, record_rules};
+ghost use Rattle.resolver_args.specs.CommandLine.{script_shape, serve_shape, control_shape, resolver_app};
+
 use crate::mode::MOST_WORKERS;
-use clap::{Arg, ArgAction, Command, value_parser};
+use clap::builder::ValueParser;
+use clap::{Arg, ArgAction, Command};
 use command_text::{Channel, help_text};
 use shared_book::MOST_RECORDED;
 use std::alloc::{AllocError, Global};
@@ -37,7 +46,10 @@ This service is for trying, not for a network: it keeps the whole history of wha
 it for each look, so it answers ever more slowly and takes ever more memory. `stop` on its control socket ends it.";
 
 /// An option with a value.
-fn option<'a>(alloc: Global, name: &'a str, value: &'a str, help: &'a str) -> Arg<'a> {
+fn option<'a>(alloc: Global, name: &'a str, value: &'a str, help: &'a str) -> Arg<'a>
+    ensures rule { rule_of result ≡ option_rule name.now }
+    ensures local { result.global ≡ false }
+{
     Arg::new(alloc, name)
         .long(name)
         .value_name(value)
@@ -45,27 +57,43 @@ fn option<'a>(alloc: Global, name: &'a str, value: &'a str, help: &'a str) -> Ar
         .action(ArgAction::Set)
 }
 
-/// An option with a number.
-fn number<'a>(alloc: Global, name: &'a str, default: &'a str, help: &'a str) -> Arg<'a> {
-    option(alloc, name, "N", help).default_value(default)
+/// An option with a number between these.
+fn number<'a>(alloc: Global, name: &'a str, least: u32, most: u32, help: &'a str) -> Arg<'a>
+    ensures rule { rule_of result ≡ number_rule name.now least most }
+    ensures local { result.global ≡ false }
+{
+    option(alloc, name, "N", help).value_parser(ValueParser::Signed(
+        i64::from(least),
+        i64::from(most),
+    ))
+}
+
+/// An option with a number from 1 on, and which one it is where none is given.
+fn count<'a>(alloc: Global, name: &'a str, default: &'a str, most: u32, help: &'a str) -> Arg<'a>
+    ensures rule { rule_of result ≡ count_rule name.now default.now most }
+    ensures local { result.global ≡ false }
+{
+    number(alloc, name, 1, most, help).default_value(default)
 }
 
 /// What a book is made with, but for its hints.
-fn with_limits<'a>(alloc: Global, command: Command<'a>) -> Result<Command<'a>, AllocError> {
-    let journal = number(
+fn with_limits<'a>(alloc: Global, command: Command<'a>) -> Result<Command<'a>, AllocError>
+    ensures { IfOk result (AddsRules command.entry limit_rules) }
+{
+    let journal = count(
         alloc,
         "journal",
         "64",
+        MOST_COMMANDS as u32,
         "How many commands can be undone, 1 to 256",
-    )
-    .value_parser(value_parser!(u16).range(1..=MOST_COMMANDS as i64));
-    let cells = number(
+    );
+    let cells = count(
         alloc,
         "cells",
         "100000",
+        MOST_CELLS as u32,
         "How many cells there may be, 1 to 1000000",
-    )
-    .value_parser(value_parser!(u32).range(1..=MOST_CELLS as i64));
+    );
     command.arg(journal)?.arg(cells)
 }
 
@@ -74,14 +102,16 @@ fn with_servers<'a>(
     alloc: Global,
     command: Command<'a>,
     help: &'a str,
-) -> Result<Command<'a>, AllocError> {
-    let port = number(
+) -> Result<Command<'a>, AllocError>
+    ensures { IfOk result (AddsRules command.entry server_rules) }
+{
+    let port = count(
         alloc,
         "server-port",
         "53",
+        65535,
         "The port of the servers whose addresses are learnt, 1 to 65535",
-    )
-    .value_parser(value_parser!(u16).range(1..));
+    );
     let hints = Arg::new(alloc, "HINT")
         .help(help)
         .action(ArgAction::Append)
@@ -90,7 +120,9 @@ fn with_servers<'a>(
 }
 
 /// The addresses where a service is reached.
-fn with_addresses<'a>(alloc: Global, command: Command<'a>) -> Result<Command<'a>, AllocError> {
+fn with_addresses<'a>(alloc: Global, command: Command<'a>) -> Result<Command<'a>, AllocError>
+    ensures { IfOk result (AddsRules command.entry address_rules) }
+{
     let listen = option(
         alloc,
         "listen",
@@ -109,45 +141,52 @@ fn with_addresses<'a>(alloc: Global, command: Command<'a>) -> Result<Command<'a>
 }
 
 /// The workers of a service.
-fn with_workers<'a>(alloc: Global, command: Command<'a>) -> Result<Command<'a>, AllocError> {
-    let udp = number(
+fn with_workers<'a>(alloc: Global, command: Command<'a>) -> Result<Command<'a>, AllocError>
+    ensures { IfOk result (AddsRules command.entry worker_rules) }
+{
+    let udp = count(
         alloc,
         "udp",
         "1",
+        u32::from(MOST_WORKERS),
         "How many workers answer over UDP, at least 1 and with those over TCP at most 16",
-    )
-    .value_parser(value_parser!(u8).range(1..=MOST_WORKERS as i64));
-    let tcp = number(
+    );
+    let tcp = count(
         alloc,
         "tcp",
         "1",
+        u32::from(MOST_WORKERS),
         "How many workers answer over TCP, at least 1",
-    )
-    .value_parser(value_parser!(u8).range(1..=MOST_WORKERS as i64));
+    );
     command.arg(udp)?.arg(tcp)
 }
 
 /// What else a service is made with.
-fn with_record<'a>(alloc: Global, command: Command<'a>) -> Result<Command<'a>, AllocError> {
-    let record = number(
+fn with_record<'a>(alloc: Global, command: Command<'a>) -> Result<Command<'a>, AllocError>
+    ensures { IfOk result (AddsRules command.entry record_rules) }
+{
+    let record = count(
         alloc,
         "record",
         "10000",
+        MOST_RECORDED as u32,
         "How many calls of the book are recorded, 1 to 1000000",
-    )
-    .value_parser(value_parser!(u32).range(1..=MOST_RECORDED as i64));
-    let seed = option(
+    );
+    let seed = number(
         alloc,
         "seed",
-        "N",
+        0,
+        u32::MAX,
         "Draws the identifiers of queries from this number, 0 to 4294967295, and not from the system's randomness",
-    )
-    .value_parser(value_parser!(u32));
+    );
     command.arg(record)?.arg(seed)
 }
 
 /// The command `script`, whose help ends with these lines.
-fn script_command<'a>(alloc: Global, lines: &'a str) -> Result<Command<'a>, AllocError> {
+fn script_command<'a>(alloc: Global, lines: &'a str) -> Result<Command<'a>, AllocError>
+    ensures shape { IfOk result (λ command. shape_of command ≡ script_shape) }
+    ensures local { IfOk result (λ command. (fields_of command).has_globals ≡ false) }
+{
     let command = Command::new(alloc, "script")
         .about("Obeys the lines of standard input and writes a reply to each")
         .after_help(lines);
@@ -160,7 +199,10 @@ fn script_command<'a>(alloc: Global, lines: &'a str) -> Result<Command<'a>, Allo
 }
 
 /// The command `serve`.
-fn serve_command<'a>(alloc: Global) -> Result<Command<'a>, AllocError> {
+fn serve_command<'a>(alloc: Global) -> Result<Command<'a>, AllocError>
+    ensures shape { IfOk result (λ command. shape_of command ≡ serve_shape) }
+    ensures local { IfOk result (λ command. (fields_of command).has_globals ≡ false) }
+{
     let command = Command::new(alloc, "serve")
         .about("Answers questions over UDP and TCP, and obeys an operator's lines")
         .after_help(SERVE_HELP);
@@ -176,7 +218,10 @@ fn serve_command<'a>(alloc: Global) -> Result<Command<'a>, AllocError> {
 }
 
 /// The command `control`, whose help ends with these lines.
-fn control_command<'a>(alloc: Global, lines: &'a str) -> Result<Command<'a>, AllocError> {
+fn control_command<'a>(alloc: Global, lines: &'a str) -> Result<Command<'a>, AllocError>
+    ensures shape { IfOk result (λ command. shape_of command ≡ control_shape) }
+    ensures local { IfOk result (λ command. (fields_of command).has_globals ≡ false) }
+{
     let addr = Arg::new(alloc, "ADDR")
         .help("The control socket of the service, IP or IP@PORT")
         .required(true);
@@ -193,7 +238,9 @@ fn control_command<'a>(alloc: Global, lines: &'a str) -> Result<Command<'a>, All
 }
 
 /// The program is called `resolver`, whatever its file is called.
-pub(crate) fn command<'a>(alloc: Global, lines: &'a LinesHelp) -> Result<Command<'a>, AllocError> {
+pub(crate) fn command<'a>(alloc: Global, lines: &'a LinesHelp) -> Result<Command<'a>, AllocError>
+    ensures { IfOk result (λ command. app_of command ≡ resolver_app) }
+{
     Command::new(alloc, "resolver")
         .bin_name("resolver")?
         .subcommand_required(true)

@@ -1,13 +1,13 @@
--- What the arguments come to.
+-- The ranges of what the program is to do.
 use Rattle.std.specs.Prelude.{◌≡◌, ◌≤◌, ◌+◌, ℕ, List, [], ◌∷◌, length, slice_index}
 use Rattle.dns_text.specs.declared.addr.Ip.{Ip}
 use Rattle.dns_text.specs.declared.addr.Ip.TheVariants.{V4, V6}
 use Rattle.undo_book.specs.Event.{AreSettings}
 use Rattle.shared_book.specs.declared.kept.TheConstants.{MOST_RECORDED}
-use Rattle.resolver_cli.specs.declared.mode.Mode.{Mode}
-use Rattle.resolver_cli.specs.declared.mode.Mode.TheVariants.{Script, Serve, Control}
-use Rattle.resolver_cli.specs.declared.mode.Service.{Service}
-use Rattle.resolver_cli.specs.declared.mode.TheConstants.{MOST_WORKERS}
+use Rattle.resolver_args.specs.declared.mode.Mode.{Mode}
+use Rattle.resolver_args.specs.declared.mode.Mode.TheVariants.{Script, Serve, Control}
+use Rattle.resolver_args.specs.declared.mode.Service.{Service}
+use Rattle.resolver_args.specs.declared.mode.TheConstants.{MOST_WORKERS}
 
 -- 127.0.0.0/8 or ::1: only this machine can send to it
 abbrev pub IsLoopback : Ip → Type 0
@@ -23,12 +23,12 @@ pub record HasCounts (service : Service) : Type 0 where
   pub some_recorded : 1 ≤ service.record_limit
   pub few_recorded : service.record_limit ≤ MOST_RECORDED
 
--- a service that can be served
+-- each number of a mode is in its range
+abbrev pub HasNumbers : Mode → Type 0
+HasNumbers (Script settings) = AreSettings settings
+HasNumbers (Serve service) = AreSettings service.settings × HasCounts service
+HasNumbers (Control _ _) = Unit {0}
+
+-- a service that can be served, and commanded from this machine alone
 abbrev pub IsService : Service → Type 0
 IsService service = AreSettings service.settings × (HasCounts service × IsLoopback service.control.ip)
-
--- each number of a mode is in its range, and commands come from this machine alone
-abbrev pub IsInRange : Mode → Type 0
-IsInRange (Script settings) = AreSettings settings
-IsInRange (Serve service) = IsService service
-IsInRange (Control _ _) = Unit {0}

@@ -1,11 +1,11 @@
 //! What the program is to do.
 
-ghost use Rattle.std.specs.Prelude.{◌≡◌, ◌↔◌, ◌⊎◌, IsTrue, IsSome, IfOk, IfErr, IfSome, OnOk};
+ghost use Rattle.std.specs.Prelude.{◌≡◌, ◌↔◌, ◌⊎◌, ◌<◌, ◌^◌, IsTrue, IsSome, IfOk, IfErr, IfSome};
 ghost use Rattle.undo_book.specs.Event.{AreSettings};
-ghost use Rattle.resolver_cli.specs.Fault.{IsBadArguments, IsNotLoopback};
-ghost use Rattle.resolver_cli.specs.Mode.{IsLoopback, HasCounts, IsService};
+ghost use Rattle.resolver_args.specs.declared.fault.ArgsFault.TheVariants.{BadArguments, NotLoopback};
+ghost use Rattle.resolver_args.specs.Mode.{IsLoopback, HasCounts, IsService};
 
-use crate::fault::CliFault;
+use crate::fault::ArgsFault;
 use dns_text::{Addr, Ip, Items};
 use shared_book::MOST_RECORDED;
 use undo_book::{MOST_CELLS, MOST_COMMANDS, MOST_HINTS, Settings};
@@ -44,19 +44,20 @@ pub const MOST_WORKERS: u8 = 16;
 
 /// These settings, if each is in its range.
 pub(crate) fn settings_of(
-    journal: u16,
+    journal: u32,
     cells: u32,
     hints: Items<Addr>,
-    server_port: u16,
+    server_port: u32,
 ) -> Option<Settings>
-    ensures some { IsSome result ↔ AreSettings (record { journal = journal; cells = cells; hints = hints; server_port = server_port }) }
+    ensures some { IsSome result ↔ (AreSettings (record { journal = journal; cells = cells; hints = hints; server_port = server_port })
+        × (server_port < 2 ^ 16)) }
     ensures value { IfSome result (λ settings. settings ≡ record { journal = journal; cells = cells; hints = hints; server_port = server_port }) }
 {
     let settings = Settings {
         journal: journal as usize,
         cells: cells as usize,
         hints,
-        server_port,
+        server_port: u16::try_from(server_port).ok()?,
     };
     let has_journal = settings.journal >= 1 && settings.journal <= MOST_COMMANDS;
     let has_cells = settings.cells >= 1 && settings.cells <= MOST_CELLS;
@@ -91,18 +92,18 @@ impl Service {
     }
 
     /// The same, if it can be served. Its counts are looked at before its control.
-    pub(crate) fn checked(self) -> Result<Service, CliFault>
+    pub(crate) fn checked(self) -> Result<Service, ArgsFault>
         requires { AreSettings self.settings }
         ensures same { IfOk result (λ service. service ≡ self) }
         ensures fit { IfOk result IsService }
-        ensures fault { IfErr result (λ fault. (IsBadArguments fault × ¬ HasCounts self)
-            ⊎ (IsNotLoopback fault × (HasCounts self × ¬ IsLoopback self.control.ip))) }
+        ensures fault { IfErr result (λ fault. ((fault ≡ BadArguments) × ¬ HasCounts self)
+            ⊎ ((fault ≡ NotLoopback) × (HasCounts self × ¬ IsLoopback self.control.ip))) }
     {
         if !self.has_counts() {
-            return Err(CliFault::bad_arguments());
+            return Err(ArgsFault::BadArguments);
         }
         if !is_loopback(&self.control.ip) {
-            return Err(CliFault::not_loopback());
+            return Err(ArgsFault::NotLoopback);
         }
         Ok(self)
     }

@@ -1,0 +1,162 @@
+-- What was given, from what clap's getters answer.
+use Rattle.std.proofs.Common.{◌≡◌, ◌≢◌, ◌∙◌, ◌+◌, ◌<◌, ◌^◌, ◌∷◌, ◌++◌, [], ℕ, List, Option, Some, None, Result, Ok, Err, map, option_map, ap, sym, refl, subst, rules, arith, append_assoc, length, inl, inr, ◌⊎◌}
+use Rattle.std.specs.Prelude.{Any, MatchResult, zero, suc, slice_index_or, unwrap_or}
+use Rattle.std.specs.List.{join_with_byte}
+use Rattle.std.specs.Borrow.{Bor}
+use Rattle.std.specs.Str.Parse.{ParsesUnsigned, digits_value, without_leading_plus}
+use Rattle.clap.specs.Matches.{TriesOne, first_value, found_of, matched_of, one_text, raw_values}
+use Rattle.clap.specs.Walk.{Row, Text, all_of, first_of, one_of}
+use Rattle.clap.proofs.WalkLemmas.{first_value-rows, one_text-rows, raw_values-rows}
+use Rattle.clap.specs.declared.parser.matches.ArgMatches.{ArgMatches}
+use Rattle.dns_text.specs.declared.addr.Addr.{Addr}
+use Rattle.dns_text.specs.Addr.{addr_in}
+use Rattle.resolver_args.specs.Given.{AreAddrs, GivesAddr, GivesAddrs, GivesNumber, LacksAddr, LacksAddrs, LacksNumber, LacksOption, MayGive, WritesNumber, rows_in}
+use Rattle.resolver_args.specs.Says.{GivesService, GivesSettings, RefusedFor}
+use Rattle.resolver_args.specs.declared.fault.ArgsFault.{ArgsFault}
+use Rattle.resolver_args.specs.declared.mode.Service.{Service}
+use Rattle.undo_book.specs.declared.event.Settings.{Settings}
+
+same_text : (a b : Text) (o : Option Text) → o ≡ Some a → o ≡ Some b → a ≡ b
+same_text a b o first second = cc
+
+-- One text writes one number.
+pub one_number : (rows : List Row) (name : Text) (m n : ℕ) → GivesNumber rows name m → GivesNumber rows name n → m ≡ n
+one_number rows name m n first second =
+    sym first.2.1 ∙ (ap (λ (t : Text). digits_value 10 (without_leading_plus t)) (same_text first.0 second.0 _ first.1 second.1) ∙ second.2.1)
+
+pub for_reason : {P Q : Type 0} (fault : ArgsFault) → (P → Q) → RefusedFor P fault → RefusedFor Q fault
+for_reason fault leads (inl is) = inl is
+for_reason fault leads (inr why) = inr (why.0, leads why.1)
+
+-- What is no number of 32 bits is none of 8.
+pub fewer_bits : (rows : List Row) (name : Text) → LacksNumber 32 rows name → LacksNumber 8 rows name
+fewer_bits rows name lacks n small given = lacks n (omega arith) given
+
+pub no_number : (rows : List Row) (name : Text) → LacksOption rows name → LacksNumber 32 rows name
+no_number rows name lacks n small given = lacks (Some n) (given, small)
+
+pub nothing_given : (rows : List Row) (name : Text) → one_of name rows ≡ None → LacksNumber 32 rows name
+nothing_given rows name none n small given = let e : None ≡ Some given.0 = sym none ∙ given.1 in cc
+
+tried_text : (E : Type 0) (G : Text → Result ℕ E → Type 0) (rows : List Row) (name : Text) (text : Option Text) → one_of name rows ≡ text
+    → (r : Result (Option ℕ) E) → ((u : Text) (x : Result ℕ E) → G u x → ParsesUnsigned 32 10 u x)
+    → (text ≡ None → r ≡ Ok None) → ((t : Text) → text ≡ Some t → TriesOne G t r)
+    → MatchResult r (MayGive rows name) (λ _. LacksOption rows name)
+tried_text E G rows name None is r only none value =
+    subst (λ (q : Result (Option ℕ) E). MatchResult q (MayGive rows name) (λ _. LacksOption rows name)) (sym (none refl)) is
+tried_text E G rows name (Some t) is (Ok (Some v)) only none value =
+    let parsed = only t (Ok v) (value t refl) in ((t, is, (parsed.0.0, sym parsed.1)), rw parsed.1 parsed.0.1)
+tried_text E G rows name (Some t) is (Ok None) only none value = absurd (value t refl)
+tried_text E G rows name (Some t) is (Err e) only none value = lacks
+  where
+    lacks : (n : Option ℕ) → MayGive rows name n → ⊥
+    lacks None given = let e : None ≡ Some t = sym given ∙ is in cc
+    lacks (Some n) given =
+        let same : given.0.0 ≡ t = same_text given.0.0 t _ given.0.1 is in
+        let writes : WritesNumber t n = subst (λ (u : Text). WritesNumber u n) same given.0.2 in
+        only t (Err e) (value t refl) (writes.0, subst (λ (k : ℕ). k < 2 ^ 32) (sym writes.1) given.1)
+
+-- What `try_get_one` answers.
+pub tried : (E : Type 0) (G : Text → Result ℕ E → Type 0) (found : ArgMatches) (name : Text) (r : Result (Option ℕ) E)
+    → ((u : Text) (x : Result ℕ E) → G u x → ParsesUnsigned 32 10 u x)
+    → (one_text (found_of found) name ≡ None → r ≡ Ok None)
+    → ((t : Text) → one_text (found_of found) name ≡ Some t → TriesOne G t r)
+    → MatchResult r (MayGive (rows_in found) name) (λ _. LacksOption (rows_in found) name)
+tried E G found name r only none value =
+    tried_text E G (rows_in found) name (one_text (found_of found) name) (sym (one_text-rows (found_of found) name)) r only none value
+
+-- What `get_str` answers.
+pub no_text : (found : ArgMatches) (name : Text) → first_value (found_of found) name ≡ None → LacksAddr (rows_in found) name
+no_text found name none addr given =
+    let e : None ≡ Some given.0 = sym none ∙ (first_value-rows (found_of found) name ∙ given.1) in cc
+
+pub text_gives : (found : ArgMatches) (name text : Text) (addr : Addr) → first_value (found_of found) name ≡ Some text → addr_in text ≡ Some addr → GivesAddr (rows_in found) name addr
+text_gives found name text addr some is = (text, sym (first_value-rows (found_of found) name) ∙ some, is)
+
+pub text_lacks : (found : ArgMatches) (name text : Text) → first_value (found_of found) name ≡ Some text → addr_in text ≡ None → LacksAddr (rows_in found) name
+text_lacks found name text some is addr given =
+    let same : text ≡ given.0 = same_text text given.0 _ (sym (first_value-rows (found_of found) name) ∙ some) given.1 in
+    let e : None ≡ Some addr = sym is ∙ (ap addr_in same ∙ given.2) in cc
+
+no_addr_at : (texts : List (Bor Text)) (addrs : List Addr) (k : ℕ) (t : Bor Text) → k < length texts → slice_index_or texts k t ≡ t → addr_in t.now ≡ None
+    → AreAddrs (map (λ t. t.now) texts) addrs → ⊥
+no_addr_at [] addrs k t within at none are = absurd (omega arith)
+no_addr_at (x ∷ xs) [] k t within at none are = cc
+no_addr_at (x ∷ xs) (addr ∷ addrs) zero t within at none are =
+    let first : addr_in x.now ≡ Some addr = cc in
+    let e : None ≡ Some addr = sym (ap (λ (b : Bor Text). addr_in b.now) at ∙ none) ∙ first in cc
+no_addr_at (x ∷ xs) (addr ∷ addrs) (suc k) t within at none are =
+    let rest : AreAddrs (map (λ t. t.now) xs) addrs = cc in no_addr_at xs addrs k t (omega arith) at none rest
+
+-- What `get_strs` answers.
+pub texts_given : (found : ArgMatches) (name : Text) (texts : Option (List Text)) → texts ≡ option_map raw_values (matched_of (found_of found) name)
+    → all_of name (rows_in found) ≡ texts
+texts_given found name texts is = sym (is ∙ raw_values-rows (found_of found) name)
+
+pub addrs_given : (rows : List Row) (name : Text) (texts : List Text) (addrs : List Addr) → all_of name rows ≡ Some texts → AreAddrs texts addrs → GivesAddrs rows name addrs
+addrs_given rows name texts addrs all are = ap (λ (o : Option (List Text)). map addr_in (unwrap_or o [])) all ∙ are
+
+pub no_addrs_given : (rows : List Row) (name : Text) → all_of name rows ≡ None → GivesAddrs rows name []
+no_addrs_given rows name all = ap (λ (o : Option (List Text)). map addr_in (unwrap_or o [])) all
+
+-- Texts of which one is no address are no addresses.
+pub addrs_lack : (rows : List Row) (name : Text) (texts : List (Bor Text)) → all_of name rows ≡ Some (map (λ t. t.now) texts)
+    → Any (λ t. addr_in t.now ≡ None) texts → LacksAddrs rows name
+addrs_lack rows name texts all some addrs given =
+    no_addr_at texts addrs some.0 some.1 some.2 some.3 some.4 (sym (ap (λ (o : Option (List Text)). map addr_in (unwrap_or o [])) all) ∙ given)
+
+some_each : (xs ys : List Addr) → map Some xs ≡ map Some ys → xs ≡ ys
+some_each [] [] e = refl
+some_each [] (y ∷ ys) e = cc
+some_each (x ∷ xs) [] e = cc
+some_each (x ∷ xs) (y ∷ ys) e =
+    let rest : map Some xs ≡ map Some ys = cc in let more = some_each xs ys rest in cc
+
+pub one_addrs : (rows : List Row) (name : Text) (a b : List Addr) → GivesAddrs rows name a → GivesAddrs rows name b → a ≡ b
+one_addrs rows name a b first second = some_each a b (sym first ∙ second)
+
+pub one_addr : (rows : List Row) (name : Text) (a b : Addr) → GivesAddr rows name a → GivesAddr rows name b → a ≡ b
+one_addr rows name a b first second =
+    let same = same_text first.0 second.0 _ first.1 second.1 in
+    let e : Some a ≡ Some b = sym first.2 ∙ (ap addr_in same ∙ second.2) in cc
+
+one_option : (rows : List Row) (name : Text) (a b : Option ℕ) → MayGive rows name a → MayGive rows name b → a ≡ b
+one_option rows name None None first second = refl
+one_option rows name None (Some n) first second = let e : None ≡ Some second.0.0 = sym first ∙ second.0.1 in cc
+one_option rows name (Some m) None first second = let e : None ≡ Some first.0.0 = sym second ∙ first.0.1 in cc
+one_option rows name (Some m) (Some n) first second = ap Some (one_number rows name m n first.0 second.0)
+
+pub same_settings : (a b : Settings) → a.journal ≡ b.journal → a.cells ≡ b.cells → a.hints ≡ b.hints → a.server_port ≡ b.server_port → a ≡ b
+same_settings a b journal cells hints port =
+    ap (λ (n : ℕ). record a { journal = n }) journal
+    ∙ (ap (λ (n : ℕ). record a { journal = b.journal; cells = n }) cells
+    ∙ (ap (λ (h : List Addr). record a { journal = b.journal; cells = b.cells; hints = h }) hints
+    ∙ ap (λ (n : ℕ). record a { journal = b.journal; cells = b.cells; hints = b.hints; server_port = n }) port))
+
+-- What is given comes to one mode at most.
+pub one_settings : (rows : List Row) (a b : Settings) → GivesSettings rows a → GivesSettings rows b → a ≡ b
+one_settings rows a b first second = same_settings a b
+    (one_number rows _ _ _ first.journal second.journal) (one_number rows _ _ _ first.cells second.cells)
+    (one_addrs rows _ _ _ first.hints second.hints) (one_number rows _ _ _ first.server_port second.server_port)
+
+same_service : (a b : Service) → a.settings ≡ b.settings → a.listen ≡ b.listen → a.control ≡ b.control → a.udp ≡ b.udp → a.tcp ≡ b.tcp
+    → a.record_limit ≡ b.record_limit → a.seed ≡ b.seed → a ≡ b
+same_service a b settings listen control udp tcp record_limit seed =
+    ap (λ (x : Settings). record a { settings = x }) settings
+    ∙ (ap (λ (x : Addr). record a { settings = b.settings; listen = x }) listen
+    ∙ (ap (λ (x : Addr). record a { settings = b.settings; listen = b.listen; control = x }) control
+    ∙ (ap (λ (x : ℕ). record a { settings = b.settings; listen = b.listen; control = b.control; udp = x }) udp
+    ∙ (ap (λ (x : ℕ). record a { settings = b.settings; listen = b.listen; control = b.control; udp = b.udp; tcp = x }) tcp
+    ∙ (ap (λ (x : ℕ). record a { settings = b.settings; listen = b.listen; control = b.control; udp = b.udp; tcp = b.tcp; record_limit = x }) record_limit
+    ∙ ap (λ (x : Option ℕ). record a { settings = b.settings; listen = b.listen; control = b.control; udp = b.udp; tcp = b.tcp; record_limit = b.record_limit; seed = x }) seed)))))
+
+pub one_service : (rows : List Row) (a b : Service) → GivesService rows a → GivesService rows b → a ≡ b
+one_service rows a b first second = same_service a b
+    (one_settings rows _ _ first.settings second.settings) (one_addr rows _ _ _ first.listen second.listen)
+    (one_addr rows _ _ _ first.control second.control) (one_number rows _ _ _ first.udp second.udp) (one_number rows _ _ _ first.tcp second.tcp)
+    (one_number rows _ _ _ first.record_limit second.record_limit) (one_option rows _ _ _ first.seed second.seed)
+
+-- One more word of a line.
+pub one_more_word : (c : ℕ) (word : Text) (words : List Text) (more : Text) → join_with_byte c (word ∷ (words ++ more ∷ [])) ≡ join_with_byte c (word ∷ words) ++ (c ∷ more)
+one_more_word c word [] more = refl
+one_more_word c word (next ∷ words) more = ap (λ (rest : Text). word ++ (c ∷ rest)) (one_more_word c next words more) ∙ sym (append_assoc word (c ∷ join_with_byte c (next ∷ words)) (c ∷ more))

@@ -1,0 +1,228 @@
+//! What the arguments of the program say.
+
+ghost use Rattle.std.specs.Prelude.{◌≡◌, ◌≢◌, ◌⊎◌, ◌∷◌, None, Some, Any, map, option_map, codes, IfOk, IfErr};
+ghost use Rattle.std.specs.List.{join_with_byte};
+ghost use Rattle.clap.specs.Simple.{subcommand_rows_of};
+ghost use Rattle.clap.specs.Values.{kind_of};
+ghost use Rattle.clap.specs.declared.error.kind.ErrorKind.TheVariants.{OutOfMemory};
+ghost use Rattle.dns_text.specs.Addr.{addr_in};
+ghost use Rattle.undo_book.specs.Event.{AreSettings};
+ghost use Rattle.resolver_args.specs.declared.mode.Mode.TheVariants.{Control, Serve};
+ghost use Rattle.resolver_args.specs.declared.fault.ArgsFault.TheVariants.{NoMemory};
+ghost use Rattle.resolver_args.specs.Given.{AreAddrs, GivesAddr, GivesAddrs, GivesLine, GivesNumber, rows_in};
+ghost use Rattle.resolver_args.specs.Given.{LacksAddr, LacksAddrs, LacksNumber, LacksOption, MayGive};
+ghost use Rattle.resolver_args.specs.Mode.{HasNumbers, IsLoopback};
+ghost use Rattle.resolver_args.specs.Says.{Gives, GivesService, GivesSettings, IsGuarded, IsUsage, LacksSettings};
+ghost use Rattle.resolver_args.specs.Says.{RefusedFor, Refuses, RefusesMode, RefusesService, Says, text_of};
+
+use crate::fault::ArgsFault;
+use crate::mode::{Mode, Service, settings_of};
+use crate::options::{LinesHelp, command};
+use clap::error::ErrorKind;
+use clap::{ArgMatches, Error};
+use dns_text::{Addr, Items, read_addr};
+use std::alloc::{AllocError, Global};
+use undo_book::Settings;
+
+/// What `clap` says of the arguments, a call for help included, unless memory was refused while it read them.
+fn usage(alloc: Global, error: &Error) -> ArgsFault
+    ensures { (result ≡ NoMemory) ⊎ (IsUsage result × (kind_of error.now ≢ OutOfMemory)) }
+{
+    if matches!(error.kind(), ErrorKind::OutOfMemory) {
+        return ArgsFault::NoMemory;
+    }
+    match error.to_string(alloc) {
+        Ok(text) => ArgsFault::Usage(text),
+        Err(_) => ArgsFault::NoMemory,
+    }
+}
+
+/// The number that was given under this name, if one was.
+fn number_in(found: &ArgMatches<'_>, name: &str) -> Result<Option<u32>, ArgsFault>
+    ensures given { IfOk result (MayGive (rows_in found.now) name.now) }
+    ensures fault { IfErr result (RefusedFor (LacksOption (rows_in found.now) name.now)) }
+{
+    match found.try_get_one::<u32>(name) {
+        Ok(number) => Ok(number),
+        Err(_) => Err(ArgsFault::BadArguments),
+    }
+}
+
+/// The number that was given under this name.
+fn count_in(found: &ArgMatches<'_>, name: &str) -> Result<u32, ArgsFault>
+    ensures given { IfOk result (GivesNumber (rows_in found.now) name.now) }
+    ensures fault { IfErr result (RefusedFor (LacksNumber 32 (rows_in found.now) name.now)) }
+{
+    match number_in(found, name)? {
+        Some(count) => Ok(count),
+        None => Err(ArgsFault::BadArguments),
+    }
+}
+
+/// The number of workers that was given under this name.
+fn workers_in(found: &ArgMatches<'_>, name: &str) -> Result<u8, ArgsFault>
+    ensures given { IfOk result (GivesNumber (rows_in found.now) name.now) }
+    ensures fault { IfErr result (RefusedFor (LacksNumber 8 (rows_in found.now) name.now)) }
+{
+    match u8::try_from(count_in(found, name)?) {
+        Ok(workers) => Ok(workers),
+        Err(_) => Err(ArgsFault::BadArguments),
+    }
+}
+
+/// The address that was given under this name.
+fn addr_in(found: &ArgMatches<'_>, name: &str) -> Result<Addr, ArgsFault>
+    ensures given { IfOk result (GivesAddr (rows_in found.now) name.now) }
+    ensures fault { IfErr result (RefusedFor (LacksAddr (rows_in found.now) name.now)) }
+{
+    let Some(text) = found.get_str(name) else {
+        return Err(ArgsFault::BadArguments);
+    };
+    match read_addr(text.as_bytes()) {
+        Ok(addr) => Ok(addr),
+        Err(_) => Err(ArgsFault::BadArguments),
+    }
+}
+
+/// The addresses that these texts are.
+fn addrs_of(alloc: Global, texts: &[&str]) -> Result<Vec<Addr>, ArgsFault>
+    ensures addrs { IfOk result (λ addrs. AreAddrs (map (λ text. text.now) texts.now) addrs.items) }
+    ensures fault { IfErr result (RefusedFor (Any (λ text. addr_in text.now ≡ None) texts.now)) }
+{
+    let mut addrs = Vec::new(alloc);
+    for text in texts {
+        let Ok(addr) = read_addr(text.as_bytes()) else {
+            return Err(ArgsFault::BadArguments);
+        };
+        if addrs.push(addr).is_err() {
+            return Err(ArgsFault::NoMemory);
+        }
+    }
+    Ok(addrs)
+}
+
+/// The hints that were given, in order.
+fn hints_in(alloc: Global, found: &ArgMatches<'_>) -> Result<Items<Addr>, ArgsFault>
+    ensures given { IfOk result (GivesAddrs (rows_in found.now) (codes "HINT")) }
+    ensures fault { IfErr result (RefusedFor (LacksAddrs (rows_in found.now) (codes "HINT"))) }
+{
+    match found.get_strs("HINT") {
+        Some(texts) => Ok(Items::new(addrs_of(alloc, texts)?)),
+        None => Ok(Items::new(Vec::new(alloc))),
+    }
+}
+
+/// The settings that were given.
+fn settings_in(alloc: Global, found: &ArgMatches<'_>) -> Result<Settings, ArgsFault>
+    ensures given { IfOk result (GivesSettings (rows_in found.now)) }
+    ensures in_range { IfOk result (λ settings. AreSettings settings) }
+    ensures fault { IfErr result (RefusedFor (LacksSettings (rows_in found.now))) }
+{
+    let journal = count_in(found, "journal")?;
+    let cells = count_in(found, "cells")?;
+    let hints = hints_in(alloc, found)?;
+    let server_port = count_in(found, "server-port")?;
+    match settings_of(journal, cells, hints, server_port) {
+        Some(settings) => Ok(settings),
+        None => Err(ArgsFault::BadArguments),
+    }
+}
+
+/// The service that was given.
+fn service_in(alloc: Global, found: &ArgMatches<'_>) -> Result<Service, ArgsFault>
+    ensures given { IfOk result (GivesService (rows_in found.now)) }
+    ensures in_range { IfOk result (λ service. HasNumbers (Serve service) × IsLoopback service.control.ip) }
+    ensures fault { IfErr result (RefusesService (rows_in found.now)) }
+{
+    let service = Service {
+        settings: settings_in(alloc, found)?,
+        listen: addr_in(found, "listen")?,
+        control: addr_in(found, "control")?,
+        udp: workers_in(found, "udp")?,
+        tcp: workers_in(found, "tcp")?,
+        record_limit: u64::from(count_in(found, "record")?),
+        seed: number_in(found, "seed")?,
+    };
+    service.checked()
+}
+
+/// These words as one line, behind this one.
+fn joined(alloc: Global, first: &str, rest: &[&str]) -> Result<String, AllocError>
+    ensures { IfOk result (λ line. line.bytes.items ≡ join_with_byte 32 (first.now ∷ map (λ word. word.now) rest.now)) }
+{
+    let mut line = String::from_str(alloc, first)?;
+    for word in rest {
+        line.push(' ')?;
+        line.push_str(word)?;
+    }
+    Ok(line)
+}
+
+/// Words as one line, each behind a blank but the first.
+fn line_of(alloc: Global, words: &[&str]) -> Result<String, AllocError>
+    ensures { IfOk result (λ line. line.bytes.items ≡ join_with_byte 32 (map (λ word. word.now) words.now)) }
+{
+    match words.split_first() {
+        Some((first, rest)) => joined(alloc, first, rest),
+        None => Ok(String::new(alloc)),
+    }
+}
+
+/// The line that was given, if any was.
+fn line_in(alloc: Global, found: &ArgMatches<'_>) -> Result<Option<String>, AllocError>
+    ensures { IfOk result (λ line. GivesLine (rows_in found.now) (codes "LINE") (text_of line)) }
+{
+    match found.get_strs("LINE") {
+        Some(words) => Ok(Some(line_of(alloc, words)?)),
+        None => Ok(None),
+    }
+}
+
+/// Where a line is to go, and the line.
+fn control_in(alloc: Global, found: &ArgMatches<'_>) -> Result<Mode, ArgsFault>
+    ensures given { IfOk result (λ mode. Gives (codes "control") (rows_in found.now) mode × (HasNumbers mode × IsGuarded mode)) }
+    ensures fault { IfErr result (RefusedFor (LacksAddr (rows_in found.now) (codes "ADDR"))) }
+{
+    let addr = addr_in(found, "ADDR")?;
+    let line = line_in(alloc, found)?;
+    Ok(Mode::Control { addr, line })
+}
+
+/// What a command of this name is to do, with what was given behind it.
+fn mode_in(alloc: Global, name: &str, found: &ArgMatches<'_>) -> Result<Mode, ArgsFault>
+    ensures given { IfOk result (Gives name.now (rows_in found.now)) }
+    ensures in_range { IfOk result (λ mode. HasNumbers mode × IsGuarded mode) }
+    ensures fault { IfErr result (RefusesMode name.now (rows_in found.now)) }
+{
+    match name {
+        "script" => Ok(Mode::Script(settings_in(alloc, found)?)),
+        "serve" => Ok(Mode::Serve(service_in(alloc, found)?)),
+        "control" => control_in(alloc, found),
+        _ => Err(ArgsFault::BadArguments),
+    }
+}
+
+/// The command that was given, and what was given behind it.
+fn command_in<'b, 'a>(found: &'b ArgMatches<'a>) -> Option<(&'a str, &'b ArgMatches<'a>)>
+    ensures { option_map (λ command. (command.0.now, rows_in command.1.now)) result ≡ subcommand_rows_of found.now }
+{
+    found.subcommand()
+}
+
+/// Reads the arguments, of which the first is the program's own name.
+pub fn read_args(alloc: Global, words: &[&str]) -> Result<Mode, ArgsFault>
+    ensures said { IfOk result (Says (map (λ word. word.now) words.now)) }
+    ensures guarded { IfOk result IsGuarded }
+    ensures refused { IfErr result (Refuses (map (λ word. word.now) words.now)) }
+{
+    let lines = LinesHelp::new(alloc)?;
+    let command = command(alloc, &lines)?;
+    let found = match command.try_get_matches_from(words) {
+        Ok(found) => found,
+        Err(error) => return Err(usage(alloc, &error)),
+    };
+    match command_in(&found) {
+        Some((name, inner)) => mode_in(alloc, name, inner),
+        None => Err(ArgsFault::BadArguments),
+    }
+}
