@@ -7,9 +7,10 @@ ghost use Rattle.resolver_args.specs.Mode.{IsService};
 
 use crate::fault::CliFault;
 use crate::operators::obey_operators;
-use crate::sockets::{Sockets, wake_all};
-use crate::worker::{Lent, Terms, Worker, run_tcp, run_udp, workers};
-use dns_sockets::place_of;
+use crate::sockets::{Bound, wake_all};
+use crate::worker::{Lent, OverTcp, OverUdp, Terms, run_tcp, run_udp, tcp_workers, udp_workers};
+use dns_sockets::{descriptor_limit, place_of};
+use flight_sockets::{Waker, most_exchanges};
 use log::{Log, info};
 use resolver_args::Service;
 use shared_book::{Blank, CallLedger, Pass, Seat, SharedBook};
@@ -30,9 +31,11 @@ const PARTS: u64 = 1 << 32;
 
 /// The workers of a service, before they begin.
 #[derive(Drop)]
-struct Workers<'a, L: CallLedger, R: Wait + Clock + Net<Stream = TcpStream>> {
-    udp: Vec<Worker<'a, L, R>>,
-    tcp: Vec<Worker<'a, L, R>>,
+struct Workers<'a, L: CallLedger, R: Clock + Log + Net<Stream = TcpStream>> {
+    udp: Vec<OverUdp<'a, L, R>>,
+    /// What wakes each of those.
+    wakers: Vec<Waker>,
+    tcp: Vec<OverTcp<'a, L, R>>,
 }
 
 /// Tells that the service is there, and obeys operators until `stop`.
@@ -69,7 +72,7 @@ where
         + Sync
         + Net<Stream = TcpStream, Listener = TcpListener>,
 {
-    let Workers { udp, tcp } = workers;
+    let Workers { udp, wakers, tcp } = workers;
     thread::scope(thread::scope_env(), rt, |scope| {
         let mut started = true;
         for worker in udp {
@@ -89,7 +92,7 @@ where
             Err(CliFault::no_memory())
         };
         lent.stop.store(true, Ordering::SeqCst);
-        wake_all(rt, lent.terms.place, lent.terms.udp, lent.terms.tcp);
+        wake_all(rt, wakers.as_slice(), lent.terms.place, lent.terms.tcp);
         ended
     })
 }
@@ -102,7 +105,7 @@ fn serve_over<L: CallLedger + Send + Sync, R>(
     book: PlainBook,
     record_limit: u64,
     terms: Terms,
-    sockets: &Sockets,
+    bound: Bound,
 ) -> Result<(), CliFault>
 where
     R: Threads
@@ -129,16 +132,20 @@ where
         book,
         record_limit,
     ).unwrap();
+    let Bound {
+        sockets,
+        listeners,
+        wakers,
+    } = bound;
     let workers = Workers {
-        udp: workers(rt, alloc, &shared, &mut pass, terms.seed, 0, terms.udp)?,
-        tcp: workers(
-            rt, alloc, &shared, &mut pass, terms.seed, terms.udp, terms.tcp,
-        )?,
+        udp: udp_workers(rt, alloc, &shared, &mut pass, &terms, listeners)?,
+        wakers,
+        tcp: tcp_workers(rt, alloc, &shared, &mut pass, &terms)?,
     };
     let stop = AtomicBool::new(false);
     let lent = Lent {
         book: &shared,
-        sockets,
+        sockets: &sockets,
         stop: &stop,
         terms,
     };
@@ -158,8 +165,11 @@ where
         + Net<Stream = TcpStream, Listener = TcpListener>,
     requires { IsService service }
 {
-    let sockets = Sockets::bind(rt, alloc, &service.listen, &service.control)?;
+    let bound = Bound::new(rt, alloc, &service.listen, &service.control, service.udp)?;
     let Ok(start) = Instant::now(rt) else {
+        return Err(CliFault::cannot_start());
+    };
+    let Ok(descriptors) = descriptor_limit() else {
         return Err(CliFault::cannot_start());
     };
     let terms = Terms {
@@ -168,12 +178,13 @@ where
         tcp: service.tcp,
         seed: service.seed,
         server_port: service.settings.server_port,
+        exchanges: most_exchanges(descriptors, service.udp),
         start,
     };
     let record_limit = service.record_limit;
     let book = PlainBook::new(alloc, service.settings).unwrap();
     let blank = Blank::new(PARTS);
-    serve_over::<Brand, R>(rt, alloc, blank, book, record_limit, terms, &sockets)?;
+    serve_over::<Brand, R>(rt, alloc, blank, book, record_limit, terms, bound)?;
     info!(rt; "resolver: stopped");
     Ok(())
 }

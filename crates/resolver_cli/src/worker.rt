@@ -1,12 +1,13 @@
 //! One worker, in a thread of its own.
 
-ghost use Rattle.std.specs.Prelude.{◌+◌, ◌≤◌};
+ghost use Rattle.std.specs.Prelude.{◌≡◌, ◌+◌, ◌≤◌, vec_len};
 ghost use Rattle.resolver_args.specs.declared.mode.TheConstants.{MOST_WORKERS};
 
 use crate::fault::CliFault;
 use crate::sockets::Sockets;
-use dns_sockets::{Connections, SecondsClock, SocketExchange, UdpPort};
-use front_workers::{Tools, work_tcp, work_udp};
+use dns_sockets::{Connections, SecondsClock, SocketExchange};
+use flight_sockets::{UdpListener, UdpWorker, fly_udp};
+use front_workers::{Tools, work_tcp};
 use log::Log;
 use rand::rngs::StdRng;
 use rand_core::SeedableRng;
@@ -30,6 +31,8 @@ pub(crate) struct Terms {
     pub tcp: u8,
     pub seed: Option<u32>,
     pub server_port: u16,
+    /// How many exchanges a worker over UDP may have under way.
+    pub exchanges: usize,
     /// The moment from which every clock counts.
     pub start: Instant,
 }
@@ -43,68 +46,67 @@ pub(crate) struct Lent<'a, L: CallLedger> {
     pub terms: Terms,
 }
 
-/// What a worker owns.
+/// What a worker owns that takes datagrams.
 #[derive(Drop)]
-pub(crate) struct Worker<'a, L: CallLedger, R: Net<Stream = TcpStream> + Clock> {
+pub(crate) struct OverUdp<'a, L: CallLedger, R: Net<Stream = TcpStream> + Log + Clock> {
     pass: Pass<L>,
-    exchange: SocketExchange<'a, R>,
     ids: StdRng,
+    worker: UdpWorker<'a, R>,
+}
+
+/// What a worker owns that takes connections.
+#[derive(Drop)]
+pub(crate) struct OverTcp<'a, L: CallLedger, R: Net<Stream = TcpStream> + Clock> {
+    pass: Pass<L>,
+    ids: StdRng,
+    exchange: SocketExchange<'a, R>,
 }
 
 /// The generator of a worker: by the seed and the worker's number, or else by the system's randomness.
-fn generator<R: RandomSource>(rt: &R, seed: Option<u32>, number: u8) -> io::Result<StdRng> {
-    match seed {
+fn generator<R: RandomSource>(rt: &R, seed: Option<u32>, number: u8) -> Result<StdRng, CliFault> {
+    let made = match seed {
         Some(seed) => Ok(StdRng::seed_from_u64(u64::from(seed) + (u64::from(number) << 32))),
         None => rand::make_rng(rt),
+    };
+    made.map_err(|_: io::Error| CliFault::failed_read())
+}
+
+/// A pass of its own, for a worker.
+fn pass_of<L: CallLedger, R: Wait>(
+    rt: &R,
+    book: &SharedBook<PlainBook, L>,
+    pass: &mut Pass<L>,
+) -> Result<Pass<L>, CliFault> {
+    match book.split(rt, pass) {
+        Ok(own) => Ok(own),
+        Err(_) => Err(CliFault::cannot_start()),
     }
 }
 
-impl<'a, L: CallLedger, R> Worker<'a, L, R>
-where
-    R: Wait + Clock + RandomSource + Net<Stream = TcpStream>,
-{
-    /// The worker of this number.
-    fn new(
-        rt: &'a R,
-        alloc: Global,
-        pass: Pass<L>,
-        seed: Option<u32>,
-        number: u8,
-    ) -> Result<Worker<'a, L, R>, CliFault> {
-        let Ok(ids) = generator(rt, seed, number) else {
-            return Err(CliFault::failed_read());
-        };
-        match SocketExchange::new(rt, alloc) {
-            Ok(exchange) => Ok(Worker {
-                pass,
-                exchange,
-                ids,
-            }),
-            Err(_) => Err(CliFault::no_memory()),
-        }
-    }
-}
-
-/// So many workers, numbered from the first, each with a pass of its own.
-pub(crate) fn workers<'a, L: CallLedger, R>(
+/// A worker for each listener, the first of which has number 0.
+pub(crate) fn udp_workers<'a, L: CallLedger, R>(
     rt: &'a R,
     alloc: Global,
     book: &SharedBook<PlainBook, L>,
     pass: &mut Pass<L>,
-    seed: Option<u32>,
-    first: u8,
-    count: u8,
-) -> Result<Vec<Worker<'a, L, R>>, CliFault>
+    terms: &Terms,
+    listeners: Vec<UdpListener>,
+) -> Result<Vec<OverUdp<'a, L, R>>, CliFault>
 where
-    R: Wait + Clock + RandomSource + Net<Stream = TcpStream>,
-    requires { first + count ≤ MOST_WORKERS }
+    R: Wait + Clock + Log + RandomSource + Net<Stream = TcpStream>,
 {
     let mut workers = Vec::new(alloc);
-    for number in first..first + count {
-        let Ok(own) = book.split(rt, pass) else {
-            return Err(CliFault::cannot_start());
+    for (number, listener) in (0..terms.udp).zip(listeners) {
+        let own = pass_of(rt, book, pass)?;
+        let ids = generator(rt, terms.seed, number)?;
+        let Ok(worker) = UdpWorker::new(rt, alloc, listener, terms.server_port, terms.start) else {
+            return Err(CliFault::no_memory());
         };
-        let worker = Worker::new(rt, alloc, own, seed, number)?;
+        let worker = OverUdp {
+            pass: own,
+            ids,
+            worker,
+        };
         if workers.push(worker).is_err() {
             return Err(CliFault::no_memory());
         }
@@ -112,33 +114,35 @@ where
     Ok(workers)
 }
 
-/// What a worker does with: its desk, and its tools.
-type Kit<'a, L, R> = (
-    Seat<'a, PlainBook, L, R>,
-    Tools<SocketExchange<'a, R>, SecondsClock<'a, R>, StdRng>,
-);
-
-fn kit<'a, L: CallLedger, R>(
+/// So many workers for connections, whose numbers follow those for datagrams.
+pub(crate) fn tcp_workers<'a, L: CallLedger, R>(
     rt: &'a R,
     alloc: Global,
-    lent: &'a Lent<'_, L>,
-    worker: Worker<'a, L, R>,
-) -> Kit<'a, L, R>
+    book: &SharedBook<PlainBook, L>,
+    pass: &mut Pass<L>,
+    terms: &Terms,
+) -> Result<Vec<OverTcp<'a, L, R>>, CliFault>
 where
-    R: Wait + Clock + Net<Stream = TcpStream>,
+    R: Wait + Clock + Log + RandomSource + Net<Stream = TcpStream>,
+    requires { terms.now.udp + terms.now.tcp ≤ MOST_WORKERS }
 {
-    let Worker {
-        pass,
-        exchange,
-        ids,
-    } = worker;
-    let tools = Tools {
-        exchange,
-        clock: SecondsClock::new(rt, lent.terms.start),
-        ids,
-        server_port: lent.terms.server_port,
-    };
-    (Seat::new(rt, alloc, lent.book, pass), tools)
+    let mut workers = Vec::new(alloc);
+    for number in terms.udp..terms.udp + terms.tcp {
+        let own = pass_of(rt, book, pass)?;
+        let ids = generator(rt, terms.seed, number)?;
+        let Ok(exchange) = SocketExchange::new(rt, alloc) else {
+            return Err(CliFault::no_memory());
+        };
+        let worker = OverTcp {
+            pass: own,
+            ids,
+            exchange,
+        };
+        if workers.push(worker).is_err() {
+            return Err(CliFault::no_memory());
+        }
+    }
+    Ok(workers)
 }
 
 /// Answers datagrams until the service stops.
@@ -146,14 +150,28 @@ pub(crate) fn run_udp<L: CallLedger, R>(
     rt: &R,
     alloc: Global,
     lent: &Lent<'_, L>,
-    worker: Worker<'_, L, R>,
+    over: OverUdp<'_, L, R>,
 )
 where
     R: Wait + Clock + Log + Net<Stream = TcpStream>,
 {
-    let (mut desk, mut tools) = kit(rt, alloc, lent, worker);
-    let mut port = UdpPort::new(rt, &lent.sockets.udp, lent.stop);
-    work_udp(rt, alloc, &mut desk, &mut port, &mut tools);
+    let OverUdp {
+        pass,
+        ids,
+        mut worker,
+    } = over;
+    let mut desk = Seat::new(rt, alloc, lent.book, pass);
+    let clock = SecondsClock::new(rt, lent.terms.start);
+    fly_udp(
+        rt,
+        alloc,
+        &mut desk,
+        clock,
+        ids,
+        &mut worker,
+        lent.terms.exchanges,
+        lent.stop,
+    );
 }
 
 /// Answers connections until the service stops.
@@ -161,12 +179,23 @@ pub(crate) fn run_tcp<L: CallLedger, R>(
     rt: &R,
     alloc: Global,
     lent: &Lent<'_, L>,
-    worker: Worker<'_, L, R>,
+    over: OverTcp<'_, L, R>,
 )
 where
     R: Wait + Clock + Log + Net<Stream = TcpStream, Listener = TcpListener>,
 {
-    let (mut desk, mut tools) = kit(rt, alloc, lent, worker);
+    let OverTcp {
+        pass,
+        ids,
+        exchange,
+    } = over;
+    let mut desk = Seat::new(rt, alloc, lent.book, pass);
+    let mut tools = Tools {
+        exchange,
+        clock: SecondsClock::new(rt, lent.terms.start),
+        ids,
+        server_port: lent.terms.server_port,
+    };
     let mut connections = Connections::new(rt, alloc, &lent.sockets.tcp, lent.stop);
     work_tcp(rt, alloc, &mut desk, &mut connections, &mut tools);
 }
