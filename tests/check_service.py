@@ -395,7 +395,7 @@ def check_nothing_left(checks):
     with NameServers(WORKED | {TEST: WORKED[TEST] | {"*": "aa rcode 3 | authority test. 60 SOA ns. host. 1 2 3 4 60"}}) as servers:
         with serving(servers, "--udp", "2", "--tcp", "3") as service:
             until(lambda: service.threads() == 6)
-            before = (service.threads(), service.descriptors())
+            before = (service.threads(), service.idle_descriptors())
             load = Load(service, servers)
             until(lambda: load.answered > 200)
             load.end()

@@ -125,8 +125,11 @@ class Control:
 class Service:
     """A service that is ready, until it is stopped; at the end of a `with` it is ended whatever it does."""
 
-    def __init__(self, hints, *options, host=HOST, environment=None):
+    def __init__(self, hints, *options, host=HOST, environment=None, most_descriptors=None, program=RESOLVER):
         self.host = host
+        self.command = [program, "serve"]
+        if most_descriptors:
+            self.command = ["prlimit", f"--nofile={most_descriptors}", *self.command]
         for _ in range(20):
             self.port, self.control_port = free_port(host), free_port(host)
             self.errors = tempfile.TemporaryFile()
@@ -142,9 +145,9 @@ class Service:
         raise RuntimeError(f"the service is not ready: {line!r}, {told!r}")
 
     def _start(self, arguments, environment):
-        command = [RESOLVER, "serve", "--listen", f"{self.host}@{self.port}", "--control", f"{self.host}@{self.control_port}"]
+        places = ["--listen", f"{self.host}@{self.port}", "--control", f"{self.host}@{self.control_port}"]
         self.process = subprocess.Popen(
-            command + arguments, stdin=subprocess.DEVNULL, stdout=subprocess.PIPE, stderr=self.errors, env=environment,
+            self.command + places + arguments, stdin=subprocess.DEVNULL, stdout=subprocess.PIPE, stderr=self.errors, env=environment,
         )
 
     def _end(self):
@@ -199,6 +202,15 @@ class Service:
 
     def descriptors(self):
         return len(os.listdir(f"/proc/{self.process.pid}/fd"))
+
+    def idle_descriptors(self):
+        """How many descriptors it has, once they have been as many for a while."""
+        found, since = self.descriptors(), time.monotonic()
+        while time.monotonic() < since + 0.3:
+            time.sleep(0.02)
+            if self.descriptors() != found:
+                found, since = self.descriptors(), time.monotonic()
+        return found
 
 
 STOPPED = ("ok stopping", 0, b"")
