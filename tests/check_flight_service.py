@@ -408,6 +408,21 @@ def check_interrupted(checks):
         checks.equal("interrupted: faults", service.log().count(b"fault"), 0)
 
 
+def check_rest(checks):
+    """It takes no processor's time while it waits: not behind a crowd, nor while 200 questions are in flight."""
+    with LateServer(lambda asked: at_once(asked) if asked.question.startswith("n") else never(asked)) as server:
+        with serving(server, "--udp", "2") as service, Crowd(service) as crowd:
+            for name, names in (("behind a crowd", names_of("n", 1_000)), ("in flight", names_of("dead", 200))):
+                crowd.send_all(names)
+                until(lambda: len(server.asked) == len(crowd.names))
+                before, began = service.processor(), time.monotonic()
+                time.sleep(1)
+                took, passed = service.processor() - before, time.monotonic() - began
+                checks.tell(f"rest, {name}", None if took < passed / 2 else f"{took:.2f} seconds of a processor in {passed:.2f}")
+            crowd.wait()
+            has_ended(checks, "rest", service, crowd)
+
+
 def is_stopped(service):
     with open(f"/proc/{service.process.pid}/stat", encoding="ascii") as file:
         return file.read().rpartition(")")[2].split()[0] == "T"
@@ -481,6 +496,7 @@ def main():
     checks.make(check_bursts)
     checks.make(check_stopped_clock)
     checks.make(check_interrupted)
+    checks.make(check_rest)
     checks.make(check_ipv6)
     checks.make(check_second)
     checks.end()

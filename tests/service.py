@@ -200,6 +200,12 @@ class Service:
     def threads(self):
         return len(os.listdir(f"/proc/{self.process.pid}/task"))
 
+    def processor(self):
+        """The seconds of a processor that it has had."""
+        with open(f"/proc/{self.process.pid}/stat", encoding="ascii") as file:
+            fields = file.read().rpartition(")")[2].split()
+        return (int(fields[11]) + int(fields[12])) / os.sysconf("SC_CLK_TCK")
+
     def descriptors(self):
         return len(os.listdir(f"/proc/{self.process.pid}/fd"))
 

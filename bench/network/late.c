@@ -1,5 +1,4 @@
-// late PORT MILLISECONDS: a name server that answers each question for an address so much later, whatever it is for. The first
-// label's first letter says for how long the answer may be kept: `k`, a day; any other, not at all.
+// late PORT MILLISECONDS: a name server that answers each question for an address so much later, whatever name it is for.
 #define _GNU_SOURCE
 #include <arpa/inet.h>
 #include <netinet/in.h>
@@ -36,9 +35,8 @@ static int reply(unsigned char *octets, int length)
     end += 5;
     if (length < 17 || end > length)
         return 0;
-    unsigned char record[16] = {0xC0, 12, 0, 1, 0, 1, 0, 0, 0, 0, 0, 4, 192, 0, 2, 1};
-    if (octets[13] == 'k')
-        memcpy(record + 6, "\0\1\x51\x80", 4);
+    // An address that may be kept for a day.
+    const unsigned char record[16] = {0xC0, 12, 0, 1, 0, 1, 0, 1, 0x51, 0x80, 0, 4, 192, 0, 2, 1};
     const unsigned char head[10] = {0x84, 0, 0, 1, 0, 1};
     memcpy(octets + 2, head, sizeof head);
     memcpy(octets + end, record, sizeof record);
