@@ -59,6 +59,12 @@ def has_ended(checks, name, service, crowd):
     checks.tell(f"{name}: one reply each", crowd.once_each())
 
 
+def all_answered(checks, name, crowd):
+    """Each name of a crowd has its address."""
+    strange = [(asked, words) for asked, words in zip(crowd.names, crowd.words()) if words != answered(asked)]
+    checks.equal(name, strange, [])
+
+
 def names_of(word, count):
     return [f"{word}{place}.test." for place in range(count)]
 
@@ -68,7 +74,7 @@ def check_quick(checks):
     with LateServer(at_once) as server, serving(server) as service, Crowd(service) as crowd:
         before = service.idle_descriptors()
         crowd.ask(names_of("n", 3_000), 100)
-        checks.equal("quick replies", crowd.words(), [answered(name) for name in crowd.names])
+        all_answered(checks, "quick replies", crowd)
         checks.equal("quick replies: descriptors", until(lambda: service.descriptors() <= before), True)
         has_ended(checks, "quick replies", service, crowd)
 
@@ -82,7 +88,7 @@ def check_cut(checks):
     with LateServer(cut) as server, serving(server) as service, Crowd(service) as crowd:
         before = service.idle_descriptors()
         crowd.ask(names_of("n", 3_000), 100)
-        checks.equal("cut replies", crowd.words(), [answered(name) for name in crowd.names])
+        all_answered(checks, "cut replies", crowd)
         checks.equal("cut replies: asked", [server.count(over) for over in ("udp", "tcp")], [3_000, 3_000])
         checks.equal("cut replies: descriptors", until(lambda: service.descriptors() <= before), True)
         has_ended(checks, "cut replies", service, crowd)
@@ -122,7 +128,7 @@ def check_passed_limit(checks, count, workers, most_descriptors, room):
             checks.equal(f"{name}: descriptors", until(lambda: service.descriptors() <= before), True)
             with Crowd(service) as later:
                 later.ask(names_of("later", 100), 10)
-                checks.equal(f"{name}: later", later.words(), [answered(name) for name in later.names])
+                all_answered(checks, f"{name}: later", later)
             has_ended(checks, name, service, crowd)
 
 
@@ -293,7 +299,7 @@ def check_dead_first(checks):
         hints = [f"127.0.0.2@{server.port}", silent.hint, server.hint]
         with Service(hints) as service, Crowd(service) as crowd:
             crowd.ask(names_of("n", 200), 200)
-            checks.equal("dead servers first", crowd.words(), [answered(name) for name in crowd.names])
+            all_answered(checks, "dead servers first", crowd)
             checks.equal("dead servers first: asked", (len(silent.asked), len(server.asked)), (200, 200))
             has_ended(checks, "dead servers first", service, crowd)
 
@@ -388,7 +394,7 @@ def check_stopped_clock(checks):
         checks.equal("held up: descriptors", until(lambda: service.descriptors() <= before), True)
         with Crowd(service) as later:
             later.ask(names_of("later", 100), 10)
-            checks.equal("held up: later", later.words(), [answered(name) for name in later.names])
+            all_answered(checks, "held up: later", later)
         has_ended(checks, "held up", service, crowd)
 
 
@@ -412,9 +418,11 @@ def check_rest(checks):
     """It takes no processor's time while it waits: not behind a crowd, nor while 200 questions are in flight."""
     with LateServer(lambda asked: at_once(asked) if asked.question.startswith("n") else never(asked)) as server:
         with serving(server, "--udp", "2") as service, Crowd(service) as crowd:
-            for name, names in (("behind a crowd", names_of("n", 1_000)), ("in flight", names_of("dead", 200))):
-                crowd.send_all(names)
-                until(lambda: len(server.asked) == len(crowd.names))
+            crowd.ask(names_of("n", 1_000), 100)
+            for name in ("behind a crowd", "in flight"):
+                if name == "in flight":
+                    crowd.send_all(names_of("dead", 200))
+                    server.wait_for(1_200)
                 before, began = service.processor(), time.monotonic()
                 time.sleep(1)
                 took, passed = service.processor() - before, time.monotonic() - began
@@ -437,7 +445,7 @@ def check_ipv6(checks):
     with service, LateServer(at_once) as server, Crowd(service) as crowd:
         service.obey(f"stub_add test. {server.hint}")
         crowd.ask(names_of("n", 200), 100)
-        checks.equal("a crowd over IPv6", crowd.words(), [answered(name) for name in crowd.names])
+        all_answered(checks, "a crowd over IPv6", crowd)
         has_ended(checks, "a crowd over IPv6", service, crowd)
 
 
