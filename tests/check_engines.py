@@ -1,4 +1,4 @@
-"""Queries and streams are served as rows say: the program front_talk serves them, and the rows play its name servers.
+"""Queries and streams are served as rows say: the program front_talk serves them, and the rows play its name servers. Workers serve what comes to them.
 
 A row of tests/engines:
 
@@ -216,6 +216,38 @@ def fail_each(checks, about, lines):
                 checks.tell(f"{about}: {kind} {nth} fails", fault_of_ending(kind, nth, told, whole))
 
 
+# ---- workers
+
+# A worker ends at so many failures in a row.
+MOST_FAILURES = 16
+
+
+def check_workers(checks):
+    """Failures in a row end a worker, one less and a success do not, and no memory at its port or its listener is passed over."""
+    book = ["hints", "local_data a.test. 30 A 192.0.2.5"]
+    asked = octets("1234 0100 0001 0000 0000 0000 01'a' 04'test' 00 0001 0001", {})
+    for over in ("udp", "tcp"):
+        came = digits(asked if over == "udp" else len(asked).to_bytes(2, "big") + asked)
+        reply = "gave" if over == "udp" else "wrote"
+        failed, lacked = ["failed"] * (MOST_FAILURES - 1), ["no_memory"] * 100
+        for about, words, wanted, ends in [
+            ("nothing comes", [], ["ended 0"], 0),
+            ("failures in a row", [*failed, "failed", came], ["failing 1"], 1),
+            ("one less and a success", [*failed, came, *failed, came], [reply, reply, "ended 0"], 0),
+            ("as many, and a success between", [*failed, came, *failed, "failed", came], [reply, "failing 1"], 1),
+            ("no memory", [*lacked, came, *lacked], [reply, "ended 0"], 0),
+            ("no memory between failures", [*failed, *lacked, "failed", came], ["failing 1"], 1),
+        ]:
+            done = talk([*book, f"work_{over} {' '.join(words)}".rstrip()])
+            told = done.out.decode().splitlines()[2:]
+            found = [line if line.startswith(("ended", "failing")) else line.split(" ")[0] for line in told]
+            checks.equal(f"a worker over {over}: {about}", (done.status, found), (0, wanted))
+            replies = {line.split(" ")[1][4 * (over == "tcp"):][:8] for line in told if line.startswith(reply)}
+            checks.tell(f"a worker over {over}: {about}, its replies", None if replies <= {"12348580"} else f"{replies}")
+            logged = done.err.count(b"worker ended by failures"), done.err.count(b"device fault")
+            checks.equal(f"a worker over {over}: {about}, its log", logged, (ends, words[: len(words) - ends].count("failed")))
+
+
 # ---- memory
 
 MOST = 5_000
@@ -332,6 +364,7 @@ def main():
             fail_each(checks, about, lines)
             if about not in UNREFUSED:
                 refuse_each(checks, about, lines)
+    check_workers(checks)
     drawn(checks)
     checks.end()
 

@@ -1,13 +1,15 @@
 //! A line is obeyed.
 
 use crate::exchange::Came;
-use crate::serving::{serve, serve_pieces};
+use crate::serving::{serve, serve_pieces, work};
 use crate::stop::Stop;
 use crate::words::{addrs_in, number_in, octets_in};
 use crate::world::{World, book_with};
 use command_text::run_script;
 use dns_query::Over;
+use log::Log;
 use std::alloc::Global;
+use std::sync::Wait;
 use streams::{CountedReader, CountedWriter};
 
 /// What a line says that comes of the next query to a name server. None where it says something else.
@@ -71,7 +73,12 @@ fn obey_line(rt: &HostRuntime, world: &mut World, line: &[u8]) -> Result<(), Sto
 }
 
 /// Obeys a line.
-pub fn obey(rt: &HostRuntime, world: &mut World, line: &[u8]) -> Result<(), Stop> {
+pub fn obey<W: Wait + Log>(
+    rt: &HostRuntime,
+    waiting: &W,
+    world: &mut World,
+    line: &[u8],
+) -> Result<(), Stop> {
     if is_set(rt.alloc(), world, line)? {
         return Ok(());
     }
@@ -80,6 +87,12 @@ pub fn obey(rt: &HostRuntime, world: &mut World, line: &[u8]) -> Result<(), Stop
     }
     if let Some(digits) = line.strip_prefix(b"tcp ") {
         return serve(rt, world, Over::Tcp, digits);
+    }
+    if let Some(words) = line.strip_prefix(b"work_udp") {
+        return work(rt, waiting, world, Over::Udp, words);
+    }
+    if let Some(words) = line.strip_prefix(b"work_tcp") {
+        return work(rt, waiting, world, Over::Tcp, words);
     }
     if let Some(pieces) = line.strip_prefix(b"stream") {
         return serve_pieces(rt, world, pieces);

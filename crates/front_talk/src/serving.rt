@@ -1,17 +1,20 @@
 //! Queries and streams are served.
 
+use crate::coming::Arrivals;
 use crate::pieces::{PieceReader, PieceWriter};
 use crate::stop::Stop;
 use crate::words::{octets_in, pieces_in};
 use crate::world::World;
 use dns_query::Over;
-use front_workers::{StreamFault, serve_query, serve_stream};
+use front_workers::{StreamFault, WorkEnd, serve_query, serve_stream, work_tcp, work_udp};
+use log::Log;
 use std::alloc::Global;
 use std::io::Write;
+use std::sync::Wait;
 use streams::{CountedReader, CountedWriter};
 
 /// Writes a word and octets.
-fn tell_octets(rt: &HostRuntime, word: &[u8], octets: &[u8]) -> Result<(), Stop> {
+pub fn tell_octets(rt: &HostRuntime, word: &[u8], octets: &[u8]) -> Result<(), Stop> {
     let mut line = Vec::from_slice(rt.alloc(), word)?;
     line.push(b' ')?;
     line.extend_from_slice(hex::encode(rt.alloc(), octets)?.as_bytes())?;
@@ -76,4 +79,28 @@ pub fn serve_pieces(rt: &HostRuntime, world: &mut World, text: &[u8]) -> Result<
     world.forget();
     tell_octets(rt, b"wrote", out.octets.as_slice())?;
     Ok(rt.stdout().write_all(end_words(end))?)
+}
+
+/// A worker serves what comes.
+pub fn work<W: Wait + Log>(
+    rt: &HostRuntime,
+    waiting: &W,
+    world: &mut World,
+    over: Over,
+    text: &[u8],
+) -> Result<(), Stop> {
+    let mut arrivals = Arrivals::new(rt, text)?;
+    let (book, tools) = (&mut world.book, &mut world.tools);
+    let end = match over {
+        Over::Udp => work_udp(waiting, rt.alloc(), book, &mut arrivals, tools),
+        Over::Tcp => work_tcp(waiting, rt.alloc(), book, &mut arrivals, tools),
+    };
+    rt.stdout().write_all(world.tools.exchange.asked())?;
+    world.forget();
+    let word = match end {
+        WorkEnd::Ended => "ended",
+        WorkEnd::Failing => "failing",
+    };
+    let line = format!(in rt.alloc(); "{word} {}\n", arrivals.left())?;
+    Ok(rt.stdout().write_all(line.as_bytes())?)
 }
