@@ -19,6 +19,7 @@ STUBS = os.path.join(TOP, "crates/stub_table_tests/out/stub_table_tests")
 TALK = os.path.join(TOP, "crates/iterate_talk/out/iterate_talk")
 QUERIES = os.path.join(TOP, "crates/front_bench/out/front_bench")
 FRONT = os.path.join(TOP, "crates/front_talk/out/front_talk")
+FLIGHT = os.path.join(TOP, "crates/flight_talk/out/flight_talk")
 
 # No run takes longer than this many seconds.
 PATIENCE = 600

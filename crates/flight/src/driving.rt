@@ -3,7 +3,7 @@
 ghost use Rattle.std.specs.Prelude.{◌≡◌, ◌≤◌, ◌+◌};
 ghost use Rattle.flight.specs.Asking.{IsAskedBy};
 ghost use Rattle.flight.specs.Flight.{Flies, IsOpen, query_to};
-ghost use Rattle.flight.specs.Waiting.{IsAccounted};
+ghost use Rattle.flight.specs.Waiting.{IsAccounted, WaitsFrom};
 ghost use Rattle.iterate.specs.declared.want.Want.{Want};
 
 use crate::asking::{Asking, ask};
@@ -30,7 +30,7 @@ impl<D: Numbered, L: Line, C: Clock, G: Rng, K: Client> Flight<D, L, C, G, K> {
     )
         ensures port { W.server_port world.new ≡ W.server_port world.old }
         ensures accounted { IsAccounted 1 self.old.outstanding (W.settled world.old) self.new.outstanding (W.settled world.new) }
-        ensures one { self.new.outstanding ≤ self.old.outstanding + 1 }
+        ensures waits { WaitsFrom now self.old self.new }
         ensures limit { self.new.limit ≡ self.old.limit }
     {
         let Job {
@@ -57,7 +57,7 @@ impl<D: Numbered, L: Line, C: Clock, G: Rng, K: Client> Flight<D, L, C, G, K> {
         requires flies { Flies D.calls D.seen L.hears C.ticks asking.port asking.query.question asking.task.steps.items input asking.seen }
         ensures port { W.server_port world.new ≡ W.server_port world.old }
         ensures accounted { IsAccounted 1 self.old.outstanding (W.settled world.old) self.new.outstanding (W.settled world.new) }
-        ensures one { self.new.outstanding ≤ self.old.outstanding + 1 }
+        ensures waits { WaitsFrom now self.old self.new }
         ensures limit { self.new.limit ≡ self.old.limit }
     {
         if desk.seen() < asking.seen || world.server_port() != asking.port {
@@ -83,7 +83,7 @@ impl<D: Numbered, L: Line, C: Clock, G: Rng, K: Client> Flight<D, L, C, G, K> {
         requires known { asking.seen ≤ D.seen desk.old }
         ensures port { W.server_port world.new ≡ W.server_port world.old }
         ensures accounted { IsAccounted 1 self.old.outstanding (W.settled world.old) self.new.outstanding (W.settled world.new) }
-        ensures one { self.new.outstanding ≤ self.old.outstanding + 1 }
+        ensures waits { WaitsFrom now self.old self.new }
         ensures within { self.old.outstanding ≤ self.old.limit → self.new.outstanding ≤ self.old.limit }
         ensures limit { self.new.limit ≡ self.old.limit }
     {

@@ -1,15 +1,15 @@
 //! Questions in flight.
 
-ghost use Rattle.std.specs.Prelude.{◌≡◌, ◌≤◌, ◌+◌};
+ghost use Rattle.std.specs.Prelude.{◌≡◌, ◌≤◌, ◌+◌, [], None, IfSome};
 ghost use Rattle.dns_wire.specs.declared.server.query.Asked.TheVariants.{Good};
 ghost use Rattle.dns_wire.specs.Server.Asking.{AsksFor};
-ghost use Rattle.flight.specs.Waiting.{IsAccounted};
+ghost use Rattle.flight.specs.Waiting.{IsAccounted, IsPatient, WaitsFrom};
 
 use crate::asking::Asking;
 use crate::job::Job;
 use crate::line::Line;
 use crate::numbered::Numbered;
-use crate::table::Table;
+use crate::table::{PATIENCE, Table};
 use crate::telling::{fault_of, refuse};
 use crate::world::{Client, Heard, Unserved, World};
 use command_text::Clock;
@@ -31,18 +31,20 @@ pub struct Flight<D: Numbered, L: Line, C: Clock, G: Rng, K: Client> {
 }
 
 impl<D: Numbered, L: Line, C: Clock, G: Rng, K: Client> Model for Flight<D, L, C, G, K> {
+    ghost use Rattle.std.specs.Prelude.{map};
     ghost use Rattle.slab.specs.Slab.{slab_len};
     ghost use Rattle.flight.specs.Waiting.{FlightState};
 
     ghost Value = { FlightState };
 
-    ghost view = { λ f. record { outstanding = slab_len f.table.jobs; limit = f.table.limit } };
+    ghost view = { λ f. record { outstanding = slab_len f.table.jobs; limit = f.table.limit; begun = map (λ wait. wait.since) f.table.waits.items } };
 }
 
 impl<D: Numbered, L: Line, C: Clock, G: Rng, K: Client> Flight<D, L, C, G, K> {
     /// None in flight, and at most so many exchanges under way.
     pub fn new(alloc: Global, clock: C, ids: G, limit: usize) -> Flight<D, L, C, G, K>
         ensures none { result.outstanding ≡ 0 }
+        ensures begun { result.begun ≡ [] }
         ensures limit { result.limit ≡ limit }
     {
         Flight {
@@ -77,7 +79,7 @@ impl<D: Numbered, L: Line, C: Clock, G: Rng, K: Client> Flight<D, L, C, G, K> {
         requires own { K.sent client octets.now }
         ensures port { W.server_port world.new ≡ W.server_port world.old }
         ensures accounted { IsAccounted 1 self.old.outstanding (W.settled world.old) self.new.outstanding (W.settled world.new) }
-        ensures one { self.new.outstanding ≤ self.old.outstanding + 1 }
+        ensures waits { WaitsFrom now self.old self.new }
         ensures within { self.old.outstanding ≤ self.old.limit → self.new.outstanding ≤ self.old.limit }
         ensures limit { self.new.limit ≡ self.old.limit }
     {
@@ -106,7 +108,7 @@ impl<D: Numbered, L: Line, C: Clock, G: Rng, K: Client> Flight<D, L, C, G, K> {
         requires good { AsksFor octets.now (Good query) }
         ensures port { W.server_port world.new ≡ W.server_port world.old }
         ensures accounted { IsAccounted 1 self.old.outstanding (W.settled world.old) self.new.outstanding (W.settled world.new) }
-        ensures one { self.new.outstanding ≤ self.old.outstanding + 1 }
+        ensures waits { WaitsFrom now self.old self.new }
         ensures within { self.old.outstanding ≤ self.old.limit → self.new.outstanding ≤ self.old.limit }
         ensures limit { self.new.limit ≡ self.old.limit }
     {
@@ -171,13 +173,10 @@ impl<D: Numbered, L: Line, C: Clock, G: Rng, K: Client> Flight<D, L, C, G, K> {
         ensures port { W.server_port world.new ≡ W.server_port world.old }
         ensures accounted { IsAccounted 0 self.old.outstanding (W.settled world.old) self.new.outstanding (W.settled world.new) }
         ensures no_more { self.new.outstanding ≤ self.old.outstanding }
+        ensures patient { IsPatient PATIENCE now self.new.begun }
         ensures limit { self.new.limit ≡ self.old.limit }
     {
-        // What begins here is not due yet.
-        for _ in 0..self.table.wait_count() {
-            let Some(wait) = self.table.next_due(now) else {
-                return;
-            };
+        while let Some(wait) = self.table.next_due(now) {
             if let Some(job) = self.table.take_due(wait) {
                 self.end(desk, world, now, job);
             }

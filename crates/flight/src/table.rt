@@ -1,7 +1,8 @@
 //! The questions that wait, and since when.
 
-ghost use Rattle.std.specs.Prelude.{◌≡◌, ◌<◌, ◌+◌, None, IfOk, IfSome, OnOk, OnSome};
+ghost use Rattle.std.specs.Prelude.{◌≡◌, ◌<◌, ◌≤◌, ◌+◌, ◌∷◌, ◌++◌, [], map, None, IfOk, IfSome, OnOk, OnSome};
 ghost use Rattle.slab.specs.Slab.{HasRoomFor, slab_len};
+ghost use Rattle.flight.specs.Waiting.{IsPatient};
 ghost use Rattle.std.specs.VecDeque.{deque_capacity, deque_len};
 
 use crate::job::Job;
@@ -40,6 +41,7 @@ impl<D: Numbered, L: Line, C: Clock, K: Client> Table<D, L, C, K> {
     /// An empty table for at most so many.
     pub(crate) fn new(alloc: Global, limit: usize) -> Table<D, L, C, K>
         ensures none { slab_len result.jobs ≡ 0 }
+        ensures waits { result.waits.items ≡ [] }
         ensures limit { result.limit ≡ limit }
     {
         Table {
@@ -58,6 +60,7 @@ impl<D: Numbered, L: Line, C: Clock, K: Client> Table<D, L, C, K> {
         ensures below { OnOk result (slab_len self.new.jobs < self.new.limit) }
         ensures octets { IfOk result (λ copy. copy ≡ octets.now) }
         ensures len { slab_len self.new.jobs ≡ slab_len self.old.jobs }
+        ensures waits_kept { self.new.waits.items ≡ self.old.waits.items }
         ensures limit { self.new.limit ≡ self.old.limit }
     {
         if self.jobs.len() >= self.limit {
@@ -87,6 +90,7 @@ impl<D: Numbered, L: Line, C: Clock, K: Client> Table<D, L, C, K> {
         requires jobs { HasRoomFor self.old.jobs 1 }
         requires waits { deque_len self.old.waits < deque_capacity self.old.waits }
         ensures len { slab_len self.new.jobs ≡ slab_len self.old.jobs + 1 }
+        ensures waits { self.new.waits.items ≡ self.old.waits.items ++ record { key = self.old.jobs.vacant_key; serial = self.old.serial; since = now } ∷ [] }
         ensures limit { self.new.limit ≡ self.old.limit }
     {
         let serial = self.serial;
@@ -104,6 +108,7 @@ impl<D: Numbered, L: Line, C: Clock, K: Client> Table<D, L, C, K> {
         ensures len { OnSome result (slab_len self.new.jobs + 1 ≡ slab_len self.old.jobs) }
         ensures room { OnSome result (HasRoomFor self.new.jobs 1) }
         ensures none { result ≡ None → self.new ≡ self.old }
+        ensures waits { self.new.waits.items ≡ self.old.waits.items }
         ensures limit { self.new.limit ≡ self.old.limit }
     {
         self.jobs.try_remove(key)
@@ -113,6 +118,7 @@ impl<D: Numbered, L: Line, C: Clock, K: Client> Table<D, L, C, K> {
     pub(crate) fn put_back(&mut self, job: Job<D, L, C, K>)
         requires { HasRoomFor self.old.jobs 1 }
         ensures len { slab_len self.new.jobs ≡ slab_len self.old.jobs + 1 }
+        ensures waits { self.new.waits.items ≡ self.old.waits.items }
         ensures limit { self.new.limit ≡ self.old.limit }
     {
         let _ = self.jobs.insert_reserved(job);
@@ -120,6 +126,10 @@ impl<D: Numbered, L: Line, C: Clock, K: Client> Table<D, L, C, K> {
 
     /// The next exchange whose time is up.
     pub(crate) fn next_due(&mut self, now: u64) -> Option<Wait>
+        ensures first { IfSome result (λ wait. self.old.waits.items ≡ wait ∷ self.new.waits.items) }
+        ensures due { IfSome result (λ wait. wait.since + PATIENCE ≤ now) }
+        ensures none { result ≡ None → IsPatient PATIENCE now (map (λ wait. wait.since) self.new.waits.items) }
+        ensures kept { result ≡ None → self.new ≡ self.old }
         ensures jobs { self.new.jobs ≡ self.old.jobs }
         ensures limit { self.new.limit ≡ self.old.limit }
     {
@@ -134,17 +144,13 @@ impl<D: Numbered, L: Line, C: Clock, K: Client> Table<D, L, C, K> {
     pub(crate) fn take_due(&mut self, wait: Wait) -> Option<Job<D, L, C, K>>
         ensures len { OnSome result (slab_len self.new.jobs + 1 ≡ slab_len self.old.jobs) }
         ensures none { result ≡ None → self.new ≡ self.old }
+        ensures waits { self.new.waits.items ≡ self.old.waits.items }
         ensures limit { self.new.limit ≡ self.old.limit }
     {
         if self.jobs.get(wait.key)?.serial != wait.serial {
             return None;
         }
         self.jobs.try_remove(wait.key)
-    }
-
-    /// How many exchanges may be under way or have ended in the last two seconds.
-    pub(crate) fn wait_count(&self) -> usize {
-        self.waits.len()
     }
 
     /// How many milliseconds until the first exchange's time is up.

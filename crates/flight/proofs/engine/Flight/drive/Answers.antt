@@ -1,4 +1,4 @@
-use Rattle.std.proofs.Common.{◌≡◌, ◌∙◌, sym, arith}
+use Rattle.std.proofs.Common.{◌≡◌, ◌∙◌, ap, map, sym, arith}
 use Rattle.iterate.specs.Wanted.{id_drawn}
 use Rattle.flight.specs.Flight.{failed}
 use Rattle.flight.proofs.Flying.{asked_on, due, flown, open_on}
@@ -21,6 +21,7 @@ loop-want-preserved-in-Book g c =
       port_kept = before.port_kept;
       settled_kept = before.settled_kept;
       waiting_kept = before.waiting_kept;
+      begun_kept = before.begun_kept;
       limit_kept = before.limit_kept;
     }
 
@@ -38,5 +39,6 @@ loop-want-preserved g c =
       port_kept = c.open.ensures.port ∙ before.port_kept;
       settled_kept = c.open.ensures.settled ∙ before.settled_kept;
       waiting_kept = c.make_room.ensures.len ∙ before.waiting_kept;
+      begun_kept = ap (map (λ wait. wait.since)) c.make_room.ensures.waits_kept ∙ before.begun_kept;
       limit_kept = c.make_room.ensures.limit ∙ before.limit_kept;
     }

@@ -1,4 +1,4 @@
-use Rattle.std.proofs.Common.{◌≡◌, ◌≤◌}
+use Rattle.std.proofs.Common.{◌≡◌, ◌≤◌, map}
 use Rattle.slab.specs.Slab.{slab_len}
 use Rattle.iterate.specs.Measure.{left_in}
 use Rattle.flight.specs.Asking.{IsAskedBy}
@@ -15,6 +15,7 @@ invariant-loop-want g l = record {
   port_kept : g.W.World.server_port l.world ≡ g.W.World.server_port l.fn.world;
   settled_kept : g.W.World.settled l.world ≡ g.W.World.settled l.fn.world;
   waiting_kept : slab_len l.self-inside.table.jobs ≡ l.fn.self.outstanding;
+  begun_kept : map (λ wait. wait.since) l.self-inside.table.waits.items ≡ l.fn.self.begun;
   limit_kept : l.self-inside.table.limit ≡ l.fn.self.limit;
 }
 
