@@ -13,7 +13,7 @@ pub(crate) const ROOM: usize = MOST_DATAGRAM + 1;
 
 /// Who waits for the reply to a datagram. No two are made of one datagram.
 #[derive(Drop)]
-pub struct UdpClient {
+pub(crate) struct UdpClient {
     came: Came,
     /// The room whose front the datagram filled.
     room: Snapshot<[u8; ROOM]>,
@@ -22,7 +22,7 @@ pub struct UdpClient {
 
 impl UdpClient {
     /// Whose datagram fills so many octets of the room.
-    pub(crate) fn new(came: Came, room: &[u8; ROOM]) -> UdpClient
+    pub fn new(came: Came, room: &[u8; ROOM]) -> UdpClient
         requires { came.count ≤ MOST_DATAGRAM }
         ensures came { result.came ≡ came }
         ensures room { result.room.value ≡ room.now }
@@ -34,12 +34,14 @@ impl UdpClient {
     }
 
     /// Where the reply goes.
-    pub(crate) fn peer(&self) -> SocketAddr {
+    pub fn peer(&self) -> SocketAddr
+        ensures { result ≡ self.now.came.peer }
+    {
         self.came.peer
     }
 
     /// How many octets came.
-    pub(crate) fn count(&self) -> usize
+    pub fn count(&self) -> usize
         ensures same { result ≡ self.now.came.count }
         ensures within { result ≤ MOST_DATAGRAM }
     {

@@ -22,10 +22,7 @@ mod millis;
 // A worker that keeps many questions in flight.
 mod udp_worker;
 
-pub use client::UdpClient;
 pub use limit::{MOST_EXCHANGES, SPARE_DESCRIPTORS, most_exchanges};
 pub use listener::{UdpListener, listen_each};
 pub use mio::Waker;
-pub use socket_line::SocketLine;
 pub use udp_worker::{UdpWorker, fly_udp};
-pub use worker_sockets::WorkerSockets;

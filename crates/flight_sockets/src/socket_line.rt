@@ -33,7 +33,7 @@ enum Way {
 /// Over UDP each datagram that does not fit the query is passed over. Over TCP the exchange is broken where the first
 /// message does not fit. A reply fits that has the query's identifier and question.
 #[derive(Drop)]
-pub struct SocketLine {
+pub(crate) struct SocketLine {
     server: Addr,
     over: Over,
     query: Shared<Octets>,
@@ -135,7 +135,7 @@ fn hear_tcp(alloc: Global, line: &mut TcpLine, query: &[u8], room: &mut [u8]) ->
 
 impl SocketLine {
     /// Sends a query, or begins to connect, and has the poll watch for what comes.
-    pub(crate) fn open<R: Net>(
+    pub fn open<R: Net>(
         rt: &R,
         alloc: Global,
         registry: &Registry,
@@ -164,7 +164,7 @@ impl SocketLine {
     }
 
     /// Goes on as far as the socket lets it.
-    pub(crate) fn hear(&mut self, alloc: Global, registry: &Registry, room: &mut [u8]) -> Heard
+    pub fn hear(&mut self, alloc: Global, registry: &Registry, room: &mut [u8]) -> Heard
         requires { length room.old ≡ MOST_MESSAGE }
         ensures heard { IsHeard (IsReply self.old.query) result }
         ensures server { self.new.server ≡ self.old.server }

@@ -41,7 +41,7 @@ const MOST_EVENTS: usize = 1024;
 /// The questions of a worker that are in flight.
 type Questions<D, C, G> = Flight<D, SocketLine, C, G, UdpClient>;
 
-/// A worker that takes datagrams. Contracts see its counts.
+/// A worker that takes datagrams. Contracts see its port of name servers and its counts.
 #[derive(Drop)]
 pub struct UdpWorker<'a, R: Net + Log + std::rt::Clock> {
     sockets: WorkerSockets<'a, R>,
@@ -52,11 +52,11 @@ pub struct UdpWorker<'a, R: Net + Log + std::rt::Clock> {
 }
 
 impl<'a, R: Net + Log + std::rt::Clock> Model for UdpWorker<'a, R> {
-    ghost use Rattle.flight_sockets.specs.Accounts.{WorkerCounts};
+    ghost use Rattle.flight_sockets.specs.Accounts.{WorkerState};
 
-    ghost Value = { WorkerCounts };
+    ghost Value = { WorkerState };
 
-    ghost view = { λ worker. record { taken = worker.taken; settled = worker.sockets.settled; failures = worker.failures } };
+    ghost view = { λ worker. record { server_port = worker.sockets.server_port; taken = worker.taken; settled = worker.sockets.settled; failures = worker.failures } };
 }
 
 impl<'a, R: Net + Log + std::rt::Clock> UdpWorker<'a, R> {
@@ -69,7 +69,7 @@ impl<'a, R: Net + Log + std::rt::Clock> UdpWorker<'a, R> {
         server_port: u16,
         start: Instant,
     ) -> Result<UdpWorker<'a, R>, NoMemory>
-        ensures { IfOk result (λ worker. worker ≡ record { taken = 0; settled = 0; failures = 0 }) }
+        ensures { IfOk result (λ worker. worker ≡ record { server_port = server_port; taken = 0; settled = 0; failures = 0 }) }
     {
         Ok(UdpWorker {
             sockets: WorkerSockets::new(rt, alloc, listener, server_port)?,

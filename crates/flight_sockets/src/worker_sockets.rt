@@ -37,7 +37,7 @@ pub(crate) enum Taken {
 
 /// The sockets of one worker: where questions come in and replies go out, and those of its exchanges.
 #[derive(Drop)]
-pub struct WorkerSockets<'a, R: Net + Log> {
+pub(crate) struct WorkerSockets<'a, R: Net + Log> {
     rt: &'a R,
     alloc: Global,
     listener: UdpListener,
@@ -80,14 +80,14 @@ impl<'a, R: Net + Log> WorkerSockets<'a, R> {
     }
 
     /// Sends a reply. What fails here does not end a worker: it may be the client that cannot be reached.
-    pub(crate) fn send(&self, peer: SocketAddr, reply: &[u8]) {
+    pub fn send(&self, peer: SocketAddr, reply: &[u8]) {
         if self.listener.socket.send_to(reply, peer).is_err() {
             warn!(self.rt; "resolver: device fault");
         }
     }
 
     /// Waits no longer than this for what the sockets report.
-    pub(crate) fn wait(&mut self, events: &mut Events, most: Duration) -> io::Result<()>
+    pub fn wait(&mut self, events: &mut Events, most: Duration) -> io::Result<()>
         ensures port { self.new.server_port ≡ self.old.server_port }
         ensures settled { self.new.settled ≡ self.old.settled }
     {
@@ -96,7 +96,7 @@ impl<'a, R: Net + Log> WorkerSockets<'a, R> {
     }
 
     /// Takes a datagram.
-    pub(crate) fn take(&self, room: &mut [u8; ROOM]) -> io::Result<Taken>
+    pub fn take(&self, room: &mut [u8; ROOM]) -> io::Result<Taken>
         ensures { IfOk result (IsTakenFrom room.new) }
     {
         match self.listener.socket.recv_from(room) {
@@ -120,7 +120,7 @@ impl<'a, R: Net + Log> WorkerSockets<'a, R> {
     }
 
     /// Tells who sent a datagram that is not read whole that it is malformed, unless it is a reply itself.
-    pub(crate) fn refuse(&self, peer: SocketAddr, front: &[u8])
+    pub fn refuse(&self, peer: SocketAddr, front: &[u8])
         requires { 12 ≤ length front.now }
     {
         if wants_reply(self.alloc, front) {
