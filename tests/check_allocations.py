@@ -4,13 +4,20 @@ A run of twice the calls less one of the calls takes off what starting up asks f
 """
 
 from checks import Checks
-from programs import QUERIES, run
+from programs import QUERIES, TASKS, run
 
 COUNT = 1000
 
 # A query, from octets in to octets out: the question's octets, the list of steps, and the reply. Of local data besides: the
 # records that the look tells, and the set that the task makes of them, its records and what shares them.
 MOST_OF_A_QUERY = {"held": 3, "local": 6, "refused": 3}
+
+# A task, from its beginning to its answer: the list of steps; of local data besides the records that the look tells, and the set
+# that the task makes of them, its records and what shares them.
+MOST_OF_A_TASK = {"held": 1, "local": 4, "refused": 1}
+
+# The look of such a task alone.
+MOST_OF_A_LOOK = {"held_look": 0, "local_look": 1, "refused_look": 0}
 
 
 def counted(program, call, count):
@@ -28,12 +35,18 @@ def of_a_call(program, call):
     return None if once is None or twice is None else (twice - once) / COUNT
 
 
+def check(checks, program, what, bounds):
+    for call, most in bounds.items():
+        blocks = of_a_call(program, call)
+        told = "not counted" if blocks is None else f"{blocks} allocations, at most {most}"
+        checks.tell(f"{call}: {what}", None if blocks is not None and min(most, 1) <= blocks <= most else told)
+
+
 def main():
     checks = Checks()
-    for call, most in MOST_OF_A_QUERY.items():
-        blocks = of_a_call(QUERIES, call)
-        told = "not counted" if blocks is None else f"{blocks} allocations, at most {most}"
-        checks.tell(f"{call}: a query", None if blocks is not None and 0 < blocks <= most else told)
+    check(checks, QUERIES, "a query", MOST_OF_A_QUERY)
+    check(checks, TASKS, "a task", MOST_OF_A_TASK)
+    check(checks, TASKS, "a look", MOST_OF_A_LOOK)
     checks.end()
 
 

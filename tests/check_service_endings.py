@@ -5,11 +5,12 @@ import signal
 import socket
 import threading
 import time
+from concurrent.futures import ThreadPoolExecutor
 
 from checks import Checks
 from nameserver import NameServers, bound
 from programs import RESOLVER, library, run
-from service import CANNOT_LISTEN, HOST, STOPPED, NotReady, Service, free_port, query
+from service import CANNOT_LISTEN, HOST, STOPPED, NotReady, Service, free_port, query, until
 
 BAD = b"resolver: bad arguments\n"
 NOT_LOOPBACK = b"resolver: control must be loopback\n"
@@ -183,12 +184,12 @@ def check_control_program(checks):
 
 
 def check_silent_server(checks):
-    """A name server that is not there is no fault of the service's own: the log has its start and its end."""
+    """A name server that is not there: the log has the exchange that failed, between its start and its end."""
     with NameServers({"127.0.0.1": {}}) as servers, Service([f"127.0.0.2@{servers.port}"]) as service:
         checks.equal("a dead server", service.ask("a.test.").words(), "rcode 2")
         checks.equal("a dead server: stopped", service.stop(), STOPPED)
         words = [line.partition(b"resolver: ")[2] for line in service.log().splitlines()]
-        checks.equal("a dead server: the log", words, [b"started", b"stopped"])
+        checks.equal("a dead server: the log", words, [b"started", b"device fault", b"stopped"])
 
 
 def check_signal(checks):
@@ -293,8 +294,22 @@ def check_stop(checks, name, is_asked, is_loaded):
         checks.tell(f"stop {name}: how soon", None if took < STOP_SECONDS else f"{took:.3f} s")
 
 
-def main():
-    checks = Checks()
+def outlive_want():
+    """A worker that cannot accept for eighteen seconds, while nobody connects: the faults in the log, whether it ended, and what it answers then."""
+    with Service(["192.0.2.1"]) as service:
+        service.obey("local_data held.test. 60 A 192.0.2.1")
+        until(lambda: service.threads() == 3 and service.descriptors() <= 8)
+        service.limit(service.first_free())
+        # A worker that waits has the descriptor of its next connection; the one behind it wants one.
+        with service.client("tcp") as client:
+            client.ended()
+        time.sleep(18.5)
+        faults, has_ended = service.log().count(b"resolver: device fault"), b"ended by failures" in service.log()
+        service.limit(1_024)
+        return faults > 16, has_ended, service.ask("held.test.", "A", "tcp").words(), service.stop()
+
+
+def make_all(checks):
     checks.make(check_usage)
     checks.make(check_addresses)
     checks.make(check_binding)
@@ -308,6 +323,15 @@ def main():
     checks.make(check_stop, "under load", False, True)
     checks.make(check_stop, "under load, with questions that wait", True, True)
     checks.make(check_signal)
+
+
+def main():
+    checks = Checks()
+    with ThreadPoolExecutor(1) as pool:
+        waiting = pool.submit(outlive_want)
+        make_all(checks)
+        wanted = True, False, "aa | answer held.test. A 192.0.2.1", STOPPED
+        checks.equal("no descriptors for eighteen seconds", waiting.result(), wanted)
     checks.end()
 
 

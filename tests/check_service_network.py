@@ -1,7 +1,5 @@
 """`resolver serve` against servers and clients that lie, keep silent, go slowly or go away, and where descriptors are wanting."""
 
-import os
-import resource
 import socket
 import threading
 import time
@@ -257,24 +255,12 @@ def check_burst(checks):
         checks.equal("a burst", found, list(range(201)))
 
 
-def first_free(service):
-    """The descriptor that the service would get next."""
-    used = {int(name) for name in os.listdir(f"/proc/{service.process.pid}/fd")}
-    return next(place for place in range(len(used) + 1) if place not in used)
-
-
-def limit(service, most):
-    """Lets the service get descriptors below this one alone."""
-    _, hard = resource.prlimit(service.process.pid, resource.RLIMIT_NOFILE)
-    resource.prlimit(service.process.pid, resource.RLIMIT_NOFILE, (most, hard))
-
-
 def check_descriptors(checks):
     """Where no descriptor is to be had questions fail and connections wait; with descriptors again all goes on."""
     with NameServers({HOST: {"*": lambda asked: [good(asked)]}}) as servers, Service([f"{HOST}@{servers.port}"]) as service:
         service.obey("local_data held.test. 60 A 192.0.2.1")
         until(lambda: service.threads() == 3 and service.descriptors() <= 8)
-        limit(service, first_free(service))
+        service.limit(service.first_free())
         replies = {service.ask(f"asked{place}.test.").words() for place in range(40)}
         checks.equal("no descriptors: 40 questions", replies, {"rcode 2"})
         checks.equal("no descriptors: what is held", service.ask("held.test.").words(), "aa | answer held.test. A 192.0.2.1")
@@ -284,7 +270,7 @@ def check_descriptors(checks):
             # The operators' listener may fail beside the worker's, so seven faults are of three seconds at least.
             checks.equal("no descriptors: a failed accept is logged", service.logged(b"resolver: device fault", faults + 7), True)
             checks.tell("no descriptors: a failed accept waits a second", None if time.monotonic() - began >= 3 else "it does not")
-            limit(service, 1_024)
+            service.limit(1_024)
             # The connection that waited may have been ended meanwhile; the next is served.
             client.sock.close()
         for over in ("udp", "tcp"):

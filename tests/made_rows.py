@@ -95,6 +95,18 @@ def long_names():
     return both_ways(response(*records), words(*texts))
 
 
+def many_data():
+    """A set of 1,900 addresses that come twice over, and one of 16 strings: behind the first few, each datum counts once too."""
+    addresses = [bytes([10, 0, place // 256, place % 256]) for place in range(1_900)]
+    told = ", ".join(".".join(str(octet) for octet in address) for address in addresses)
+    message = response(*(record(A, address) for address in addresses * 2))
+    yield call("harvest", message, b"a.test", b"A", b"test"), f"set 2 60 a.test. A {told}".encode()
+    strings = [b"x" * place for place in range(16)]
+    told = ", ".join(f'"{string.decode()}"' for string in strings)
+    message = response(*(record(TXT, bytes([len(string)]) + string) for string in strings + strings[::-1]))
+    yield call("harvest", message, b"a.test", b"TXT", b"test"), f"set 2 60 a.test. TXT {told}".encode()
+
+
 def longest():
     """A message of 65,535 octets is written; one of 65,536 is too long, and one whose names, written whole, make it so."""
     fill = 65_535 - len(response(record(NULL, b"")))
@@ -155,6 +167,7 @@ def made_files():
         "fronts": fronts(),
         "many records": many_records(),
         "many strings": many_strings(),
+        "many data": many_data(),
         "long names": long_names(),
         "longest": longest(),
         "longest that is lent": longest_lent(),

@@ -18,6 +18,7 @@ ZONES = os.path.join(TOP, "crates/local_zone_tests/out/local_zone_tests")
 STUBS = os.path.join(TOP, "crates/stub_table_tests/out/stub_table_tests")
 TALK = os.path.join(TOP, "crates/iterate_talk/out/iterate_talk")
 QUERIES = os.path.join(TOP, "crates/front_bench/out/front_bench")
+TASKS = os.path.join(TOP, "crates/task_bench/out/task_bench")
 FRONT = os.path.join(TOP, "crates/front_talk/out/front_talk")
 
 # No run takes longer than this many seconds.

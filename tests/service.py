@@ -2,6 +2,7 @@
 
 import os
 import random
+import resource
 import select
 import socket
 import subprocess
@@ -214,6 +215,16 @@ class Service:
 
     def descriptors(self):
         return len(os.listdir(f"/proc/{self.process.pid}/fd"))
+
+    def first_free(self):
+        """The descriptor that it would get next."""
+        used = {int(name) for name in os.listdir(f"/proc/{self.process.pid}/fd")}
+        return next(place for place in range(len(used) + 1) if place not in used)
+
+    def limit(self, most):
+        """Lets it get descriptors below this one alone."""
+        _, hard = resource.prlimit(self.process.pid, resource.RLIMIT_NOFILE)
+        resource.prlimit(self.process.pid, resource.RLIMIT_NOFILE, (most, hard))
 
 
 STOPPED = ("ok stopping", 0, b"")

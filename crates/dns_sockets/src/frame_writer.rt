@@ -1,33 +1,36 @@
 //! What is written to a connection.
 
 ghost use Rattle.std.specs.Prelude.{◌≡◌, ◌≤◌, length, take, IfOk};
+ghost use Rattle.std.specs.Io.KnownBytes.{WriteAppends};
 ghost use Rattle.dns_sockets.specs.Spots.{spot_after, IsOfOneMessage};
 
 use crate::deadline::{Deadline, begin_wait};
+use crate::limits::Limits;
 use crate::spot::Spot;
 use std::io;
 use std::io::Write;
-use std::net::TcpStream;
 use std::rt::Clock;
 use streams::CountedWriter;
 
 /// Writes messages behind their lengths (RFC 1035, section 4.2.2) to a connection.
 ///
 /// A message that has not left whole two seconds after its first write ends the connection by a failed write.
-pub type FrameWriter<'a, R> = CountedWriter<Outgoing<'a, R>>;
+pub type FrameWriter<'a, R, S> = CountedWriter<Outgoing<'a, R, S>>;
 
 /// The connection of a `FrameWriter`.
 #[derive(Drop)]
-pub struct Outgoing<'a, R: Clock> {
+pub struct Outgoing<'a, R: Clock, S> {
     rt: &'a R,
-    stream: TcpStream,
+    stream: S,
     spot: Spot,
     /// By when the message has to leave, once it was begun.
     deadline: Option<Deadline>,
 }
 
-impl<'a, R: Clock> Outgoing<'a, R> {
-    pub(crate) fn new(rt: &'a R, stream: TcpStream) -> Outgoing<'a, R> {
+impl<'a, R: Clock, S: Write + Limits> Outgoing<'a, R, S> {
+    pub(crate) fn new(rt: &'a R, stream: S) -> Outgoing<'a, R, S>
+        ensures { result.stream ≡ stream }
+    {
         Outgoing {
             rt,
             stream,
@@ -38,6 +41,7 @@ impl<'a, R: Clock> Outgoing<'a, R> {
 
     /// Writes octets of one message.
     fn pass(&mut self, octets: &[u8]) -> io::Result<usize>
+        ensures written { WriteAppends (S.contents self.old.stream) (S.contents self.new.stream) result octets.now }
         ensures within { IfOk result (λ count. count ≤ length octets.now) }
         ensures spot { IfOk result (λ count. self.new.spot ≡ spot_after self.old.spot (take count octets.now)) }
         ensures one { IfOk result (λ count. IsOfOneMessage self.old.spot (take count octets.now)) }
@@ -45,7 +49,7 @@ impl<'a, R: Clock> Outgoing<'a, R> {
         let mut end = self.spot;
         let most = end.go_on(octets);
         let left = begin_wait(self.rt, &mut self.deadline)?.left(self.rt)?;
-        self.stream.set_write_timeout(Some(left))?;
+        self.stream.limit_write(left)?;
         let count = self.stream.write(&octets[..most])?;
         self.spot = self.spot.after(&octets[..count]);
         if self.spot == Spot::Beginning {
@@ -55,7 +59,10 @@ impl<'a, R: Clock> Outgoing<'a, R> {
     }
 }
 
-impl<'a, R: Clock> Write for Outgoing<'a, R> {
+impl<'a, R: Clock, S: Write + Limits> Write for Outgoing<'a, R, S> {
+    // It holds what the connection holds.
+    ghost contents = { λ outgoing. S.contents outgoing.stream };
+
     fn write(&mut self, octets: &[u8]) -> io::Result<usize> {
         self.pass(octets)
     }

@@ -1,29 +1,30 @@
 //! Datagrams.
 
-ghost use Rattle.std.specs.Prelude.{◌≡◌, ◌↔◌, ◌≤◌, length, IsTrue, IfOk, IfSome};
+ghost use Rattle.std.specs.Prelude.{◌≡◌, ◌↔◌, ◌≤◌, length, take, IsTrue, IsNone, IfOk, IfSome, OnOk};
 ghost use Rattle.std.specs.Net.Socket.{socket_port};
 ghost use Rattle.dns_sockets.specs.Answerable.{IsAnswerable};
 
+use crate::datagram_socket::DatagramSocket;
 use crate::deadline::is_wait_over;
+use crate::stop_flag::StopFlag;
 use front_workers::{Came, DeviceFault, Port};
 use std::io;
-use std::net::{SocketAddr, UdpSocket};
+use std::net::SocketAddr;
 use std::sync::Wait;
-use std::sync::atomic::{AtomicBool, Ordering};
 
 /// Takes datagrams from a socket that several workers share, one query in each (RFC 1035, section 4.2.1), until the
 /// stop flag is set.
 #[derive(Drop)]
-pub struct UdpPort<'a, R: Wait> {
+pub struct UdpPort<'a, R: Wait, S: DatagramSocket, F: StopFlag> {
     rt: &'a R,
-    socket: &'a UdpSocket,
-    stop: &'a AtomicBool,
+    socket: &'a S,
+    stop: &'a F,
     failures: u64,
 }
 
-impl<'a, R: Wait> UdpPort<'a, R> {
+impl<'a, R: Wait, S: DatagramSocket, F: StopFlag> UdpPort<'a, R, S, F> {
     /// Takes datagrams from a socket of `bind_udp`.
-    pub fn new(rt: &'a R, socket: &'a UdpSocket, stop: &'a AtomicBool) -> UdpPort<'a, R>
+    pub fn new(rt: &'a R, socket: &'a S, stop: &'a F) -> UdpPort<'a, R, S, F>
         ensures { result.failures ≡ 0 }
     {
         UdpPort {
@@ -43,20 +44,21 @@ pub fn is_answerable(peer: SocketAddr, count: usize) -> bool
 }
 
 /// Goes round on the socket's timeout until a datagram comes or the stop flag is set.
-fn next_datagram<R: Wait>(
+fn next_datagram<R: Wait, S: DatagramSocket, F: StopFlag>(
     rt: &R,
-    socket: &UdpSocket,
-    stop: &AtomicBool,
+    socket: &S,
+    stop: &F,
     room: &mut [u8],
 ) -> io::Result<Option<Came>>
     ensures within { IfOk result (λ came. IfSome came (λ c. c.count ≤ length room.new)) }
-    ensures answerable { IfOk result (λ came. IfSome came (λ c. IsAnswerable c.peer c.count)) }
+    ensures came { IfOk result (λ came. IfSome came (λ c. IsAnswerable c.peer c.count × S.came c.peer (take c.count room.new))) }
+    ensures ended { IfOk result (λ came. IsNone came → F.stopped) }
 {
     for _ in rt.forever() {
-        if stop.load(Ordering::SeqCst) {
+        if stop.is_set() {
             return Ok(None);
         }
-        match socket.recv_from(room) {
+        match socket.take_datagram(room) {
             Ok((count, peer)) => {
                 if is_answerable(peer, count) {
                     return Ok(Some(Came { peer, count }));
@@ -72,12 +74,12 @@ fn next_datagram<R: Wait>(
     unreachable!()
 }
 
-impl<'a, R: Wait> Port for UdpPort<'a, R> {
-    // What comes can be answered.
-    ghost takes = { λ _ came _ _. IfOk came (λ came. IfSome came (λ c. IsAnswerable c.peer c.count)) };
+impl<'a, R: Wait, S: DatagramSocket, F: StopFlag> Port for UdpPort<'a, R, S, F> {
+    // What comes is a datagram of the socket's that can be answered. It ends where the flag is set alone.
+    ghost takes = { λ _ came room _. IfOk came (λ came. (IsNone came → F.stopped) × IfSome came (λ c. IsAnswerable c.peer c.count × S.came c.peer (take c.count room))) };
 
-    // Nothing is known of what leaves.
-    ghost gives = { λ _ _ _ _ _. Unit {0} };
+    // A reply leaves by the socket.
+    ghost gives = { λ _ peer reply result _. OnOk result (S.left peer reply) };
 
     ghost failures = { λ port. port.failures };
 
@@ -92,7 +94,7 @@ impl<'a, R: Wait> Port for UdpPort<'a, R> {
     }
 
     fn give(&mut self, peer: SocketAddr, reply: &[u8]) -> Result<(), DeviceFault> {
-        match self.socket.send_to(reply, peer) {
+        match self.socket.send_datagram(reply, peer) {
             Ok(_) => Ok(()),
             Err(_) => {
                 self.failures = self.failures.saturating_add(1);

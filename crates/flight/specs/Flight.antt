@@ -12,7 +12,7 @@ use Rattle.iterate.specs.declared.want.Input.TheVariants.{Begin, Reply as Replie
 use Rattle.iterate.specs.declared.want.Step.{Step}
 use Rattle.iterate.specs.declared.want.Want.{Want}
 use Rattle.iterate.specs.declared.want.Want.TheVariants.{Book, Send, Finish}
-use Rattle.front_workers.specs.Leads.{Calls, Ticks, Wants}
+use Rattle.front_workers.specs.Leads.{Calls, Ticks, Lent, Draws}
 
 -- a query that went out: to which server, over what, its octets
 pub record Sent : Type 0 where
@@ -34,22 +34,22 @@ pub data Answered {D : Type 0} (calls : Calls D) (seen : D → ℕ) (hears : Hea
   came : {n : ℕ} {server : Addr} {over : Over} {query octets : List ℕ} → hears (query_to server over query) octets → Answered calls seen hears n (Send server over query) (Came octets) n
   failed : {n : ℕ} {server : Addr} {over : Over} {query : List ℕ} → Answered calls seen hears n (Send server over query) Failed n
 
--- The task of a question took these steps, each at a reading of the clock and each after the first behind the answer to the want before it. This input comes next, and this is the number of the desk's latest call that it knows of.
+-- The task of a question took these steps, each at a reading of the clock, each query with an identifier drawn of the generator, and each step after the first behind the answer to the want before it. This input comes next, and this is the number of the desk's latest call that it knows of.
 pub data Flies {D C : Type 0} (calls : Calls D) (seen : D → ℕ) (hears : Hears) (ticks : Ticks C) (port : ℕ) (question : Question) : List Step → Input → ℕ → Type 0 where
   begins : Flies calls seen hears ticks port question [] Begin 0
-  goes_on : {steps after : List Step} {input next : Input} {want : Want} {c c' : C} {n n' : ℕ}
+  goes_on : {steps after : List Step} {input next : Input} {want : Want} {l l' : Lent C} {n n' : ℕ}
       → Flies calls seen hears ticks port question steps input n
-      → Wants ticks port question steps input c want after c' → Answered calls seen hears n want next n'
+      → Draws ticks port question steps input l want after l' → Answered calls seen hears n want next n'
       → Flies calls seen hears ticks port question after next n'
 
 -- After these steps a question's task wants this, and nothing has come of it.
 pub record IsOpen {D C : Type 0} (calls : Calls D) (seen : D → ℕ) (hears : Hears) (ticks : Ticks C) (port : ℕ) (question : Question) (steps : List Step) (want : Want) (n : ℕ) : Type 0 where
   pub before : List Step
   pub input : Input
-  pub c : C
-  pub c' : C
+  pub l : Lent C
+  pub l' : Lent C
   pub flies : Flies calls seen hears ticks port question before input n
-  pub wants : Wants ticks port question before input c want steps c'
+  pub draws : Draws ticks port question before input l want steps l'
 
 -- It waits for the reply to a query.
 abbrev pub Awaits : {D C : Type 0} → Calls D → (D → ℕ) → Hears → Ticks C → ℕ → Question → List Step → Sent → ℕ → Type 0

@@ -3,6 +3,7 @@
 //!
 //! | Call | What the query gets |
 //! |---|---|
+//! | `question` | its question read, and nothing more: it prints how many were read |
 //! | `held`, `local`, `refused` | a set that is held, local data, a header of RCODE 5, from octets in to octets out |
 #![tactic(auto)]
 
@@ -15,7 +16,7 @@ use queries::run;
 use std::env;
 
 /// Every call, in the order in which it is shown.
-const CALLS: [&str; 3] = ["held", "local", "refused"];
+const CALLS: [&str; 4] = ["question", "held", "local", "refused"];
 
 fn main(rt: HostRuntime) -> anyhow::Result<()> {
     let words: Vec<String> = env::args(&rt)?.collect(rt.alloc())?;

@@ -7,6 +7,7 @@ use anyhow::anyhow;
 use command_text::Clock;
 use dns_query::Over;
 use dns_text::{Addr, Octets};
+use dns_wire::{Asked, read_question};
 use front_workers::{DeviceFault, Exchange, Tools, serve_query};
 use rand_pcg::Pcg32;
 use std::alloc::Global;
@@ -67,9 +68,21 @@ fn serve(alloc: Global, query: &[u8], count: u32) -> anyhow::Result<u32> {
     Ok(sum)
 }
 
-/// So many queries, and how many octets the replies have.
+/// So many readings of a question alone, and how many there were.
+fn read(alloc: Global, query: &[u8], count: u32) -> anyhow::Result<u32> {
+    let mut sum = 0u32;
+    for _ in 0..count {
+        if let Asked::Good(_) = read_question(alloc, query)? {
+            sum = sum.wrapping_add(1);
+        }
+    }
+    Ok(sum)
+}
+
+/// So many queries, and how many octets the replies have; or so many questions, and how many.
 pub fn run(alloc: Global, call: &str, count: u32) -> anyhow::Result<u32> {
     match call {
+        "question" => read(alloc, HELD, count),
         "held" => serve(alloc, HELD, count),
         "local" => serve(alloc, LOCAL, count),
         "refused" => serve(alloc, REFUSED, count),

@@ -10,7 +10,7 @@ use Rattle.front_workers.specs.declared.fault.StreamFault.{StreamFault}
 use Rattle.front_workers.specs.declared.fault.StreamFault.TheVariants.{Read, Write, Short, NoMemory}
 use Rattle.front_workers.specs.Framing.{framed, length_octets, HasLength, MessageCame}
 use Rattle.dns_query.specs.declared.over.Over.TheVariants.{Tcp}
-use Rattle.front_workers.specs.Leads.{Calls, Asks, Ticks}
+use Rattle.front_workers.specs.Leads.{Calls, Asks, Ticks, Lent}
 use Rattle.front_workers.specs.Stream.{Serving, Lacking, Served, ToldOne, Streams, serving, lacking, unread, unserved, untold}
 
 -- A message more is read.
@@ -67,7 +67,7 @@ handed_on serves lacks fault o next u v held held' (Ok _) is streams = absurd is
 handed_on serves lacks fault o next u v held held' (Err e) is streams = subst (λ (f : StreamFault). Streams {A = Unit {0}} serves lacks (Err f) o next u v held held') (sym is) streams
 
 -- One message is told at the same port.
-pub at_port : {D X C : Type 0} (calls : Calls D) (asks : Asks X) (ticks : Ticks C) (fault : StreamFault) (here there : ℕ) (m : List ℕ) (o next : D × X × C) (old new : Option (List ℕ)) → here ≡ there
+pub at_port : {D X C : Type 0} (calls : Calls D) (asks : Asks X) (ticks : Ticks C) (fault : StreamFault) (here there : ℕ) (m : List ℕ) (o next : D × X × Lent C) (old new : Option (List ℕ)) → here ≡ there
     → ToldOne {A = Unit {0}} (serving calls asks ticks here Tcp) (lacking calls asks ticks here) (Err fault) m o next old new
     → ToldOne {A = Unit {0}} (serving calls asks ticks there Tcp) (lacking calls asks ticks there) (Err fault) m o next old new
 at_port calls asks ticks fault here there m o next old new e one =

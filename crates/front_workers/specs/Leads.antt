@@ -13,7 +13,8 @@ use Rattle.iterate.specs.declared.want.Step.{Step}
 use Rattle.iterate.specs.declared.want.Want.{Want}
 use Rattle.iterate.specs.declared.want.Want.TheVariants.{Book, Send, Finish}
 use Rattle.iterate.specs.Exchanges.{exchanges_of}
-use Rattle.iterate.specs.Wanted.{MayWant}
+use Rattle.iterate.specs.Wanted.{MayWant, id_drawn, stream_behind}
+use Rattle.rand_core.specs.Stream.{Stream}
 use Rattle.front_workers.specs.declared.device.DeviceFault.{DeviceFault}
 use Rattle.front_workers.specs.declared.device.DeviceFault.TheVariants.{Device, NoMemory}
 
@@ -27,6 +28,10 @@ Asks X = X → Addr → Over → List ℕ → Result (List ℕ) DeviceFault → 
 abbrev pub Ticks : Type 0 → Type 1
 Ticks C = C → ℕ → C → Type 0
 
+-- a clock, and the words that a generator gives from here on
+abbrev pub Lent : Type 0 → Type 0
+Lent C = C × Stream
+
 -- The clock is read, and a task that is handed this input then may want this.
 pub record Wants {C : Type 0} (ticks : Ticks C) (port : ℕ) (question : Question) (steps : List Step) (input : Input) (clock : C) (want : Want) (after : List Step) (clock' : C) : Type 0 where
   pub moment : ℕ
@@ -35,6 +40,12 @@ pub record Wants {C : Type 0} (ticks : Ticks C) (port : ℕ) (question : Questio
   pub id : ℕ
   pub may : MayWant port question (exchanges_of after) moment id want
 
+-- The same, and its identifier is drawn of the generator: the low 16 bits of a word, which only a query takes.
+pub record Draws {C : Type 0} (ticks : Ticks C) (port : ℕ) (question : Question) (steps : List Step) (input : Input) (lent : Lent C) (want : Want) (after : List Step) (lent' : Lent C) : Type 0 where
+  pub wants : Wants ticks port question steps input lent.0 want after lent'.0
+  pub identifier : wants.id ≡ id_drawn lent.1
+  pub taken : lent'.1 ≡ stream_behind want lent.1
+
 -- What is wanted is met by one call: the desk and the exchange before, the want, what the task is handed then, the desk and the exchange after.
 pub data Met {D X : Type 0} (calls : Calls D) (asks : Asks X) : D → X → Want → Input → D → X → Type 0 where
   replied : {d d' : D} {x : X} {event : Event} {reply : Reply} → calls d event (Ok reply) d' → Met calls asks d x (Book event) (Replied reply) d' x
@@ -42,32 +53,32 @@ pub data Met {D X : Type 0} (calls : Calls D) (asks : Asks X) : D → X → Want
   came : {d : D} {x x' : X} {server : Addr} {over : Over} {bytes octets : List ℕ} → asks x server over bytes (Ok octets) x' → Met calls asks d x (Send server over bytes) (Came octets) d x'
   failed : {d : D} {x x' : X} {server : Addr} {over : Over} {bytes : List ℕ} → asks x server over bytes (Err Device) x' → Met calls asks d x (Send server over bytes) Failed d x'
 
--- Steps of a task for the question lead from a desk, an exchange and a clock to others, and this input comes next.
-pub data Leads {D X C : Type 0} (calls : Calls D) (asks : Asks X) (ticks : Ticks C) (port : ℕ) (question : Question) (desk : D) (exchange : X) (clock : C)
-    : List Step → Input → D → X → C → Type 0 where
-  begins : Leads calls asks ticks port question desk exchange clock [] Begin desk exchange clock
-  goes_on : {steps after : List Step} {input next : Input} {want : Want} {d d' : D} {x x' : X} {c c' : C}
-      → Leads calls asks ticks port question desk exchange clock steps input d x c
-      → Wants ticks port question steps input c want after c' → Met calls asks d x want next d' x'
-      → Leads calls asks ticks port question desk exchange clock after next d' x' c'
+-- Steps of a task for the question lead from a desk, an exchange, a clock and a generator to others, and this input comes next.
+pub data Leads {D X C : Type 0} (calls : Calls D) (asks : Asks X) (ticks : Ticks C) (port : ℕ) (question : Question) (desk : D) (exchange : X) (lent : Lent C)
+    : List Step → Input → D → X → Lent C → Type 0 where
+  begins : Leads calls asks ticks port question desk exchange lent [] Begin desk exchange lent
+  goes_on : {steps after : List Step} {input next : Input} {want : Want} {d d' : D} {x x' : X} {l l' : Lent C}
+      → Leads calls asks ticks port question desk exchange lent steps input d x l
+      → Draws ticks port question steps input l want after l' → Met calls asks d x want next d' x'
+      → Leads calls asks ticks port question desk exchange lent after next d' x' l'
 
--- A question ends in an answer: steps lead from the desk, the exchange and the clock to these, and a task may answer so then (what it may answer resolves the question).
-pub record Ends {D X C : Type 0} (calls : Calls D) (asks : Asks X) (ticks : Ticks C) (port : ℕ) (question : Question) (desk : D) (exchange : X) (clock : C)
-    (answer : Answer) (d : D) (x : X) (c' : C) : Type 0 where
+-- A question ends in an answer: steps lead from the desk, the exchange, the clock and the generator to these, and a task may answer so then (what it may answer resolves the question).
+pub record Ends {D X C : Type 0} (calls : Calls D) (asks : Asks X) (ticks : Ticks C) (port : ℕ) (question : Question) (desk : D) (exchange : X) (lent : Lent C)
+    (answer : Answer) (d : D) (x : X) (l' : Lent C) : Type 0 where
   pub steps : List Step
   pub input : Input
-  pub c : C
-  pub leads : Leads calls asks ticks port question desk exchange clock steps input d x c
+  pub l : Lent C
+  pub leads : Leads calls asks ticks port question desk exchange lent steps input d x l
   pub after : List Step
-  pub wants : Wants ticks port question steps input c (Finish answer) after c'
+  pub draws : Draws ticks port question steps input l (Finish answer) after l'
 
--- It breaks off for want of memory: the task finds none, or an exchange.
-pub data BreaksOff {D X C : Type 0} (calls : Calls D) (asks : Asks X) (ticks : Ticks C) (port : ℕ) (question : Question) (desk : D) (exchange : X) (clock : C)
-    : D → X → C → Type 0 where
-  in_the_task : {steps : List Step} {input : Input} {d : D} {x : X} {moment : ℕ} {c c' : C}
-      → Leads calls asks ticks port question desk exchange clock steps input d x c → ticks c moment c'
-      → BreaksOff calls asks ticks port question desk exchange clock d x c'
-  in_an_exchange : {steps after : List Step} {input : Input} {server : Addr} {over : Over} {bytes : List ℕ} {d : D} {x x' : X} {c c' : C}
-      → Leads calls asks ticks port question desk exchange clock steps input d x c
-      → Wants ticks port question steps input c (Send server over bytes) after c' → asks x server over bytes (Err NoMemory) x'
-      → BreaksOff calls asks ticks port question desk exchange clock d x' c'
+-- It breaks off for want of memory: the task finds none, and the generator is left as it may be, or an exchange.
+pub data BreaksOff {D X C : Type 0} (calls : Calls D) (asks : Asks X) (ticks : Ticks C) (port : ℕ) (question : Question) (desk : D) (exchange : X) (lent : Lent C)
+    : D → X → Lent C → Type 0 where
+  in_the_task : {steps : List Step} {input : Input} {d : D} {x : X} {moment : ℕ} {l l' : Lent C}
+      → Leads calls asks ticks port question desk exchange lent steps input d x l → ticks l.0 moment l'.0
+      → BreaksOff calls asks ticks port question desk exchange lent d x l'
+  in_an_exchange : {steps after : List Step} {input : Input} {server : Addr} {over : Over} {bytes : List ℕ} {d : D} {x x' : X} {l l' : Lent C}
+      → Leads calls asks ticks port question desk exchange lent steps input d x l
+      → Draws ticks port question steps input l (Send server over bytes) after l' → asks x server over bytes (Err NoMemory) x'
+      → BreaksOff calls asks ticks port question desk exchange lent d x' l'

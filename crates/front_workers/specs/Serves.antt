@@ -16,7 +16,7 @@ use Rattle.iterate.specs.declared.answer.Answer.{Answer}
 use Rattle.iterate.specs.declared.answer.Answer.TheVariants.{Reply as Replies, Silent}
 use Rattle.iterate.specs.declared.answer.Soa.{Soa}
 use Rattle.iterate.specs.declared.answer.Told.{Told}
-use Rattle.front_workers.specs.Leads.{Calls, Asks, Ticks, Ends, BreaksOff}
+use Rattle.front_workers.specs.Leads.{Calls, Asks, Ticks, Lent, Ends, BreaksOff}
 use Rattle.front_workers.specs.Lending.{answer_parts, authority_parts}
 
 -- how many octets a reply may have (RFC 1035, section 4.2)
@@ -52,24 +52,24 @@ Tells over m query (Replies rcode aa aliases last authority) (Some out) = Writte
 Tells over m query Silent None = Unit {0}
 Tells over m query _ _ = ⊥
 
--- Octets came to a desk, an exchange and a clock: they get this reply, or none, and leave these.
-pub data Serves {D X C : Type 0} (calls : Calls D) (asks : Asks X) (ticks : Ticks C) (port : ℕ) (over : Over) (m : List ℕ) (desk : D) (exchange : X) (clock : C)
-    : Option (List ℕ) → D → X → C → Type 0 where
-  dropped : AsksFor m Drop → Serves calls asks ticks port over m desk exchange clock None desk exchange clock
+-- Octets came to a desk, an exchange, a clock and a generator: they get this reply, or none, and leave these.
+pub data Serves {D X C : Type 0} (calls : Calls D) (asks : Asks X) (ticks : Ticks C) (port : ℕ) (over : Over) (m : List ℕ) (desk : D) (exchange : X) (lent : Lent C)
+    : Option (List ℕ) → D → X → Lent C → Type 0 where
+  dropped : AsksFor m Drop → Serves calls asks ticks port over m desk exchange lent None desk exchange lent
   faulty : {rcode : ℕ} {out : List ℕ} → AsksFor m (Fault rcode) → out ≡ fault_octets m rcode
-      → Serves calls asks ticks port over m desk exchange clock (Some out) desk exchange clock
-  silent : {query : Query} {d : D} {x : X} {c : C} → AsksFor m (Good query) → Ends calls asks ticks port query.question desk exchange clock Silent d x c
-      → Serves calls asks ticks port over m desk exchange clock None d x c
-  answered : {query : Query} {rcode : ℕ} {aa : Bool} {aliases : List Told} {last : Option Told} {authority : Option Soa} {out : List ℕ} {d : D} {x : X} {c : C}
-      → AsksFor m (Good query) → Ends calls asks ticks port query.question desk exchange clock (Replies rcode aa aliases last authority) d x c
+      → Serves calls asks ticks port over m desk exchange lent (Some out) desk exchange lent
+  silent : {query : Query} {d : D} {x : X} {l : Lent C} → AsksFor m (Good query) → Ends calls asks ticks port query.question desk exchange lent Silent d x l
+      → Serves calls asks ticks port over m desk exchange lent None d x l
+  answered : {query : Query} {rcode : ℕ} {aa : Bool} {aliases : List Told} {last : Option Told} {authority : Option Soa} {out : List ℕ} {d : D} {x : X} {l : Lent C}
+      → AsksFor m (Good query) → Ends calls asks ticks port query.question desk exchange lent (Replies rcode aa aliases last authority) d x l
       → Written over m query (reply_told query rcode aa aliases last authority) out
-      → Serves calls asks ticks port over m desk exchange clock (Some out) d x c
+      → Serves calls asks ticks port over m desk exchange lent (Some out) d x l
 
 -- They get no reply for want of memory, and leave these.
-pub data Unserved {D X C : Type 0} (calls : Calls D) (asks : Asks X) (ticks : Ticks C) (port : ℕ) (m : List ℕ) (desk : D) (exchange : X) (clock : C)
-    : D → X → C → Type 0 where
-  unread : ¬ (AsksFor m Drop) → Unserved calls asks ticks port m desk exchange clock desk exchange clock
-  broken_off : {query : Query} {d : D} {x : X} {c : C} → AsksFor m (Good query) → BreaksOff calls asks ticks port query.question desk exchange clock d x c
-      → Unserved calls asks ticks port m desk exchange clock d x c
-  unwritten : {query : Query} {answer : Answer} {d : D} {x : X} {c : C} → AsksFor m (Good query) → Ends calls asks ticks port query.question desk exchange clock answer d x c
-      → Unserved calls asks ticks port m desk exchange clock d x c
+pub data Unserved {D X C : Type 0} (calls : Calls D) (asks : Asks X) (ticks : Ticks C) (port : ℕ) (m : List ℕ) (desk : D) (exchange : X) (lent : Lent C)
+    : D → X → Lent C → Type 0 where
+  unread : ¬ (AsksFor m Drop) → Unserved calls asks ticks port m desk exchange lent desk exchange lent
+  broken_off : {query : Query} {d : D} {x : X} {l : Lent C} → AsksFor m (Good query) → BreaksOff calls asks ticks port query.question desk exchange lent d x l
+      → Unserved calls asks ticks port m desk exchange lent d x l
+  unwritten : {query : Query} {answer : Answer} {d : D} {x : X} {l : Lent C} → AsksFor m (Good query) → Ends calls asks ticks port query.question desk exchange lent answer d x l
+      → Unserved calls asks ticks port m desk exchange lent d x l

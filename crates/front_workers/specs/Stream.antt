@@ -5,7 +5,7 @@ use Rattle.streams.specs.Transcript.{Obeying, Transcript}
 use Rattle.dns_query.specs.declared.over.Over.{Over}
 use Rattle.front_workers.specs.declared.fault.StreamFault.{StreamFault}
 use Rattle.front_workers.specs.declared.fault.StreamFault.TheVariants.{Read, Write, Short, NoMemory}
-use Rattle.front_workers.specs.Leads.{Calls, Asks, Ticks}
+use Rattle.front_workers.specs.Leads.{Calls, Asks, Ticks, Lent}
 use Rattle.front_workers.specs.Serves.{Serves, Unserved}
 use Rattle.front_workers.specs.Framing.{framed, length_octets, HasLength, IsPartial}
 
@@ -17,11 +17,11 @@ Serving O = O → List ℕ → Option (List ℕ) → O → Type 0
 abbrev pub Lacking : Type 0 → Type 1
 Lacking O = O → List ℕ → O → Type 0
 
--- the same, where the state is a desk, an exchange and a clock
-abbrev pub serving : {D X C : Type 0} → Calls D → Asks X → Ticks C → ℕ → Over → Serving (D × X × C)
+-- the same, where the state is a desk, an exchange, and a clock with a generator
+abbrev pub serving : {D X C : Type 0} → Calls D → Asks X → Ticks C → ℕ → Over → Serving (D × X × Lent C)
 serving calls asks ticks port over old m reply new = Serves calls asks ticks port over m old.0 old.1 old.2 reply new.0 new.1 new.2
 
-abbrev pub lacking : {D X C : Type 0} → Calls D → Asks X → Ticks C → ℕ → Lacking (D × X × C)
+abbrev pub lacking : {D X C : Type 0} → Calls D → Asks X → Ticks C → ℕ → Lacking (D × X × Lent C)
 lacking calls asks ticks port old m new = Unserved calls asks ticks port m old.0 old.1 old.2 new.0 new.1 new.2
 
 -- what is written for a reply, or for none

@@ -40,9 +40,9 @@ fn answer_query<D: Desk, X: Exchange, C: Clock, R: Rng>(
     requires { AsksFor octets.now (Good query.now) }
     ensures port { tools.new.server_port ≡ tools.old.server_port }
     ensures short { IfOk result (λ reply. IfSome reply (λ out. length out.items ≤ most_octets over)) }
-    ensures serves { IfOk result (λ reply. Serves D.calls X.asks C.ticks tools.old.server_port over octets.now desk.old tools.old.exchange tools.old.clock
-        (option_map (λ out. out.items) reply) desk.new tools.new.exchange tools.new.clock) }
-    ensures unserved { OnErr result (Unserved D.calls X.asks C.ticks tools.old.server_port octets.now desk.old tools.old.exchange tools.old.clock desk.new tools.new.exchange tools.new.clock) }
+    ensures serves { IfOk result (λ reply. Serves D.calls X.asks C.ticks tools.old.server_port over octets.now desk.old tools.old.exchange (tools.old.clock, R.stream tools.old.ids)
+        (option_map (λ out. out.items) reply) desk.new tools.new.exchange (tools.new.clock, R.stream tools.new.ids)) }
+    ensures unserved { OnErr result (Unserved D.calls X.asks C.ticks tools.old.server_port octets.now desk.old tools.old.exchange (tools.old.clock, R.stream tools.old.ids) desk.new tools.new.exchange (tools.new.clock, R.stream tools.new.ids)) }
 {
     let question = copy_question(&query.question)?;
     let answer = run_task(alloc, desk, tools, question)?;
@@ -59,9 +59,9 @@ pub fn serve_query<D: Desk, X: Exchange, C: Clock, R: Rng>(
 ) -> Result<Option<Vec<u8>>, NoMemory>
     ensures port { tools.new.server_port ≡ tools.old.server_port }
     ensures short { IfOk result (λ reply. IfSome reply (λ out. length out.items ≤ most_octets over)) }
-    ensures serves { IfOk result (λ reply. Serves D.calls X.asks C.ticks tools.old.server_port over octets.now desk.old tools.old.exchange tools.old.clock
-        (option_map (λ out. out.items) reply) desk.new tools.new.exchange tools.new.clock) }
-    ensures unserved { OnErr result (Unserved D.calls X.asks C.ticks tools.old.server_port octets.now desk.old tools.old.exchange tools.old.clock desk.new tools.new.exchange tools.new.clock) }
+    ensures serves { IfOk result (λ reply. Serves D.calls X.asks C.ticks tools.old.server_port over octets.now desk.old tools.old.exchange (tools.old.clock, R.stream tools.old.ids)
+        (option_map (λ out. out.items) reply) desk.new tools.new.exchange (tools.new.clock, R.stream tools.new.ids)) }
+    ensures unserved { OnErr result (Unserved D.calls X.asks C.ticks tools.old.server_port octets.now desk.old tools.old.exchange (tools.old.clock, R.stream tools.old.ids) desk.new tools.new.exchange (tools.new.clock, R.stream tools.new.ids)) }
 {
     match read_question(alloc, octets)? {
         Asked::Drop => Ok(None),

@@ -56,8 +56,8 @@ pub fn run_task<D: Desk, X: Exchange, C: Clock, R: Rng>(
 ) -> Result<Answer, NoMemory>
     ensures port { tools.new.server_port ≡ tools.old.server_port }
     ensures fit { IfOk result IsFit }
-    ensures ends { IfOk result (λ answer. Ends D.calls X.asks C.ticks tools.old.server_port question desk.old tools.old.exchange tools.old.clock answer desk.new tools.new.exchange tools.new.clock) }
-    ensures breaks_off { OnErr result (BreaksOff D.calls X.asks C.ticks tools.old.server_port question desk.old tools.old.exchange tools.old.clock desk.new tools.new.exchange tools.new.clock) }
+    ensures ends { IfOk result (λ answer. Ends D.calls X.asks C.ticks tools.old.server_port question desk.old tools.old.exchange (tools.old.clock, R.stream tools.old.ids) answer desk.new tools.new.exchange (tools.new.clock, R.stream tools.new.ids)) }
+    ensures breaks_off { OnErr result (BreaksOff D.calls X.asks C.ticks tools.old.server_port question desk.old tools.old.exchange (tools.old.clock, R.stream tools.old.ids) desk.new tools.new.exchange (tools.new.clock, R.stream tools.new.ids)) }
 {
     due_law();
     let mut task = Task::new(alloc, question, tools.server_port);

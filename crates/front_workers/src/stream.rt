@@ -32,7 +32,7 @@ fn serve_message<D: Desk, X: Exchange, C: Clock, R: Rng, W: Sink>(
     requires { W.failures writer.old < MOST_COUNTED }
     ensures port { tools.new.server_port ≡ tools.old.server_port }
     ensures told { ToldOne (serving D.calls X.asks C.ticks tools.old.server_port Tcp) (lacking D.calls X.asks C.ticks tools.old.server_port) result message.now
-        (desk.old, tools.old.exchange, tools.old.clock) (desk.new, tools.new.exchange, tools.new.clock) (W.contents writer.old) (W.contents writer.new) }
+        (desk.old, tools.old.exchange, (tools.old.clock, R.stream tools.old.ids)) (desk.new, tools.new.exchange, (tools.new.clock, R.stream tools.new.ids)) (W.contents writer.old) (W.contents writer.new) }
     ensures failures { CountsWrite result (W.failures writer.old) (W.failures writer.new) }
 {
     match serve_query(alloc, desk, tools, Over::Tcp, message.as_slice())? {
@@ -57,7 +57,7 @@ pub fn serve_stream<D: Desk, X: Exchange, C: Clock, R: Rng, S: Source, W: Sink>(
     requires writes { W.failures writer.old < MOST_COUNTED }
     ensures port { tools.new.server_port ≡ tools.old.server_port }
     ensures streams { Streams (serving D.calls X.asks C.ticks tools.old.server_port Tcp) (lacking D.calls X.asks C.ticks tools.old.server_port) result
-        (desk.old, tools.old.exchange, tools.old.clock) (desk.new, tools.new.exchange, tools.new.clock)
+        (desk.old, tools.old.exchange, (tools.old.clock, R.stream tools.old.ids)) (desk.new, tools.new.exchange, (tools.new.clock, R.stream tools.new.ids))
         (S.remaining reader.old) (S.remaining reader.new) (W.contents writer.old) (W.contents writer.new) }
     // It gives up only where a read or a write failed, or where it may not read once more.
     ensures few { S.calls reader.new < S.calls reader.old + MOST_READS }

@@ -92,7 +92,7 @@ pub(crate) fn serve_datagram<D: Desk, P: Port, X: Exchange, C: Clock, G: Rng, R:
 )
     ensures server_port { tools.new.server_port ≡ tools.old.server_port }
     ensures answered { (reply : Option (List ℕ)) × Answered (serving D.calls X.asks C.ticks tools.old.server_port Udp) (lacking D.calls X.asks C.ticks tools.old.server_port)
-        octets.now (desk.old, tools.old.exchange, tools.old.clock) reply (desk.new, tools.new.exchange, tools.new.clock)
+        octets.now (desk.old, tools.old.exchange, (tools.old.clock, G.stream tools.old.ids)) reply (desk.new, tools.new.exchange, (tools.new.clock, G.stream tools.new.ids))
         × Given P.gives peer reply port.old port.new }
     ensures failures { P.failures port.old ≤ P.failures port.new }
 {
@@ -123,7 +123,7 @@ pub(crate) fn serve_connection<
     ensures server_port { tools.new.server_port ≡ tools.old.server_port }
     ensures streamed { Streamed (serving D.calls X.asks C.ticks tools.old.server_port Tcp) (lacking D.calls X.asks C.ticks tools.old.server_port)
         S.remaining S.calls S.failures W.contents W.failures (reader, writer)
-        (desk.old, tools.old.exchange, tools.old.clock) (desk.new, tools.new.exchange, tools.new.clock) }
+        (desk.old, tools.old.exchange, (tools.old.clock, G.stream tools.old.ids)) (desk.new, tools.new.exchange, (tools.new.clock, G.stream tools.new.ids)) }
 {
     // A fault ends this connection, and no more.
     let _ = serve_stream(alloc, desk, tools, &mut reader, &mut writer);
@@ -140,7 +140,7 @@ pub fn work_udp<D: Desk, P: Port, X: Exchange, C: Clock, G: Rng, R: Wait + Log>(
     ensures server_port { tools.new.server_port ≡ tools.old.server_port }
     // Each datagram was served before the next was taken, and its reply handed to the port for who asked.
     ensures works { WorksUntil result (datagrams P.takes) (answering (serving D.calls X.asks C.ticks tools.old.server_port Udp) (lacking D.calls X.asks C.ticks tools.old.server_port) P.gives)
-        (desk.old, tools.old.exchange, tools.old.clock) port.old (desk.new, tools.new.exchange, tools.new.clock) port.new }
+        (desk.old, tools.old.exchange, (tools.old.clock, G.stream tools.old.ids)) port.old (desk.new, tools.new.exchange, (tools.new.clock, G.stream tools.new.ids)) port.new }
     ensures failing { result ≡ Failing → HasFailed MOST_FAILURES (P.failures port.old) (P.failures port.new) }
 {
     let mut room = [0u8; ROOM];
@@ -181,7 +181,7 @@ pub fn work_tcp<
     // Each connection was served as a stream before the next was accepted.
     ensures works { WorksUntil result (connections L.accepts) (streaming (Streamed (serving D.calls X.asks C.ticks tools.old.server_port Tcp) (lacking D.calls X.asks C.ticks tools.old.server_port)
         S.remaining S.calls S.failures W.contents W.failures))
-        (desk.old, tools.old.exchange, tools.old.clock) listener.old (desk.new, tools.new.exchange, tools.new.clock) listener.new }
+        (desk.old, tools.old.exchange, (tools.old.clock, G.stream tools.old.ids)) listener.old (desk.new, tools.new.exchange, (tools.new.clock, G.stream tools.new.ids)) listener.new }
     ensures failing { result ≡ Failing → HasFailed MOST_FAILURES (L.failures listener.old) (L.failures listener.new) }
 {
     let mut failed = 0u8;

@@ -1,6 +1,6 @@
 pub mod CountedLaws
 pub mod SetLaws
 pub mod IndexedLaws
-pub mod GatheringLaws
+pub mod DistinctLaws
 pub mod LoopLaws
 pub mod ZoneLaws

@@ -1,4 +1,5 @@
 pub mod Counted
+pub mod Distinct
 pub mod Sets
 pub mod Indexed
 pub mod Learnt

@@ -4,8 +4,9 @@ ghost use Rattle.std.specs.Prelude.{◌≡◌, IfOk, OnOk, min};
 ghost use Rattle.harvest.specs.Sets.{begun, is_of_set, joined};
 
 use crate::counted::Counted;
+use crate::distinct::Distinct;
 use dns_name::{Name, NoMemory};
-use dns_text::{Data, Ttl};
+use dns_text::Ttl;
 use ranked::{LONGEST_TTL, Rank};
 use std::alloc::Global;
 use std::marker::Model;
@@ -14,21 +15,19 @@ use std::marker::Model;
 #[derive(Drop)]
 pub(crate) struct Gathering<'a> {
     pub(crate) owner: &'a Name,
-    pub(crate) kind: u16,
     pub(crate) rank: Rank,
     pub(crate) ttl: u32,
-    pub(crate) data: Vec<&'a Data>,
+    pub(crate) data: Distinct<'a>,
 }
 
 impl<'a> Model for Gathering<'a> {
-    ghost use Rattle.std.specs.Prelude.{map};
     ghost use Rattle.harvest.specs.Sets.{Set, IsGathered};
 
     ghost Value = { Set };
 
-    ghost view = { λ g. record { key = record { owner = g.owner.now; kind = g.kind; rank = g.rank }; ttl = g.ttl; data_in = map (λ d. d.now) g.data.items } };
+    ghost view = { λ g. record { key = record { owner = g.owner.now; kind = g.data.kind; rank = g.rank }; ttl = g.ttl; data_in = g.data.data_in } };
 
-    ghost invariant = { λ g. IsGathered g.kind g.ttl (map (λ d. d.now) g.data.items) };
+    ghost invariant = { λ g. IsGathered g.data.kind g.ttl g.data.data_in };
 }
 
 /// The lesser of two times to live.
@@ -44,14 +43,11 @@ impl<'a> Gathering<'a> {
         ensures { IfOk result (λ g. g ≡ begun first.now) }
     {
         let said = first.said;
-        let mut data = Vec::new(alloc);
-        data.push(&said.body)?;
         Ok(Gathering {
             owner: &said.owner,
-            kind: said.kind,
             rank: first.rank,
             ttl: least(LONGEST_TTL, said.ttl),
-            data,
+            data: Distinct::new(alloc, said.kind, &said.body)?,
         })
     }
 
@@ -60,22 +56,20 @@ impl<'a> Gathering<'a> {
         ensures { result ≡ is_of_set r.now self.now }
     {
         self.rank.level() == r.rank.level()
-            && self.kind == r.said.kind
+            && self.data.kind() == r.said.kind
             && *self.owner == r.said.owner
     }
 
     /// Takes a record, if it is of this set, and tells whether it is.
-    pub(crate) fn join(&mut self, r: &Counted<'a>) -> Result<bool, NoMemory>
+    pub(crate) fn join(&mut self, alloc: Global, r: &Counted<'a>) -> Result<bool, NoMemory>
         ensures set { OnOk result (self.new ≡ joined r.now self.old) }
         ensures told { IfOk result (λ told. told ≡ is_of_set r.now self.old) }
     {
         if !self.has(r) {
             return Ok(false);
         }
+        self.data.add(alloc, &r.said.body)?;
         self.ttl = least(self.ttl, r.said.ttl);
-        if !self.data.contains(&&r.said.body) {
-            self.data.push(&r.said.body)?;
-        }
         Ok(true)
     }
 }

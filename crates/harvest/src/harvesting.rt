@@ -16,7 +16,7 @@ use dns_name::{Name, NoMemory};
 use dns_text::{Data, Items, Question, Shared};
 use dns_wire::Message;
 use neg_rule::negative_of;
-use ranked::{Find, SharedFind};
+use ranked::{Body, Find, Scope, SharedFind};
 use std::alloc::Global;
 
 /// Copies of data that are lent.
@@ -37,7 +37,14 @@ fn find_of(alloc: Global, set: &Gathering<'_>) -> Result<SharedFind, NoMemory>
 {
     let owner = set.owner.clone()?;
     let data = copy_all(alloc, set.data.as_slice())?;
-    let find = Find::new(owner, set.kind, set.rank, set.ttl, data).unwrap();
+    // `Find::new` would compare the data with each other; here each stands once.
+    let find = Find {
+        owner,
+        scope: Scope::One(set.data.kind()),
+        rank: set.rank,
+        ttl: set.ttl,
+        body: Body::Set(data),
+    };
     SharedFind::new(alloc, find)
 }
 
@@ -48,7 +55,7 @@ fn passing_set(alloc: Global, set: &Gathering<'_>) -> Result<Shared<PassingSet>,
 {
     let passing = PassingSet {
         owner: set.owner.clone()?,
-        kind: set.kind,
+        kind: set.data.kind(),
         rank: set.rank,
         data: copy_all(alloc, set.data.as_slice())?,
     };

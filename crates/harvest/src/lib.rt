@@ -5,6 +5,8 @@
 
 // Which records count, and how far each is trusted.
 mod counted;
+// Data of one type, each once.
+mod distinct;
 // The records of one owner, type and rank.
 mod gathering;
 // All the sets of a message.

@@ -31,6 +31,7 @@ fn place_of(places: &BTreeMap<PlaceKey, usize>, r: &Counted<'_>) -> Result<Optio
 
 /// Gives a record to the set that it is of, and tells whether there is one.
 fn join_sets<'a>(
+    alloc: Global,
     sets: &mut [Gathering<'a>],
     places: &BTreeMap<PlaceKey, usize>,
     r: &Counted<'a>,
@@ -42,7 +43,7 @@ fn join_sets<'a>(
     match place_of(places, r)? {
         None => Ok(false),
         Some(i) => {
-            sets[i].join(r)?;
+            sets[i].join(alloc, r)?;
             Ok(true)
         }
     }
@@ -76,7 +77,7 @@ pub(crate) fn sets_of<'a>(
     let mut places = BTreeMap::new(alloc);
     let mut sets = Vec::new(alloc);
     for r in records {
-        if !join_sets(&mut sets, &places, r)? {
+        if !join_sets(alloc, &mut sets, &places, r)? {
             begin_set(alloc, &mut sets, &mut places, r)?;
         }
     }

@@ -9,6 +9,7 @@ pub mod Hearing
 pub mod Stepping
 pub mod Hunts
 pub mod Asking
+pub mod Joined
 pub mod Supplying
 pub mod Finding
 pub mod Telling

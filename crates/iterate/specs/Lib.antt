@@ -12,5 +12,6 @@ pub mod Judged
 pub mod Searching
 pub mod Measure
 pub mod Phase
+pub mod Joining
 pub mod Hunting
 pub mod Task

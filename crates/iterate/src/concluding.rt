@@ -99,9 +99,9 @@ fn conclude_frame<R: Rng>(
     match says {
         Says::Answers => {
             let addrs = addresses_harvested(alloc, port, &search.frames[0].target, &harvest)?;
-            go_on(alloc, ids, moment, close(search, &addrs)?)
+            go_on(alloc, ids, moment, close(alloc, search, &addrs)?)
         }
-        Says::Denies { .. } => go_on(alloc, ids, moment, close(search, &[])?),
+        Says::Denies { .. } => go_on(alloc, ids, moment, close(alloc, search, &[])?),
         Says::Refers(referral) => {
             let servers = servers_of(alloc, referral)?;
             go_on(alloc, ids, moment, refer_frame(alloc, search, servers)?)

@@ -20,6 +20,8 @@ mod path;
 mod first;
 // Aliases inside a response.
 mod following;
+// Addresses that are joined, each once.
+mod joining;
 // Servers that are asked in turn, and the questions for their addresses.
 mod search;
 // The innermost question of a search.

@@ -15,6 +15,7 @@ ghost use Rattle.iterate.specs.Resolved.{ReachedFor, MaySeek};
 ghost use Rattle.iterate.specs.Searching.{IsPath, IsSearch, IsNext, hunt_of, hunt_behind, question_of};
 
 use crate::finishing::failed;
+use crate::joining::join_addrs;
 use crate::limits::MOST_DEPTH;
 use crate::path::Path;
 use crate::phase::{Stage, Turn};
@@ -59,50 +60,6 @@ pub struct Search {
 
 // ---- servers are reached
 
-fn is_same(addr: &Addr, other: &Addr) -> bool
-    ensures { IsTrue result → addr.now ≡ other.now }
-{
-    addr == other
-}
-
-fn is_listed(addrs: &[Addr], addr: &Addr) -> bool
-    ensures { IsTrue result → Contains addrs.now addr.now }
-{
-    for known in addrs {
-        if is_same(known, addr) {
-            return true;
-        }
-    }
-    false
-}
-
-/// These addresses, and this one, if it is not there.
-fn with_addr(addrs: Vec<Addr>, addr: &Addr) -> Result<Vec<Addr>, NoMemory>
-    ensures first { IfOk result (λ v. take (length addrs.items) v.items ≡ addrs.items) }
-    ensures has { IfOk result (λ v. Contains v.items addr.now) }
-    ensures only { IfOk result (λ v. (other : Addr) → Contains v.items other → Contains addrs.items other ⊎ (addr.now ≡ other)) }
-{
-    let mut addrs = addrs;
-    if is_listed(&addrs, addr) {
-        return Ok(addrs);
-    }
-    addrs.push(*addr)?;
-    Ok(addrs)
-}
-
-/// These addresses, then those of the others that they lack.
-fn join_addrs(known: Vec<Addr>, others: &[Addr]) -> Result<Vec<Addr>, NoMemory>
-    ensures first { IfOk result (λ v. take (length known.items) v.items ≡ known.items) }
-    ensures all { IfOk result (λ v. (addr : Addr) → Contains others.now addr → Contains v.items addr) }
-    ensures only { IfOk result (λ v. (addr : Addr) → Contains v.items addr → Contains known.items addr ⊎ Contains others.now addr) }
-{
-    let mut addrs = known;
-    for addr in others {
-        addrs = with_addr(addrs, addr)?;
-    }
-    Ok(addrs)
-}
-
 /// Servers of which none was asked.
 pub(crate) fn begin_hunt(alloc: Global, servers: Shared<Servers>) -> Result<Hunt, NoMemory>
     ensures { IfOk result (IsFresh servers) }
@@ -110,7 +67,7 @@ pub(crate) fn begin_hunt(alloc: Global, servers: Shared<Servers>) -> Result<Hunt
     let list = servers.get();
     // A slice tells that they can be counted.
     let _missing = list.missing.as_slice().len();
-    let addrs = join_addrs(Vec::new(alloc), list.addrs.as_slice())?;
+    let addrs = join_addrs(alloc, Vec::new(alloc), list.addrs.as_slice())?;
     Ok(Hunt {
         servers,
         addrs,
@@ -192,7 +149,7 @@ pub(crate) fn open(
 // ---- servers without an address are looked for
 
 /// The next server without an address is done with; these addresses of it were found.
-fn supply_hunt(hunt: Hunt, found: &[Addr]) -> Result<Hunt, NoMemory>
+fn supply_hunt(alloc: Global, hunt: Hunt, found: &[Addr]) -> Result<Hunt, NoMemory>
     ensures { IfOk result (λ after. IsSupplied hunt found.now after) }
 {
     let Hunt {
@@ -202,7 +159,7 @@ fn supply_hunt(hunt: Hunt, found: &[Addr]) -> Result<Hunt, NoMemory>
         sought,
     } = hunt;
     let missing = servers.get().missing.as_slice().len();
-    let addrs = join_addrs(addrs, found)?;
+    let addrs = join_addrs(alloc, addrs, found)?;
     Ok(Hunt {
         servers,
         addrs,
@@ -211,7 +168,7 @@ fn supply_hunt(hunt: Hunt, found: &[Addr]) -> Result<Hunt, NoMemory>
     })
 }
 
-fn supply_innermost(search: Search, found: &[Addr]) -> Result<Search, NoMemory>
+fn supply_innermost(alloc: Global, search: Search, found: &[Addr]) -> Result<Search, NoMemory>
     ensures path { IfOk result (λ after. after.path ≡ search.path) }
     ensures supplied { IfOk result (λ after. AreSupplied search.frames.items search.base found.now after.frames.items after.base) }
 {
@@ -221,28 +178,28 @@ fn supply_innermost(search: Search, found: &[Addr]) -> Result<Search, NoMemory>
         mut frames,
     } = search;
     if frames.is_empty() {
-        let base = supply_hunt(base, found)?;
+        let base = supply_hunt(alloc, base, found)?;
         return Ok(Search { path, base, frames });
     }
     let Frame { target, hunt } = frames.remove(0);
-    let hunt = supply_hunt(hunt, found)?;
+    let hunt = supply_hunt(alloc, hunt, found)?;
     frames.insert(0, Frame { target, hunt })?;
     Ok(Search { path, base, frames })
 }
 
 /// The next server that the innermost question lacks is done with; these addresses of it were found.
-pub(crate) fn supply(search: Search, found: &[Addr]) -> Result<Search, NoMemory>
+pub(crate) fn supply(alloc: Global, search: Search, found: &[Addr]) -> Result<Search, NoMemory>
     ensures path { IfOk result (λ after. after.path ≡ search.path) }
     ensures supplied { IfOk result (λ after. AreSupplied search.frames.items search.base found.now after.frames.items after.base) }
     ensures further { (port : ℕ) (question : Question) (log : List Exchange) (target : Labels) → IsTried port question log search target
         → AllServe port log (hunt_of search).servers.zone found.now → IfOk result (IsSmaller port question log (left_of_search search 0)) }
 {
-    let after = supply_innermost(search, found)?;
+    let after = supply_innermost(alloc, search, found)?;
     Ok(after)
 }
 
 /// The innermost question, for the address of a server, is done with; these addresses were found.
-pub(crate) fn close(search: Search, found: &[Addr]) -> Result<Search, NoMemory>
+pub(crate) fn close(alloc: Global, search: Search, found: &[Addr]) -> Result<Search, NoMemory>
     requires { 0 < length search.frames.items }
     ensures path { IfOk result (λ after. after.path ≡ search.path) }
     ensures fewer { IfOk result (λ after. hunts_left after < hunts_left search) }
@@ -255,7 +212,7 @@ pub(crate) fn close(search: Search, found: &[Addr]) -> Result<Search, NoMemory>
         mut frames,
     } = search;
     frames.remove(0);
-    let after = supply(Search { path, base, frames }, found)?;
+    let after = supply(alloc, Search { path, base, frames }, found)?;
     Ok(after)
 }
 
@@ -370,12 +327,12 @@ pub(crate) fn go_on<R: Rng>(
         match choose(&current)? {
             Next::Ask(server) => return ask(alloc, ids, current, server),
             Next::Seek(target) => return seek(moment, current, target, Stage::Address),
-            Next::Pass => current = supply(current, &[])?,
+            Next::Pass => current = supply(alloc, current, &[])?,
             Next::Close => {
                 if is_outermost(&current) {
                     return Ok(failed(alloc));
                 }
-                current = close(current, &[])?;
+                current = close(alloc, current, &[])?;
             }
         }
     }

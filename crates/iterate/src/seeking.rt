@@ -91,7 +91,7 @@ fn seek_on<R: Rng>(
     if search.path.begun < MOST_BEGUN {
         return seek(moment, search.begun(), target, Stage::Alias);
     }
-    let after = supply(search, &[])?;
+    let after = supply(alloc, search, &[])?;
     go_on(alloc, ids, moment, after)
 }
 
@@ -114,7 +114,7 @@ fn address_seen<R: Rng>(
         Looked::Unknown => seek_on(alloc, ids, moment, search, target),
         _ => {
             let found = addresses_seen(alloc, port, what)?;
-            let after = supply(search, &found)?;
+            let after = supply(alloc, search, &found)?;
             go_on(alloc, ids, moment, after)
         }
     }
@@ -167,7 +167,7 @@ fn alias_came<R: Rng>(
     match replied(input, &target, CNAME) {
         Some(what) => {
             if is_set(what) {
-                let after = supply(search, &[])?;
+                let after = supply(alloc, search, &[])?;
                 go_on(alloc, ids, moment, after)
             } else {
                 seek(moment, search, target, Stage::Servers)

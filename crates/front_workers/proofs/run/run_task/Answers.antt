@@ -1,8 +1,7 @@
 use Rattle.std.proofs.Common.{◌≡◌, ◌∙◌, refl}
-use Rattle.iterate.specs.Wanted.{id_drawn}
 use Rattle.front_workers.specs.Leads.{begins, goes_on, in_the_task}
 use Rattle.front_workers.proofs.Failing.{failing}
-use Rattle.front_workers.proofs.Leading.{due, wants_at, breaks_off, ends}
+use Rattle.front_workers.proofs.Leading.{due, draws_at, breaks_off, ends}
 use Rattle.front_workers.proofs.run.run_task.Goals as goal
 
 pub loop-task-init : goal.loop-task-init
@@ -14,10 +13,10 @@ step-requires g c = due c.due_law.ensures.first c.due_law.ensures.next c.loop-ta
 pub loop-task-preserved : goal.loop-task-preserved
 loop-task-preserved g c =
     let task = c.loop-task.task in
-    let wants = wants_at c.args.tools.now.server_port task.port c.args.question task.question c.now-moment.result (id_drawn (g.R.Rng.stream c.loop-task.tools.ids))
-    c.loop-task.invariant.port c.loop-task.invariant.question c.now-moment.ensures c.in_ok-want.ensures.steps c.in_ok-want.ensures.wants in
+    let draws = draws_at c.args.tools.now.server_port task.port c.args.question task.question c.now-moment.result
+    c.loop-task.invariant.port c.loop-task.invariant.question c.now-moment.ensures c.in_ok-want.ensures.steps c.in_ok-want.ensures.wants c.in_ok-want.ensures.drawn in
     record {
-      leads = goes_on c.loop-task.invariant.leads wants (rw c.in-Go.is at c.in_ok-next.ensures.turns);
+      leads = goes_on c.loop-task.invariant.leads draws (rw c.in-Go.is at c.in_ok-next.ensures.turns);
       question = c.step.ensures.question ∙ c.loop-task.invariant.question;
       port = c.step.ensures.port ∙ c.loop-task.invariant.port;
       kept = c.loop-task.invariant.kept;
@@ -29,14 +28,14 @@ returns-in_err-want-clause-breaks_off g c = failing c.from_residual.result _ (in
 pub returns-in_err-next-clause-breaks_off : goal.returns-in_err-next-clause-breaks_off
 returns-in_err-next-clause-breaks_off g c =
     let task = c.loop-task.task in
-    let wants = wants_at c.args.tools.now.server_port task.port c.args.question task.question c.now-moment.result (id_drawn (g.R.Rng.stream c.loop-task.tools.ids))
-    c.loop-task.invariant.port c.loop-task.invariant.question c.now-moment.ensures c.in_ok-want.ensures.steps c.in_ok-want.ensures.wants in
-    failing c.from_residual-in_err-next.result _ (breaks_off c.loop-task.invariant.leads wants c.in_err-next.ensures.lacks)
+    let draws = draws_at c.args.tools.now.server_port task.port c.args.question task.question c.now-moment.result
+    c.loop-task.invariant.port c.loop-task.invariant.question c.now-moment.ensures c.in_ok-want.ensures.steps c.in_ok-want.ensures.wants c.in_ok-want.ensures.drawn in
+    failing c.from_residual-in_err-next.result _ (breaks_off c.loop-task.invariant.leads draws c.in_err-next.ensures.lacks)
 
 pub returns-in-Done-clause-ends : goal.returns-in-Done-clause-ends
 returns-in-Done-clause-ends g c =
     let task = c.loop-task.task in
-    let wants = wants_at c.args.tools.now.server_port task.port c.args.question task.question c.now-moment.result (id_drawn (g.R.Rng.stream c.loop-task.tools.ids))
-    c.loop-task.invariant.port c.loop-task.invariant.question c.now-moment.ensures c.in_ok-want.ensures.steps c.in_ok-want.ensures.wants in
+    let draws = draws_at c.args.tools.now.server_port task.port c.args.question task.question c.now-moment.result
+    c.loop-task.invariant.port c.loop-task.invariant.question c.now-moment.ensures c.in_ok-want.ensures.steps c.in_ok-want.ensures.wants c.in_ok-want.ensures.drawn in
     let done = rw c.in-Done.is at c.in_ok-next.ensures.turns in
-    ends c.loop-task.invariant.leads wants done.0 done.1 done.2
+    ends c.loop-task.invariant.leads draws done.0 done.1 done.2

@@ -15,7 +15,7 @@ invariant-loop-message g l =
       port : l.tools.server_port ≡ l.fn.tools.server_port;
       so_far : (messages : List (List ℕ)) × (out : List ℕ) × Consumes (remaining l.fn.reader) (remaining l.reader) (flat_map framed messages)
           × Served (serving g.D.Desk.calls g.X.Exchange.asks g.C.Clock.ticks l.fn.tools.server_port Tcp)
-          (l.fn.desk, l.fn.tools.exchange, l.fn.tools.clock) messages out (l.desk, l.tools.exchange, l.tools.clock)
+          (l.fn.desk, l.fn.tools.exchange, (l.fn.tools.clock, g.R.Rng.stream l.fn.tools.ids)) messages out (l.desk, l.tools.exchange, (l.tools.clock, g.R.Rng.stream l.tools.ids))
           × Appends (contents l.fn.writer) (contents l.writer) out;
       calls : g.S.Source.calls l.reader + l.left ≡ g.S.Source.calls l.fn.reader + (2 ^ 40 - 1);
       read_failures : g.S.Source.failures l.reader ≡ g.S.Source.failures l.fn.reader;

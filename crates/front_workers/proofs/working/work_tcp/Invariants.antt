@@ -17,7 +17,7 @@ invariant-loop g l =
       port_kept : l.tools.server_port ≡ server_port;
       so_far : Works (connections g.L.Listener.accepts) (streaming (Streamed (serving calls asks ticks server_port Tcp) (lacking calls asks ticks server_port)
           reads.remaining reads.calls reads.failures writes.contents writes.failures))
-          (l.fn.desk, l.fn.tools.exchange, l.fn.tools.clock) l.fn.listener l.failed (l.desk, l.tools.exchange, l.tools.clock) l.listener;
+          (l.fn.desk, l.fn.tools.exchange, (l.fn.tools.clock, g.G.Rng.stream l.fn.tools.ids)) l.fn.listener l.failed (l.desk, l.tools.exchange, (l.tools.clock, g.G.Rng.stream l.tools.ids)) l.listener;
       few : l.failed < 16;
       counted : HasFailed l.failed (g.L.Listener.failures l.fn.listener) (g.L.Listener.failures l.listener);
     }

@@ -14,7 +14,7 @@ invariant-loop g l =
     record {
       port_kept : l.tools.server_port ≡ server_port;
       so_far : Works (datagrams g.P.Port.takes) (answering (serving calls asks ticks server_port Udp) (lacking calls asks ticks server_port) g.P.Port.gives)
-          (l.fn.desk, l.fn.tools.exchange, l.fn.tools.clock) l.fn.port l.failed (l.desk, l.tools.exchange, l.tools.clock) l.port;
+          (l.fn.desk, l.fn.tools.exchange, (l.fn.tools.clock, g.G.Rng.stream l.fn.tools.ids)) l.fn.port l.failed (l.desk, l.tools.exchange, (l.tools.clock, g.G.Rng.stream l.tools.ids)) l.port;
       few : l.failed < 16;
       counted : HasFailed l.failed (g.P.Port.failures l.fn.port) (g.P.Port.failures l.port);
     }

@@ -1,7 +1,6 @@
 use Rattle.std.proofs.Common.{◌≡◌, ◌∙◌, sym, arith}
-use Rattle.iterate.specs.Wanted.{id_drawn}
 use Rattle.flight.specs.Flight.{failed}
-use Rattle.flight.proofs.Flying.{asked_on, due, flown, open_on}
+use Rattle.flight.proofs.Flying.{asked_on, awaits_at, due, flown, lands_at, open_on}
 use Rattle.flight.proofs.engine.Flight.drive.Goals as goal
 
 pub step-requires : goal.step-requires
@@ -11,8 +10,8 @@ pub loop-want-preserved-in-Book : goal.loop-want-preserved-in-Book
 loop-want-preserved-in-Book g c =
     let before = c.loop-want.invariant in
     let task = c.loop-want.asking.task in
-    let is = open_on task.port task.question task.steps.items c.now-moment.result (id_drawn (g.G.Rng.stream c.loop-want.self-inside.ids)) before.asked.port_is before.asked.question
-    before.flies c.now-moment.ensures c.in-Ok.ensures.steps c.in-Ok.ensures.wants c.in-Book.is in
+    let is = open_on task.port task.question task.steps.items c.now-moment.result (g.G.Rng.stream c.loop-want.self-inside.ids) before.asked.port_is before.asked.question
+    before.flies c.now-moment.ensures c.in-Ok.ensures.steps c.in-Ok.ensures.wants c.in-Ok.ensures.drawn c.in-Book.is in
     record {
       asked = asked_on before.asked c.step.ensures.question c.step.ensures.port;
       flies = flown is c.ask-input.ensures.answered;
@@ -28,8 +27,8 @@ pub loop-want-preserved : goal.loop-want-preserved
 loop-want-preserved g c =
     let before = c.loop-want.invariant in
     let task = c.loop-want.asking.task in
-    let is = open_on task.port task.question task.steps.items c.now-moment.result (id_drawn (g.G.Rng.stream c.loop-want.self-inside.ids)) before.asked.port_is before.asked.question
-    before.flies c.now-moment.ensures c.in-Ok.ensures.steps c.in-Ok.ensures.wants c.in-Send.is in
+    let is = open_on task.port task.question task.steps.items c.now-moment.result (g.G.Rng.stream c.loop-want.self-inside.ids) before.asked.port_is before.asked.question
+    before.flies c.now-moment.ensures c.in-Ok.ensures.steps c.in-Ok.ensures.wants c.in-Ok.ensures.drawn c.in-Send.is in
     record {
       asked = asked_on before.asked c.step.ensures.question c.step.ensures.port;
       flies = flown is failed;
@@ -40,3 +39,19 @@ loop-want-preserved g c =
       waiting_kept = c.make_room.ensures.len ∙ before.waiting_kept;
       limit_kept = c.make_room.ensures.limit ∙ before.limit_kept;
     }
+
+pub tell-requires-clause-lands : goal.tell-requires-clause-lands
+tell-requires-clause-lands g c =
+    let before = c.loop-want.invariant in
+    let task = c.loop-want.asking.task in
+    let is = open_on task.port task.question task.steps.items c.now-moment.result (g.G.Rng.stream c.loop-want.self-inside.ids) before.asked.port_is before.asked.question
+    before.flies c.now-moment.ensures c.in-Ok.ensures.steps c.in-Ok.ensures.wants c.in-Ok.ensures.drawn c.in-Finish.is in
+    lands_at before.port is
+
+pub invariant_of-keep : goal.invariant_of-keep
+invariant_of-keep g c =
+    let before = c.loop-want.invariant in
+    let task = c.loop-want.asking.task in
+    let is = open_on task.port task.question task.steps.items c.now-moment.result (g.G.Rng.stream c.loop-want.self-inside.ids) before.asked.port_is before.asked.question
+    before.flies c.now-moment.ensures c.in-Ok.ensures.steps c.in-Ok.ensures.wants c.in-Ok.ensures.drawn c.in-Send.is in
+    (asked_on (rw (sym c.in-Ok-make_room.ensures.octets) at before.asked) c.step.ensures.question c.step.ensures.port, awaits_at c.in-Some.ensures.asked is)

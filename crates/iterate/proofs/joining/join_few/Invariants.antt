@@ -1,7 +1,7 @@
 use Rattle.std.proofs.Common.{◌≡◌, ◌⊎◌, length, take}
 use Rattle.std.specs.List.{Contains}
 use Rattle.dns_text.specs.declared.addr.Addr.{Addr}
-use Rattle.iterate.proofs.search.join_addrs.Given as goal
+use Rattle.iterate.proofs.joining.join_few.Given as goal
 
 abbrev pub invariant-loop-addr : goal.invariant-loop-addr
 invariant-loop-addr l = record {

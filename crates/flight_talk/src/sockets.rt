@@ -1,0 +1,227 @@
+//! Clients and lines, in words.
+
+ghost use Rattle.std.specs.Prelude.{◌≡◌};
+ghost use Rattle.flight.specs.Flight.{query_to};
+ghost use Rattle.front_workers.specs.Counts.{Rises};
+
+use crate::worker::LineClock;
+use dns_name::NoMemory;
+use dns_query::Over;
+use dns_text::{Addr, Octets, Shared, write_addr};
+use flight::{Client, Heard, Line, Numbered, Unserved, World};
+use std::alloc::Global;
+use std::mem;
+
+/// A client, by its number.
+#[derive(Drop)]
+pub struct Peer {
+    pub number: u64,
+}
+
+impl Client for Peer {
+    ghost sent = { λ _ _. Unit {0} };
+}
+
+/// An exchange.
+#[derive(Drop)]
+pub struct Wire {
+    server: Addr,
+    over: Over,
+    query: Shared<Octets>,
+}
+
+impl Line for Wire {
+    ghost asked = { λ wire. query_to wire.server wire.over wire.query };
+
+    ghost hears = { λ _ _. Unit {0} };
+}
+
+/// What a line said that listening gives.
+#[derive(Drop)]
+pub enum Said {
+    Nothing,
+    Came(Vec<u8>),
+    Broken,
+    NoMemory,
+}
+
+/// Clients and lines: what they are told is written down.
+#[derive(Drop)]
+pub struct Sockets {
+    alloc: Global,
+    port: u16,
+    told: Vec<u8>,
+    pub said: Said,
+    opens: u64,
+    /// Which exchange does not begin; 0 for none.
+    failing: u64,
+    pub settled: u64,
+}
+
+/// Room for what is told of one line, so that writing it down takes no memory.
+const ROOM: usize = 1 << 20;
+
+impl Sockets {
+    pub fn new(alloc: Global, port: u16) -> Result<Sockets, NoMemory> {
+        Ok(Sockets {
+            alloc,
+            port,
+            told: Vec::with_capacity(alloc, ROOM)?,
+            said: Said::Nothing,
+            opens: 0,
+            failing: 0,
+            settled: 0,
+        })
+    }
+
+    /// What was told, a line each.
+    pub fn told(&self) -> &[u8] {
+        self.told.as_slice()
+    }
+
+    /// Nothing was told.
+    pub fn forget(&mut self) {
+        self.told.clear();
+        self.said = Said::Nothing;
+    }
+
+    /// Begins anew: no client was settled, and no exchange fails.
+    pub fn begin(&mut self) {
+        self.failing = 0;
+        self.settled = 0;
+    }
+
+    /// The Nth exchange from here on does not begin.
+    pub fn fail(&mut self, nth: u64) {
+        self.opens = 0;
+        self.failing = nth;
+    }
+
+    /// Writes down `open KEY ADDR udp|tcp OCTETS`.
+    fn note(&mut self, key: usize, server: &Addr, over: Over, query: &[u8]) -> Result<(), NoMemory>
+        ensures port { self.new.port ≡ self.old.port }
+        ensures settled { self.new.settled ≡ self.old.settled }
+    {
+        let server = write_addr(self.alloc, server)?;
+        self.told.extend_from_slice(b"open ")?;
+        push_number(&mut self.told, key as u64);
+        self.told.push(b' ')?;
+        self.told.extend_from_slice(server.as_slice())?;
+        self.told.extend_from_slice(match over {
+            Over::Udp => b" udp ".as_slice(),
+            Over::Tcp => b" tcp ".as_slice(),
+        })?;
+        push_digits(&mut self.told, query);
+        self.told.push(b'\n')?;
+        Ok(())
+    }
+
+    /// Writes down what a client is told, and counts it.
+    fn settle(&mut self, word: &[u8], client: u64, octets: &[u8], why: &[u8])
+        ensures port { self.new.port ≡ self.old.port }
+        ensures settled { Rises self.old.settled self.new.settled }
+    {
+        let _ = self.told.extend_from_slice(word);
+        push_number(&mut self.told, client);
+        let _ = self.told.push(b' ');
+        push_digits(&mut self.told, octets);
+        let _ = self.told.extend_from_slice(why);
+        let _ = self.told.push(b'\n');
+        self.settled = self.settled.saturating_add(1);
+    }
+}
+
+/// Writes a number in decimal digits.
+fn push_number(out: &mut Vec<u8>, number: u64) {
+    let mut power = 10_000_000_000_000_000_000u64;
+    for _ in 0..20 {
+        let digit = number.checked_div(power).unwrap_or(0);
+        if digit > 0 || power == 1 {
+            let _ = out.push(b'0' + (digit % 10) as u8);
+        }
+        power /= 10;
+    }
+}
+
+/// Writes octets in hexadecimal digits.
+fn push_digits(out: &mut Vec<u8>, octets: &[u8]) {
+    for octet in octets {
+        for digit in [*octet / 16, *octet % 16] {
+            let _ = out.push(if digit < 10 {
+                b'0' + digit
+            } else {
+                b'a' + (digit - 10)
+            });
+        }
+    }
+}
+
+/// A message to whose identifier that of a query is added, octet by octet.
+fn with_id(mut octets: Vec<u8>, query: &[u8]) -> Octets {
+    for i in 0..2 {
+        if i < octets.len() && i < query.len() {
+            octets[i] = octets[i].wrapping_add(query[i]);
+        }
+    }
+    Octets::new(octets)
+}
+
+impl<D: Numbered> World<D, Wire, LineClock, Peer> for Sockets {
+    ghost server_port = { λ s. s.port };
+
+    ghost settled = { λ s. s.settled };
+
+    fn server_port(&self) -> u16 {
+        self.port
+    }
+
+    fn open(
+        &mut self,
+        key: usize,
+        server: &Addr,
+        over: Over,
+        query: Shared<Octets>,
+    ) -> Option<Wire> {
+        self.opens = self.opens.wrapping_add(1);
+        if self.opens == self.failing {
+            return None;
+        }
+        if self
+            .note(key, server, over, query.get().as_slice())
+            .is_err()
+        {
+            return None;
+        }
+        Some(Wire {
+            server: *server,
+            over,
+            query,
+        })
+    }
+
+    fn hear(&mut self, line: &mut Wire) -> Heard {
+        match mem::replace(&mut self.said, Said::Nothing) {
+            Said::Nothing => Heard::Nothing,
+            Said::Came(octets) => Heard::Came(with_id(octets, line.query.get().as_slice())),
+            Said::Broken => Heard::Broken,
+            Said::NoMemory => Heard::NoMemory,
+        }
+    }
+
+    fn give(&mut self, client: Peer, _: &[u8], reply: &[u8]) {
+        self.settle(b"reply ", client.number, reply, b"");
+    }
+
+    fn fail(&mut self, client: Peer, _: &[u8], why: Unserved) {
+        let why = match why {
+            Unserved::NoMemory => b"no_memory".as_slice(),
+            Unserved::TooMany => b"too_many".as_slice(),
+            Unserved::Elsewhere => b"elsewhere".as_slice(),
+        };
+        self.settle(b"failed ", client.number, b"", why);
+    }
+
+    fn pass_over(&mut self, client: Peer, _: &[u8]) {
+        self.settle(b"none ", client.number, b"", b"");
+    }
+}

@@ -1,0 +1,26 @@
+-- A set of addresses beside a list of them. (Of the code.)
+use Rattle.std.specs.Prelude.{◌≡◌, ℕ, Bool, true, List}
+use Rattle.std.specs.BTreeSet.{contains}
+use Rattle.std.specs.Cmp.Lexicographic.{slice_cmp}
+use Rattle.std.specs.List.{Contains}
+use Rattle.std.specs.Ordering.{nat_cmp, ordering_then}
+use Rattle.std.specs.declared.cmp.Ordering.{Ordering}
+use Rattle.dns_text.specs.declared.addr.Addr.{Addr}
+use Rattle.dns_text.specs.declared.addr.Ip.{Ip}
+use Rattle.dns_text.specs.declared.addr.Ip.TheVariants.{V4, V6}
+use Rattle.iterate.specs.declared.joining.AddrSet.{AddrSet}
+
+-- the order of ports with octets
+abbrev pub port_cmp : ℕ × List ℕ → ℕ × List ℕ → Ordering
+port_cmp a b = ordering_then (nat_cmp a.0 b.0) (slice_cmp nat_cmp a.1 b.1)
+
+abbrev pub has_ip : AddrSet → ℕ → Ip → Bool
+has_ip seen port (V4 octets) = contains port_cmp seen.v4 (port, octets)
+has_ip seen port (V6 octets) = contains port_cmp seen.v6 (port, octets)
+
+abbrev pub has_addr : AddrSet → Addr → Bool
+has_addr seen addr = has_ip seen addr.port addr.ip
+
+-- Each address that the set has is one of these.
+abbrev pub AreAmong : AddrSet → List Addr → Type 0
+AreAmong seen addrs = (addr : Addr) → has_addr seen addr ≡ true → Contains addrs addr
