@@ -84,12 +84,17 @@ MEANT = {"refused": "aa rcode 5", "nodata": "aa", "noname": "aa rcode 3", "asked
 
 
 def reply_or_drop(service, over, name, kind):
-    """The words of the reply, or `drop` where the next question is answered in its place."""
+    """The words of the reply, or `drop` where the next question is answered and this one is not, half a second later.
+
+    Over UDP the answer that is held overtakes one that name servers are asked for.
+    """
     with service.client(over) as client:
         client.send(query(name, kind, 1))
         client.send(query("marker.", "A", 2))
         reply = reply_in(client.octets())
-        return "drop" if reply.id == 2 else reply.words()
+        if reply.id == 2 and (over == "tcp" or not client.has_reply(0.5)):
+            return "drop"
+        return (reply_in(client.octets()) if reply.id == 2 else reply).words()
 
 
 def check_zone_types(checks, over):
@@ -310,7 +315,8 @@ def check_undone(checks, over):
 
 
 def check_overlap(checks, over):
-    """The first question's exchange is held until a second question and a command have been answered."""
+    """The first question's exchange is held until a second question and a command have been answered: over UDP by one worker."""
+    workers = {"udp": "1", "tcp": "2"}[over]
     gate = threading.Event()
 
     def held(asked):
@@ -323,7 +329,7 @@ def check_overlap(checks, over):
     hints = {address: zone for address in addresses}
     with NameServers(hints) as servers:
         ports = [f"{address}@{servers.port}" for address in addresses]
-        with Service(ports, f"--{over}", "2") as service, service.client(over) as first:
+        with Service(ports, f"--{over}", workers) as service, service.client(over) as first:
             first.send(query("slow.test.", "A", 7))
             checks.tell(f"overlap over {over}: it is asked", None if servers.wait_for("slow.test. A") else "it is not")
             checks.equal(f"overlap over {over}: the second", service.ask("quick.test.", "A", over).words(), "- | answer quick.test. A 192.0.2.2")
