@@ -259,7 +259,8 @@ def check_descriptors(checks):
     """Where no descriptor is to be had questions fail and connections wait; with descriptors again all goes on."""
     with NameServers({HOST: {"*": lambda asked: [good(asked)]}}) as servers, Service([f"{HOST}@{servers.port}"]) as service:
         service.obey("local_data held.test. 60 A 192.0.2.1")
-        until(lambda: service.threads() == 3 and service.descriptors() <= 8)
+        until(lambda: service.threads() == 3)
+        service.idle_descriptors()
         service.limit(service.first_free())
         replies = {service.ask(f"asked{place}.test.").words() for place in range(40)}
         checks.equal("no descriptors: 40 questions", replies, {"rcode 2"})

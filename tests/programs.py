@@ -20,6 +20,7 @@ TALK = os.path.join(TOP, "crates/iterate_talk/out/iterate_talk")
 QUERIES = os.path.join(TOP, "crates/front_bench/out/front_bench")
 TASKS = os.path.join(TOP, "crates/task_bench/out/task_bench")
 FRONT = os.path.join(TOP, "crates/front_talk/out/front_talk")
+FLIGHT = os.path.join(TOP, "crates/flight_talk/out/flight_talk")
 
 # No run takes longer than this many seconds.
 PATIENCE = 600

@@ -134,8 +134,11 @@ class NotReady(RuntimeError):
 class Service:
     """A service that is ready, until it is stopped; at the end of a `with` it is ended whatever it does."""
 
-    def __init__(self, hints, *options, host=HOST, environment=None):
+    def __init__(self, hints, *options, host=HOST, environment=None, most_descriptors=None, program=RESOLVER):
         self.host = host
+        self.command = [program, "serve"]
+        if most_descriptors:
+            self.command = ["prlimit", f"--nofile={most_descriptors}", *self.command]
         for _ in range(20):
             self.port, self.control_port = free_port(host), free_port(host)
             self.errors = tempfile.TemporaryFile()
@@ -150,9 +153,9 @@ class Service:
         raise NotReady(self.process.returncode, told)
 
     def _start(self, arguments, environment):
-        command = [RESOLVER, "serve", "--listen", f"{self.host}@{self.port}", "--control", f"{self.host}@{self.control_port}"]
+        places = ["--listen", f"{self.host}@{self.port}", "--control", f"{self.host}@{self.control_port}"]
         self.process = subprocess.Popen(
-            command + arguments, stdin=subprocess.DEVNULL, stdout=subprocess.PIPE, stderr=self.errors, env=environment,
+            self.command + places + arguments, stdin=subprocess.DEVNULL, stdout=subprocess.PIPE, stderr=self.errors, env=environment,
         )
 
     def _is_ready(self):
@@ -213,6 +216,12 @@ class Service:
     def threads(self):
         return len(os.listdir(f"/proc/{self.process.pid}/task"))
 
+    def processor(self):
+        """The seconds of a processor that it has had."""
+        with open(f"/proc/{self.process.pid}/stat", encoding="ascii") as file:
+            fields = file.read().rpartition(")")[2].split()
+        return (int(fields[11]) + int(fields[12])) / os.sysconf("SC_CLK_TCK")
+
     def descriptors(self):
         return len(os.listdir(f"/proc/{self.process.pid}/fd"))
 
@@ -225,6 +234,15 @@ class Service:
         """Lets it get descriptors below this one alone."""
         _, hard = resource.prlimit(self.process.pid, resource.RLIMIT_NOFILE)
         resource.prlimit(self.process.pid, resource.RLIMIT_NOFILE, (most, hard))
+
+    def idle_descriptors(self):
+        """How many descriptors it has, once they have been as many for a while."""
+        found, since = self.descriptors(), time.monotonic()
+        while time.monotonic() < since + 0.3:
+            time.sleep(0.02)
+            if self.descriptors() != found:
+                found, since = self.descriptors(), time.monotonic()
+        return found
 
 
 STOPPED = ("ok stopping", 0, b"")

@@ -32,6 +32,9 @@ use std::time::{Duration, Instant};
 /// So many datagrams at most are taken in one turn.
 const MOST_TAKEN: u32 = 256;
 
+/// So many milliseconds are spent on them at most, and on the last: then exchanges are looked at again.
+const MOST_TAKING: u64 = 10;
+
 /// So many events at most are looked at in one turn.
 const MOST_EVENTS: usize = 1024;
 
@@ -145,9 +148,13 @@ impl<'a, R: Net + Log + std::rt::Clock> UdpWorker<'a, R> {
         ensures limit { questions.new.limit ≡ questions.old.limit }
         ensures failures { self.new.failures ≡ self.old.failures }
     {
+        let begun = self.millis.now();
         for _ in 0..MOST_TAKEN {
             if !self.take(desk, questions, room)? {
                 return Ok(false);
+            }
+            if self.millis.now().saturating_sub(begun) >= MOST_TAKING {
+                return Ok(true);
             }
         }
         Ok(true)

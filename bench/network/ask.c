@@ -1,0 +1,145 @@
+// ask PORT SOCKETS EACH PAUSE SECONDS MOST NAMES PREFIX: asks a server on loopback for addresses, until so many seconds have gone or
+// so many questions were asked (0: no matter how many), and prints what came of it: of the first few thousand questions, too, how
+// many microseconds each took.
+//
+// Each of the sockets has EACH questions in flight. A question that is answered is followed by the next, PAUSE microseconds later.
+// The names are PREFIXn.test., where n goes from 0 to NAMES - 1 again and again, or on and on where NAMES is 0. A question
+// without a reply for three seconds is lost.
+#define _GNU_SOURCE
+#include <arpa/inet.h>
+#include <netinet/in.h>
+#include <poll.h>
+#include <stdio.h>
+#include <stdlib.h>
+#include <string.h>
+#include <sys/socket.h>
+#include <time.h>
+
+enum { MOST_SOCKETS = 64, MOST_EACH = 512, MOST_KEPT = 1 << 12 };
+#define PATIENCE 3.0
+
+// A question that is in flight; or, where its time of sending is 0, one that is to be asked at a time.
+struct slot {
+    double sent, at;
+    unsigned short id;
+};
+
+static struct slot slots[MOST_SOCKETS][MOST_EACH];
+static struct pollfd socks[MOST_SOCKETS];
+static float took[MOST_KEPT];
+static long asked, answered, failed, lost, strange, most;
+static int sockets, each, names;
+static double pause_between, due;
+static const char *prefix;
+
+static double now(void)
+{
+    struct timespec time;
+    clock_gettime(CLOCK_MONOTONIC, &time);
+    return time.tv_sec + time.tv_nsec * 1e-9;
+}
+
+// Asks the next question in a slot, unless all were asked. An identifier tells its slot, and which question of that slot it is.
+static void ask(int sock, int place, double time)
+{
+    struct slot *slot = &slots[sock][place];
+    unsigned char octets[128] = {0, 0, 1, 0, 0, 1};
+    slot->sent = 0;
+    slot->at = time + 0.01;
+    if (most && asked >= most)
+        return;
+    slot->id = (slot->id / MOST_EACH + 1) * MOST_EACH + place;
+    octets[0] = slot->id >> 8;
+    octets[1] = slot->id;
+    int length = snprintf((char *)octets + 13, 64, "%s%ld", prefix, names ? asked % names : asked);
+    octets[12] = length;
+    memcpy(octets + 13 + length, "\4test\0\0\1\0\1", 10);
+    if (send(socks[sock].fd, octets, 23 + length, 0) < 0)
+        return;
+    slot->sent = time;
+    asked++;
+}
+
+// Takes what came at a socket.
+static void take(int sock)
+{
+    unsigned char octets[4096];
+    while (recv(socks[sock].fd, octets, sizeof octets, MSG_DONTWAIT) >= 12) {
+        unsigned short id = octets[0] << 8 | octets[1];
+        struct slot *slot = &slots[sock][id % MOST_EACH];
+        if (slot->sent == 0 || slot->id != id) {
+            strange++;
+            continue;
+        }
+        double time = now();
+        failed += (octets[3] & 15) != 0;
+        if (answered < MOST_KEPT)
+            took[answered] = (time - slot->sent) * 1e6;
+        answered++;
+        slot->sent = 0;
+        slot->at = time + pause_between;
+        if (pause_between == 0)
+            ask(sock, id % MOST_EACH, time);
+        else if (slot->at < due)
+            due = slot->at;
+    }
+}
+
+// Asks what is due, gives up what is lost, and notes when there is more to do.
+static void ask_due(double time)
+{
+    due = time + 0.01;
+    for (int sock = 0; sock < sockets; sock++)
+        for (int place = 0; place < each; place++) {
+            struct slot *slot = &slots[sock][place];
+            if (slot->sent != 0 && time - slot->sent > PATIENCE) {
+                lost++;
+                slot->sent = slot->at = 0;
+            }
+            if (slot->sent == 0 && slot->at <= time)
+                ask(sock, place, now());
+            if (slot->sent == 0 && slot->at < due)
+                due = slot->at;
+        }
+}
+
+int main(int count, char **words)
+{
+    if (count != 9)
+        return 2;
+    struct sockaddr_in at = {.sin_family = AF_INET, .sin_port = htons(atoi(words[1])), .sin_addr.s_addr = htonl(INADDR_LOOPBACK)};
+    sockets = atoi(words[2]), each = atoi(words[3]), pause_between = atof(words[4]) * 1e-6;
+    double seconds = atof(words[5]);
+    most = atol(words[6]), names = atoi(words[7]), prefix = words[8];
+    if (sockets > MOST_SOCKETS || each > MOST_EACH || strlen(prefix) > 32)
+        return 2;
+    for (int sock = 0; sock < sockets; sock++) {
+        int room = 1 << 20;
+        socks[sock].fd = socket(AF_INET, SOCK_DGRAM | SOCK_NONBLOCK, 0);
+        socks[sock].events = POLLIN;
+        setsockopt(socks[sock].fd, SOL_SOCKET, SO_RCVBUF, &room, sizeof room);
+        if (connect(socks[sock].fd, (struct sockaddr *)&at, sizeof at) < 0) {
+            perror("ask");
+            return 1;
+        }
+    }
+    double began = now(), time = began, last = began;
+    while ((time = now()) < began + seconds && (most == 0 || answered + lost < most)) {
+        if (time >= due)
+            ask_due(time);
+        double left = due - now();
+        struct timespec wait = {0, left > 0 ? (long)(left * 1e9) : 0};
+        if (ppoll(socks, sockets, &wait, NULL) <= 0)
+            continue;
+        for (int sock = 0; sock < sockets; sock++)
+            if (socks[sock].revents)
+                take(sock);
+        last = now();
+    }
+    double ran = (most ? last : time) - began;
+    printf("{\"seconds\": %.6f, \"answered\": %ld, \"failed\": %ld, \"lost\": %ld, \"strange\": %ld, \"took\": [", ran, answered, failed, lost, strange);
+    for (long place = 0; place < answered && place < MOST_KEPT; place++)
+        printf("%s%.1f", place ? ", " : "", took[place]);
+    puts("]}");
+    return 0;
+}
