@@ -314,7 +314,8 @@ def check_undone(checks, over):
 
 
 def check_overlap(checks, over):
-    """The first question's exchange is held until a second question and a command have been answered."""
+    """The first question's exchange is held until a second question and a command have been answered: over UDP by one worker."""
+    workers = {"udp": "1", "tcp": "2"}[over]
     gate = threading.Event()
 
     def held(asked):
@@ -327,7 +328,7 @@ def check_overlap(checks, over):
     hints = {address: zone for address in addresses}
     with NameServers(hints) as servers:
         ports = [f"{address}@{servers.port}" for address in addresses]
-        with Service(ports, f"--{over}", "2") as service, service.client(over) as first:
+        with Service(ports, f"--{over}", workers) as service, service.client(over) as first:
             first.send(query("slow.test.", "A", 7))
             checks.tell(f"overlap over {over}: it is asked", None if servers.wait_for("slow.test. A") else "it is not")
             checks.equal(f"overlap over {over}: the second", service.ask("quick.test.", "A", over).words(), "- | answer quick.test. A 192.0.2.2")

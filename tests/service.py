@@ -71,9 +71,9 @@ class Client:
         length = receive(self.sock, 2)
         return length and receive(self.sock, int.from_bytes(length, "big"))
 
-    def has_reply(self):
-        """Whether a reply, or the end, has come by now."""
-        return bool(select.select([self.sock], [], [], 0)[0])
+    def has_reply(self, seconds=0):
+        """Whether a reply, or the end, has come by now, or comes in so many seconds."""
+        return bool(select.select([self.sock], [], [], seconds)[0])
 
     def ask(self, name, kind):
         """The reply to a question, whose identifier and question have to be the query's."""

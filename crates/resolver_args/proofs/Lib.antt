@@ -1,3 +1,4 @@
 pub mod Adding
 pub mod Giving
 pub mod Saying
+pub mod Literals

@@ -1,0 +1,20 @@
+//! What some command lines come to.
+
+ghost use Rattle.std.specs.Prelude.{◌≡◌, ◌∷◌, [], Some, codes, map};
+ghost use Rattle.dns_text.specs.Addr.{addr_in};
+ghost use Rattle.undo_book.specs.declared.event.Settings.{Settings};
+ghost use Rattle.resolver_args.specs.Says.{Says};
+ghost use Rattle.resolver_args.specs.declared.mode.Mode.TheVariants.{Script};
+
+/// `resolver script` gives each setting its default, and no hint.
+pub fn defaults_law()
+    ensures { (settings : Settings) → Says (codes "resolver" ∷ codes "script" ∷ []) (Script settings)
+        → settings ≡ record { journal = 64; cells = 100000; hints = []; server_port = 53 } }
+{}
+
+/// `resolver script --journal 7 192.0.2.1` gives the journal that number, and one hint.
+pub fn given_law()
+    ensures { (settings : Settings)
+        → Says (codes "resolver" ∷ codes "script" ∷ codes "--journal" ∷ codes "7" ∷ codes "192.0.2.1" ∷ []) (Script settings)
+        → (settings.journal ≡ 7) × (map Some settings.hints ≡ addr_in (codes "192.0.2.1") ∷ []) }
+{}
