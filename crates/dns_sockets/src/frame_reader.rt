@@ -88,7 +88,8 @@ impl<'a, R: Clock, F: StopFlag, S: Read + Limits> FrameReader<'a, R, F, S> {
         let count = self.spot.go_on(&held[..most]);
         room[..count].copy_from_slice(&held[..count]);
         self.stream.consume(count);
-        if self.spot == Spot::Beginning {
+        // Where nothing came, the message that is waited for is still the same.
+        if count > 0 && self.spot == Spot::Beginning {
             self.deadline = None;
         }
         count
