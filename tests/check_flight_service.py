@@ -11,7 +11,7 @@ import time
 
 from checks import Checks
 from crowds import END, Crowd, LateServer, waiting_at
-from nameserver import NameServers, Piece, framed
+from nameserver import Piece, framed
 from programs import RESOLVER
 from service import CANNOT_LISTEN, HOST, STOPPED, Service, free_port, until
 
@@ -59,9 +59,9 @@ def has_ended(checks, name, service, crowd):
     checks.tell(f"{name}: one reply each", crowd.once_each())
 
 
-def all_answered(checks, name, crowd):
-    """Each name of a crowd has its address."""
-    strange = [(asked, words) for asked, words in zip(crowd.names, crowd.words()) if words != answered(asked)]
+def all_answered(checks, name, crowd, answer=answered):
+    """Each name of a crowd has its answer."""
+    strange = [(asked, words) for asked, words in zip(crowd.names, crowd.words()) if words != answer(asked)]
     checks.equal(name, strange, [])
 
 
@@ -305,22 +305,22 @@ def check_dead_first(checks):
 
 
 def check_referred(checks):
-    """Each name in a zone of its own: a referral, an alias and its address, while 200 other questions do the same."""
+    """Each name in a zone of its own: a referral, an alias and its address, while 99 other questions do the same."""
 
-    def root(asked):
-        zone = asked.question.split()[0].split(".", 1)[1]
-        yield asked.response(f"| authority {zone} 60 NS ns.{zone} | additional ns.{zone} 60 A 127.0.0.2")
-
-    def zone_server(asked):
+    def does(asked):
         name = asked.question.split()[0]
-        alias = f"b.{name.split('.', 1)[1]}"
-        yield asked.response(f"aa | answer {name} 60 CNAME {alias}" if name[0] == "a" else f"aa | answer {name} 60 A {address(name)}")
+        label, zone = name.split(".", 1)
+        if asked.server == HOST:
+            yield 0, asked.response(f"| authority {zone} 60 NS ns.{zone} | additional ns.{zone} 60 A 127.0.0.2")
+        elif label == "a":
+            yield 0, asked.response(f"aa | answer {name} 60 CNAME b.{zone}")
+        else:
+            yield 0, right(asked)
 
-    with NameServers({HOST: {"*": root}, "127.0.0.2": {"*": zone_server}}) as servers:
-        with Service([f"{HOST}@{servers.port}"], "--server-port", str(servers.port)) as service, Crowd(service) as crowd:
-            crowd.ask([f"a.z{place}.test." for place in range(400)], 200)
-            wanted = [f"- | answer {name} CNAME b{name[1:]} | answer b{name[1:]} A {address(name)}" for name in crowd.names]
-            checks.equal("referrals", crowd.words(), wanted)
+    with LateServer(does, [HOST, "127.0.0.2"]) as server:
+        with Service([server.hint], "--server-port", str(server.port)) as service, Crowd(service) as crowd:
+            crowd.ask([f"a.z{place}.test." for place in range(400)], 100)
+            all_answered(checks, "referrals", crowd, lambda name: f"- | answer {name} CNAME b{name[1:]} | answer b{name[1:]} A {address(name)}")
             has_ended(checks, "referrals", service, crowd)
 
 

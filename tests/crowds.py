@@ -7,6 +7,7 @@ import selectors
 import socket
 import threading
 import time
+from functools import partial
 
 from messages import question_of
 from nameserver import PATIENCE, Asked, bound_together, framed
@@ -21,28 +22,28 @@ SLICE = 200
 
 
 class LateServer:
-    """A name server at one address, over UDP and TCP, in one thread.
+    """Name servers at some addresses, over UDP and TCP, in one thread.
 
     What it does on a question is a function of the question, an `Asked`, whose items are each a moment, in seconds from when the
     question came, and the octets that then go out, or `END`.
     """
 
-    def __init__(self, does, has_tcp=True):
-        """Without TCP its port refuses connections."""
+    def __init__(self, does, addresses=(HOST,), has_tcp=True):
+        """Without TCP their ports refuse connections."""
         self.does = does
         self.asked = []
         self.closing = threading.Event()
         self._changed = threading.Condition()
         self._selector = selectors.DefaultSelector()
         self._due, self._serial = [], itertools.count()
-        sockets, self.port = bound_together([HOST])
-        (self.udp, _), (self._tcp, _) = sockets
-        self.udp.setsockopt(socket.SOL_SOCKET, socket.SO_RCVBUF, 1 << 20)
-        if has_tcp:
-            self._tcp.listen(1_024)
-        for sock, take in [(self.udp, self._take), (self._tcp, self._accept)][: 1 + has_tcp]:
+        self._sockets, self.port = bound_together(addresses)
+        for sock, address in self._sockets:
             sock.setblocking(False)
-            self._selector.register(sock, selectors.EVENT_READ, take)
+            if sock.type == socket.SOCK_DGRAM:
+                self._selector.register(sock, selectors.EVENT_READ, partial(self._take, address))
+            elif has_tcp:
+                sock.listen(1_024)
+                self._selector.register(sock, selectors.EVENT_READ, partial(self._accept, address))
         self._thread = threading.Thread(target=self._serve, daemon=True)
         self._thread.start()
 
@@ -54,12 +55,13 @@ class LateServer:
         self._thread.join(PATIENCE)
         for key in list(self._selector.get_map().values()):
             key.fileobj.close()
-        self._tcp.close()
+        for sock, _ in self._sockets:
+            sock.close()
         self._selector.close()
 
     @property
     def hint(self):
-        return f"{HOST}@{self.port}"
+        return f"{self._sockets[0][1]}@{self.port}"
 
     def count(self, over):
         with self._changed:
@@ -85,10 +87,10 @@ class LateServer:
                 except OSError:
                     pass  # who asked has gone
 
-    def _do(self, over, octets, send, peer=None):
+    def _do(self, address, over, octets, send, peer=None):
         """Notes a question, and what is to be sent and when. It is told how to send, and over UDP whom to."""
         now = time.monotonic()
-        asked = Asked(self, HOST, over, octets, question_of(octets))
+        asked = Asked(self, address, over, octets, question_of(octets))
         asked.send, asked.peer = send, peer
         with self._changed:
             self.asked.append((over, asked.question))
@@ -96,15 +98,15 @@ class LateServer:
         for seconds, item in self.does(asked):
             self.send_at(now + seconds, send, item)
 
-    def _take(self, sock):
+    def _take(self, address, sock):
         for _ in range(SLICE):
             try:
                 octets, peer = sock.recvfrom(65_535)
             except OSError:
                 return
-            self._do("udp", octets, lambda octets, peer=peer: sock.sendto(octets, peer), peer)
+            self._do(address, "udp", octets, lambda octets, peer=peer: sock.sendto(octets, peer), peer)
 
-    def _accept(self, sock):
+    def _accept(self, address, sock):
         try:
             connection, _ = sock.accept()
         except OSError:
@@ -112,9 +114,9 @@ class LateServer:
         connection.setblocking(False)
         connection.setsockopt(socket.IPPROTO_TCP, socket.TCP_NODELAY, 1)
         came = bytearray()
-        self._selector.register(connection, selectors.EVENT_READ, lambda connection: self._follow(connection, came))
+        self._selector.register(connection, selectors.EVENT_READ, partial(self._follow, address, came))
 
-    def _follow(self, connection, came):
+    def _follow(self, address, came, connection):
         try:
             octets = connection.recv(65_535)
         except BlockingIOError:
@@ -126,7 +128,7 @@ class LateServer:
             end = 2 + int.from_bytes(came[:2], "big")
             message = bytes(came[2:end])
             del came[:end]
-            self._do("tcp", message, lambda item: self._send(connection, item))
+            self._do(address, "tcp", message, lambda item: self._send(connection, item))
         if not octets:
             self._end(connection)
 

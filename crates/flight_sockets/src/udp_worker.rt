@@ -19,7 +19,7 @@ use dns_text::NoMemory;
 use flight::{Flight, Numbered};
 use front_workers::{MOST_FAILURES, WorkEnd};
 use log::{Log, warn};
-use mio::{Events, Token};
+use mio::Events;
 use rand_core::Rng;
 use std::alloc::Global;
 use std::io;
@@ -35,8 +35,8 @@ const MOST_TAKEN: u32 = 256;
 /// So many milliseconds are spent on them at most, and on the last: then exchanges are looked at again.
 const MOST_TAKING: u64 = 10;
 
-/// So many events at most are looked at in one turn.
-const MOST_EVENTS: usize = 1024;
+/// So many events at most are looked at in one turn, so that a datagram does not wait behind many replies.
+const MOST_EVENTS: usize = 64;
 
 /// The questions of a worker that are in flight.
 type Questions<D, C, G> = Flight<D, SocketLine, C, G, UdpClient>;
@@ -160,20 +160,20 @@ impl<'a, R: Net + Log + std::rt::Clock> UdpWorker<'a, R> {
         Ok(true)
     }
 
-    /// Goes on with those that wait: what came of their exchanges is heard, and what is overdue ends. Whether the events name
-    /// the service's socket.
+    /// Goes on with those that wait: what came of their exchanges is heard, and what is overdue ends, once all that came was
+    /// heard.
     fn go_on<D: Numbered, C: Clock, G: Rng>(
         &mut self,
         desk: &mut D,
         questions: &mut Questions<D, C, G>,
-    ) -> bool
+    )
         ensures accounts { Accounts questions.old.outstanding self.old questions.new.outstanding self.new }
         ensures no_more { questions.new.outstanding ≤ questions.old.outstanding }
         ensures limit { questions.new.limit ≡ questions.old.limit }
         ensures failures { self.new.failures ≡ self.old.failures }
     {
         let polled = self.millis.now();
-        let came = look_all(
+        let were_all = look_all(
             &self.events,
             &mut self.sockets,
             &mut self.millis,
@@ -181,8 +181,9 @@ impl<'a, R: Net + Log + std::rt::Clock> UdpWorker<'a, R> {
             questions,
         );
         // What had come when the wait ended was looked at, so what was overdue then is.
-        questions.expire(desk, &mut self.sockets, polled);
-        came
+        if were_all {
+            questions.expire(desk, &mut self.sockets, polled);
+        }
     }
 
     /// Waits for what comes, and goes on with it. Where datagrams were left, nothing is waited for. Whether more may be
@@ -206,15 +207,13 @@ impl<'a, R: Net + Log + std::rt::Clock> UdpWorker<'a, R> {
             self.patience(questions)
         };
         self.sockets.wait(&mut self.events, wait)?;
-        let came = self.go_on(desk, questions);
-        if came || were_left {
-            return self.take_batch(desk, questions, room);
-        }
-        Ok(false)
+        self.go_on(desk, questions);
+        // The event that names the service's socket may stand behind those of many replies.
+        self.take_batch(desk, questions, room)
     }
 }
 
-/// Looks at the exchanges that events name. Whether they name the service's socket.
+/// Looks at the exchanges that events name. Whether there were no others.
 fn look_all<D: Numbered, C: Clock, G: Rng, R: Net + Log + std::rt::Clock>(
     events: &Events,
     sockets: &mut WorkerSockets<'_, R>,
@@ -226,16 +225,15 @@ fn look_all<D: Numbered, C: Clock, G: Rng, R: Net + Log + std::rt::Clock>(
     ensures no_more { questions.new.outstanding ≤ questions.old.outstanding }
     ensures limit { questions.new.limit ≡ questions.old.limit }
 {
-    let mut came = false;
+    let mut left = MOST_EVENTS;
     for event in events.iter() {
-        if event.token() == SERVICE {
-            came = true;
-        } else {
-            let Token(key) = event.token();
-            questions.look(desk, sockets, millis.now(), key);
+        left = left.saturating_sub(1);
+        let token = event.token();
+        if token != SERVICE {
+            questions.look(desk, sockets, millis.now(), token.0);
         }
     }
-    came
+    left != 0
 }
 
 /// Answers datagrams until the stop flag is set, or until turns have failed as often in a row as ends a worker. At most so
