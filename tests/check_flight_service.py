@@ -20,6 +20,7 @@ SEED = 17
 EXCHANGE = 2
 HELD = "aa | answer held.test. A 192.0.2.1"
 TOO_MANY = b"resolver: too many exchanges"
+FAULT = b"resolver: device fault"
 FAILED = "rcode 2"
 
 
@@ -262,6 +263,8 @@ class Lies:
 RIGHT = "right thrice id_first question_first junk_first flooded swapped cut_right cut_drips cut_more cut_right_ends".split()
 WRONG = "id_alone question_alone junk_on dead refuses echoes from_elsewhere".split()
 WRONG += "cut_twice cut_other_id cut_breaks cut_ends cut_silent cut_long cut_slow".split()
+# These are wrong, and yet replies to the query: their exchanges come to something.
+REPLIED = "refuses cut_twice".split()
 
 
 def check_liars(checks):
@@ -280,6 +283,8 @@ def check_liars(checks):
             checks.equal(f"liars: {word}", strange, [])
         checks.equal("liars: descriptors", until(lambda: service.descriptors() <= before), True)
         has_ended(checks, "liars", service, crowd)
+        late = sum(name.startswith("as_it_ends") and reply == FAILED for name, reply in zip(names, crowd.words()))
+        checks.equal("liars: exchanges that came to nothing", service.log().count(FAULT), 16 * (len(WRONG) - len(REPLIED)) + late)
 
 
 def check_no_tcp(checks):
@@ -291,6 +296,7 @@ def check_no_tcp(checks):
             checks.equal("no TCP", set(crowd.words()), {FAILED})
             checks.equal("no TCP: descriptors", until(lambda: service.descriptors() <= before), True)
             has_ended(checks, "no TCP", service, crowd)
+            checks.equal("no TCP: exchanges that came to nothing", service.log().count(FAULT), 200)
 
 
 def check_dead_first(checks):
@@ -302,6 +308,7 @@ def check_dead_first(checks):
             all_answered(checks, "dead servers first", crowd)
             checks.equal("dead servers first: asked", (len(silent.asked), len(server.asked)), (200, 200))
             has_ended(checks, "dead servers first", service, crowd)
+            checks.equal("dead servers first: exchanges that came to nothing", service.log().count(FAULT), 400)
 
 
 def check_referred(checks):

@@ -2,8 +2,9 @@
 
 ghost use Rattle.std.specs.Prelude.{◌≡◌, []};
 
-use crate::events::{admission, look, plain, seen_in};
+use crate::events::{admission, look, seen_in};
 use anyhow::anyhow;
+use bench_calls::empty_book;
 use shared_book::{Blank, CallLedger, SharedBook};
 use std::alloc::Global;
 use std::marker::Brand;
@@ -16,7 +17,7 @@ const LOOKS: u32 = 16;
 /// Looks at a book that one caller has alone.
 fn alone(alloc: Global) -> anyhow::Result<u32> {
     let event = look(alloc)?;
-    let mut book = plain(alloc)?;
+    let mut book = empty_book(alloc)?;
     book.step(admission(alloc)?.get().copy()?)?;
     let mut seen = 0u32;
     for _ in 0..LOOKS {
@@ -52,7 +53,7 @@ fn shared<L: CallLedger, R: Wait>(
 }
 
 fn shared_as<R: Wait>(rt: &R, alloc: Global, limit: u64) -> anyhow::Result<u32> {
-    shared::<Brand, R>(rt, alloc, Blank::new(1), plain(alloc)?, limit)
+    shared::<Brand, R>(rt, alloc, Blank::new(1), empty_book(alloc)?, limit)
 }
 
 /// Looks at one book.

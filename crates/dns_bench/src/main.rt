@@ -7,8 +7,8 @@ mod messages;
 // One call, many times.
 mod calls;
 
+use bench_calls::run_calls;
 use calls::run;
-use std::env;
 
 /// Every call, in the order in which it is shown.
 const CALLS: [&str; 12] = [
@@ -27,17 +27,10 @@ const CALLS: [&str; 12] = [
 ];
 
 fn main(rt: HostRuntime) -> anyhow::Result<()> {
-    let words: Vec<String> = env::args(&rt)?.collect(rt.alloc())?;
-    match words.as_slice() {
-        [_, call, count] => {
-            let count: u32 = count.as_str().parse()?;
-            println!(rt; "{call} {}", run(rt.alloc(), call.as_str(), count)?)?;
-        }
-        _ => {
-            for call in CALLS {
-                println!(rt; "{call} {}", run(rt.alloc(), call, 1_000)?)?;
-            }
-        }
-    }
-    Ok(())
+    run_calls(
+        &rt,
+        &CALLS,
+        1_000,
+        |call, count| run(rt.alloc(), call, count),
+    )
 }

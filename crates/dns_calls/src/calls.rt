@@ -13,31 +13,8 @@ use crate::names::{
 use crate::texts::{addr_text, data_text, record_text, type_text};
 use crate::verdicts::{query_octets, verdict_in};
 use dns_text::next_word;
-use hex::FromHexError;
-use std::alloc::{AllocError, Global};
-
-/// The octets of an argument.
-fn octets_of(alloc: Global, word: &[u8]) -> Result<Vec<u8>, CallFault> {
-    if word == b"-".as_slice() {
-        return Ok(Vec::new(alloc));
-    }
-    match hex::decode(alloc, word) {
-        Ok(octets) => Ok(octets),
-        Err(FromHexError::OutOfMemory) => Err(CallFault::NoMemory(AllocError)),
-        Err(_) => Err(CallFault::NoCall),
-    }
-}
-
-/// The arguments behind the word of a call.
-fn arguments(alloc: Global, text: &[u8]) -> Result<Vec<Vec<u8>>, CallFault> {
-    let mut found = Vec::new(alloc);
-    let mut text = text;
-    while let Some((word, rest)) = next_word(text) {
-        found.push(octets_of(alloc, word)?)?;
-        text = rest;
-    }
-    Ok(found)
-}
+use std::alloc::Global;
+use talk_lines::pieces_in;
 
 /// What a call gives.
 fn answer(alloc: Global, word: &[u8], arguments: &[Vec<u8>]) -> Result<Vec<u8>, CallFault> {
@@ -77,7 +54,7 @@ fn answer(alloc: Global, word: &[u8], arguments: &[Vec<u8>]) -> Result<Vec<u8>, 
 /// The line that tells what the call of a line gives, with its end.
 pub fn call(alloc: Global, line: &[u8]) -> Result<Vec<u8>, CallFault> {
     let (word, rest) = next_word(line).ok_or(CallFault::NoCall)?;
-    let arguments = arguments(alloc, rest)?;
+    let arguments = pieces_in(alloc, rest)?;
     let mut told = answer(alloc, word, arguments.as_slice())?;
     told.push(b'\n')?;
     Ok(told)

@@ -17,7 +17,8 @@ mod words; // a message in words
 
 use calls::call;
 use std::io;
-use std::io::{BufRead, Input, Write};
+use std::io::{Input, Write};
+use talk_lines::{Stop, next_line};
 
 /// Writes what the call of a line gives.
 fn tell(rt: &HostRuntime, line: &[u8]) -> io::Result<()> {
@@ -27,16 +28,12 @@ fn tell(rt: &HostRuntime, line: &[u8]) -> io::Result<()> {
     }
 }
 
-fn main(rt: HostRuntime) -> io::Result<()> {
+fn main(rt: HostRuntime) -> Result<(), Stop> {
     let mut input = rt.reader();
     let mut line = Vec::new(rt.alloc());
     for _ in 0..u64::MAX {
-        line.clear();
-        if input.read_until(b'\n', &mut line)? == 0 {
+        if !next_line(&mut input, &mut line)? {
             break;
-        }
-        if line.ends_with(b"\n") {
-            line.pop();
         }
         tell(&rt, &line)?;
     }

@@ -2,3 +2,6 @@ mod Flying
 mod Seats
 mod Answering
 mod Counting
+mod Queueing
+mod Accounting
+mod Flights

@@ -1,9 +1,10 @@
 //! How a question goes on.
 
 ghost use Rattle.std.specs.Prelude.{◌≡◌, ◌≤◌, ◌+◌};
+ghost use Rattle.front_workers.specs.Counts.{Rises};
 ghost use Rattle.flight.specs.Asking.{IsAskedBy};
 ghost use Rattle.flight.specs.Flight.{Flies, IsOpen, query_to};
-ghost use Rattle.flight.specs.Waiting.{IsAccounted, WaitsFrom};
+ghost use Rattle.flight.specs.Waiting.{IsAccounted, WaitsFrom, outstanding};
 ghost use Rattle.iterate.specs.declared.want.Want.{Want};
 
 use crate::asking::{Asking, ask};
@@ -12,7 +13,7 @@ use crate::job::Job;
 use crate::line::Line;
 use crate::numbered::Numbered;
 use crate::telling::{refuse, tell};
-use crate::world::{Client, Unserved, World};
+use crate::world::{Client, Heard, Unserved, World};
 use command_text::Clock;
 use dns_text::Octets;
 use iterate::{Input, Want, due_law};
@@ -20,7 +21,7 @@ use rand_core::Rng;
 use std::marker::PhantomData;
 
 impl<D: Numbered, L: Line, C: Clock, G: Rng, K: Client> Flight<D, L, C, G, K> {
-    /// Ends the exchange of a question that waited, with nothing.
+    /// Ends the exchange of a question that waited, whose time is up, unless its reply is there by now.
     pub(crate) fn end<W: World<D, L, C, K>>(
         &mut self,
         desk: &mut D,
@@ -29,18 +30,34 @@ impl<D: Numbered, L: Line, C: Clock, G: Rng, K: Client> Flight<D, L, C, G, K> {
         job: Job<D, L, C, K>,
     )
         ensures port { W.server_port world.new ≡ W.server_port world.old }
-        ensures accounted { IsAccounted 1 self.old.outstanding (W.settled world.old) self.new.outstanding (W.settled world.new) }
+        ensures accounted { IsAccounted 0 (outstanding self.old + 1) (W.counts world.old) (outstanding self.new) (W.counts world.new) }
+        ensures heard { Rises (W.counts world.old).listened (W.counts world.new).listened }
         ensures waits { WaitsFrom now self.old self.new }
         ensures limit { self.new.limit ≡ self.old.limit }
     {
         let Job {
             asking,
             octets,
-            line,
+            mut line,
             ..
         } = job;
-        drop(line);
-        self.go_on(desk, world, now, asking, octets, Input::Failed);
+        match world.hear(&mut line) {
+            Heard::Nothing => {
+                world.expire(line);
+                self.go_on(desk, world, now, asking, octets, Input::Failed);
+            }
+            Heard::Came(reply) => {
+                drop(line);
+                self.go_on(desk, world, now, asking, octets, Input::Came(reply));
+            }
+            Heard::Broken => {
+                drop(line);
+                self.go_on(desk, world, now, asking, octets, Input::Failed);
+            }
+            Heard::NoMemory => {
+                refuse::<D, L, C, K, W>(world, asking, octets.as_slice(), Unserved::NoMemory);
+            }
+        }
     }
 
     /// Goes on with a question that waited. What it began with is where it began, unless the caller mixed two.
@@ -56,7 +73,8 @@ impl<D: Numbered, L: Line, C: Clock, G: Rng, K: Client> Flight<D, L, C, G, K> {
         requires asked { IsAskedBy K.sent asking.port octets asking.client asking.query asking.task }
         requires flies { Flies D.calls D.seen L.hears C.ticks asking.port asking.query.question asking.task.steps.items input asking.seen }
         ensures port { W.server_port world.new ≡ W.server_port world.old }
-        ensures accounted { IsAccounted 1 self.old.outstanding (W.settled world.old) self.new.outstanding (W.settled world.new) }
+        ensures accounted { IsAccounted 1 (outstanding self.old) (W.counts world.old) (outstanding self.new) (W.counts world.new) }
+        ensures unheard { (W.counts world.new).listened ≡ (W.counts world.old).listened }
         ensures waits { WaitsFrom now self.old self.new }
         ensures limit { self.new.limit ≡ self.old.limit }
     {
@@ -82,9 +100,10 @@ impl<D: Numbered, L: Line, C: Clock, G: Rng, K: Client> Flight<D, L, C, G, K> {
         requires port { asking.port ≡ W.server_port world.old }
         requires known { asking.seen ≤ D.seen desk.old }
         ensures port { W.server_port world.new ≡ W.server_port world.old }
-        ensures accounted { IsAccounted 1 self.old.outstanding (W.settled world.old) self.new.outstanding (W.settled world.new) }
+        ensures accounted { IsAccounted 1 (outstanding self.old) (W.counts world.old) (outstanding self.new) (W.counts world.new) }
+        ensures unheard { (W.counts world.new).listened ≡ (W.counts world.old).listened }
         ensures waits { WaitsFrom now self.old self.new }
-        ensures within { self.old.outstanding ≤ self.old.limit → self.new.outstanding ≤ self.old.limit }
+        ensures within { outstanding self.old ≤ self.old.limit → outstanding self.new ≤ self.old.limit }
         ensures limit { self.new.limit ≡ self.old.limit }
     {
         due_law();
@@ -116,18 +135,15 @@ impl<D: Numbered, L: Line, C: Clock, G: Rng, K: Client> Flight<D, L, C, G, K> {
                     };
                     let key = self.table.vacant_key();
                     if let Some(line) = world.open(key, &server, over, bytes) {
-                        let serial = self.table.next_serial();
-                        self.table.keep(
-                            now,
-                            Job {
-                                asking,
-                                octets: copy,
-                                line,
-                                serial,
-                                desk: PhantomData,
-                                clock: PhantomData,
-                            },
-                        );
+                        let since = self.table.since(now);
+                        self.table.keep(Job {
+                            asking,
+                            octets: copy,
+                            line,
+                            since,
+                            desk: PhantomData,
+                            clock: PhantomData,
+                        });
                         return;
                     }
                     input = Input::Failed;

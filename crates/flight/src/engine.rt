@@ -1,9 +1,10 @@
 //! Questions in flight.
 
-ghost use Rattle.std.specs.Prelude.{◌≡◌, ◌≤◌, ◌+◌, [], None, IfSome};
+ghost use Rattle.std.specs.Prelude.{◌≡◌, ◌⊎◌, ◌≤◌, ◌+◌, [], None, IfSome};
 ghost use Rattle.dns_wire.specs.declared.server.query.Asked.TheVariants.{Good};
 ghost use Rattle.dns_wire.specs.Server.Asking.{AsksFor};
-ghost use Rattle.flight.specs.Waiting.{IsAccounted, IsPatient, WaitsFrom};
+ghost use Rattle.front_workers.specs.Counts.{Rises};
+ghost use Rattle.flight.specs.Waiting.{EarlyGoOn, IsAccounted, IsPatient, IsPatientUntil, OthersGoOn, WaitsFrom, outstanding, since_at, time_left};
 
 use crate::asking::Asking;
 use crate::job::Job;
@@ -20,7 +21,8 @@ use rand_core::Rng;
 use std::alloc::Global;
 use std::marker::Model;
 
-/// The questions of a worker that are in flight. Contracts see how many wait, and how many may.
+/// The questions of a worker that are in flight. Contracts see the exchanges that clients wait for, and since when each is
+/// under way.
 #[derive(Drop)]
 pub struct Flight<D: Numbered, L: Line, C: Clock, G: Rng, K: Client> {
     pub(crate) alloc: Global,
@@ -32,20 +34,17 @@ pub struct Flight<D: Numbered, L: Line, C: Clock, G: Rng, K: Client> {
 
 impl<D: Numbered, L: Line, C: Clock, G: Rng, K: Client> Model for Flight<D, L, C, G, K> {
     ghost use Rattle.std.specs.Prelude.{map};
-    ghost use Rattle.slab.specs.Slab.{slab_len};
     ghost use Rattle.flight.specs.Waiting.{FlightState};
 
     ghost Value = { FlightState };
 
-    ghost view = { λ f. record { outstanding = slab_len f.table.jobs; limit = f.table.limit; begun = map (λ wait. wait.since) f.table.waits.items } };
+    ghost view = { λ f. record { exchanges = f.table.jobs.slots; begun = map (λ wait. wait.since) f.table.waits.items; latest = f.table.latest; limit = f.table.limit } };
 }
 
 impl<D: Numbered, L: Line, C: Clock, G: Rng, K: Client> Flight<D, L, C, G, K> {
     /// None in flight, and at most so many exchanges under way.
     pub fn new(alloc: Global, clock: C, ids: G, limit: usize) -> Flight<D, L, C, G, K>
-        ensures none { result.outstanding ≡ 0 }
-        ensures begun { result.begun ≡ [] }
-        ensures limit { result.limit ≡ limit }
+        ensures { result ≡ record { exchanges = []; begun = []; latest = 0; limit = limit } }
     {
         Flight {
             alloc,
@@ -57,13 +56,18 @@ impl<D: Numbered, L: Line, C: Clock, G: Rng, K: Client> Flight<D, L, C, G, K> {
 
     /// How many exchanges are under way, each of which a client waits for.
     pub fn outstanding(&self) -> usize
-        ensures { result ≡ self.now.outstanding }
+        ensures { result ≡ outstanding self.now }
     {
         self.table.jobs.len()
     }
 
-    /// How many milliseconds until `expire` has something to do. None where no exchange is under way.
-    pub fn next_expiry(&self, now: u64) -> Option<u64> {
+    /// How many milliseconds until `expire` has something to do: what the exchange that began first has left, which may
+    /// have ended since. None where no exchange is under way.
+    pub fn next_expiry(&self, now: u64) -> Option<u64>
+        ensures first { result ≡ time_left PATIENCE now self.now.begun }
+        ensures idle { result ≡ None → outstanding self.now ≡ 0 }
+        ensures soon { IfSome result (λ left. (left ≡ 0) ⊎ IsPatientUntil PATIENCE (now + left) self.now) }
+    {
         self.table.next_expiry(now)
     }
 
@@ -78,9 +82,10 @@ impl<D: Numbered, L: Line, C: Clock, G: Rng, K: Client> Flight<D, L, C, G, K> {
     )
         requires own { K.sent client octets.now }
         ensures port { W.server_port world.new ≡ W.server_port world.old }
-        ensures accounted { IsAccounted 1 self.old.outstanding (W.settled world.old) self.new.outstanding (W.settled world.new) }
+        ensures accounted { IsAccounted 1 (outstanding self.old) (W.counts world.old) (outstanding self.new) (W.counts world.new) }
+        ensures unheard { (W.counts world.new).listened ≡ (W.counts world.old).listened }
         ensures waits { WaitsFrom now self.old self.new }
-        ensures within { self.old.outstanding ≤ self.old.limit → self.new.outstanding ≤ self.old.limit }
+        ensures within { outstanding self.old ≤ self.old.limit → outstanding self.new ≤ self.old.limit }
         ensures limit { self.new.limit ≡ self.old.limit }
     {
         let Ok(asked) = read_question(self.alloc, octets) else {
@@ -107,9 +112,10 @@ impl<D: Numbered, L: Line, C: Clock, G: Rng, K: Client> Flight<D, L, C, G, K> {
         requires own { K.sent client octets.now }
         requires good { AsksFor octets.now (Good query) }
         ensures port { W.server_port world.new ≡ W.server_port world.old }
-        ensures accounted { IsAccounted 1 self.old.outstanding (W.settled world.old) self.new.outstanding (W.settled world.new) }
+        ensures accounted { IsAccounted 1 (outstanding self.old) (W.counts world.old) (outstanding self.new) (W.counts world.new) }
+        ensures unheard { (W.counts world.new).listened ≡ (W.counts world.old).listened }
         ensures waits { WaitsFrom now self.old self.new }
-        ensures within { self.old.outstanding ≤ self.old.limit → self.new.outstanding ≤ self.old.limit }
+        ensures within { outstanding self.old ≤ self.old.limit → outstanding self.new ≤ self.old.limit }
         ensures limit { self.new.limit ≡ self.old.limit }
     {
         let Ok(question) = copy_question(&query.question) else {
@@ -129,9 +135,12 @@ impl<D: Numbered, L: Line, C: Clock, G: Rng, K: Client> Flight<D, L, C, G, K> {
 
     /// Listens on the line under a key. There may be nothing yet, and no line: an event of readiness is only a hint.
     pub fn look<W: World<D, L, C, K>>(&mut self, desk: &mut D, world: &mut W, now: u64, key: usize)
+        ensures listens { IfSome (since_at self.old key) (λ _. Rises (W.counts world.old).listened (W.counts world.new).listened) }
+        ensures hint { since_at self.old key ≡ None → (self.new ≡ self.old) × (world.new ≡ world.old) }
+        ensures others { OthersGoOn key self.old self.new }
         ensures port { W.server_port world.new ≡ W.server_port world.old }
-        ensures accounted { IsAccounted 0 self.old.outstanding (W.settled world.old) self.new.outstanding (W.settled world.new) }
-        ensures no_more { self.new.outstanding ≤ self.old.outstanding }
+        ensures accounted { IsAccounted 0 (outstanding self.old) (W.counts world.old) (outstanding self.new) (W.counts world.new) }
+        ensures no_more { outstanding self.new ≤ outstanding self.old }
         ensures limit { self.new.limit ≡ self.old.limit }
     {
         let Some(job) = self.table.take(key) else {
@@ -141,7 +150,7 @@ impl<D: Numbered, L: Line, C: Clock, G: Rng, K: Client> Flight<D, L, C, G, K> {
             asking,
             octets,
             mut line,
-            serial,
+            since,
             desk: of,
             clock,
         } = job;
@@ -150,7 +159,7 @@ impl<D: Numbered, L: Line, C: Clock, G: Rng, K: Client> Flight<D, L, C, G, K> {
                 asking,
                 octets,
                 line,
-                serial,
+                since,
                 desk: of,
                 clock,
             }),
@@ -168,16 +177,17 @@ impl<D: Numbered, L: Line, C: Clock, G: Rng, K: Client> Flight<D, L, C, G, K> {
         }
     }
 
-    /// Ends each exchange that has taken `PATIENCE` milliseconds.
+    /// Ends each exchange that has taken `PATIENCE` milliseconds, and whose reply is not there by now.
     pub fn expire<W: World<D, L, C, K>>(&mut self, desk: &mut D, world: &mut W, now: u64)
+        ensures patient { IsPatient PATIENCE now self.new }
+        ensures early { EarlyGoOn PATIENCE now self.old self.new }
         ensures port { W.server_port world.new ≡ W.server_port world.old }
-        ensures accounted { IsAccounted 0 self.old.outstanding (W.settled world.old) self.new.outstanding (W.settled world.new) }
-        ensures no_more { self.new.outstanding ≤ self.old.outstanding }
-        ensures patient { IsPatient PATIENCE now self.new.begun }
+        ensures accounted { IsAccounted 0 (outstanding self.old) (W.counts world.old) (outstanding self.new) (W.counts world.new) }
+        ensures no_more { outstanding self.new ≤ outstanding self.old }
         ensures limit { self.new.limit ≡ self.old.limit }
     {
         while let Some(wait) = self.table.next_due(now) {
-            if let Some(job) = self.table.take_due(wait) {
+            if let Some(job) = self.table.pass(wait, now) {
                 self.end(desk, world, now, job);
             }
         }

@@ -8,6 +8,8 @@
 mod numbered;
 // An exchange under way.
 mod line;
+// What a worker counts.
+mod counts;
 // Clients and the sockets of a worker.
 mod world;
 // A question on its way.
@@ -26,6 +28,7 @@ mod driving;
 // What the definitions come to at a seat of a shared book.
 mod laws;
 
+pub use counts::Counts;
 pub use engine::Flight;
 pub use laws::{fall_law, rise_law};
 pub use line::Line;

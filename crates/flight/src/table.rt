@@ -1,9 +1,10 @@
 //! The questions that wait, and since when.
 
-ghost use Rattle.std.specs.Prelude.{◌≡◌, ◌<◌, ◌≤◌, ◌+◌, ◌∷◌, ◌++◌, [], map, None, IfOk, IfSome, OnOk, OnSome};
-ghost use Rattle.slab.specs.Slab.{HasRoomFor, slab_len};
-ghost use Rattle.flight.specs.Waiting.{IsPatient};
+ghost use Rattle.std.specs.Prelude.{◌≡◌, ◌⊎◌, ◌<◌, ◌≤◌, ◌+◌, ◌∷◌, ◌++◌, [], ℕ, map, max, None, Some, IfOk, IfSome, IsTrue, OnOk, OnSome};
+ghost use Rattle.slab.specs.Slab.{HasRoomFor, Updates, get, slab_len};
 ghost use Rattle.std.specs.VecDeque.{deque_capacity, deque_len};
+ghost use Rattle.flight.specs.Queue.{FirstIs, IsQueue, is_queued};
+ghost use Rattle.flight.specs.Waiting.{time_left};
 
 use crate::job::Job;
 use crate::line::Line;
@@ -22,7 +23,6 @@ pub const PATIENCE: u64 = 2_000;
 #[derive(Clone, Copy)]
 pub(crate) struct Wait {
     pub(crate) key: usize,
-    pub(crate) serial: u64,
     pub(crate) since: u64,
 }
 
@@ -33,34 +33,38 @@ pub(crate) struct Table<D: Numbered, L: Line, C: Clock, K: Client> {
     alloc: Global,
     pub(crate) jobs: Slab<Job<D, L, C, K>>,
     waits: VecDeque<Wait>,
-    serial: u64,
+    /// The latest moment at which an exchange began.
+    latest: u64,
     limit: usize,
+    ghost queue: { IsQueue jobs.slots waits.items latest },
 }
 
 impl<D: Numbered, L: Line, C: Clock, K: Client> Table<D, L, C, K> {
     /// An empty table for at most so many.
     pub(crate) fn new(alloc: Global, limit: usize) -> Table<D, L, C, K>
-        ensures none { slab_len result.jobs ≡ 0 }
+        ensures jobs { result.jobs.slots ≡ [] }
         ensures waits { result.waits.items ≡ [] }
+        ensures latest { result.latest ≡ 0 }
         ensures limit { result.limit ≡ limit }
     {
         Table {
             alloc,
             jobs: Slab::new(alloc),
             waits: VecDeque::new(alloc),
-            serial: 0,
+            latest: 0,
             limit,
         }
     }
 
     /// Makes room for one more, and copies what its client sent.
     pub(crate) fn make_room(&mut self, octets: &[u8]) -> Result<Octets, Unserved>
-        ensures jobs { OnOk result (HasRoomFor self.new.jobs 1) }
-        ensures waits { OnOk result (deque_len self.new.waits < deque_capacity self.new.waits) }
+        ensures room { OnOk result (HasRoomFor self.new.jobs 1) }
+        ensures queue_room { OnOk result (deque_len self.new.waits < deque_capacity self.new.waits) }
         ensures below { OnOk result (slab_len self.new.jobs < self.new.limit) }
         ensures octets { IfOk result (λ copy. copy ≡ octets.now) }
-        ensures len { slab_len self.new.jobs ≡ slab_len self.old.jobs }
-        ensures waits_kept { self.new.waits.items ≡ self.old.waits.items }
+        ensures jobs { self.new.jobs.slots ≡ self.old.jobs.slots }
+        ensures waits { self.new.waits.items ≡ self.old.waits.items }
+        ensures latest { self.new.latest ≡ self.old.latest }
         ensures limit { self.new.limit ≡ self.old.limit }
     {
         if self.jobs.len() >= self.limit {
@@ -75,40 +79,47 @@ impl<D: Numbered, L: Line, C: Clock, K: Client> Table<D, L, C, K> {
         Ok(Octets::new(copy))
     }
 
-    /// The number of the next exchange.
-    pub(crate) fn next_serial(&self) -> u64 {
-        self.serial
-    }
-
     /// The key of the next question.
     pub(crate) fn vacant_key(&self) -> usize {
         self.jobs.vacant_key()
     }
 
+    /// When an exchange begins that begins now: no earlier than those before, also where the clock goes back.
+    pub(crate) fn since(&self, now: u64) -> u64
+        ensures { result ≡ max now self.now.latest }
+    {
+        now.max(self.latest)
+    }
+
     /// Keeps a question whose exchange begins.
-    pub(crate) fn keep(&mut self, now: u64, job: Job<D, L, C, K>)
-        requires jobs { HasRoomFor self.old.jobs 1 }
-        requires waits { deque_len self.old.waits < deque_capacity self.old.waits }
+    pub(crate) fn keep(&mut self, job: Job<D, L, C, K>)
+        requires room { HasRoomFor self.old.jobs 1 }
+        requires queue_room { deque_len self.old.waits < deque_capacity self.old.waits }
+        requires later { self.old.latest ≤ job }
+        ensures vacant { get self.old.jobs self.old.jobs.vacant_key ≡ None }
+        ensures updates { Updates self.old.jobs self.new.jobs self.old.jobs.vacant_key (Some job) }
         ensures len { slab_len self.new.jobs ≡ slab_len self.old.jobs + 1 }
-        ensures waits { self.new.waits.items ≡ self.old.waits.items ++ record { key = self.old.jobs.vacant_key; serial = self.old.serial; since = now } ∷ [] }
+        ensures waits { self.new.waits.items ≡ self.old.waits.items ++ record { key = self.old.jobs.vacant_key; since = job } ∷ [] }
+        ensures latest { self.new.latest ≡ job }
         ensures limit { self.new.limit ≡ self.old.limit }
     {
-        let serial = self.serial;
-        self.serial = serial.wrapping_add(1);
+        let since = job.since;
         let key = self.jobs.insert_reserved(job);
-        self.waits.push_back_reserved(Wait {
-            key,
-            serial,
-            since: now,
-        });
+        self.waits.push_back_reserved(Wait { key, since });
+        self.latest = since;
     }
 
     /// Takes out the question under a key.
     pub(crate) fn take(&mut self, key: usize) -> Option<Job<D, L, C, K>>
+        ensures job { result ≡ get self.old.jobs key }
+        ensures updates { Updates self.old.jobs self.new.jobs key None }
         ensures len { OnSome result (slab_len self.new.jobs + 1 ≡ slab_len self.old.jobs) }
         ensures room { OnSome result (HasRoomFor self.new.jobs 1) }
-        ensures none { result ≡ None → self.new ≡ self.old }
+        ensures key_is_next { OnSome result (self.new.jobs.vacant_key ≡ key) }
+        ensures queued { IfSome result (λ job. IsTrue (is_queued self.new.waits.items key job)) }
+        ensures none { result ≡ None → self.new.jobs ≡ self.old.jobs }
         ensures waits { self.new.waits.items ≡ self.old.waits.items }
+        ensures latest { self.new.latest ≡ self.old.latest }
         ensures limit { self.new.limit ≡ self.old.limit }
     {
         self.jobs.try_remove(key)
@@ -116,45 +127,57 @@ impl<D: Numbered, L: Line, C: Clock, K: Client> Table<D, L, C, K> {
 
     /// Puts back the question that was taken out last.
     pub(crate) fn put_back(&mut self, job: Job<D, L, C, K>)
-        requires { HasRoomFor self.old.jobs 1 }
+        requires room { HasRoomFor self.old.jobs 1 }
+        requires queued { IsTrue (is_queued self.old.waits.items self.old.jobs.vacant_key job) }
+        ensures updates { Updates self.old.jobs self.new.jobs self.old.jobs.vacant_key (Some job) }
         ensures len { slab_len self.new.jobs ≡ slab_len self.old.jobs + 1 }
         ensures waits { self.new.waits.items ≡ self.old.waits.items }
+        ensures latest { self.new.latest ≡ self.old.latest }
         ensures limit { self.new.limit ≡ self.old.limit }
     {
         let _ = self.jobs.insert_reserved(job);
     }
 
-    /// The next exchange whose time is up.
-    pub(crate) fn next_due(&mut self, now: u64) -> Option<Wait>
-        ensures first { IfSome result (λ wait. self.old.waits.items ≡ wait ∷ self.new.waits.items) }
+    /// The first exchange of the queue, where its time is up.
+    pub(crate) fn next_due(&self, now: u64) -> Option<Wait>
+        ensures first { IfSome result (FirstIs self.now.waits.items) }
         ensures due { IfSome result (λ wait. wait.since + PATIENCE ≤ now) }
-        ensures none { result ≡ None → IsPatient PATIENCE now (map (λ wait. wait.since) self.new.waits.items) }
-        ensures kept { result ≡ None → self.new ≡ self.old }
-        ensures jobs { self.new.jobs ≡ self.old.jobs }
-        ensures limit { self.new.limit ≡ self.old.limit }
+        ensures none { result ≡ None → (key since : ℕ) → get self.now.jobs key ≡ Some since → now < since + PATIENCE }
     {
         let wait = *self.waits.front()?;
         if now.saturating_sub(wait.since) < PATIENCE {
             return None;
         }
-        self.waits.pop_front()
+        Some(wait)
     }
 
-    /// Takes out the question whose exchange this is, where it has not ended.
-    pub(crate) fn take_due(&mut self, wait: Wait) -> Option<Job<D, L, C, K>>
+    /// Passes the first exchange of the queue, whose time is up. The question that waits under its key is taken out where
+    /// its own time is up: it may be another.
+    pub(crate) fn pass(&mut self, wait: Wait, now: u64) -> Option<Job<D, L, C, K>>
+        requires first { FirstIs self.old.waits.items wait }
+        requires due { wait.since + PATIENCE ≤ now }
+        ensures waits { self.old.waits.items ≡ wait ∷ self.new.waits.items }
+        ensures due { IfSome result (λ since. (get self.old.jobs wait.key ≡ Some since) × (since + PATIENCE ≤ now)) }
+        ensures taken { OnSome result (Updates self.old.jobs self.new.jobs wait.key None) }
         ensures len { OnSome result (slab_len self.new.jobs + 1 ≡ slab_len self.old.jobs) }
-        ensures none { result ≡ None → self.new ≡ self.old }
-        ensures waits { self.new.waits.items ≡ self.old.waits.items }
+        ensures none { result ≡ None → self.new.jobs ≡ self.old.jobs }
+        ensures latest { self.new.latest ≡ self.old.latest }
         ensures limit { self.new.limit ≡ self.old.limit }
     {
-        if self.jobs.get(wait.key)?.serial != wait.serial {
+        let _ = self.waits.pop_front();
+        let job = self.jobs.get(wait.key)?;
+        if now.saturating_sub(job.since) < PATIENCE {
             return None;
         }
         self.jobs.try_remove(wait.key)
     }
 
     /// How many milliseconds until the first exchange's time is up.
-    pub(crate) fn next_expiry(&self, now: u64) -> Option<u64> {
+    pub(crate) fn next_expiry(&self, now: u64) -> Option<u64>
+        ensures first { result ≡ time_left PATIENCE now (map (λ wait. wait.since) self.now.waits.items) }
+        ensures idle { result ≡ None → slab_len self.now.jobs ≡ 0 }
+        ensures soon { IfSome result (λ left. (left ≡ 0) ⊎ ((key since : ℕ) → get self.now.jobs key ≡ Some since → now + left ≤ since + PATIENCE)) }
+    {
         let wait = self.waits.front()?;
         Some(PATIENCE.saturating_sub(now.saturating_sub(wait.since)))
     }

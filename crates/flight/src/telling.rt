@@ -3,10 +3,10 @@
 ghost use Rattle.std.specs.Prelude.{◌≡◌};
 ghost use Rattle.dns_wire.specs.declared.server.query.Asked.TheVariants.{Fault};
 ghost use Rattle.dns_wire.specs.Server.Asking.{AsksFor};
-ghost use Rattle.front_workers.specs.Counts.{Rises};
 ghost use Rattle.front_workers.specs.Serves.{fault_octets};
 ghost use Rattle.iterate.specs.Told.{IsFit};
 ghost use Rattle.flight.specs.Asking.{IsAskedBy};
+ghost use Rattle.flight.specs.Counted.{CountsSettled};
 ghost use Rattle.flight.specs.Flight.{Lands};
 
 use crate::asking::Asking;
@@ -37,7 +37,7 @@ pub(crate) fn refuse<D: Numbered, L: Line, C: Clock, K: Client, W: World<D, L, C
 )
     requires asked { IsAskedBy K.sent asking.port octets.now asking.client asking.query asking.task }
     ensures port { W.server_port world.new ≡ W.server_port world.old }
-    ensures settled { Rises (W.settled world.old) (W.settled world.new) }
+    ensures settled { CountsSettled (W.counts world.old) (W.counts world.new) }
 {
     world.fail(asking.client, octets, why);
 }
@@ -54,7 +54,7 @@ pub(crate) fn tell<D: Numbered, L: Line, C: Clock, K: Client, W: World<D, L, C, 
     requires lands { Lands D.calls D.seen L.hears C.ticks (W.server_port world.old) asking.query.question answer.now }
     requires fit { IsFit answer.now }
     ensures port { W.server_port world.new ≡ W.server_port world.old }
-    ensures settled { Rises (W.settled world.old) (W.settled world.new) }
+    ensures settled { CountsSettled (W.counts world.old) (W.counts world.new) }
 {
     match write_answer(alloc, Over::Udp, octets, &asking.query, answer) {
         Ok(Some(reply)) => world.give(asking.client, octets, &reply),

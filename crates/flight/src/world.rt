@@ -1,9 +1,10 @@
 //! Clients and the sockets of a worker.
 
-ghost use Rattle.std.specs.Prelude.{◌≡◌, ◌≤◌, ℕ, List, length, IfSome};
+ghost use Rattle.std.specs.Prelude.{◌≡◌, ◌≤◌, ℕ, List, length, IfNone, IfSome, OnSome};
 ghost use Rattle.dns_wire.specs.declared.server.query.Asked.TheVariants.{Drop};
 ghost use Rattle.dns_wire.specs.Server.Asking.{AsksFor};
-ghost use Rattle.front_workers.specs.Counts.{Rises};
+ghost use Rattle.flight.specs.declared.counts.Counts.{Counts};
+ghost use Rattle.flight.specs.Counted.{CountsEnded, CountsListened, CountsOpened, CountsSettled};
 ghost use Rattle.flight.specs.Flight.{query_to};
 ghost use Rattle.flight.specs.Told.{IsHeard, IsTold, IsUntold};
 
@@ -48,8 +49,8 @@ pub trait World<D: Numbered, L: Line, C: Clock, K: Client> {
     /// The port of name servers that are known by name.
     ghost server_port: { Self → ℕ };
 
-    /// How many clients were settled. At most 2^64 - 1 are counted.
-    ghost settled: { Self → ℕ };
+    /// What was counted, each up to 2^64 - 1.
+    ghost counts: { Self → Counts };
 
     /// The port of name servers that are known by name.
     fn server_port(&self) -> u16
@@ -59,14 +60,20 @@ pub trait World<D: Numbered, L: Line, C: Clock, K: Client> {
     fn open(&mut self, key: usize, server: &Addr, over: Over, query: Shared<Octets>) -> Option<L>
         ensures asked { IfSome result (λ line. L.asked line ≡ query_to server.now over query) }
         ensures port { server_port self.new ≡ server_port self.old }
-        ensures settled { settled self.new ≡ settled self.old };
+        ensures opened { OnSome result (CountsOpened (counts self.old) (counts self.new)) }
+        ensures unopened { IfNone result (counts self.new ≡ counts self.old) };
 
     /// Goes on with an exchange, without waiting.
     fn hear(&mut self, line: &mut L) -> Heard
         ensures heard { IsHeard (L.hears (L.asked line.old)) result }
         ensures asked { L.asked line.new ≡ L.asked line.old }
         ensures port { server_port self.new ≡ server_port self.old }
-        ensures settled { settled self.new ≡ settled self.old };
+        ensures listened { CountsListened result (counts self.old) (counts self.new) };
+
+    /// Ends an exchange whose time is up.
+    fn expire(&mut self, line: L)
+        ensures port { server_port self.new ≡ server_port self.old }
+        ensures ended { CountsEnded (counts self.old) (counts self.new) };
 
     /// Tells a client the reply to its octets. Whether it reaches the client is not known.
     fn give(&mut self, client: K, octets: &[u8], reply: &[u8])
@@ -74,7 +81,7 @@ pub trait World<D: Numbered, L: Line, C: Clock, K: Client> {
         requires told { IsTold D.calls D.seen L.hears C.ticks (server_port self.old) octets.now reply.now }
         requires short { length reply.now ≤ 512 }
         ensures port { server_port self.new ≡ server_port self.old }
-        ensures settled { Rises (settled self.old) (settled self.new) };
+        ensures settled { CountsSettled (counts self.old) (counts self.new) };
 
     /// Tells a client that the server failed (RFC 1035, section 4.1.1, RCODE 2), by the header alone.
     fn fail(&mut self, client: K, octets: &[u8], why: Unserved)
@@ -82,12 +89,12 @@ pub trait World<D: Numbered, L: Line, C: Clock, K: Client> {
         requires header { 12 ≤ length octets.now }
         requires owed { ¬ (AsksFor octets.now Drop) }
         ensures port { server_port self.new ≡ server_port self.old }
-        ensures settled { Rises (settled self.old) (settled self.new) };
+        ensures settled { CountsSettled (counts self.old) (counts self.new) };
 
     /// Lets a client go to whom no reply is owed.
     fn pass_over(&mut self, client: K, octets: &[u8])
         requires own { K.sent client octets.now }
         requires untold { IsUntold D.calls D.seen L.hears C.ticks (server_port self.old) octets.now }
         ensures port { server_port self.new ≡ server_port self.old }
-        ensures settled { Rises (settled self.old) (settled self.new) };
+        ensures settled { CountsSettled (counts self.old) (counts self.new) };
 }

@@ -1,49 +1,75 @@
 -- How the counts of a worker go on.
-use Rattle.std.proofs.Common.{◌≡◌, ◌≤◌, ℕ, ◌+◌, ◌-◌, ◌^◌, inl, inr, arith}
+use Rattle.std.proofs.Common.{◌≡◌, ℕ, inl, inr, arith}
 use Rattle.front_workers.specs.Counts.{Rises}
+use Rattle.flight.specs.declared.counts.Counts.{Counts}
+use Rattle.flight.specs.Counted.{NeverFall, IsFull}
 use Rattle.flight.specs.Waiting.{IsAccounted}
 use Rattle.flight_sockets.specs.Accounts.{WorkerState, Accounts}
 
+none_fell : (old mid new : Counts) → NeverFall old mid → NeverFall mid new → NeverFall old new
+none_fell old mid new before after = record {
+  settled = omega (arith, before.settled, after.settled);
+  opened = omega (arith, before.opened, after.opened);
+  ended = omega (arith, before.ended, after.ended);
+  listened = omega (arith, before.listened, after.listened);
+}
+
+-- What was full is.
+full_on : (old new : Counts) → NeverFall old new → IsFull old → IsFull new
+full_on old new later full = elim full [
+  | inl settled ↦ inl (omega (arith, settled, later.settled))
+  | inr other ↦ elim other [ inl opened ↦ inr (inl (omega (arith, opened, later.opened))) | inr ended ↦ inr (inr (omega (arith, ended, later.ended))) ]
+]
+
 -- What goes on is accounted for as a whole.
 pub followed : (w w' w'' : ℕ) (old mid new : WorkerState) → Accounts w old w' mid → Accounts w' mid w'' new → Accounts w old w'' new
-followed w w' w'' old mid new before after =
-    let settled = after.settled in
-    let taken = after.taken in
-    record {
-      taken = omega (arith, before.taken, taken);
-      settled = omega (arith, before.settled, settled);
-      each = elim before.each [
-        | inl one ↦ elim after.each [ inl two ↦ inl (omega (arith, one, two)) | inr end ↦ inr end ]
-        | inr end ↦ elim end [ inl many ↦ inr (inl (omega (arith, many, settled))) | inr many ↦ inr (inr (omega (arith, many, taken))) ]
-      ];
-    }
+followed w w' w'' old mid new before after = record {
+  taken = omega (arith, before.taken, after.taken);
+  never_fall = none_fell old.counts mid.counts new.counts before.never_fall after.never_fall;
+  add_up = elim before.add_up [
+    | inl one ↦ elim after.add_up [
+      | inl two ↦ inl (record { clients = omega (arith, one.clients, two.clients); exchanges = omega (arith, one.exchanges, two.exchanges) })
+      | inr end ↦ inr end
+    ]
+    | inr end ↦ elim end [
+      | inl full ↦ inr (inl (full_on mid.counts new.counts after.never_fall full))
+      | inr many ↦ inr (inr (omega (arith, many, after.taken)))
+    ]
+  ];
+}
 
 -- A query that was taken begins.
-pub begun : (w w' : ℕ) (old new : WorkerState) → Rises old.taken new.taken → IsAccounted 1 w old.settled w' new.settled → w' ≤ w + 1 → old.settled ≤ 2 ^ 64 - 1 → Accounts w old w' new
-begun w w' old new rises accounted few fits = record {
+pub begun : (w w' : ℕ) (old new : WorkerState) → Rises old.taken new.taken → IsAccounted 1 w old.counts w' new.counts → Accounts w old w' new
+begun w w' old new rises accounted = record {
   taken = elim rises [ inl one ↦ omega (arith, one) | inr last ↦ omega (arith, last.1) ];
-  settled = elim accounted [ inl all ↦ omega (arith, all, few) | inr many ↦ omega (arith, many, fits) ];
-  each = elim accounted [
-    | inl all ↦ elim rises [ inl one ↦ inl (omega (arith, all, one)) | inr last ↦ inr (inr (omega (arith, last.0, last.1))) ]
-    | inr many ↦ inr (inl many)
+  never_fall = accounted.never_fall;
+  add_up = elim accounted.add_up [
+    | inl all ↦ elim rises [
+      | inl one ↦ inl (record { clients = omega (arith, all.clients, one); exchanges = all.exchanges })
+      | inr last ↦ inr (inr (omega (arith, last.0, last.1)))
+    ]
+    | inr full ↦ inr (inl full)
   ];
 }
 
 -- No query is taken, and those that wait go on.
-pub went_on : (w w' : ℕ) (old new : WorkerState) → new.taken ≡ old.taken → IsAccounted 0 w old.settled w' new.settled → w' ≤ w → old.settled ≤ 2 ^ 64 - 1 → Accounts w old w' new
-went_on w w' old new same accounted few fits = record {
+pub went_on : (w w' : ℕ) (old new : WorkerState) → new.taken ≡ old.taken → IsAccounted 0 w old.counts w' new.counts → Accounts w old w' new
+went_on w w' old new same accounted = record {
   taken = omega (arith, same);
-  settled = elim accounted [ inl all ↦ omega (arith, all, few) | inr many ↦ omega (arith, many, fits) ];
-  each = elim accounted [ inl all ↦ inl (omega (arith, all, same)) | inr many ↦ inr (inl many) ];
+  never_fall = accounted.never_fall;
+  add_up = elim accounted.add_up [
+    | inl all ↦ inl (record { clients = omega (arith, all.clients, same); exchanges = all.exchanges })
+    | inr full ↦ inr (inl full)
+  ];
 }
 
 -- A failure changes nothing of it.
-pub failed : (w w' : ℕ) (old mid new : WorkerState) → Accounts w old w' mid → new.taken ≡ mid.taken → new.settled ≡ mid.settled → Accounts w old w' new
-failed w w' old mid new before taken settled = record {
+pub failed : (w w' : ℕ) (old mid new : WorkerState) → Accounts w old w' mid → new.taken ≡ mid.taken → new.counts ≡ mid.counts → Accounts w old w' new
+failed w w' old mid new before taken counts = record {
   taken = omega (arith, before.taken, taken);
-  settled = omega (arith, before.settled, settled);
-  each = elim before.each [
-    | inl all ↦ inl (omega (arith, all, taken, settled))
-    | inr end ↦ elim end [ inl many ↦ inr (inl (omega (arith, many, settled))) | inr many ↦ inr (inr (omega (arith, many, taken))) ]
+  never_fall = rw counts before.never_fall;
+  add_up = elim before.add_up [
+    | inl all ↦ inl (record { clients = rw counts (omega (arith, all.clients, taken)); exchanges = rw counts all.exchanges })
+    | inr end ↦ elim end [ inl full ↦ inr (inl (rw counts full)) | inr many ↦ inr (inr (omega (arith, many, taken))) ]
   ];
 }

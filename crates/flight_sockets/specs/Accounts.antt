@@ -1,15 +1,22 @@
--- How a worker's clients are counted.
+-- How a worker's clients and exchanges are counted.
 use Rattle.std.specs.Prelude.{◌≡◌, ◌⊎◌, ◌≤◌, ℕ, ◌+◌, ◌-◌, ◌^◌}
+use Rattle.flight.specs.declared.counts.Counts.{Counts}
+use Rattle.flight.specs.Counted.{NeverFall, IsFull}
 
 -- what can be seen of a worker: each count ends at 2^64 - 1
 pub record WorkerState : Type 0 where
   pub server_port : ℕ  -- the port of name servers that are known by name
   pub taken : ℕ  -- how many queries were taken
-  pub settled : ℕ  -- how many clients were settled: told a reply, told that the server failed, or owed none
   pub failures : ℕ  -- how many turns failed
+  pub counts : Counts  -- what became of clients and exchanges
 
--- From so many that wait and one state of the worker to so many and another: each query that was taken between waits or was settled once, as each that waited.
+-- Each query that was taken between two states of a worker waits or was settled once, as each that waited; and each exchange that began is under way for one of those that wait, or ended once.
+pub record AllAddUp (waiting : ℕ) (old : WorkerState) (waiting' : ℕ) (new : WorkerState) : Type 0 where
+  pub clients : waiting' + new.counts.settled + old.taken ≡ waiting + old.counts.settled + new.taken
+  pub exchanges : waiting' + new.counts.ended + old.counts.opened ≡ waiting + old.counts.ended + new.counts.opened
+
+-- So it is from so many that wait and one state of the worker to so many and another, unless a count came to its last value.
 pub record Accounts (waiting : ℕ) (old : WorkerState) (waiting' : ℕ) (new : WorkerState) : Type 0 where
   pub taken : old.taken ≤ new.taken
-  pub settled : old.settled ≤ new.settled
-  pub each : (waiting' + new.settled + old.taken ≡ waiting + old.settled + new.taken) ⊎ ((2 ^ 64 - 1 ≤ new.settled) ⊎ (2 ^ 64 - 1 ≤ new.taken))
+  pub never_fall : NeverFall old.counts new.counts
+  pub add_up : AllAddUp waiting old waiting' new ⊎ (IsFull new.counts ⊎ (2 ^ 64 - 1 ≤ new.taken))

@@ -1,4 +1,3 @@
 pub mod Accounts
 pub mod Replies
 pub mod Taken
-pub mod Wanting

@@ -9,10 +9,6 @@ mod limit;
 mod listener;
 // Who waits for the reply to a datagram.
 mod client;
-// What a call that never waits tells where it would.
-mod waiting;
-// A query and its reply over a connection, without waiting.
-mod tcp_line;
 // An exchange over a socket of its own.
 mod socket_line;
 // The sockets of one worker.

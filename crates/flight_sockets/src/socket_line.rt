@@ -6,17 +6,17 @@ ghost use Rattle.flight.specs.Flight.{query_to};
 ghost use Rattle.flight.specs.Told.{IsHeard};
 ghost use Rattle.flight_sockets.specs.Replies.{IsReply};
 
-use crate::tcp_line::TcpLine;
 use dns_query::Over;
 use dns_sockets::{MOST_MESSAGE, bind_any, fits, place_of};
 use dns_text::{Addr, Octets, Shared};
 use flight::{Heard, Line};
-use mio::net::UdpSocket;
+use mio::net::{TcpStream, UdpSocket};
 use mio::{Interest, Registry, Token};
 use std::alloc::Global;
 use std::io;
 use std::io::ErrorKind;
 use std::net::{Net, SocketAddr};
+use tcp_line::TcpLine;
 
 /// So many datagrams are looked at in one look for one reply. If others wait behind them there is another look.
 const MOST_LOOKED_AT: u32 = 64;
@@ -25,7 +25,7 @@ const MOST_LOOKED_AT: u32 = 64;
 #[derive(Drop)]
 enum Way {
     Udp(UdpSocket),
-    Tcp(TcpLine),
+    Tcp(TcpLine<TcpStream>),
 }
 
 /// An exchange over a socket of its own, connected to the server (RFC 5452, section 9.2).
@@ -109,7 +109,7 @@ fn hear_udp(
     }
 }
 
-fn hear_tcp(alloc: Global, line: &mut TcpLine, query: &[u8], room: &mut [u8]) -> Heard
+fn hear_tcp(alloc: Global, line: &mut TcpLine<TcpStream>, query: &[u8], room: &mut [u8]) -> Heard
     requires { length room.old ≡ MOST_MESSAGE }
     ensures { IsHeard (IsReply query.now) result }
 {

@@ -5,7 +5,7 @@ ghost use Rattle.front_workers.specs.declared.working.TheConstants.{MOST_FAILURE
 ghost use Rattle.front_workers.specs.declared.working.WorkEnd.TheVariants.{Failing};
 ghost use Rattle.front_workers.specs.Counts.{Rises};
 ghost use Rattle.front_workers.specs.Working.{HasFailed};
-ghost use Rattle.flight.specs.Waiting.{IsAccounted};
+ghost use Rattle.flight.specs.Waiting.{IsAccounted, outstanding};
 ghost use Rattle.flight_sockets.specs.Accounts.{Accounts};
 
 use crate::client::{ROOM, UdpClient};
@@ -36,7 +36,7 @@ const MOST_TAKEN: u32 = 256;
 const MOST_TAKING: u64 = 10;
 
 /// So many events at most are looked at in one turn, so that a datagram does not wait behind many replies.
-const MOST_EVENTS: usize = 64;
+const MOST_EVENTS: usize = 16;
 
 /// The questions of a worker that are in flight.
 type Questions<D, C, G> = Flight<D, SocketLine, C, G, UdpClient>;
@@ -56,7 +56,7 @@ impl<'a, R: Net + Log + std::rt::Clock> Model for UdpWorker<'a, R> {
 
     ghost Value = { WorkerState };
 
-    ghost view = { λ worker. record { server_port = worker.sockets.server_port; taken = worker.taken; settled = worker.sockets.settled; failures = worker.failures } };
+    ghost view = { λ worker. record { server_port = worker.sockets.server_port; taken = worker.taken; failures = worker.failures; counts = worker.sockets.counts } };
 }
 
 impl<'a, R: Net + Log + std::rt::Clock> UdpWorker<'a, R> {
@@ -69,7 +69,7 @@ impl<'a, R: Net + Log + std::rt::Clock> UdpWorker<'a, R> {
         server_port: u16,
         start: Instant,
     ) -> Result<UdpWorker<'a, R>, NoMemory>
-        ensures { IfOk result (λ worker. worker ≡ record { server_port = server_port; taken = 0; settled = 0; failures = 0 }) }
+        ensures { IfOk result (λ worker. worker ≡ record { server_port = server_port; taken = 0; failures = 0; counts = record { settled = 0; opened = 0; ended = 0; listened = 0 } }) }
     {
         Ok(UdpWorker {
             sockets: WorkerSockets::new(rt, alloc, listener, server_port)?,
@@ -96,7 +96,7 @@ impl<'a, R: Net + Log + std::rt::Clock> UdpWorker<'a, R> {
 
     fn count_taken(&mut self)
         ensures taken { Rises self.old.taken self.new.taken }
-        ensures settled { self.new.settled ≡ self.old.settled }
+        ensures counts { self.new.counts ≡ self.old.counts }
         ensures failures { self.new.failures ≡ self.old.failures }
     {
         self.taken = self.taken.saturating_add(1);
@@ -105,7 +105,7 @@ impl<'a, R: Net + Log + std::rt::Clock> UdpWorker<'a, R> {
     fn count_failure(&mut self)
         ensures failures { Rises self.old.failures self.new.failures }
         ensures taken { self.new.taken ≡ self.old.taken }
-        ensures settled { self.new.settled ≡ self.old.settled }
+        ensures counts { self.new.counts ≡ self.old.counts }
     {
         self.failures = self.failures.saturating_add(1);
     }
@@ -117,8 +117,8 @@ impl<'a, R: Net + Log + std::rt::Clock> UdpWorker<'a, R> {
         questions: &mut Questions<D, C, G>,
         room: &mut [u8; ROOM],
     ) -> io::Result<bool>
-        ensures accounts { Accounts questions.old.outstanding self.old questions.new.outstanding self.new }
-        ensures within { questions.old.outstanding ≤ questions.old.limit → questions.new.outstanding ≤ questions.old.limit }
+        ensures accounts { Accounts (outstanding questions.old) self.old (outstanding questions.new) self.new }
+        ensures within { outstanding questions.old ≤ questions.old.limit → outstanding questions.new ≤ questions.old.limit }
         ensures limit { questions.new.limit ≡ questions.old.limit }
         ensures failures { self.new.failures ≡ self.old.failures }
     {
@@ -143,8 +143,8 @@ impl<'a, R: Net + Log + std::rt::Clock> UdpWorker<'a, R> {
         questions: &mut Questions<D, C, G>,
         room: &mut [u8; ROOM],
     ) -> io::Result<bool>
-        ensures accounts { Accounts questions.old.outstanding self.old questions.new.outstanding self.new }
-        ensures within { questions.old.outstanding ≤ questions.old.limit → questions.new.outstanding ≤ questions.old.limit }
+        ensures accounts { Accounts (outstanding questions.old) self.old (outstanding questions.new) self.new }
+        ensures within { outstanding questions.old ≤ questions.old.limit → outstanding questions.new ≤ questions.old.limit }
         ensures limit { questions.new.limit ≡ questions.old.limit }
         ensures failures { self.new.failures ≡ self.old.failures }
     {
@@ -160,30 +160,26 @@ impl<'a, R: Net + Log + std::rt::Clock> UdpWorker<'a, R> {
         Ok(true)
     }
 
-    /// Goes on with those that wait: what came of their exchanges is heard, and what is overdue ends, once all that came was
-    /// heard.
+    /// Goes on with those that wait: what came of their exchanges is heard, and what is overdue ends.
     fn go_on<D: Numbered, C: Clock, G: Rng>(
         &mut self,
         desk: &mut D,
         questions: &mut Questions<D, C, G>,
     )
-        ensures accounts { Accounts questions.old.outstanding self.old questions.new.outstanding self.new }
-        ensures no_more { questions.new.outstanding ≤ questions.old.outstanding }
+        ensures accounts { Accounts (outstanding questions.old) self.old (outstanding questions.new) self.new }
+        ensures no_more { outstanding questions.new ≤ outstanding questions.old }
         ensures limit { questions.new.limit ≡ questions.old.limit }
         ensures failures { self.new.failures ≡ self.old.failures }
     {
-        let polled = self.millis.now();
-        let were_all = look_all(
+        look_all(
             &self.events,
             &mut self.sockets,
             &mut self.millis,
             desk,
             questions,
         );
-        // What had come when the wait ended was looked at, so what was overdue then is.
-        if were_all {
-            questions.expire(desk, &mut self.sockets, polled);
-        }
+        let now = self.millis.now();
+        questions.expire(desk, &mut self.sockets, now);
     }
 
     /// Waits for what comes, and goes on with it. Where datagrams were left, nothing is waited for. Whether more may be
@@ -196,8 +192,8 @@ impl<'a, R: Net + Log + std::rt::Clock> UdpWorker<'a, R> {
         room: &mut [u8; ROOM],
         were_left: bool,
     ) -> io::Result<bool>
-        ensures accounts { Accounts questions.old.outstanding self.old questions.new.outstanding self.new }
-        ensures within { questions.old.outstanding ≤ questions.old.limit → questions.new.outstanding ≤ questions.old.limit }
+        ensures accounts { Accounts (outstanding questions.old) self.old (outstanding questions.new) self.new }
+        ensures within { outstanding questions.old ≤ questions.old.limit → outstanding questions.new ≤ questions.old.limit }
         ensures limit { questions.new.limit ≡ questions.old.limit }
         ensures failures { self.new.failures ≡ self.old.failures }
     {
@@ -213,35 +209,33 @@ impl<'a, R: Net + Log + std::rt::Clock> UdpWorker<'a, R> {
     }
 }
 
-/// Looks at the exchanges that events name. Whether there were no others.
+/// Looks at the exchanges that events name.
 fn look_all<D: Numbered, C: Clock, G: Rng, R: Net + Log + std::rt::Clock>(
     events: &Events,
     sockets: &mut WorkerSockets<'_, R>,
     millis: &mut Millis<'_, R>,
     desk: &mut D,
     questions: &mut Questions<D, C, G>,
-) -> bool
-    ensures accounted { IsAccounted 0 questions.old.outstanding sockets.old.settled questions.new.outstanding sockets.new.settled }
-    ensures no_more { questions.new.outstanding ≤ questions.old.outstanding }
+)
+    ensures accounted { IsAccounted 0 (outstanding questions.old) sockets.old.counts (outstanding questions.new) sockets.new.counts }
+    ensures no_more { outstanding questions.new ≤ outstanding questions.old }
     ensures limit { questions.new.limit ≡ questions.old.limit }
 {
-    let mut left = MOST_EVENTS;
     for event in events.iter() {
-        left = left.saturating_sub(1);
         let token = event.token();
         if token != SERVICE {
             questions.look(desk, sockets, millis.now(), token.0);
         }
     }
-    left != 0
 }
 
 /// Answers datagrams until the stop flag is set, or until turns have failed as often in a row as ends a worker. At most so
 /// many exchanges are under way, and a question that waits for one keeps no other waiting. The listener's waker has the
 /// flag seen at once; questions under way are dropped then.
 ///
-/// A line of the log tells of each turn, reply and exchange that this machine failed, of each client that is told that the
-/// server failed since there is no memory, and of each that is told so since it would need one exchange more.
+/// A line of the log tells of each turn that failed, of each reply that could not be sent, of each exchange that came to
+/// nothing, of each client that is told that the server failed since there is no memory, and of each that is told so since
+/// it would need one exchange more.
 pub fn fly_udp<D: Numbered, C: Clock + Drop, G: Rng + Drop, R: Wait + Net + Log + std::rt::Clock>(
     rt: &R,
     alloc: Global,
@@ -252,7 +246,7 @@ pub fn fly_udp<D: Numbered, C: Clock + Drop, G: Rng + Drop, R: Wait + Net + Log 
     limit: usize,
     stop: &AtomicBool,
 ) -> WorkEnd
-    // Each query that was taken was settled once, but for those that wait at the end.
+    // Each query that was taken was settled once, and each exchange that began ended once, but for those that wait at the end.
     ensures accounts { (waiting : ℕ) × (waiting ≤ limit) × Accounts 0 worker.old waiting worker.new }
     ensures failing { result ≡ Failing → HasFailed MOST_FAILURES worker.old.failures worker.new.failures }
 {

@@ -1,20 +1,18 @@
 //! The sockets of one worker.
 
-ghost use Rattle.std.specs.Prelude.{◌≡◌, ◌≤◌, ◌-◌, ◌^◌, length, vec_len, IfOk};
+ghost use Rattle.std.specs.Prelude.{◌≡◌, ◌≤◌, length, vec_len, IfOk};
 ghost use Rattle.dns_sockets.specs.declared.socket_exchange.TheConstants.{MOST_MESSAGE};
-ghost use Rattle.front_workers.specs.Counts.{Rises};
 ghost use Rattle.flight_sockets.specs.Taken.{IsTakenFrom};
 
 use crate::client::{ROOM, UdpClient};
 use crate::listener::UdpListener;
 use crate::socket_line::SocketLine;
-use crate::waiting::would_wait;
 use command_text::Clock;
 use dns_query::Over;
 use dns_sockets::{MOST_MESSAGE, is_answerable};
 use dns_text::{Addr, NoMemory, Octets, Shared};
 use dns_wire::{Rcode, fault_reply};
-use flight::{Heard, Numbered, Unserved, World};
+use flight::{Counts, Heard, Numbered, Unserved, World};
 use front_workers::{Came, MOST_DATAGRAM, wants_reply};
 use log::{Log, warn};
 use mio::{Events, Token};
@@ -23,6 +21,7 @@ use std::io;
 use std::io::ErrorKind;
 use std::net::{Net, SocketAddr};
 use std::time::Duration;
+use tcp_line::would_wait;
 
 /// What taking a datagram came to.
 pub(crate) enum Taken {
@@ -44,17 +43,8 @@ pub(crate) struct WorkerSockets<'a, R: Net + Log> {
     server_port: u16,
     /// Where a reply of a name server is put.
     room: Vec<u8>,
-    settled: u64,
+    counts: Counts,
     ghost whole: { vec_len room ≡ MOST_MESSAGE },
-    ghost counted: { settled ≤ 2 ^ 64 - 1 },
-}
-
-/// Whether a fault is one of this machine, and not that of a server that refuses or cannot be reached.
-fn is_device_fault(error: &io::Error) -> bool {
-    !matches!(
-        error.kind(),
-        ErrorKind::ConnectionRefused | ErrorKind::HostUnreachable | ErrorKind::NetworkUnreachable
-    )
 }
 
 impl<'a, R: Net + Log> WorkerSockets<'a, R> {
@@ -66,7 +56,7 @@ impl<'a, R: Net + Log> WorkerSockets<'a, R> {
         server_port: u16,
     ) -> Result<WorkerSockets<'a, R>, NoMemory>
         ensures port { IfOk result (λ sockets. sockets.server_port ≡ server_port) }
-        ensures settled { IfOk result (λ sockets. sockets.settled ≡ 0) }
+        ensures counts { IfOk result (λ sockets. sockets.counts ≡ record { settled = 0; opened = 0; ended = 0; listened = 0 }) }
     {
         let room = Vec::from_elem(alloc, 0u8, MOST_MESSAGE)?;
         Ok(WorkerSockets {
@@ -75,21 +65,21 @@ impl<'a, R: Net + Log> WorkerSockets<'a, R> {
             listener,
             server_port,
             room,
-            settled: 0,
+            counts: Counts::new(),
         })
     }
 
     /// Sends a reply. What fails here does not end a worker: it may be the client that cannot be reached.
     pub fn send(&self, peer: SocketAddr, reply: &[u8]) {
         if self.listener.socket.send_to(reply, peer).is_err() {
-            warn!(self.rt; "resolver: device fault");
+            self.log_fault();
         }
     }
 
     /// Waits no longer than this for what the sockets report.
     pub fn wait(&mut self, events: &mut Events, most: Duration) -> io::Result<()>
         ensures port { self.new.server_port ≡ self.old.server_port }
-        ensures settled { self.new.settled ≡ self.old.settled }
+        ensures counts { self.new.counts ≡ self.old.counts }
     {
         let listener = &mut self.listener;
         listener.poll.poll(events, Some(most))
@@ -129,11 +119,9 @@ impl<'a, R: Net + Log> WorkerSockets<'a, R> {
         }
     }
 
-    fn settle(&mut self)
-        ensures settled { Rises self.old.settled self.new.settled }
-        ensures port { self.new.server_port ≡ self.old.server_port }
-    {
-        self.settled = self.settled.saturating_add(1);
+    /// Logs that a datagram could not be sent, or that an exchange came to nothing.
+    fn log_fault(&self) {
+        warn!(self.rt; "resolver: device fault");
     }
 
     /// Logs why a client is told that the server failed.
@@ -141,7 +129,7 @@ impl<'a, R: Net + Log> WorkerSockets<'a, R> {
         match why {
             Unserved::NoMemory => warn!(self.rt; "resolver: no memory"),
             Unserved::TooMany => warn!(self.rt; "resolver: too many exchanges"),
-            Unserved::Elsewhere => warn!(self.rt; "resolver: device fault"),
+            Unserved::Elsewhere => self.log_fault(),
         }
     }
 }
@@ -150,7 +138,7 @@ impl<'a, D: Numbered, C: Clock, R: Net + Log> World<D, SocketLine, C, UdpClient>
     for WorkerSockets<'a, R> {
     ghost server_port = { λ sockets. sockets.server_port };
 
-    ghost settled = { λ sockets. sockets.settled };
+    ghost counts = { λ sockets. sockets.counts };
 
     fn server_port(&self) -> u16 {
         self.server_port
@@ -173,33 +161,44 @@ impl<'a, D: Numbered, C: Clock, R: Net + Log> World<D, SocketLine, C, UdpClient>
             over,
             query,
         ) {
-            Ok(line) => Some(line),
-            Err(error) => {
-                if is_device_fault(&error) {
-                    warn!(self.rt; "resolver: device fault");
-                }
+            Ok(line) => {
+                self.counts.open();
+                Some(line)
+            }
+            Err(_) => {
+                self.log_fault();
                 None
             }
         }
     }
 
     fn hear(&mut self, line: &mut SocketLine) -> Heard {
-        line.hear(self.alloc, self.listener.poll.registry(), &mut self.room)
+        let heard = line.hear(self.alloc, self.listener.poll.registry(), &mut self.room);
+        self.counts.listen(&heard);
+        if matches!(heard, Heard::Broken) {
+            self.log_fault();
+        }
+        heard
+    }
+
+    fn expire(&mut self, _line: SocketLine) {
+        self.counts.end();
+        self.log_fault();
     }
 
     fn give(&mut self, client: UdpClient, _octets: &[u8], reply: &[u8]) {
         self.send(client.peer(), reply);
-        self.settle();
+        self.counts.settle();
     }
 
     fn fail(&mut self, client: UdpClient, octets: &[u8], why: Unserved) {
         let reply = fault_reply(octets, Rcode::SERVER_FAILURE).unwrap();
         self.send(client.peer(), &reply);
         self.log(why);
-        self.settle();
+        self.counts.settle();
     }
 
     fn pass_over(&mut self, _client: UdpClient, _octets: &[u8]) {
-        self.settle();
+        self.counts.settle();
     }
 }

@@ -1,11 +1,11 @@
 //! A book that numbers its calls.
 
-use crate::stop::Stop;
 use command_text::run_script;
 use dns_text::{Addr, Items};
 use flight::Numbered;
 use std::alloc::Global;
 use streams::{CountedReader, CountedWriter};
+use talk_lines::Stop;
 use undo_book::{Desk, DeskFault, Event, PlainBook, Reply, Settings};
 
 /// Where servers listen whose addresses come from records (RFC 1035, section 4.2).

@@ -19,16 +19,13 @@
 mod desk; // a book that numbers its calls
 mod obeying; // a line is obeyed
 mod sockets; // clients and lines, in words
-mod stop; // why the program ends
-mod words; // what stands in a line
 mod worker; // the questions in flight, and what they are lent
 
 use desk::{LineDesk, NumberedBook};
 use obeying::obey;
 use std::io::Write;
 use std::process::ExitCode;
-use stop::Stop;
-use words::next_line;
+use talk_lines::{Stop, next_line};
 use worker::Worker;
 
 /// How many exchanges may be under way before a line says it.

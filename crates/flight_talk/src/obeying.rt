@@ -2,11 +2,10 @@
 
 use crate::desk::LineDesk;
 use crate::sockets::{Peer, Said};
-use crate::stop::Stop;
-use crate::words::{addrs_in, number_and_rest, number_in, octets_in};
 use crate::worker::Worker;
 use std::alloc::Global;
 use std::io::Write;
+use talk_lines::{Stop, addrs_in, number_and_rest, number_in, octets_in};
 
 /// What a line says that listening gives.
 fn said_in(alloc: Global, text: &[u8]) -> Result<Said, Stop> {
@@ -107,7 +106,7 @@ fn is_flown<D: LineDesk>(alloc: Global, worker: &mut Worker<D>, line: &[u8]) -> 
 /// Writes how many clients wait and were settled, and when the next exchange's time is up.
 fn tell_count<D: LineDesk>(rt: &HostRuntime, worker: &Worker<D>) -> Result<(), Stop> {
     let waits = worker.flight.outstanding();
-    let settled = worker.sockets.settled;
+    let settled = worker.sockets.counts.settled;
     let line = match worker.flight.next_expiry(worker.now) {
         Some(next) => { format!(in rt.alloc(); "waits {waits} settled {settled} next {next}\n")? }
         None => format!(in rt.alloc(); "waits {waits} settled {settled} next none\n")?,

@@ -2,13 +2,13 @@
 
 ghost use Rattle.std.specs.Prelude.{◌≡◌};
 ghost use Rattle.flight.specs.Flight.{query_to};
-ghost use Rattle.front_workers.specs.Counts.{Rises};
+ghost use Rattle.flight.specs.Counted.{CountsSettled};
 
 use crate::worker::LineClock;
 use dns_name::NoMemory;
 use dns_query::Over;
 use dns_text::{Addr, Octets, Shared, write_addr};
-use flight::{Client, Heard, Line, Numbered, Unserved, World};
+use flight::{Client, Counts, Heard, Line, Numbered, Unserved, World};
 use std::alloc::Global;
 use std::mem;
 
@@ -55,7 +55,7 @@ pub struct Sockets {
     opens: u64,
     /// Which exchange does not begin; 0 for none.
     failing: u64,
-    pub settled: u64,
+    pub counts: Counts,
 }
 
 /// Room for what is told of one line, so that writing it down takes no memory.
@@ -70,7 +70,7 @@ impl Sockets {
             said: Said::Nothing,
             opens: 0,
             failing: 0,
-            settled: 0,
+            counts: Counts::new(),
         })
     }
 
@@ -85,10 +85,10 @@ impl Sockets {
         self.said = Said::Nothing;
     }
 
-    /// Begins anew: no client was settled, and no exchange fails.
+    /// Begins anew: nothing was counted, and no exchange fails.
     pub fn begin(&mut self) {
         self.failing = 0;
-        self.settled = 0;
+        self.counts = Counts::new();
     }
 
     /// The Nth exchange from here on does not begin.
@@ -100,7 +100,7 @@ impl Sockets {
     /// Writes down `open KEY ADDR udp|tcp OCTETS`.
     fn note(&mut self, key: usize, server: &Addr, over: Over, query: &[u8]) -> Result<(), NoMemory>
         ensures port { self.new.port ≡ self.old.port }
-        ensures settled { self.new.settled ≡ self.old.settled }
+        ensures counts { self.new.counts ≡ self.old.counts }
     {
         let server = write_addr(self.alloc, server)?;
         self.told.extend_from_slice(b"open ")?;
@@ -119,7 +119,7 @@ impl Sockets {
     /// Writes down what a client is told, and counts it.
     fn settle(&mut self, word: &[u8], client: u64, octets: &[u8], why: &[u8])
         ensures port { self.new.port ≡ self.old.port }
-        ensures settled { Rises self.old.settled self.new.settled }
+        ensures settled { CountsSettled self.old.counts self.new.counts }
     {
         let _ = self.told.extend_from_slice(word);
         push_number(&mut self.told, client);
@@ -127,7 +127,7 @@ impl Sockets {
         push_digits(&mut self.told, octets);
         let _ = self.told.extend_from_slice(why);
         let _ = self.told.push(b'\n');
-        self.settled = self.settled.saturating_add(1);
+        self.counts.settle();
     }
 }
 
@@ -169,7 +169,7 @@ fn with_id(mut octets: Vec<u8>, query: &[u8]) -> Octets {
 impl<D: Numbered> World<D, Wire, LineClock, Peer> for Sockets {
     ghost server_port = { λ s. s.port };
 
-    ghost settled = { λ s. s.settled };
+    ghost counts = { λ s. s.counts };
 
     fn server_port(&self) -> u16 {
         self.port
@@ -192,6 +192,7 @@ impl<D: Numbered> World<D, Wire, LineClock, Peer> for Sockets {
         {
             return None;
         }
+        self.counts.open();
         Some(Wire {
             server: *server,
             over,
@@ -200,12 +201,18 @@ impl<D: Numbered> World<D, Wire, LineClock, Peer> for Sockets {
     }
 
     fn hear(&mut self, line: &mut Wire) -> Heard {
-        match mem::replace(&mut self.said, Said::Nothing) {
+        let heard = match mem::replace(&mut self.said, Said::Nothing) {
             Said::Nothing => Heard::Nothing,
             Said::Came(octets) => Heard::Came(with_id(octets, line.query.get().as_slice())),
             Said::Broken => Heard::Broken,
             Said::NoMemory => Heard::NoMemory,
-        }
+        };
+        self.counts.listen(&heard);
+        heard
+    }
+
+    fn expire(&mut self, _: Wire) {
+        self.counts.end();
     }
 
     fn give(&mut self, client: Peer, _: &[u8], reply: &[u8]) {

@@ -2,7 +2,6 @@
 
 use crate::desk::{DNS_PORT, LineDesk};
 use crate::sockets::{Peer, Sockets, Wire};
-use crate::stop::Stop;
 use command_text::Clock;
 use dns_text::Addr;
 use flight::Flight;
@@ -10,6 +9,7 @@ use rand_pcg::Pcg32;
 use std::alloc::Global;
 use std::cell::Cell;
 use std::sync::Arc;
+use talk_lines::Stop;
 
 /// A clock that tells what a line said last.
 #[derive(Drop)]

@@ -7,29 +7,17 @@
 //! | `held`, `local`, `refused` | a set that is held, local data, a header of RCODE 5, from octets in to octets out |
 #![tactic(auto)]
 
-// The book, and a desk that keeps nothing.
-mod book;
+// A desk that keeps nothing.
+mod desk;
 // Queries of each kind, many times.
 mod queries;
 
+use bench_calls::run_calls;
 use queries::run;
-use std::env;
 
 /// Every call, in the order in which it is shown.
 const CALLS: [&str; 4] = ["question", "held", "local", "refused"];
 
 fn main(rt: HostRuntime) -> anyhow::Result<()> {
-    let words: Vec<String> = env::args(&rt)?.collect(rt.alloc())?;
-    match words.as_slice() {
-        [_, call, count] => {
-            let count: u32 = count.as_str().parse()?;
-            println!(rt; "{call} {}", run(rt.alloc(), call.as_str(), count)?)?;
-        }
-        _ => {
-            for call in CALLS {
-                println!(rt; "{call} {}", run(rt.alloc(), call, 64)?)?;
-            }
-        }
-    }
-    Ok(())
+    run_calls(&rt, &CALLS, 64, |call, count| run(rt.alloc(), call, count))
 }

@@ -2,7 +2,7 @@
 
 ghost use Rattle.std.specs.Prelude.{◌≡◌};
 
-use crate::book::StillDesk;
+use crate::desk::StillDesk;
 use anyhow::anyhow;
 use command_text::Clock;
 use dns_query::Over;

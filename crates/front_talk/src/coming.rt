@@ -4,14 +4,13 @@ ghost use Rattle.front_workers.specs.Counts.{Counts};
 
 use crate::pieces::PieceReader;
 use crate::serving::tell_octets;
-use crate::stop::Stop;
-use crate::words::octets_in;
 use dns_text::next_word;
 use front_workers::{Came, DeviceFault, Listener, Port};
 use std::io;
 use std::io::{ErrorKind, Write};
 use std::net::{IpAddr, Ipv4Addr, SocketAddr};
 use streams::{CountedReader, CountedWriter};
+use talk_lines::{Stop, octets_in};
 
 /// Who asks.
 const PORT: u16 = 5353;

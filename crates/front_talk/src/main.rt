@@ -24,16 +24,13 @@ mod exchange; // name servers that say what lines said
 mod obeying; // a line is obeyed
 mod pieces; // a stream in pieces
 mod serving; // queries and streams are served
-mod stop; // why the program ends
-mod words; // what stands in a line
 mod world; // the book, and what is lent with it
 
 use log::Log;
 use obeying::obey;
 use std::process::ExitCode;
 use std::sync::Wait;
-use stop::Stop;
-use words::next_line;
+use talk_lines::{Stop, next_line};
 use world::World;
 
 fn obey_all<W: Wait + Log>(rt: &HostRuntime, waiting: &W) -> Result<(), Stop> {

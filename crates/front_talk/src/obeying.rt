@@ -2,8 +2,6 @@
 
 use crate::exchange::Came;
 use crate::serving::{serve, serve_pieces, work};
-use crate::stop::Stop;
-use crate::words::{addrs_in, number_in, octets_in};
 use crate::world::{World, book_with};
 use command_text::run_script;
 use dns_query::Over;
@@ -11,6 +9,7 @@ use log::Log;
 use std::alloc::Global;
 use std::sync::Wait;
 use streams::{CountedReader, CountedWriter};
+use talk_lines::{Stop, addrs_in, number_in, octets_in};
 
 /// What a line says that comes of the next query to a name server. None where it says something else.
 fn came_in(alloc: Global, line: &[u8]) -> Result<Option<Came>, Stop> {

@@ -2,8 +2,6 @@
 
 use crate::coming::Arrivals;
 use crate::pieces::{PieceReader, PieceWriter};
-use crate::stop::Stop;
-use crate::words::{octets_in, pieces_in};
 use crate::world::World;
 use dns_query::Over;
 use front_workers::{StreamFault, WorkEnd, serve_query, serve_stream, work_tcp, work_udp};
@@ -12,6 +10,7 @@ use std::alloc::Global;
 use std::io::Write;
 use std::sync::Wait;
 use streams::{CountedReader, CountedWriter};
+use talk_lines::{Stop, octets_in, pieces_in};
 
 /// Writes a word and octets.
 pub fn tell_octets(rt: &HostRuntime, word: &[u8], octets: &[u8]) -> Result<(), Stop> {

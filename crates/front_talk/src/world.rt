@@ -3,12 +3,12 @@
 ghost use Rattle.std.specs.Prelude.{◌≡◌};
 
 use crate::exchange::Servers;
-use crate::stop::Stop;
 use command_text::Clock;
 use dns_text::{Addr, Items};
 use front_workers::Tools;
 use rand_pcg::Pcg32;
 use std::alloc::Global;
+use talk_lines::Stop;
 use undo_book::{PlainBook, Settings};
 
 /// Where servers listen whose addresses come from records (RFC 1035, section 4.2).

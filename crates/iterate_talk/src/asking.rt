@@ -7,14 +7,14 @@ ghost use Rattle.iterate.specs.declared.want.Want.TheVariants.{Send as SendWant}
 ghost use Rattle.dns_text.specs.declared.addr.Addr.{Addr as AddrValue};
 ghost use Rattle.dns_query.specs.declared.over.Over.{Over as OverValue};
 
-use crate::stop::Stop;
 use crate::telling::{answer_words, came_words, event_words, query_words};
-use crate::world::{World, next_line};
+use crate::world::World;
 use dns_query::Over;
 use dns_text::{Addr, Octets, Question, Shared};
 use iterate::{Input, Task, Want, due_law};
 use std::alloc::Global;
 use std::io::{BufRead, Write};
+use talk_lines::{Stop, next_line, octets_in};
 
 /// Writes a line.
 pub fn tell(rt: &HostRuntime, mut text: Vec<u8>) -> Result<(), Stop> {
@@ -28,13 +28,6 @@ fn add_id(octets: &mut Vec<u8>, query: &[u8]) {
         if i < octets.len() && i < query.len() {
             octets[i] = octets[i].wrapping_add(query[i]);
         }
-    }
-}
-
-fn octets_in(alloc: Global, digits: &[u8]) -> Result<Vec<u8>, Stop> {
-    match hex::decode(alloc, digits) {
-        Ok(octets) => Ok(octets),
-        Err(_) => Err(Stop::Device),
     }
 }
 

@@ -1,10 +1,10 @@
 //! What an event is told that is not so.
 
-use crate::stop::Stop;
 use crate::world::World;
 use command_text::{Channel, Line, LineFault, Request, read_line};
 use ranked::{Find, SharedFind, Shown};
 use std::alloc::Global;
+use talk_lines::Stop;
 use undo_book::{Ask, Desk, Event, Reply, Seen};
 
 /// That a find is held.

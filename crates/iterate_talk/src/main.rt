@@ -23,14 +23,13 @@ mod asking; // a question is resolved
 mod lying; // what an event is told that is not so
 mod obeying; // a line is obeyed
 mod records; // records in words
-mod stop; // why the program ends
 mod telling; // what a task wants, in words
 mod world; // the book, and how it is asked
 
 use obeying::obey;
 use std::process::ExitCode;
-use stop::Stop;
-use world::{World, next_line};
+use talk_lines::{Stop, next_line};
+use world::World;
 
 fn obey_all(rt: &HostRuntime) -> Result<(), Stop> {
     let mut world = World::new(rt.alloc())?;

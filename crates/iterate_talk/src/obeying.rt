@@ -2,28 +2,14 @@
 
 use crate::asking::ask;
 use crate::lying::lie_in;
-use crate::stop::Stop;
 use crate::world::{World, book_with};
 use command_text::run_script;
 use dns_name::Name;
-use dns_text::{Addr, Question, next_word, read_addr, read_number, read_type};
+use dns_text::{Question, next_word, read_type};
 use std::alloc::Global;
 use std::io::BufRead;
 use streams::{CountedReader, CountedWriter};
-
-/// The addresses of a line, each a word.
-fn addrs_in(alloc: Global, text: &[u8]) -> Result<Vec<Addr>, Stop> {
-    let mut addrs = Vec::new(alloc);
-    let mut rest = text;
-    while let Some((word, behind)) = next_word(rest) {
-        match read_addr(word) {
-            Ok(addr) => addrs.push(addr)?,
-            Err(_) => return Err(Stop::Device),
-        }
-        rest = behind;
-    }
-    Ok(addrs)
-}
+use talk_lines::{Stop, addrs_in, number_and_rest, number_in};
 
 /// The question of a line: a name and a type.
 fn question_in(alloc: Global, text: &[u8]) -> Result<Question, Stop> {
@@ -42,14 +28,6 @@ fn question_in(alloc: Global, text: &[u8]) -> Result<Question, Stop> {
     Ok(Question { owner, kind })
 }
 
-/// The number of a line.
-fn number_in(text: &[u8]) -> Result<u64, Stop> {
-    match next_word(text) {
-        Some((word, _)) => read_number(word, u64::MAX).ok_or(Stop::Device),
-        None => Err(Stop::Device),
-    }
-}
-
 /// A port.
 fn port_in(text: &[u8]) -> Result<u16, Stop> {
     match u16::try_from(number_in(text)?) {
@@ -60,11 +38,9 @@ fn port_in(text: &[u8]) -> Result<u16, Stop> {
 
 /// Which event is lied to, and what it is told.
 fn obey_lie(rt: &HostRuntime, world: &mut World, text: &[u8]) -> Result<(), Stop> {
-    let Some((_, line)) = next_word(text) else {
-        return Err(Stop::Device);
-    };
+    let (nth, line) = number_and_rest(text)?;
     world.lie = lie_in(rt.alloc(), world, line)?;
-    world.lied = number_in(text)?;
+    world.lied = nth;
     Ok(())
 }
 

@@ -3,13 +3,12 @@
 ghost use Rattle.iterate.specs.Phase.{Suits};
 ghost use Rattle.iterate.specs.declared.want.Want.TheVariants.{Book as BookWant};
 
-use crate::stop::Stop;
 use dns_text::{Addr, Items};
 use iterate::Input;
 use rand_pcg::Pcg32;
 use std::alloc::Global;
-use std::io::BufRead;
 use std::mem;
+use talk_lines::Stop;
 use undo_book::{Desk, DeskFault, Event, PlainBook, Reply, Settings, StepFault};
 
 /// Where servers listen (RFC 1035, section 4.2).
@@ -91,16 +90,4 @@ impl World {
         self.confused = 0;
         self.lied = 0;
     }
-}
-
-/// Reads a line without its end; false at the end of the input.
-pub fn next_line<I: BufRead>(input: &mut I, line: &mut Vec<u8>) -> Result<bool, Stop> {
-    line.clear();
-    if input.read_until(b'\n', line)? == 0 {
-        return Ok(false);
-    }
-    if line.ends_with(b"\n") {
-        line.pop();
-    }
-    Ok(true)
 }

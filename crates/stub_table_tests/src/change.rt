@@ -4,9 +4,10 @@ ghost use Rattle.std.specs.Prelude.{IfOk};
 ghost use Rattle.stub_table.specs.Saved.{TakesBack};
 
 use dns_name::{Name, NoMemory};
-use dns_text::{Addr, Items, Shared, next_word, read_addr};
+use dns_text::{Items, Shared, next_word};
 use std::alloc::Global;
 use stub_table::{MOST_STUBS, SavedStubs, Stub, StubFault, StubTable};
+use talk_lines::addrs_in;
 
 #[derive(Drop)]
 pub enum Change {
@@ -20,23 +21,10 @@ pub fn name_in(alloc: Global, text: &[u8]) -> Option<Name> {
     Name::from_text(alloc, word).ok()
 }
 
-fn addrs_in(alloc: Global, text: &[u8]) -> Option<Vec<Addr>> {
-    let mut addrs = Vec::new(alloc);
-    let mut rest = text;
-    for _ in 0..text.len() {
-        let Some((word, later)) = next_word(rest) else {
-            break;
-        };
-        addrs.push(read_addr(word).ok()?).ok()?;
-        rest = later;
-    }
-    Some(addrs)
-}
-
 fn stub_in(alloc: Global, text: &[u8]) -> Option<Shared<Stub>> {
     let name = name_in(alloc, text)?;
     let (_, rest) = next_word(text)?;
-    let addrs = Items::new(addrs_in(alloc, rest)?);
+    let addrs = Items::new(addrs_in(alloc, rest).ok()?);
     Shared::new(alloc, Stub { name, addrs }).ok()
 }
 

@@ -7,12 +7,10 @@
 //! | `held_look`, `local_look`, `refused_look` | the look of such a task alone |
 #![tactic(auto)]
 
-// The book.
-mod book;
 // Tasks and looks, many times.
 mod tasks;
 
-use std::env;
+use bench_calls::run_calls;
 use tasks::run;
 
 /// Every call, in the order in which it is shown.
@@ -26,17 +24,5 @@ const CALLS: [&str; 6] = [
 ];
 
 fn main(rt: HostRuntime) -> anyhow::Result<()> {
-    let words: Vec<String> = env::args(&rt)?.collect(rt.alloc())?;
-    match words.as_slice() {
-        [_, call, count] => {
-            let count: u32 = count.as_str().parse()?;
-            println!(rt; "{call} {}", run(rt.alloc(), call.as_str(), count)?)?;
-        }
-        _ => {
-            for call in CALLS {
-                println!(rt; "{call} {}", run(rt.alloc(), call, 64)?)?;
-            }
-        }
-    }
-    Ok(())
+    run_calls(&rt, &CALLS, 64, |call, count| run(rt.alloc(), call, count))
 }

@@ -1,7 +1,7 @@
 //! Tasks and looks, many times.
 
-use crate::book::book;
 use anyhow::anyhow;
+use bench_calls::filled_book;
 use dns_name::Name;
 use dns_text::Question;
 use dns_text::types::A;
@@ -64,7 +64,7 @@ fn answered(alloc: Global, book: &PlainBook, ids: &mut Pcg32, name: &Name) -> an
 
 /// So many calls about a name, and how many of them told something.
 fn repeat(alloc: Global, call: Call, text: &[u8], count: u32) -> anyhow::Result<u32> {
-    let book = book(alloc)?;
+    let book = filled_book(alloc)?;
     let name = Name::from_text(alloc, text)?;
     let mut ids = Pcg32::new(1, 1);
     let mut sum = 0u32;

@@ -1,13 +1,14 @@
 use Rattle.std.proofs.Common.{◌≡◌, ◌≤◌, ◌<◌}
 use Rattle.front_workers.specs.Working.{HasFailed}
+use Rattle.flight.specs.Waiting.{outstanding}
 use Rattle.flight_sockets.specs.Accounts.{Accounts}
 use Rattle.flight_sockets.proofs.udp_worker.fly_udp.Given as goal
 
 -- what was taken so far is accounted for, and so many turns have failed in a row
 abbrev pub invariant-loop : goal.invariant-loop
 invariant-loop g l = record {
-  so_far : Accounts 0 l.fn.worker l.questions.outstanding l.worker;
-  within : l.questions.outstanding ≤ l.fn.limit;
+  so_far : Accounts 0 l.fn.worker (outstanding l.questions) l.worker;
+  within : outstanding l.questions ≤ l.fn.limit;
   limit : l.questions.limit ≡ l.fn.limit;
   few : l.failed < 16;
   counted : HasFailed l.failed l.fn.worker.failures l.worker.failures;

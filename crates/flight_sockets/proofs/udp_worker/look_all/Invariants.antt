@@ -1,11 +1,11 @@
 use Rattle.std.proofs.Common.{◌≡◌, ◌≤◌}
-use Rattle.flight.specs.Waiting.{IsAccounted}
+use Rattle.flight.specs.Waiting.{IsAccounted, outstanding}
 use Rattle.flight_sockets.proofs.udp_worker.look_all.Given as goal
 
 -- none is lost so far
 abbrev pub invariant-loop-event : goal.invariant-loop-event
 invariant-loop-event g l = record {
-  so_far : IsAccounted 0 l.initial.questions.outstanding l.initial.sockets.settled l.questions.outstanding l.sockets.settled;
-  no_more : l.questions.outstanding ≤ l.initial.questions.outstanding;
+  so_far : IsAccounted 0 (outstanding l.initial.questions) l.initial.sockets.counts (outstanding l.questions) l.sockets.counts;
+  no_more : outstanding l.questions ≤ outstanding l.initial.questions;
   limit : l.questions.limit ≡ l.initial.questions.limit;
 }

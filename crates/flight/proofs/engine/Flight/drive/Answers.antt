@@ -1,5 +1,6 @@
-use Rattle.std.proofs.Common.{◌≡◌, ◌∙◌, ap, map, sym, arith}
+use Rattle.std.proofs.Common.{◌∙◌, ℕ, ap, inr, map, max, refl, sym, arith}
 use Rattle.flight.specs.Flight.{failed}
+use Rattle.flight.proofs.Flights.{begins, begun_behind}
 use Rattle.flight.proofs.Flying.{asked_on, awaits_at, due, flown, lands_at, open_on}
 use Rattle.flight.proofs.engine.Flight.drive.Goals as goal
 
@@ -18,9 +19,10 @@ loop-want-preserved-in-Book g c =
       port = before.port;
       known = omega (arith, c.ask-input.ensures.known);
       port_kept = before.port_kept;
-      settled_kept = before.settled_kept;
-      waiting_kept = before.waiting_kept;
+      counts_kept = before.counts_kept;
+      exchanges_kept = before.exchanges_kept;
       begun_kept = before.begun_kept;
+      latest_kept = before.latest_kept;
       limit_kept = before.limit_kept;
     }
 
@@ -36,9 +38,10 @@ loop-want-preserved g c =
       port = before.port ∙ sym c.open.ensures.port;
       known = before.known;
       port_kept = c.open.ensures.port ∙ before.port_kept;
-      settled_kept = c.open.ensures.settled ∙ before.settled_kept;
-      waiting_kept = c.make_room.ensures.len ∙ before.waiting_kept;
-      begun_kept = ap (map (λ wait. wait.since)) c.make_room.ensures.waits_kept ∙ before.begun_kept;
+      counts_kept = c.in_default-open.ensures.unopened ∙ before.counts_kept;
+      exchanges_kept = c.make_room.ensures.jobs ∙ before.exchanges_kept;
+      begun_kept = ap (map (λ wait. wait.since)) c.make_room.ensures.waits ∙ before.begun_kept;
+      latest_kept = c.make_room.ensures.latest ∙ before.latest_kept;
       limit_kept = c.make_room.ensures.limit ∙ before.limit_kept;
     }
 
@@ -57,3 +60,11 @@ invariant_of-keep g c =
     let is = open_on task.port task.question task.steps.items c.now-moment.result (g.G.Rng.stream c.loop-want.self-inside.ids) before.asked.port_is before.asked.question
     before.flies c.now-moment.ensures c.in-Ok.ensures.steps c.in-Ok.ensures.wants c.in-Ok.ensures.drawn c.in-Send.is in
     (asked_on (rw (sym c.in-Ok-make_room.ensures.octets) at before.asked) c.step.ensures.question c.step.ensures.port, awaits_at c.in-Some.ensures.asked is)
+
+pub returns-in-Some-clause-waits : goal.returns-in-Some-clause-waits
+returns-in-Some-clause-waits g c =
+    let before = c.loop-want.invariant in
+    let now_is = c.since-since.ensures ∙ ap (λ (latest : ℕ). max c.args.now latest) (c.make_room.ensures.latest ∙ before.latest_kept) in
+    let begun = begun_behind _ _ _ _ c.keep.ensures.waits (ap (map (λ wait. wait.since)) c.make_room.ensures.waits ∙ before.begun_kept) in
+    inr (begins c.args.now _ _ c.make_room.new.self.jobs c.keep.new.self.jobs c.since-since.result (c.make_room.ensures.jobs ∙ before.exchanges_kept) refl c.keep.ensures.vacant c.keep.ensures.updates c.keep.ensures.len
+    now_is begun c.keep.ensures.latest (c.keep.ensures.limit ∙ c.make_room.ensures.limit ∙ before.limit_kept))

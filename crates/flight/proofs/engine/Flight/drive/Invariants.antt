@@ -1,5 +1,4 @@
 use Rattle.std.proofs.Common.{◌≡◌, ◌≤◌, map}
-use Rattle.slab.specs.Slab.{slab_len}
 use Rattle.iterate.specs.Measure.{left_in}
 use Rattle.flight.specs.Asking.{IsAskedBy}
 use Rattle.flight.specs.Flight.{Flies}
@@ -13,9 +12,10 @@ invariant-loop-want g l = record {
   port : l.asking.port ≡ g.W.World.server_port l.world;
   known : l.asking.seen ≤ g.D.Numbered.seen l.desk;
   port_kept : g.W.World.server_port l.world ≡ g.W.World.server_port l.fn.world;
-  settled_kept : g.W.World.settled l.world ≡ g.W.World.settled l.fn.world;
-  waiting_kept : slab_len l.self-inside.table.jobs ≡ l.fn.self.outstanding;
+  counts_kept : g.W.World.counts l.world ≡ g.W.World.counts l.fn.world;
+  exchanges_kept : l.self-inside.table.jobs.slots ≡ l.fn.self.exchanges;
   begun_kept : map (λ wait. wait.since) l.self-inside.table.waits.items ≡ l.fn.self.begun;
+  latest_kept : l.self-inside.table.latest ≡ l.fn.self.latest;
   limit_kept : l.self-inside.table.limit ≡ l.fn.self.limit;
 }
 

@@ -1,12 +1,27 @@
-use Rattle.std.proofs.Common.{◌≡◌, ◌∙◌, ◌∷◌, ◌++◌, [], List, ℕ, ap, map, sym, inl, inr}
-use Rattle.flight.specs.Waiting.{FlightState}
-use Rattle.flight.proofs.Counting.{fewer_over_then}
+use Rattle.std.proofs.Common.{◌∙◌, ℕ, ap, map, subst, sym, arith}
+use Rattle.flight.specs.Waiting.{FlightState, IsAccounted, outstanding, since_at}
+use Rattle.flight.proofs.Accounting.{accounted_then}
+use Rattle.flight.proofs.Flights.{early_then, less_over, no_more_then}
 use Rattle.flight.proofs.engine.Flight.expire.Goals as goal
 
-pub loop-wait-smaller-in-Some-take_due : goal.loop-wait-smaller-in-Some-take_due
-loop-wait-smaller-in-Some-take_due g c =
-    let was = ap (λ (state : FlightState). state.begun) (sym c.self.view_is) ∙ ap (map (λ wait. wait.since)) c.in-Some.ensures.first in
-    let taken = ap (map (λ wait. wait.since)) c.in-Some-take_due.ensures.waits in
-    let behind = ap (λ (begun : List ℕ). begun ++ c.args.now ∷ []) taken in
-    let rest = map (λ wait. wait.since) c.next_due.new.self.waits.items in
-    fewer_over_then c.args.now c.in-Some.wait.since c.loop-wait.self.begun rest c.end.new.self.begun was c.in-Some.ensures.due (elim c.end.ensures.waits [ inl a ↦ inl (a.1 ∙ taken) | inr b ↦ inr (b.1 ∙ behind) ])
+pub loop-wait-smaller-in-Some-pass : goal.loop-wait-smaller-in-Some-pass
+loop-wait-smaller-in-Some-pass g c =
+    let first = ap (λ (state : FlightState). state.begun) (sym c.self.view_is) ∙ ap (map (λ wait. wait.since)) c.in-Some-pass.ensures.waits in
+    less_over c.args.now c.in-Some.wait.since c.loop-wait.self _ c.end.new.self first c.in-Some.ensures.due c.end.ensures.waits
+
+pub loop-wait-preserved-in-Some-pass : goal.loop-wait-preserved-in-Some-pass
+loop-wait-preserved-in-Some-pass g c =
+    let before = c.loop-wait.invariant in
+    let was = c.self.view_is in
+    let key = c.in-Some.wait.key in
+    let due = c.in-Some-pass.ensures.due in
+    let fewer = c.in-Some-pass.ensures.len ∙ ap outstanding was in
+    let after = subst (λ (waiting : ℕ). IsAccounted 0 waiting (g.W.World.counts c.loop-wait.world) (outstanding c.end.new.self) (g.W.World.counts c.end.new.world)) fewer c.end.ensures.accounted in
+    record {
+      early = early_then 2000 c.args.now key c.in-Some-pass.job c.args.self.now c.loop-wait.self _ c.end.new.self before.early (ap (λ (state : FlightState). since_at state key) (sym was) ∙ due.0) due.1
+          (λ other differs. c.in-Some-pass.ensures.taken.others other differs ∙ ap (λ (state : FlightState). since_at state other) was) c.end.ensures.waits;
+      port = c.end.ensures.port ∙ before.port;
+      accounted = accounted_then 0 0 _ _ _ _ _ _ before.accounted after;
+      no_more = omega (arith, no_more_then c.args.now (outstanding c.loop-wait.self) _ c.end.new.self fewer c.end.ensures.waits, before.no_more);
+      limit = c.end.ensures.limit ∙ c.in-Some-pass.ensures.limit ∙ ap (λ (state : FlightState). state.limit) was ∙ before.limit;
+    }

@@ -1,12 +1,13 @@
 use Rattle.std.proofs.Common.{◌≡◌, ◌≤◌}
+use Rattle.flight.specs.Waiting.{outstanding}
 use Rattle.flight_sockets.specs.Accounts.{Accounts}
 use Rattle.flight_sockets.proofs.udp_worker.UdpWorker.take_batch.Given as goal
 
 -- what was taken so far is accounted for
 abbrev pub invariant-loop : goal.invariant-loop
 invariant-loop g l = record {
-  so_far : Accounts l.initial.questions.outstanding l.initial.self l.questions.outstanding l.self;
-  within : l.initial.questions.outstanding ≤ l.initial.questions.limit → l.questions.outstanding ≤ l.initial.questions.limit;
+  so_far : Accounts (outstanding l.initial.questions) l.initial.self (outstanding l.questions) l.self;
+  within : outstanding l.initial.questions ≤ l.initial.questions.limit → outstanding l.questions ≤ l.initial.questions.limit;
   limit : l.questions.limit ≡ l.initial.questions.limit;
   failures : l.self.failures ≡ l.initial.self.failures;
 }

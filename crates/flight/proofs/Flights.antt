@@ -1,0 +1,59 @@
+-- What is in flight, as exchanges begin and end.
+use Rattle.std.proofs.Common.{◌≡◌, ◌≢◌, ◌∙◌, ◌<◌, ◌≤◌, ◌+◌, ℕ, max, map, List, [], ◌∷◌, ◌++◌, Some, None, ap, arith, inl, inr}
+use Rattle.std.proofs.lemmas.List.{map-append}
+use Rattle.slab.specs.Slab.{Slab, get, slab_len, Updates}
+use Rattle.flight.specs.declared.table.Wait.{Wait}
+use Rattle.flight.proofs.Counting.{time_over, fewer_over_then}
+use Rattle.flight.specs.Waiting.{FlightState, Begins, EarlyGoOn, WaitsFrom, outstanding, since_at}
+
+-- An exchange begins under the key of a question that is kept.
+pub begins : (now : ℕ) (old new : FlightState) (before after : Slab ℕ) (since : ℕ)
+    → before.slots ≡ old.exchanges → new.exchanges ≡ after.slots → get before before.vacant_key ≡ None → Updates before after before.vacant_key (Some since) → slab_len after ≡ slab_len before + 1
+    → since ≡ max now old.latest → new.begun ≡ old.begun ++ since ∷ [] → new.latest ≡ since → new.limit ≡ old.limit → Begins now old new
+begins now old new before after since same is vacant updates more now_is begun latest limit =
+    record {
+      key = before.vacant_key;
+      vacant = rw same at vacant;
+      begins = rw (is, ← now_is) updates.changed;
+      others = λ other differs. rw (is, ← same) (updates.others other differs);
+      one_more = rw (is, ← same) more;
+      begun = rw (← now_is) begun;
+      latest = latest ∙ now_is;
+      limit = limit;
+    }
+
+-- So it stands behind those that began before.
+pub begun_behind : (before after : List Wait) (last : Wait) (begun : List ℕ) → after ≡ before ++ last ∷ [] → map (λ wait. wait.since) before ≡ begun → map (λ wait. wait.since) after ≡ begun ++ last.since ∷ []
+begun_behind before after last begun is were = ap (map (λ (wait : Wait). wait.since)) is ∙ map-append (λ (wait : Wait). wait.since) before (last ∷ []) ∙ ap (λ (list : List ℕ). list ++ last.since ∷ []) were
+
+-- What is under way goes on, whatever begins.
+pub goes_on_under : (now : ℕ) (old new : FlightState) → WaitsFrom now old new → (key since : ℕ) → since_at old key ≡ Some since → since_at new key ≡ Some since
+goes_on_under now old new waits key since here =
+    elim waits [
+      | inl same ↦ rw same here
+      | inr begins ↦ begins.others key (λ (same : key ≡ begins.key). absurd (cc (begins.vacant, ap (since_at old) same))) ∙ here
+    ]
+
+-- One was taken out, and one begins or not: there are no more than before.
+pub no_more_then : (now taken : ℕ) (old new : FlightState) → outstanding old + 1 ≡ taken → WaitsFrom now old new → outstanding new ≤ taken
+no_more_then now taken old new one waits =
+    elim waits [ inl same ↦ omega (arith, ap outstanding same) | inr begins ↦ omega (arith, begins.one_more) ]
+
+-- What is not due goes on where what was taken out was due.
+pub early_then : (patience now key due : ℕ) (first old between new : FlightState) → EarlyGoOn patience now first old
+    → since_at old key ≡ Some due → due + patience ≤ now → ((other : ℕ) → other ≢ key → since_at between other ≡ since_at old other) → WaitsFrom now between new → EarlyGoOn patience now first new
+early_then patience now key due first old between new early was is_due others waits = λ at since here left.
+    let still = early at since here left in
+    let differs : at ≢ key = λ same.
+    let is : since ≡ due = cc (still, was, ap (since_at old) same) in
+    omega arith
+    in
+    goes_on_under now between new waits at since (others at differs ∙ still)
+
+-- Exchanges are less over their time, together, without the first of the queue, also where one begins.
+pub less_over : (now since : ℕ) (old between new : FlightState) → old.begun ≡ since ∷ between.begun → since + 2000 ≤ now → WaitsFrom now between new → time_over now new.begun < time_over now old.begun
+less_over now since old between new first due waits =
+    fewer_over_then now since (max now between.latest) old.begun between.begun new.begun first due (omega arith) (elim waits [
+      | inl same ↦ inl (ap (λ (state : FlightState). state.begun) same)
+      | inr begins ↦ inr begins.begun
+    ])
