@@ -1,5 +1,5 @@
 -- The name is at or below the zone whose servers are asked about it.
-use Rattle.std.proofs.Common.{◌≡◌, ℕ, Bool, true, false, cond, Option, Some, None, List, [], ◌∷◌, ◌++◌, refl, sym, ◌∙◌, ap, subst}
+use Rattle.std.proofs.Common.{◌≡◌, ℕ, Bool, true, false, cond, Option, Some, None, List, [], ◌∷◌, ◌++◌, refl, sym, ◌∙◌, ap}
 use Rattle.std.specs.Prelude.{unwrap_or}
 use Rattle.std.specs.Option.{option_map, option_or}
 use Rattle.std.proofs.lemmas.List.{append-nil}
@@ -10,7 +10,7 @@ use Rattle.stub_table.specs.Closest.{stub_named}
 use Rattle.undo_book.specs.declared.event.Settings.{Settings}
 use Rattle.undo_book.specs.declared.servers.Servers.{Servers}
 use Rattle.undo_book.specs.History.{Past, stubs_of}
-use Rattle.undo_book.specs.Servers.{cached_servers, is_usable, servers_at, servers_in_hints, servers_in_stub, servers_of}
+use Rattle.undo_book.specs.Servers.{servers_at, servers_in_hints, servers_in_stub, servers_of}
 
 -- what is there where it is usable
 zone_where : (usable : Bool) (there found : Servers) → cond usable (Some there) None ≡ Some found → found.zone ≡ there.zone

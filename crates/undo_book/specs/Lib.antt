@@ -17,6 +17,7 @@ pub mod Refusal
 pub mod Redo
 pub mod Counts
 pub mod Plain
+pub mod Index
 pub mod Replayed
 pub mod PlainPast
 pub mod PlainBook

@@ -13,6 +13,7 @@ mod laws; // what undoing and refusing come to, by the definitions alone
 mod marks; // the commands that can be undone and redone
 mod log; // each event, and whether its command is struck
 mod replay; // a cell, by a replay of a log
+mod index; // where in the log the entries stand that can change what is held
 mod past; // the history of a plain book: its log and its marks
 mod made; // what the operator's commands make: local zones, records and stubs
 mod changes; // what a command makes of them

@@ -4,28 +4,32 @@ ghost use Rattle.std.specs.Prelude.{◌≡◌, ℕ, ◌+◌, ◌<◌, ◌≤◌,
 ghost use Rattle.undo_book.specs.Counts.{admissions_in};
 ghost use Rattle.undo_book.specs.Event.{is_admission, AreSettings};
 ghost use Rattle.undo_book.specs.Tickets.{InOne};
+ghost use Rattle.undo_book.specs.Index.{index_from};
 ghost use Rattle.undo_book.specs.Plain.{marks_in, marks_by, entries_in, AreFlagged, AreFlagged-prop, HasRoom, admitted_now, shown_now};
 
 use crate::event::{Entry, Event, Look, Reply, Settings};
+use crate::index::{Indexed, add_to_index, tag};
 use crate::log::{Logged, set_flags};
 use crate::marks::PlainMarks;
-use crate::replay::replay_entry;
 use dns_name::{Name, NoMemory};
 use dns_text::Question;
 use ranked::{Cell, Fate, Held, Scope, SharedFind};
 use std::alloc::Global;
 
-/// The events so far. Every admission counts as a cell, an outranked one too.
+/// The events so far. Every admission counts as a cell, an outranked one too. The index has a replay read what can change a
+/// cell, and pass over the looks and the owners that are not asked about.
 #[derive(Debug, Drop)]
 pub struct PlainPast {
     pub settings: Settings,
     pub moment: u64,
     pub marks: PlainMarks,
     pub log: Vec<Logged>,
+    pub index: Vec<Indexed>,
     pub admissions: usize,
     pub ghost in_range: { AreSettings settings },
     pub ghost few_tickets: { marks.tickets ≤ length log.items },
     pub ghost counted: { admissions ≡ admissions_in (entries_in log.items) },
+    pub ghost indexed: { index.items ≡ index_from 0 log.items },
     pub ghost in_one: { (ticket : ℕ) → InOne (marks_in marks) ticket },
     pub ghost flagged: { AreFlagged marks.struck.items log.items } by { AreFlagged-prop marks.struck.items log.items },
 }
@@ -47,6 +51,7 @@ impl PlainPast {
             moment: 0,
             marks: PlainMarks::new(alloc),
             log: Vec::new(alloc),
+            index: Vec::new(alloc),
             admissions: 0,
         }
     }
@@ -59,9 +64,11 @@ impl PlainPast {
         ensures settings { self.new.settings ≡ self.old.settings }
         ensures room { OnOk result (HasRoom self.new.marks) }
         ensures log_room { OnOk result (vec_len self.new.log < vec_capacity self.new.log) }
+        ensures index_room { OnOk result (vec_len self.new.index < vec_capacity self.new.index) }
     {
         self.marks.make_room()?;
         self.log.reserve(1)?;
+        self.index.reserve(1)?;
         Ok(())
     }
 
@@ -69,9 +76,10 @@ impl PlainPast {
     fn cell<'a>(&'a self, owner: &Name, kind: u16) -> Cell<&'a SharedFind>
         ensures { option_map admitted_now result.held ≡ cell_of (past_in self.now) (record { owner = owner.now; kind = kind }) }
     {
+        let tag = tag(owner);
         let mut cell = Cell::empty();
-        for logged in &self.log {
-            cell = replay_entry(owner, kind, cell, logged);
+        for indexed in &self.index {
+            cell = indexed.replay(&self.log, tag, owner, kind, cell);
         }
         cell
     }
@@ -120,6 +128,7 @@ impl PlainPast {
         requires reply { reply.now ≡ reply_of self.old.settings (past_in self.old) event }
         requires room { HasRoom self.old.marks }
         requires log_room { vec_len self.old.log < vec_capacity self.old.log }
+        requires index_room { vec_len self.old.index < vec_capacity self.old.index }
         requires few { length self.old.log.items < 2 ^ 62 }
         ensures past { past_in self.new ≡ followed_by self.old.settings.journal (past_in self.old) event }
         ensures settings { self.new.settings ≡ self.old.settings }
@@ -129,6 +138,7 @@ impl PlainPast {
         mark(&mut self.marks, self.settings.journal, reply);
         self.moment = moment;
         self.admissions = count_admission(self.admissions, &event);
+        add_to_index(&mut self.index, self.log.len(), &event);
         self.log.push_reserved(Logged {
             entry: Entry {
                 event,

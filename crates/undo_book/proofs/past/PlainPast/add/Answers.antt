@@ -1,4 +1,5 @@
 -- The book with an event more: each field is what the definitions say.
+use Rattle.std.specs.List.{cons_option}
 use Rattle.std.proofs.Common.{◌≡◌, ℕ, ◌+◌, cond, max, List, [], ◌∷◌, ◌++◌, false, refl, sym, ◌∙◌, ap, subst, arith, length}
 use Rattle.undo_book.specs.declared.event.Entry.{Entry}
 use Rattle.undo_book.specs.declared.event.Reply.{Reply}
@@ -11,7 +12,10 @@ use Rattle.undo_book.specs.History.{Past, ticket_for}
 use Rattle.undo_book.specs.Reply.{reply_of, ticket_taken}
 use Rattle.undo_book.specs.Plain.{marks_in, marks_by, entries_in, flags_by, AreFlagged}
 use Rattle.undo_book.specs.PlainPast.{past_in}
+use Rattle.undo_book.specs.declared.index.Indexed.{Indexed}
+use Rattle.undo_book.specs.Index.{index_from, index_of_entry}
 use Rattle.undo_book.specs.Counts.{count_push}
+use Rattle.undo_book.proofs.IndexLaws.{index_after}
 use Rattle.undo_book.proofs.OrderLaw.{next_in_one}
 use Rattle.undo_book.proofs.PlainLaws.{marks_by_reply, ticket_by_reply, entries_after, length_after, flags_after, past_by_parts, entry_by_parts}
 use Rattle.undo_book.proofs.past.PlainPast.add.Goals as goal
@@ -40,6 +44,12 @@ invariant_of-self c =
           ∙ ap (λ (n : ℕ). n + cond (is_admission event) 1 0) book.counted
           ∙ sym (count_push past.log logged.entry)
           ∙ sym (ap admissions_in (ap entries_in log ∙ entries_after reply book.log.items logged));
+      indexed =
+          c.add_to_index.ensures
+          ∙ ap (λ (l : List Indexed). l ++ cons_option (index_of_entry c.len.result event) []) book.indexed
+          ∙ ap (λ (n : ℕ). index_from 0 book.log.items ++ cons_option (index_of_entry n event) []) (c.len.ensures ∙ book.log.ok.0)
+          ∙ sym (index_after reply book.log.items logged)
+          ∙ sym (ap (λ (l : List Logged). index_from 0 l) log);
       in_one = subst (λ (m : Marks). (t : ℕ) → InOne m t) (sym (marks ∙ marks_by_reply book.settings past event)) (next_in_one bound past event book.in_one);
       flagged =
           subst (λ (m : Marks). AreFlagged m.struck c.set_flags.new.log.items) (sym marks)

@@ -1,0 +1,89 @@
+-- A replay of what the index names is a replay of the log, and the index goes with the log.
+use Rattle.std.proofs.Common.{◌≡◌, ℕ, ◌+◌, Bool, true, false, Option, Some, None, List, [], ◌∷◌, ◌++◌, length, length-append, map, refl, ◌∙◌, ap, subst, inl, inr, arith}
+use Rattle.std.specs.Prelude.{fold, ◌==◌}
+use Rattle.std.specs.List.{cons_option, slice_get}
+use Rattle.std.proofs.lemmas.Bool.{cases_Bool}
+use Rattle.std.proofs.lemmas.Bool.Decides.{nat_tests}
+use Rattle.std.proofs.lemmas.Option.{slice_get-get_or}
+use Rattle.std.proofs.lemmas.List.{append_assoc}
+use Rattle.std.proofs.Math.Seq.{get_or-append_seam}
+use Rattle.dns_name.specs.Order.{name_eq, name_eq_exact}
+use Rattle.dns_text.specs.declared.record.Question.{Question}
+use Rattle.ranked.specs.declared.find.Find.{Find}
+use Rattle.ranked.specs.declared.cell.Admitted.{Admitted}
+use Rattle.ranked.specs.Find.{touches}
+use Rattle.undo_book.specs.declared.event.Event.{Event}
+use Rattle.undo_book.specs.declared.event.Event.TheVariants.{Admit, Look, Sweep, Do, Undo, Redo}
+use Rattle.undo_book.specs.declared.event.Reply.{Reply}
+use Rattle.undo_book.specs.declared.event.Reply.TheVariants.{Undone, Redone}
+use Rattle.undo_book.specs.declared.index.Indexed.{Indexed}
+use Rattle.undo_book.specs.declared.log.Logged.{Logged}
+use Rattle.undo_book.specs.Index.{tag_of, index_of_entry, index_from, cell_after_indexed}
+use Rattle.undo_book.specs.Plain.{cell_after_logged, with_flag, flags_by}
+
+-- ---- a replay by the index
+
+-- What is under another tag is about other names.
+untouched : (find : Find) (question : Question) → (tag_of find.owner == tag_of question.owner) ≡ false → touches find question ≡ false
+untouched find question apart =
+    elim (cases_Bool (name_eq find.owner question.owner)) [
+      | inl same ↦ let tags : tag_of find.owner ≡ tag_of question.owner = ap tag_of (name_eq_exact find.owner question.owner same) in absurd (grind (arith, nat_tests))
+      | inr other ↦ rw other refl
+    ]
+
+by_event : (question : Question) (log : List Logged) (at : ℕ) (event : Event) (moment : ℕ) (ticket : Option ℕ) (struck : Bool) (rest : List Indexed) (cell : Option (Admitted Find))
+    → (let logged : Logged = record { entry = record { event = event; moment = moment; ticket = ticket }; struck = struck } in slice_get log at ≡ Some logged
+    → fold (cell_after_indexed question log) cell (cons_option (index_of_entry at event) rest) ≡ fold (cell_after_indexed question log) (cell_after_logged question cell logged) rest)
+by_event question log at (Admit m find) moment ticket struck rest cell found =
+    elim (cases_Bool (tag_of find.owner == tag_of question.owner)) [
+      | inl same ↦ rw (same, found) refl
+      | inr apart ↦ rw (apart, untouched find question apart) refl
+    ]
+by_event question log at (Do m command) moment ticket struck rest cell found = rw found refl
+by_event question log at (Look m ask) moment ticket struck rest cell found = refl
+by_event question log at (Sweep m) moment ticket struck rest cell found = refl
+by_event question log at (Undo m) moment ticket struck rest cell found = refl
+by_event question log at (Redo m) moment ticket struck rest cell found = refl
+
+found_at : (before : List Logged) (l : Logged) (log : List Logged) → slice_get (before ++ l ∷ log) (length before) ≡ Some l
+found_at before l log =
+    slice_get-get_or (before ++ l ∷ log) (length before) l (omega (arith, length-append before (l ∷ log))) ∙ ap Some (get_or-append_seam before l log l)
+
+pub by_index : (question : Question) (before log : List Logged) (cell : Option (Admitted Find))
+    → fold (cell_after_indexed question (before ++ log)) cell (index_from (length before) log) ≡ fold (cell_after_logged question) cell log
+by_index question before [] cell = refl
+by_index question before (l ∷ log) cell =
+    let next : Option (Admitted Find) = cell_after_logged question cell l in
+    let size : length (before ++ l ∷ []) ≡ length before + 1 = length-append before (l ∷ []) in
+    let there : (before ++ l ∷ []) ++ log ≡ before ++ l ∷ log = append_assoc before (l ∷ []) log in
+    by_event question (before ++ l ∷ log) (length before) l.entry.event l.entry.moment l.entry.ticket l.struck (index_from (length before + 1) log) cell (found_at before l log)
+    ∙ subst (λ (whole : List Logged). fold (cell_after_indexed question whole) next (index_from (length before + 1) log) ≡ fold (cell_after_logged question) next log) there
+    (subst (λ (at : ℕ). fold (cell_after_indexed question ((before ++ l ∷ []) ++ log)) next (index_from at log) ≡ fold (cell_after_logged question) next log) size
+    (by_index question (before ++ l ∷ []) log next))
+
+-- ---- the index goes with the log
+
+cons_before : (o : Option Indexed) (xs ys : List Indexed) → cons_option o (xs ++ ys) ≡ cons_option o xs ++ ys
+cons_before None xs ys = refl
+cons_before (Some x) xs ys = refl
+
+index_push : (at : ℕ) (log : List Logged) (l : Logged) → index_from at (log ++ l ∷ []) ≡ index_from at log ++ cons_option (index_of_entry (at + length log) l.entry.event) []
+index_push at [] l = ap (λ (n : ℕ). cons_option (index_of_entry n l.entry.event) []) (omega arith)
+index_push at (k ∷ log) l =
+    let there : at + 1 + length log ≡ at + length (k ∷ log) = omega arith in
+    ap (λ (rest : List Indexed). cons_option (index_of_entry at k.entry.event) rest)
+    (index_push (at + 1) log l ∙ ap (λ (n : ℕ). index_from (at + 1) log ++ cons_option (index_of_entry n l.entry.event) []) there)
+    ∙ cons_before (index_of_entry at k.entry.event) (index_from (at + 1) log) (cons_option (index_of_entry (at + length (k ∷ log)) l.entry.event) [])
+
+index_flagged : (ticket : ℕ) (flag : Bool) (at : ℕ) (log : List Logged) → index_from at (map (with_flag ticket flag) log) ≡ index_from at log
+index_flagged ticket flag at [] = refl
+index_flagged ticket flag at (l ∷ log) = ap (λ (rest : List Indexed). cons_option (index_of_entry at l.entry.event) rest) (index_flagged ticket flag (at + 1) log)
+
+index_by : (reply : Reply) (log : List Logged) → index_from 0 (flags_by reply log) ≡ index_from 0 log
+index_by (Undone ticket) log = index_flagged ticket true 0 log
+index_by (Redone ticket) log = index_flagged ticket false 0 log
+index_by reply log = refl
+
+pub index_after : (reply : Reply) (log : List Logged) (l : Logged) → index_from 0 (flags_by reply (log ++ l ∷ [])) ≡ index_from 0 log ++ cons_option (index_of_entry (length log) l.entry.event) []
+index_after reply log l =
+    index_by reply (log ++ l ∷ []) ∙ index_push 0 log l ∙ ap (λ (n : ℕ). index_from 0 log ++ cons_option (index_of_entry n l.entry.event) []) (omega arith)

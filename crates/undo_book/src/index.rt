@@ -1,0 +1,86 @@
+//! Where in a log the entries stand that can change what is held.
+
+ghost use Rattle.std.specs.Prelude.{◌≡◌, ◌<◌, ◌++◌, [], option_map, vec_len, vec_capacity};
+ghost use Rattle.std.specs.List.{cons_option};
+ghost use Rattle.undo_book.specs.Plain.{admitted_now};
+ghost use Rattle.undo_book.specs.Index.{concerns, index_of_entry, tag_of, cell_after_indexed};
+
+use crate::event::Event;
+use crate::log::Logged;
+use crate::replay::replay_entry;
+use dns_name::Name;
+use ranked::{Cell, SharedFind};
+use std::hash::{FoldHasher, Hash, Hasher};
+
+/// A number that equal names share. Others share it seldom, unless they are chosen for it: then a replay only reads more.
+pub(crate) fn tag(name: &Name) -> u64
+    ensures { result ≡ tag_of name.now }
+{
+    let mut hasher = FoldHasher::default();
+    name.hash(&mut hasher);
+    hasher.finish()
+}
+
+/// Where an entry stands that can change what is held: an admission, with the tag of its owner, or a command.
+#[derive(Clone, Copy, Debug, Drop)]
+pub struct Indexed {
+    pub at: usize,
+    pub tag: Option<u64>,
+}
+
+impl Indexed {
+    /// That of an entry with this event. None where the event can change nothing that is held.
+    pub fn of(at: usize, event: &Event) -> Option<Indexed>
+        ensures { result ≡ index_of_entry at event.now }
+    {
+        match event {
+            Event::Admit { find, .. } => Some(Indexed {
+                at,
+                tag: Some(tag(&find.find().owner)),
+            }),
+            Event::Do { .. } => Some(Indexed { at, tag: None }),
+            _ => None,
+        }
+    }
+
+    /// Whether the entry may be about a name of this tag.
+    fn concerns(&self, tag: u64) -> bool
+        ensures { result ≡ concerns tag self.now.tag }
+    {
+        match self.tag {
+            Some(own) => own == tag,
+            None => true,
+        }
+    }
+
+    /// A cell after the entry, if that stands and is about the question, whose owner has this tag.
+    pub fn replay<'a>(
+        &self,
+        log: &'a [Logged],
+        tag: u64,
+        owner: &Name,
+        kind: u16,
+        cell: Cell<&'a SharedFind>,
+    ) -> Cell<&'a SharedFind>
+        requires { tag ≡ tag_of owner.now }
+        ensures { option_map admitted_now result.held ≡ cell_after_indexed (record { owner = owner.now; kind = kind }) log.now (option_map admitted_now cell.entry.held) self.now }
+    {
+        if !self.concerns(tag) {
+            return cell;
+        }
+        match log.get(self.at) {
+            Some(logged) => replay_entry(owner, kind, cell, logged),
+            None => cell,
+        }
+    }
+}
+
+/// Adds what stands in an index of an entry with this event.
+pub(crate) fn add_to_index(index: &mut Vec<Indexed>, at: usize, event: &Event)
+    requires room { vec_len index.old < vec_capacity index.old }
+    ensures { index.new.items ≡ index.old.items ++ cons_option (index_of_entry at event.now) [] }
+{
+    if let Some(indexed) = Indexed::of(at, event) {
+        index.push_reserved(indexed);
+    }
+}
