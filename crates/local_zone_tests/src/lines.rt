@@ -1,7 +1,7 @@
 //! A line, obeyed.
 
 use crate::change::{Change, change_in, made, name_in};
-use crate::full::{fill_records, fill_zones};
+use crate::full::fill_zones;
 use crate::shown::{push_answer, push_lists};
 use dns_name::NoMemory;
 use dns_text::{Question, next_word, read_type};
@@ -100,10 +100,6 @@ fn obey_word(
     }
     if word == b"fill_zones".as_slice() {
         let refused = fill_zones(alloc, table);
-        return push_count(alloc, table, refused, out);
-    }
-    if word == b"fill_records".as_slice() {
-        let refused = fill_records(alloc, table)?;
         return push_count(alloc, table, refused, out);
     }
     out.extend_from_slice(b"what?\n")

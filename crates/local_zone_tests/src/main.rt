@@ -1,10 +1,9 @@
 //! Obeys lines over local zones and says what became of each: `do CHANGE`, `undo CHANGE` (the change, the lists, and back),
-//! `list`, `ask NAME TYPE`, `fill_zones` and `fill_records`. A change is `set NAME TYPE`, `drop NAME`, `add RECORD` or
-//! `forget NAME`.
+//! `list`, `ask NAME TYPE` and `fill_zones`. A change is `set NAME TYPE`, `drop NAME`, `add RECORD` or `forget NAME`.
 #![tactic(auto)]
 
 mod change; // what a line asks to change, done
-mod full; // tables at their largest size
+mod full; // a table of as many zones as there may be
 mod shown; // tables and answers as text
 mod lines; // a line, obeyed
 
