@@ -13,7 +13,7 @@ still_full old new full never =
     ]
 
 never_fall_then : (old between new : Counts) → NeverFall old between → NeverFall between new → NeverFall old new
-never_fall_then old between new first second = record { settled = omega arith; opened = omega arith; ended = omega arith; listened = omega arith }
+never_fall_then old between new first second = record { settled = omega arith; opened = omega arith; ended = omega arith; listened = omega arith; expired = omega arith }
 
 -- One thing happened after another.
 pub accounted_then : (more more' waiting middle waiting' : ℕ) (old between new : Counts) → IsAccounted more waiting old middle between → IsAccounted more' middle between waiting' new → IsAccounted (more + more') waiting old waiting' new

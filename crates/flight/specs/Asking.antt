@@ -1,9 +1,15 @@
 -- A question that a client asked, for contracts inside the crate.
 use Rattle.std.specs.Prelude.{◌≡◌, ℕ, List}
+use Rattle.dns_text.specs.declared.record.Question.{Question}
 use Rattle.dns_wire.specs.declared.server.query.Query.{Query}
 use Rattle.dns_wire.specs.declared.server.query.Asked.TheVariants.{Good}
 use Rattle.dns_wire.specs.Server.Asking.{AsksFor}
 use Rattle.iterate.specs.declared.task.State.{State}
+use Rattle.iterate.specs.declared.want.Step.{Step}
+use Rattle.front_workers.specs.Leads.{Calls, Ticks}
+use Rattle.flight.specs.declared.world.Heard.{Heard}
+use Rattle.flight.specs.Flight.{Sent, Hears, Awaits}
+use Rattle.flight.specs.Told.{IsHeard}
 
 -- The client may have sent the octets, they are this query, and the task is for its question.
 pub record IsAskedBy {K : Type 0} (sends : K → List ℕ → Type 0) (port : ℕ) (octets : List ℕ) (client : K) (query : Query) (task : State) : Type 0 where
@@ -11,3 +17,9 @@ pub record IsAskedBy {K : Type 0} (sends : K → List ℕ → Type 0) (port : �
   pub good : AsksFor octets (Good query)
   pub question : task.question ≡ query.question
   pub port_is : task.port ≡ port
+
+-- A question waited for the reply to a query, of which this was heard.
+pub record HasHeard {D C : Type 0} (calls : Calls D) (seen : D → ℕ) (hears : Hears) (ticks : Ticks C) (port : ℕ) (question : Question) (steps : List Step) (heard : Heard) (n : ℕ) : Type 0 where
+  pub query : Sent
+  pub awaits : Awaits calls seen hears ticks port question steps query n
+  pub came : IsHeard (hears query) heard

@@ -11,6 +11,7 @@ pub record CountsSettled (old new : Counts) : Type 0 where
   pub opened : new.opened ≡ old.opened
   pub ended : new.ended ≡ old.ended
   pub listened : new.listened ≡ old.listened
+  pub expired : new.expired ≡ old.expired
 
 -- One exchange more began.
 pub record CountsOpened (old new : Counts) : Type 0 where
@@ -18,13 +19,15 @@ pub record CountsOpened (old new : Counts) : Type 0 where
   pub opened : Rises old.opened new.opened
   pub ended : new.ended ≡ old.ended
   pub listened : new.listened ≡ old.listened
+  pub expired : new.expired ≡ old.expired
 
--- One exchange more ended.
-pub record CountsEnded (old new : Counts) : Type 0 where
+-- One exchange more ended, whose time was up.
+pub record CountsExpired (old new : Counts) : Type 0 where
   pub settled : new.settled ≡ old.settled
   pub opened : new.opened ≡ old.opened
   pub ended : Rises old.ended new.ended
   pub listened : new.listened ≡ old.listened
+  pub expired : Rises old.expired new.expired
 
 -- An exchange goes on where nothing was heard, and else has ended.
 abbrev pub EndsBy : Heard → ℕ → ℕ → Type 0
@@ -37,6 +40,7 @@ pub record CountsListened (heard : Heard) (old new : Counts) : Type 0 where
   pub opened : new.opened ≡ old.opened
   pub ended : EndsBy heard old.ended new.ended
   pub listened : Rises old.listened new.listened
+  pub expired : new.expired ≡ old.expired
 
 -- No count falls.
 pub record NeverFall (old new : Counts) : Type 0 where
@@ -44,6 +48,7 @@ pub record NeverFall (old new : Counts) : Type 0 where
   pub opened : old.opened ≤ new.opened
   pub ended : old.ended ≤ new.ended
   pub listened : old.listened ≤ new.listened
+  pub expired : old.expired ≤ new.expired
 
 -- The count of clients that were settled, or one of exchanges that began or ended, has its last value.
 abbrev pub IsFull : Counts → Type 0

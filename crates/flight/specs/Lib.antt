@@ -1,6 +1,6 @@
 pub mod Flight
-pub mod Asking
 pub mod Told
+pub mod Asking
 pub mod Counted
 pub mod Waiting
 pub mod Queue

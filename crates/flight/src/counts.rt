@@ -1,7 +1,7 @@
 //! What a worker counts.
 
 ghost use Rattle.std.specs.Prelude.{◌≡◌};
-ghost use Rattle.flight.specs.Counted.{CountsEnded, CountsListened, CountsOpened, CountsSettled};
+ghost use Rattle.flight.specs.Counted.{CountsExpired, CountsListened, CountsOpened, CountsSettled};
 
 use crate::world::Heard;
 
@@ -16,18 +16,21 @@ pub struct Counts {
     pub ended: u64,
     /// How often an exchange was listened to.
     pub listened: u64,
+    /// Exchanges of those that ended whose time was up.
+    pub expired: u64,
 }
 
 impl Counts {
     /// Nothing happened yet.
     pub fn new() -> Counts
-        ensures { result ≡ record { settled = 0; opened = 0; ended = 0; listened = 0 } }
+        ensures { result ≡ record { settled = 0; opened = 0; ended = 0; listened = 0; expired = 0 } }
     {
         Counts {
             settled: 0,
             opened: 0,
             ended: 0,
             listened: 0,
+            expired: 0,
         }
     }
 
@@ -51,14 +54,15 @@ impl Counts {
     {
         self.listened = self.listened.saturating_add(1);
         if !matches!(heard, Heard::Nothing) {
-            self.end();
+            self.ended = self.ended.saturating_add(1);
         }
     }
 
-    /// An exchange ended.
-    pub fn end(&mut self)
-        ensures { CountsEnded self.old self.new }
+    /// An exchange ended whose time was up.
+    pub fn expire(&mut self)
+        ensures { CountsExpired self.old self.new }
     {
         self.ended = self.ended.saturating_add(1);
+        self.expired = self.expired.saturating_add(1);
     }
 }

@@ -2,7 +2,7 @@
 
 ghost use Rattle.std.specs.Prelude.{◌≡◌, ◌≤◌, ◌+◌};
 ghost use Rattle.front_workers.specs.Counts.{Rises};
-ghost use Rattle.flight.specs.Asking.{IsAskedBy};
+ghost use Rattle.flight.specs.Asking.{HasHeard, IsAskedBy};
 ghost use Rattle.flight.specs.Flight.{Flies, IsOpen, query_to};
 ghost use Rattle.flight.specs.Waiting.{IsAccounted, WaitsFrom, outstanding};
 ghost use Rattle.iterate.specs.declared.want.Want.{Want};
@@ -41,26 +41,16 @@ impl<D: Numbered, L: Line, C: Clock, G: Rng, K: Client> Flight<D, L, C, G, K> {
             mut line,
             ..
         } = job;
-        match world.hear(&mut line) {
-            Heard::Nothing => {
-                world.expire(line);
-                self.go_on(desk, world, now, asking, octets, Input::Failed);
-            }
-            Heard::Came(reply) => {
-                drop(line);
-                self.go_on(desk, world, now, asking, octets, Input::Came(reply));
-            }
-            Heard::Broken => {
-                drop(line);
-                self.go_on(desk, world, now, asking, octets, Input::Failed);
-            }
-            Heard::NoMemory => {
-                refuse::<D, L, C, K, W>(world, asking, octets.as_slice(), Unserved::NoMemory);
-            }
+        let heard = world.hear(&mut line);
+        match &heard {
+            Heard::Nothing => world.expire(line),
+            _ => drop(line),
         }
+        self.go_on(desk, world, now, asking, octets, heard);
     }
 
-    /// Goes on with a question that waited. What it began with is where it began, unless the caller mixed two.
+    /// Goes on with a question whose exchange ended, by what was heard of it: nothing where its time was up. What the
+    /// question began with is where it began, unless the caller mixed two.
     pub(crate) fn go_on<W: World<D, L, C, K>>(
         &mut self,
         desk: &mut D,
@@ -68,16 +58,25 @@ impl<D: Numbered, L: Line, C: Clock, G: Rng, K: Client> Flight<D, L, C, G, K> {
         now: u64,
         asking: Asking<K>,
         octets: Octets,
-        input: Input,
+        heard: Heard,
     )
         requires asked { IsAskedBy K.sent asking.port octets asking.client asking.query asking.task }
-        requires flies { Flies D.calls D.seen L.hears C.ticks asking.port asking.query.question asking.task.steps.items input asking.seen }
+        requires heard { HasHeard D.calls D.seen L.hears C.ticks asking.port asking.query.question asking.task.steps.items heard asking.seen }
         ensures port { W.server_port world.new ≡ W.server_port world.old }
         ensures accounted { IsAccounted 1 (outstanding self.old) (W.counts world.old) (outstanding self.new) (W.counts world.new) }
         ensures unheard { (W.counts world.new).listened ≡ (W.counts world.old).listened }
+        ensures unexpired { (W.counts world.new).expired ≡ (W.counts world.old).expired }
         ensures waits { WaitsFrom now self.old self.new }
         ensures limit { self.new.limit ≡ self.old.limit }
     {
+        let input = match heard {
+            Heard::Came(reply) => Input::Came(reply),
+            Heard::Nothing | Heard::Broken => Input::Failed,
+            Heard::NoMemory => {
+                refuse::<D, L, C, K, W>(world, asking, octets.as_slice(), Unserved::NoMemory);
+                return;
+            }
+        };
         if desk.seen() < asking.seen || world.server_port() != asking.port {
             refuse::<D, L, C, K, W>(world, asking, octets.as_slice(), Unserved::Elsewhere);
             return;
@@ -102,6 +101,7 @@ impl<D: Numbered, L: Line, C: Clock, G: Rng, K: Client> Flight<D, L, C, G, K> {
         ensures port { W.server_port world.new ≡ W.server_port world.old }
         ensures accounted { IsAccounted 1 (outstanding self.old) (W.counts world.old) (outstanding self.new) (W.counts world.new) }
         ensures unheard { (W.counts world.new).listened ≡ (W.counts world.old).listened }
+        ensures unexpired { (W.counts world.new).expired ≡ (W.counts world.old).expired }
         ensures waits { WaitsFrom now self.old self.new }
         ensures within { outstanding self.old ≤ self.old.limit → outstanding self.new ≤ self.old.limit }
         ensures limit { self.new.limit ≡ self.old.limit }

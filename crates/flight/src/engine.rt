@@ -11,7 +11,7 @@ use crate::job::Job;
 use crate::line::Line;
 use crate::numbered::Numbered;
 use crate::table::{PATIENCE, Table};
-use crate::telling::{fault_of, refuse};
+use crate::telling::fault_of;
 use crate::world::{Client, Heard, Unserved, World};
 use command_text::Clock;
 use dns_wire::{Asked, Query, read_question};
@@ -84,6 +84,7 @@ impl<D: Numbered, L: Line, C: Clock, G: Rng, K: Client> Flight<D, L, C, G, K> {
         ensures port { W.server_port world.new ≡ W.server_port world.old }
         ensures accounted { IsAccounted 1 (outstanding self.old) (W.counts world.old) (outstanding self.new) (W.counts world.new) }
         ensures unheard { (W.counts world.new).listened ≡ (W.counts world.old).listened }
+        ensures unexpired { (W.counts world.new).expired ≡ (W.counts world.old).expired }
         ensures waits { WaitsFrom now self.old self.new }
         ensures within { outstanding self.old ≤ self.old.limit → outstanding self.new ≤ self.old.limit }
         ensures limit { self.new.limit ≡ self.old.limit }
@@ -114,6 +115,7 @@ impl<D: Numbered, L: Line, C: Clock, G: Rng, K: Client> Flight<D, L, C, G, K> {
         ensures port { W.server_port world.new ≡ W.server_port world.old }
         ensures accounted { IsAccounted 1 (outstanding self.old) (W.counts world.old) (outstanding self.new) (W.counts world.new) }
         ensures unheard { (W.counts world.new).listened ≡ (W.counts world.old).listened }
+        ensures unexpired { (W.counts world.new).expired ≡ (W.counts world.old).expired }
         ensures waits { WaitsFrom now self.old self.new }
         ensures within { outstanding self.old ≤ self.old.limit → outstanding self.new ≤ self.old.limit }
         ensures limit { self.new.limit ≡ self.old.limit }
@@ -133,13 +135,15 @@ impl<D: Numbered, L: Line, C: Clock, G: Rng, K: Client> Flight<D, L, C, G, K> {
         self.drive(desk, world, now, asking, octets, Input::Begin);
     }
 
-    /// Listens on the line under a key. There may be nothing yet, and no line: an event of readiness is only a hint.
+    /// Listens on the line under a key, and ends its exchange where something came. There may be nothing yet, and no line: an
+    /// event of readiness is only a hint.
     pub fn look<W: World<D, L, C, K>>(&mut self, desk: &mut D, world: &mut W, now: u64, key: usize)
         ensures listens { IfSome (since_at self.old key) (λ _. Rises (W.counts world.old).listened (W.counts world.new).listened) }
         ensures hint { since_at self.old key ≡ None → (self.new ≡ self.old) × (world.new ≡ world.old) }
         ensures others { OthersGoOn key self.old self.new }
         ensures port { W.server_port world.new ≡ W.server_port world.old }
         ensures accounted { IsAccounted 0 (outstanding self.old) (W.counts world.old) (outstanding self.new) (W.counts world.new) }
+        ensures unexpired { (W.counts world.new).expired ≡ (W.counts world.old).expired }
         ensures no_more { outstanding self.new ≤ outstanding self.old }
         ensures limit { self.new.limit ≡ self.old.limit }
     {
@@ -163,16 +167,9 @@ impl<D: Numbered, L: Line, C: Clock, G: Rng, K: Client> Flight<D, L, C, G, K> {
                 desk: of,
                 clock,
             }),
-            Heard::Came(reply) => {
+            heard => {
                 drop(line);
-                self.go_on(desk, world, now, asking, octets, Input::Came(reply));
-            }
-            Heard::Broken => {
-                drop(line);
-                self.go_on(desk, world, now, asking, octets, Input::Failed);
-            }
-            Heard::NoMemory => {
-                refuse::<D, L, C, K, W>(world, asking, octets.as_slice(), Unserved::NoMemory);
+                self.go_on(desk, world, now, asking, octets, heard);
             }
         }
     }

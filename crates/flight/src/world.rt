@@ -3,8 +3,9 @@
 ghost use Rattle.std.specs.Prelude.{◌≡◌, ◌≤◌, ℕ, List, length, IfNone, IfSome, OnSome};
 ghost use Rattle.dns_wire.specs.declared.server.query.Asked.TheVariants.{Drop};
 ghost use Rattle.dns_wire.specs.Server.Asking.{AsksFor};
+ghost use Rattle.front_workers.specs.Serves.{fault_octets};
 ghost use Rattle.flight.specs.declared.counts.Counts.{Counts};
-ghost use Rattle.flight.specs.Counted.{CountsEnded, CountsListened, CountsOpened, CountsSettled};
+ghost use Rattle.flight.specs.Counted.{CountsExpired, CountsListened, CountsOpened, CountsSettled};
 ghost use Rattle.flight.specs.Flight.{query_to};
 ghost use Rattle.flight.specs.Told.{IsHeard, IsTold, IsUntold};
 
@@ -52,6 +53,9 @@ pub trait World<D: Numbered, L: Line, C: Clock, K: Client> {
     /// What was counted, each up to 2^64 - 1.
     ghost counts: { Self → Counts };
 
+    /// It was tried to send these octets to this client.
+    ghost told: { K → List ℕ → Type 0 };
+
     /// The port of name servers that are known by name.
     fn server_port(&self) -> u16
         ensures { result ≡ server_port self.now };
@@ -73,13 +77,14 @@ pub trait World<D: Numbered, L: Line, C: Clock, K: Client> {
     /// Ends an exchange whose time is up.
     fn expire(&mut self, line: L)
         ensures port { server_port self.new ≡ server_port self.old }
-        ensures ended { CountsEnded (counts self.old) (counts self.new) };
+        ensures expired { CountsExpired (counts self.old) (counts self.new) };
 
     /// Tells a client the reply to its octets. Whether it reaches the client is not known.
     fn give(&mut self, client: K, octets: &[u8], reply: &[u8])
         requires own { K.sent client octets.now }
         requires told { IsTold D.calls D.seen L.hears C.ticks (server_port self.old) octets.now reply.now }
         requires short { length reply.now ≤ 512 }
+        ensures tried { told client reply.now }
         ensures port { server_port self.new ≡ server_port self.old }
         ensures settled { CountsSettled (counts self.old) (counts self.new) };
 
@@ -88,6 +93,7 @@ pub trait World<D: Numbered, L: Line, C: Clock, K: Client> {
         requires own { K.sent client octets.now }
         requires header { 12 ≤ length octets.now }
         requires owed { ¬ (AsksFor octets.now Drop) }
+        ensures tried { told client (fault_octets octets.now 2) }
         ensures port { server_port self.new ≡ server_port self.old }
         ensures settled { CountsSettled (counts self.old) (counts self.new) };
 

@@ -171,6 +171,9 @@ impl<D: Numbered> World<D, Wire, LineClock, Peer> for Sockets {
 
     ghost counts = { λ s. s.counts };
 
+    // What is told is written down for the rows, which judge it.
+    ghost told = { λ _ _. Unit {0} };
+
     fn server_port(&self) -> u16 {
         self.port
     }
@@ -212,7 +215,7 @@ impl<D: Numbered> World<D, Wire, LineClock, Peer> for Sockets {
     }
 
     fn expire(&mut self, _: Wire) {
-        self.counts.end();
+        self.counts.expire();
     }
 
     fn give(&mut self, client: Peer, _: &[u8], reply: &[u8]) {
