@@ -1,6 +1,7 @@
 -- How the counts of a worker go on.
-use Rattle.std.proofs.Common.{◌≡◌, ℕ, inl, inr, arith}
+use Rattle.std.proofs.Common.{◌≡◌, ℕ, ◌+◌, inl, inr, arith}
 use Rattle.front_workers.specs.Counts.{Rises}
+use Rattle.front_workers.specs.Working.{HasFailed}
 use Rattle.flight.specs.declared.counts.Counts.{Counts}
 use Rattle.flight.specs.Counted.{NeverFall, IsFull}
 use Rattle.flight.specs.Waiting.{IsAccounted}
@@ -11,6 +12,7 @@ none_fell old mid new before after = record {
   settled = omega (arith, before.settled, after.settled);
   opened = omega (arith, before.opened, after.opened);
   ended = omega (arith, before.ended, after.ended);
+  expired = omega (arith, before.expired, after.expired);
   listened = omega (arith, before.listened, after.listened);
 }
 
@@ -73,3 +75,16 @@ failed w w' old mid new before taken counts = record {
     | inr end ↦ elim end [ inl full ↦ inr (inl (rw counts full)) | inr many ↦ inr (inr (omega (arith, many, taken))) ]
   ];
 }
+
+-- A turn that did not fail begins the count anew.
+pub not_failed : (n old mid new : ℕ) → HasFailed n old mid → new ≡ mid → HasFailed 0 old new
+not_failed n old mid new before same =
+    elim before [ inl more ↦ inl (omega (arith, more, same)) | inr last ↦ inr (omega (arith, last, same)) ]
+
+-- One that failed is counted.
+pub failed_more : (n old mid mid' new : ℕ) → HasFailed n old mid → mid' ≡ mid → Rises mid' new → HasFailed (n + 1) old new
+failed_more n old mid mid' new before same rises =
+    elim rises [
+      | inl one ↦ elim before [ inl more ↦ inl (omega (arith, more, same, one)) | inr last ↦ inr (omega (arith, last, same, one)) ]
+      | inr last ↦ inr (omega (arith, last.0, last.1))
+    ]

@@ -1,1 +1,3 @@
 mod Accounting
+mod Durations
+mod Hearing

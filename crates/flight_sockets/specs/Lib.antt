@@ -1,3 +1,5 @@
 pub mod Accounts
+pub mod Exchanges
+pub mod Patience
 pub mod Replies
 pub mod Taken

@@ -17,9 +17,9 @@ const WAKE: Token = Token(usize::MAX - 1);
 
 /// A worker's socket of the service, and what watches it and the worker's exchanges.
 #[derive(Drop)]
-pub struct UdpListener {
+pub struct UdpListener<S = UdpSocket> {
     pub(crate) poll: Poll,
-    pub(crate) socket: UdpSocket,
+    pub(crate) socket: S,
 }
 
 /// So many listeners at one address, each for a worker of its own and with what wakes that worker. `[::]` takes IPv4 as

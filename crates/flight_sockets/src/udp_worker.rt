@@ -1,32 +1,37 @@
 //! A worker that keeps many questions in flight.
 
-ghost use Rattle.std.specs.Prelude.{◌≡◌, ◌≤◌, ℕ, IfOk};
+ghost use Rattle.std.specs.Prelude.{◌≡◌, ◌≤◌, ℕ, Option, false, IfOk};
+ghost use Rattle.std.specs.Duration.{as_nanos};
 ghost use Rattle.front_workers.specs.declared.working.TheConstants.{MOST_FAILURES};
-ghost use Rattle.front_workers.specs.declared.working.WorkEnd.TheVariants.{Failing};
+ghost use Rattle.front_workers.specs.declared.working.WorkEnd.TheVariants.{Ended, Failing};
 ghost use Rattle.front_workers.specs.Counts.{Rises};
 ghost use Rattle.front_workers.specs.Working.{HasFailed};
-ghost use Rattle.flight.specs.Waiting.{IsAccounted, outstanding};
+ghost use Rattle.dns_sockets.specs.Seconds.{moment_after};
+ghost use Rattle.flight.specs.declared.table.TheConstants.{PATIENCE};
+ghost use Rattle.flight.specs.Waiting.{IsAccounted, outstanding, time_left};
 ghost use Rattle.flight_sockets.specs.Accounts.{Accounts};
+ghost use Rattle.flight_sockets.specs.Patience.{patience_of};
 
 use crate::client::{ROOM, UdpClient};
 use crate::listener::{SERVICE, UdpListener};
-use crate::millis::Millis;
+use crate::millis::{Millis, Timing};
+use crate::service_socket::ServiceSocket;
 use crate::socket_line::SocketLine;
 use crate::worker_sockets::{Taken, WorkerSockets};
 use command_text::Clock;
-use dns_sockets::glance;
+use dns_sockets::{StopFlag, glance};
 use dns_text::NoMemory;
 use flight::{Flight, Numbered};
 use front_workers::{MOST_FAILURES, WorkEnd};
 use log::{Log, warn};
 use mio::Events;
+use mio::net::UdpSocket;
 use rand_core::Rng;
+use server_lines::ReadyNet;
 use std::alloc::Global;
 use std::io;
 use std::marker::Model;
-use std::net::Net;
 use std::sync::Wait;
-use std::sync::atomic::{AtomicBool, Ordering};
 use std::time::{Duration, Instant};
 
 /// So many datagrams at most are taken in one turn.
@@ -39,19 +44,19 @@ const MOST_TAKING: u64 = 10;
 const MOST_EVENTS: usize = 16;
 
 /// The questions of a worker that are in flight.
-type Questions<D, C, G> = Flight<D, SocketLine, C, G, UdpClient>;
+type Questions<D, C, G, R> = Flight<D, SocketLine<R>, C, G, UdpClient>;
 
 /// A worker that takes datagrams. Contracts see its port of name servers and its counts.
 #[derive(Drop)]
-pub struct UdpWorker<'a, R: Net + Log + std::rt::Clock> {
-    sockets: WorkerSockets<'a, R>,
+pub struct UdpWorker<'a, R, S = UdpSocket> {
+    sockets: WorkerSockets<'a, R, S>,
     millis: Millis<'a, R>,
     events: Events,
     taken: u64,
     failures: u64,
 }
 
-impl<'a, R: Net + Log + std::rt::Clock> Model for UdpWorker<'a, R> {
+impl<'a, R, S> Model for UdpWorker<'a, R, S> {
     ghost use Rattle.flight_sockets.specs.Accounts.{WorkerState};
 
     ghost Value = { WorkerState };
@@ -59,17 +64,17 @@ impl<'a, R: Net + Log + std::rt::Clock> Model for UdpWorker<'a, R> {
     ghost view = { λ worker. record { server_port = worker.sockets.server_port; taken = worker.taken; failures = worker.failures; counts = worker.sockets.counts } };
 }
 
-impl<'a, R: Net + Log + std::rt::Clock> UdpWorker<'a, R> {
+impl<'a, R: ReadyNet + Log + Timing, S: ServiceSocket> UdpWorker<'a, R, S> {
     /// Takes datagrams at a listener. Name servers that are known by name are asked at this port. Exchanges are timed from
     /// the start on.
     pub fn new(
         rt: &'a R,
         alloc: Global,
-        listener: UdpListener,
+        listener: UdpListener<S>,
         server_port: u16,
         start: Instant,
-    ) -> Result<UdpWorker<'a, R>, NoMemory>
-        ensures { IfOk result (λ worker. worker ≡ record { server_port = server_port; taken = 0; failures = 0; counts = record { settled = 0; opened = 0; ended = 0; listened = 0 } }) }
+    ) -> Result<UdpWorker<'a, R, S>, NoMemory>
+        ensures { IfOk result (λ worker. worker ≡ record { server_port = server_port; taken = 0; failures = 0; counts = record { settled = 0; opened = 0; ended = 0; expired = 0; listened = 0 } }) }
     {
         Ok(UdpWorker {
             sockets: WorkerSockets::new(rt, alloc, listener, server_port)?,
@@ -78,20 +83,6 @@ impl<'a, R: Net + Log + std::rt::Clock> UdpWorker<'a, R> {
             taken: 0,
             failures: 0,
         })
-    }
-
-    /// How long the next wait may be: until an exchange is overdue, and no longer than until the stop flag is looked at.
-    fn patience<D: Numbered, C: Clock, G: Rng>(
-        &mut self,
-        questions: &Questions<D, C, G>,
-    ) -> Duration
-        ensures { self.new ≡ self.old }
-    {
-        let now = self.millis.now();
-        match questions.next_expiry(now) {
-            Some(left) => glance().min(Duration::from_millis(left)),
-            None => glance(),
-        }
     }
 
     fn count_taken(&mut self)
@@ -114,9 +105,10 @@ impl<'a, R: Net + Log + std::rt::Clock> UdpWorker<'a, R> {
     fn take<D: Numbered, C: Clock, G: Rng>(
         &mut self,
         desk: &mut D,
-        questions: &mut Questions<D, C, G>,
+        questions: &mut Questions<D, C, G, R>,
         room: &mut [u8; ROOM],
     ) -> io::Result<bool>
+        ensures drained { IfOk result (λ more. more ≡ false → S.drained) }
         ensures accounts { Accounts (outstanding questions.old) self.old (outstanding questions.new) self.new }
         ensures within { outstanding questions.old ≤ questions.old.limit → outstanding questions.new ≤ questions.old.limit }
         ensures limit { questions.new.limit ≡ questions.old.limit }
@@ -140,9 +132,10 @@ impl<'a, R: Net + Log + std::rt::Clock> UdpWorker<'a, R> {
     fn take_batch<D: Numbered, C: Clock, G: Rng>(
         &mut self,
         desk: &mut D,
-        questions: &mut Questions<D, C, G>,
+        questions: &mut Questions<D, C, G, R>,
         room: &mut [u8; ROOM],
     ) -> io::Result<bool>
+        ensures drained { IfOk result (λ more. more ≡ false → S.drained) }
         ensures accounts { Accounts (outstanding questions.old) self.old (outstanding questions.new) self.new }
         ensures within { outstanding questions.old ≤ questions.old.limit → outstanding questions.new ≤ questions.old.limit }
         ensures limit { questions.new.limit ≡ questions.old.limit }
@@ -164,7 +157,7 @@ impl<'a, R: Net + Log + std::rt::Clock> UdpWorker<'a, R> {
     fn go_on<D: Numbered, C: Clock, G: Rng>(
         &mut self,
         desk: &mut D,
-        questions: &mut Questions<D, C, G>,
+        questions: &mut Questions<D, C, G, R>,
     )
         ensures accounts { Accounts (outstanding questions.old) self.old (outstanding questions.new) self.new }
         ensures no_more { outstanding questions.new ≤ outstanding questions.old }
@@ -188,10 +181,11 @@ impl<'a, R: Net + Log + std::rt::Clock> UdpWorker<'a, R> {
     fn turn<D: Numbered, C: Clock, G: Rng>(
         &mut self,
         desk: &mut D,
-        questions: &mut Questions<D, C, G>,
+        questions: &mut Questions<D, C, G, R>,
         room: &mut [u8; ROOM],
         were_left: bool,
     ) -> io::Result<bool>
+        ensures drained { IfOk result (λ more. more ≡ false → S.drained) }
         ensures accounts { Accounts (outstanding questions.old) self.old (outstanding questions.new) self.new }
         ensures within { outstanding questions.old ≤ questions.old.limit → outstanding questions.new ≤ questions.old.limit }
         ensures limit { questions.new.limit ≡ questions.old.limit }
@@ -200,7 +194,7 @@ impl<'a, R: Net + Log + std::rt::Clock> UdpWorker<'a, R> {
         let wait = if were_left {
             Duration::ZERO
         } else {
-            self.patience(questions)
+            patience(&mut self.millis, questions, glance())
         };
         self.sockets.wait(&mut self.events, wait)?;
         self.go_on(desk, questions);
@@ -209,17 +203,35 @@ impl<'a, R: Net + Log + std::rt::Clock> UdpWorker<'a, R> {
     }
 }
 
+/// How long the next wait may be: so long, and no longer than until an exchange is overdue.
+#[tactic(auto, using(crate::proofs::Durations::shorter_nanos))]
+fn patience<D: Numbered, C: Clock, G: Rng, R: ReadyNet + Timing>(
+    millis: &mut Millis<'_, R>,
+    questions: &Questions<D, C, G, R>,
+    most: Duration,
+) -> Duration
+    ensures { (passed : Option ℕ) × R.passed millis.old.start passed
+        × (as_nanos result ≡ patience_of (as_nanos most) (time_left PATIENCE (moment_after millis.old.last passed) questions.now.begun)) }
+{
+    let now = millis.now();
+    match questions.next_expiry(now) {
+        Some(left) => most.min(Duration::from_millis(left)),
+        None => most,
+    }
+}
+
 /// Looks at the exchanges that events name.
-fn look_all<D: Numbered, C: Clock, G: Rng, R: Net + Log + std::rt::Clock>(
+fn look_all<D: Numbered, C: Clock, G: Rng, R: ReadyNet + Log + Timing, S: ServiceSocket>(
     events: &Events,
-    sockets: &mut WorkerSockets<'_, R>,
+    sockets: &mut WorkerSockets<'_, R, S>,
     millis: &mut Millis<'_, R>,
     desk: &mut D,
-    questions: &mut Questions<D, C, G>,
+    questions: &mut Questions<D, C, G, R>,
 )
     ensures accounted { IsAccounted 0 (outstanding questions.old) sockets.old.counts (outstanding questions.new) sockets.new.counts }
     ensures no_more { outstanding questions.new ≤ outstanding questions.old }
     ensures limit { questions.new.limit ≡ questions.old.limit }
+    ensures in_time { sockets.new.counts.expired ≡ sockets.old.counts.expired }
 {
     for event in events.iter() {
         let token = event.token();
@@ -236,18 +248,26 @@ fn look_all<D: Numbered, C: Clock, G: Rng, R: Net + Log + std::rt::Clock>(
 /// A line of the log tells of each turn that failed, of each reply that could not be sent, of each exchange that came to
 /// nothing, of each client that is told that the server failed since there is no memory, and of each that is told so since
 /// it would need one exchange more.
-pub fn fly_udp<D: Numbered, C: Clock + Drop, G: Rng + Drop, R: Wait + Net + Log + std::rt::Clock>(
+pub fn fly_udp<
+    D: Numbered,
+    C: Clock + Drop,
+    G: Rng + Drop,
+    R: Wait + ReadyNet + Log + Timing,
+    S: ServiceSocket,
+    F: StopFlag,
+>(
     rt: &R,
     alloc: Global,
     desk: &mut D,
     clock: C,
     ids: G,
-    worker: &mut UdpWorker<'_, R>,
+    worker: &mut UdpWorker<'_, R, S>,
     limit: usize,
-    stop: &AtomicBool,
+    stop: &F,
 ) -> WorkEnd
     // Each query that was taken was settled once, and each exchange that began ended once, but for those that wait at the end.
     ensures accounts { (waiting : ℕ) × (waiting ≤ limit) × Accounts 0 worker.old waiting worker.new }
+    ensures ended { result ≡ Ended → F.stopped }
     ensures failing { result ≡ Failing → HasFailed MOST_FAILURES worker.old.failures worker.new.failures }
 {
     let mut questions = Flight::new(alloc, clock, ids, limit);
@@ -255,7 +275,7 @@ pub fn fly_udp<D: Numbered, C: Clock + Drop, G: Rng + Drop, R: Wait + Net + Log 
     let mut more = false;
     let mut failed = 0u8;
     for _ in rt.forever() {
-        if stop.load(Ordering::SeqCst) {
+        if stop.is_set() {
             return WorkEnd::Ended;
         }
         match worker.turn(desk, &mut questions, &mut room, more) {

@@ -1,11 +1,17 @@
 //! The sockets of one worker.
 
-ghost use Rattle.std.specs.Prelude.{◌≡◌, ◌≤◌, length, vec_len, IfOk};
+ghost use Rattle.std.specs.Prelude.{◌≡◌, ◌≤◌, length, vec_len, IfNone, IfOk, IfSome, OnSome};
+ghost use Rattle.dns_wire.specs.declared.server.query.Asked.TheVariants.{Drop};
+ghost use Rattle.dns_wire.specs.Server.Asking.{AsksFor};
 ghost use Rattle.dns_sockets.specs.declared.socket_exchange.TheConstants.{MOST_MESSAGE};
+ghost use Rattle.front_workers.specs.Serves.{fault_octets};
+ghost use Rattle.flight.specs.Counted.{CountsOpened};
+ghost use Rattle.flight.specs.Flight.{query_to};
 ghost use Rattle.flight_sockets.specs.Taken.{IsTakenFrom};
 
 use crate::client::{ROOM, UdpClient};
 use crate::listener::UdpListener;
+use crate::service_socket::ServiceSocket;
 use crate::socket_line::SocketLine;
 use command_text::Clock;
 use dns_query::Over;
@@ -16,12 +22,11 @@ use flight::{Counts, Heard, Numbered, Unserved, World};
 use front_workers::{Came, MOST_DATAGRAM, wants_reply};
 use log::{Log, warn};
 use mio::{Events, Token};
+use server_lines::{ReadyNet, would_wait};
 use std::alloc::Global;
 use std::io;
-use std::io::ErrorKind;
-use std::net::{Net, SocketAddr};
+use std::net::SocketAddr;
 use std::time::Duration;
-use tcp_line::would_wait;
 
 /// What taking a datagram came to.
 pub(crate) enum Taken {
@@ -36,10 +41,10 @@ pub(crate) enum Taken {
 
 /// The sockets of one worker: where questions come in and replies go out, and those of its exchanges.
 #[derive(Drop)]
-pub(crate) struct WorkerSockets<'a, R: Net + Log> {
+pub(crate) struct WorkerSockets<'a, R, S> {
     rt: &'a R,
     alloc: Global,
-    listener: UdpListener,
+    listener: UdpListener<S>,
     server_port: u16,
     /// Where a reply of a name server is put.
     room: Vec<u8>,
@@ -47,16 +52,16 @@ pub(crate) struct WorkerSockets<'a, R: Net + Log> {
     ghost whole: { vec_len room ≡ MOST_MESSAGE },
 }
 
-impl<'a, R: Net + Log> WorkerSockets<'a, R> {
+impl<'a, R: Log, S: ServiceSocket> WorkerSockets<'a, R, S> {
     /// Takes datagrams at a listener. Name servers that are known by name are asked at this port.
     pub fn new(
         rt: &'a R,
         alloc: Global,
-        listener: UdpListener,
+        listener: UdpListener<S>,
         server_port: u16,
-    ) -> Result<WorkerSockets<'a, R>, NoMemory>
+    ) -> Result<WorkerSockets<'a, R, S>, NoMemory>
         ensures port { IfOk result (λ sockets. sockets.server_port ≡ server_port) }
-        ensures counts { IfOk result (λ sockets. sockets.counts ≡ record { settled = 0; opened = 0; ended = 0; listened = 0 }) }
+        ensures counts { IfOk result (λ sockets. sockets.counts ≡ record { settled = 0; opened = 0; ended = 0; expired = 0; listened = 0 }) }
     {
         let room = Vec::from_elem(alloc, 0u8, MOST_MESSAGE)?;
         Ok(WorkerSockets {
@@ -70,8 +75,10 @@ impl<'a, R: Net + Log> WorkerSockets<'a, R> {
     }
 
     /// Sends a reply. What fails here does not end a worker: it may be the client that cannot be reached.
-    pub fn send(&self, peer: SocketAddr, reply: &[u8]) {
-        if self.listener.socket.send_to(reply, peer).is_err() {
+    pub fn send(&self, peer: SocketAddr, reply: &[u8])
+        ensures { S.tried peer reply.now }
+    {
+        if self.listener.socket.send_datagram(reply, peer).is_err() {
             self.log_fault();
         }
     }
@@ -87,9 +94,9 @@ impl<'a, R: Net + Log> WorkerSockets<'a, R> {
 
     /// Takes a datagram.
     pub fn take(&self, room: &mut [u8; ROOM]) -> io::Result<Taken>
-        ensures { IfOk result (IsTakenFrom room.new) }
+        ensures { IfOk result (IsTakenFrom S.came S.drained S.interrupted room.new) }
     {
-        match self.listener.socket.recv_from(room) {
+        match self.listener.socket.take_datagram(room) {
             Ok((count, peer)) => {
                 if !is_answerable(peer, count) {
                     Ok(Taken::Passed)
@@ -112,6 +119,7 @@ impl<'a, R: Net + Log> WorkerSockets<'a, R> {
     /// Tells who sent a datagram that is not read whole that it is malformed, unless it is a reply itself.
     pub fn refuse(&self, peer: SocketAddr, front: &[u8])
         requires { 12 ≤ length front.now }
+        ensures { ¬ (AsksFor front.now Drop) → S.tried peer (fault_octets front.now 1) }
     {
         if wants_reply(self.alloc, front) {
             let reply = fault_reply(front, Rcode::FORMAT_ERROR).unwrap();
@@ -134,11 +142,18 @@ impl<'a, R: Net + Log> WorkerSockets<'a, R> {
     }
 }
 
-impl<'a, D: Numbered, C: Clock, R: Net + Log> World<D, SocketLine, C, UdpClient>
-    for WorkerSockets<'a, R> {
+impl<'a, D: Numbered, C: Clock, R: ReadyNet + Log, S: ServiceSocket> World<
+    D,
+    SocketLine<R>,
+    C,
+    UdpClient,
+> for WorkerSockets<'a, R, S> {
     ghost server_port = { λ sockets. sockets.server_port };
 
     ghost counts = { λ sockets. sockets.counts };
+
+    // It was tried to send them to where the client's datagram came from.
+    ghost told = { λ client octets. S.tried client.came.peer octets };
 
     fn server_port(&self) -> u16 {
         self.server_port
@@ -150,7 +165,14 @@ impl<'a, D: Numbered, C: Clock, R: Net + Log> World<D, SocketLine, C, UdpClient>
         server: &Addr,
         over: Over,
         query: Shared<Octets>,
-    ) -> Option<SocketLine> {
+    ) -> Option<SocketLine<R>>
+        // As of any world, and the exchange is reported under the key.
+        ensures asked { IfSome result (λ line. line.asked ≡ query_to server.now over query) }
+        ensures port { self.new.server_port ≡ self.old.server_port }
+        ensures opened { OnSome result (CountsOpened self.old.counts self.new.counts) }
+        ensures unopened { IfNone result (self.new.counts ≡ self.old.counts) }
+        ensures reported { IfSome result (λ line. line.token.0 ≡ key) }
+    {
         let registry = self.listener.poll.registry();
         match SocketLine::open(
             self.rt,
@@ -172,7 +194,7 @@ impl<'a, D: Numbered, C: Clock, R: Net + Log> World<D, SocketLine, C, UdpClient>
         }
     }
 
-    fn hear(&mut self, line: &mut SocketLine) -> Heard {
+    fn hear(&mut self, line: &mut SocketLine<R>) -> Heard {
         let heard = line.hear(self.alloc, self.listener.poll.registry(), &mut self.room);
         self.counts.listen(&heard);
         if matches!(heard, Heard::Broken) {
@@ -181,8 +203,8 @@ impl<'a, D: Numbered, C: Clock, R: Net + Log> World<D, SocketLine, C, UdpClient>
         heard
     }
 
-    fn expire(&mut self, _line: SocketLine) {
-        self.counts.end();
+    fn expire(&mut self, _line: SocketLine<R>) {
+        self.counts.expire();
         self.log_fault();
     }
 

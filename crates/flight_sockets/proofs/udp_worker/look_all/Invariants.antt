@@ -7,5 +7,6 @@ abbrev pub invariant-loop-event : goal.invariant-loop-event
 invariant-loop-event g l = record {
   so_far : IsAccounted 0 (outstanding l.initial.questions) l.initial.sockets.counts (outstanding l.questions) l.sockets.counts;
   no_more : outstanding l.questions ≤ outstanding l.initial.questions;
+  in_time : l.sockets.counts.expired ≡ l.initial.sockets.counts.expired;
   limit : l.questions.limit ≡ l.initial.questions.limit;
 }

@@ -1,0 +1,40 @@
+-- What is heard of an exchange over a connection.
+use Rattle.std.proofs.Common.{◌≡◌, ℕ, List, length, take, Option, sym, ◌∙◌, subst, arith}
+use Rattle.std.proofs.lemmas.List.{take_all}
+use Rattle.std.specs.Io.KnownBytes.{Appends, Consumes}
+use Rattle.std.specs.declared.net.SocketAddr.{SocketAddr}
+use Rattle.mio.specs.declared.token.Token.{Token}
+use Rattle.dns_query.specs.declared.over.Over.{Over}
+use Rattle.dns_sockets.specs.Asked.{ByStream, IsAskedAt}
+use Rattle.front_workers.specs.Framing.{framed}
+use Rattle.server_lines.specs.Line.{LineState, WentFrom}
+use Rattle.flight.specs.declared.world.Heard.{Heard}
+use Rattle.flight.specs.declared.world.Heard.TheVariants.{Nothing, Came, Broken, NoMemory}
+use Rattle.flight.specs.Told.{IsHeard}
+use Rattle.flight_sockets.specs.Exchanges.{ExchangeState, AsksOn, OnUnbroken}
+use Rattle.flight_sockets.specs.Replies.{IsReply, IsReplyTo}
+
+-- The whole query has left and a message came behind it, which may be its reply: so it is.
+pub heard_on : {S C : Type 0} (opened : S → SocketAddr → Type 0) (sent came : S → List ℕ → Type 0) (connected : C → SocketAddr → Type 0) (reported : C → Token → Type 0) (contents remaining : C → Option (List ℕ))
+    (exchange : ExchangeState) (query : List ℕ) (old new : LineState C) (heard : Heard)
+    → exchange.asked.query ≡ query → AsksOn connected reported contents remaining exchange old → new.asks ≡ old.asks
+    → OnUnbroken heard ((fresh : C) → WentFrom contents remaining fresh old → WentFrom contents remaining fresh new)
+    → IsHeard (λ octets. IsReply query octets × (new.left ≡ length new.asks) × (new.came ≡ framed octets)) heard
+    → IsHeard (IsReplyTo opened sent came connected contents remaining exchange.asked) heard
+heard_on opened sent came connected reported contents remaining exchange query old new Nothing is line asks went heard = tt
+heard_on opened sent came connected reported contents remaining exchange query old new Broken is line asks went heard = tt
+heard_on opened sent came connected reported contents remaining exchange query old new NoMemory is line asks went heard = tt
+heard_on opened sent came connected reported contents remaining exchange query old new (Came octets) is line asks went heard =
+    let now = went line.fresh line.went in
+    let all : take new.left new.asks ≡ framed exchange.asked.query = take_all _ _ (omega (arith, heard.1)) ∙ asks ∙ line.asks in
+    let way : ByStream connected contents remaining line.place exchange.asked.query octets = record {
+      fresh = line.fresh;
+      written = now.written;
+      read = new.stream;
+      at = line.at;
+      asked = subst (Appends (contents line.fresh) (contents now.written)) all now.asked;
+      told = subst (Consumes (remaining now.written) (remaining new.stream)) heard.2 now.told;
+    } in (
+      subst (λ (q : List ℕ). IsReply q octets) (sym is) heard.0,
+      (line.place, line.is_place, subst (λ (over : Over). IsAskedAt opened sent came connected contents remaining over line.place exchange.asked.query octets) (sym line.over) way),
+    )

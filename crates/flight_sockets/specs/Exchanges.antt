@@ -1,0 +1,51 @@
+-- The exchanges of a worker, each over a socket of its own.
+use Rattle.std.specs.Prelude.{◌≡◌, ℕ, Option, List}
+use Rattle.std.specs.declared.net.SocketAddr.{SocketAddr}
+use Rattle.mio.specs.declared.token.Token.{Token}
+use Rattle.dns_query.specs.declared.over.Over.TheVariants.{Udp as OverUdp, Tcp as OverTcp}
+use Rattle.dns_sockets.specs.Place.{IsPlaceOf}
+use Rattle.front_workers.specs.Framing.{framed}
+use Rattle.server_lines.specs.Line.{LineState, WentFrom}
+use Rattle.flight.specs.declared.world.Heard.{Heard}
+use Rattle.flight.specs.declared.world.Heard.TheVariants.{Nothing, Came}
+use Rattle.flight.specs.Flight.{Sent}
+use Rattle.flight_sockets.specs.declared.way.Way.{Way}
+use Rattle.flight_sockets.specs.declared.way.Way.TheVariants.{Udp, Tcp, Closed}
+
+-- what can be seen of an exchange
+pub record ExchangeState : Type 0 where
+  pub asked : Sent  -- the query that went out
+  pub token : Token  -- what its socket is reported under
+
+-- A socket is connected to the server's place and reported under the token, and the query left by it.
+pub record AsksBy {S : Type 0} (opened : S → SocketAddr → Type 0) (reported : S → Token → Type 0) (sent : S → List ℕ → Type 0) (exchange : ExchangeState) (socket : S) : Type 0 where
+  pub over : exchange.asked.over ≡ OverUdp
+  pub place : SocketAddr
+  pub is_place : IsPlaceOf exchange.asked.server place
+  pub at : opened socket place
+  pub reported_as : reported socket exchange.token
+  pub asks : sent socket exchange.asked.query
+
+-- A connection to the server's place was reported under the token as it began, and came so far with the query behind its length.
+pub record AsksOn {C : Type 0} (connected : C → SocketAddr → Type 0) (reported : C → Token → Type 0) (contents remaining : C → Option (List ℕ)) (exchange : ExchangeState) (line : LineState C) : Type 0 where
+  pub over : exchange.asked.over ≡ OverTcp
+  pub place : SocketAddr
+  pub is_place : IsPlaceOf exchange.asked.server place
+  pub fresh : C
+  pub at : connected fresh place
+  pub reported_as : reported fresh exchange.token
+  pub asks : line.asks ≡ framed exchange.asked.query
+  pub went : WentFrom contents remaining fresh line
+
+-- So it is of an exchange that has not ended.
+abbrev pub IsUnderWay : {S C : Type 0} → (S → SocketAddr → Type 0) → (S → Token → Type 0) → (S → List ℕ → Type 0) → (C → SocketAddr → Type 0) → (C → Token → Type 0) → (C → Option (List ℕ)) → (C → Option (List ℕ))
+    → ExchangeState → Way S C → Type 0
+IsUnderWay opened reported sent connected reported' contents remaining exchange (Udp line) = AsksBy opened reported sent exchange line
+IsUnderWay opened reported sent connected reported' contents remaining exchange (Tcp line) = AsksOn connected reported' contents remaining exchange line
+IsUnderWay opened reported sent connected reported' contents remaining exchange Closed = Unit {0}
+
+-- So it is where nothing came yet, or a reply did.
+abbrev pub OnUnbroken : Heard → Type 0 → Type 0
+OnUnbroken Nothing fact = fact
+OnUnbroken (Came octets) fact = fact
+OnUnbroken _ fact = Unit {0}

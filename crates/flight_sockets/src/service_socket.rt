@@ -1,0 +1,57 @@
+//! The socket at which questions come in and by which replies go out.
+
+ghost use Rattle.std.specs.Prelude.{◌≡◌, ℕ, List, ◌≤◌, length, take, IfOk, IfErr};
+ghost use Rattle.std.specs.IoError.{error_kind};
+ghost use Rattle.std.specs.declared.net.SocketAddr.{SocketAddr};
+
+use mio::net::UdpSocket;
+use std::io;
+use std::io::ErrorKind;
+use std::net::SocketAddr;
+
+/// The socket of the service, whose calls tell where they would wait.
+pub trait ServiceSocket: Drop {
+    /// A datagram came from this peer.
+    ghost came: { SocketAddr → List ℕ → Type 0 };
+
+    /// A call told that none was there.
+    ghost drained: { Type 0 };
+
+    /// A call was ended by a signal.
+    ghost interrupted: { Type 0 };
+
+    /// It was tried to send these octets to this peer.
+    ghost tried: { SocketAddr → List ℕ → Type 0 };
+
+    /// The next datagram: how many octets of the room it fills, and from whom. What does not fit the room is lost.
+    fn take_datagram(&self, room: &mut [u8]) -> io::Result<(usize, SocketAddr)>
+        ensures within { IfOk result (λ r. r.0 ≤ length room.new) }
+        ensures came { IfOk result (λ r. came r.1 (take r.0 room.new)) }
+        ensures drained { IfErr result (λ error. error_kind error ≡ ErrorKind.WouldBlock → drained) }
+        ensures interrupted { IfErr result (λ error. error_kind error ≡ ErrorKind.Interrupted → interrupted) };
+
+    /// Sends a datagram. It may fail where the peer cannot be reached.
+    fn send_datagram(&self, octets: &[u8], peer: SocketAddr) -> io::Result<()>
+        ensures { tried peer octets.now };
+}
+
+impl ServiceSocket for UdpSocket {
+    // Nothing is known of what comes.
+    ghost came = { λ _ _. Unit {0} };
+
+    ghost drained = { Unit {0} };
+
+    ghost interrupted = { Unit {0} };
+
+    // Nor of what leaves.
+    ghost tried = { λ _ _. Unit {0} };
+
+    fn take_datagram(&self, room: &mut [u8]) -> io::Result<(usize, SocketAddr)> {
+        self.recv_from(room)
+    }
+
+    fn send_datagram(&self, octets: &[u8], peer: SocketAddr) -> io::Result<()> {
+        self.send_to(octets, peer)?;
+        Ok(())
+    }
+}
