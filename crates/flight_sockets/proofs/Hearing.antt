@@ -1,17 +1,20 @@
 -- What is heard of an exchange over a connection.
-use Rattle.std.proofs.Common.{◌≡◌, ℕ, List, length, take, Option, sym, ◌∙◌, subst, arith}
+use Rattle.std.proofs.Common.{◌≡◌, ◌⊎◌, ℕ, List, length, take, Option, sym, ◌∙◌, subst, arith}
 use Rattle.std.proofs.lemmas.List.{take_all}
 use Rattle.std.specs.Io.KnownBytes.{Appends, Consumes}
 use Rattle.std.specs.declared.net.SocketAddr.{SocketAddr}
 use Rattle.mio.specs.declared.token.Token.{Token}
 use Rattle.dns_query.specs.declared.over.Over.{Over}
+use Rattle.dns_query.specs.declared.over.Over.TheVariants.{Udp as OverUdp, Tcp as OverTcp}
 use Rattle.dns_sockets.specs.Asked.{ByStream, IsAskedAt}
 use Rattle.front_workers.specs.Framing.{framed}
 use Rattle.server_lines.specs.Line.{LineState, WentFrom}
 use Rattle.flight.specs.declared.world.Heard.{Heard}
 use Rattle.flight.specs.declared.world.Heard.TheVariants.{Nothing, Came, Broken, NoMemory}
 use Rattle.flight.specs.Told.{IsHeard}
-use Rattle.flight_sockets.specs.Exchanges.{ExchangeState, AsksOn, OnUnbroken}
+use Rattle.flight_sockets.specs.declared.way.Way.{Way}
+use Rattle.flight_sockets.specs.declared.way.Way.TheVariants.{Udp, Tcp, Closed}
+use Rattle.flight_sockets.specs.Exchanges.{ExchangeState, AsksOn, HasNoneYet, IsQuiet, IsUnderWay, OnUnbroken}
 use Rattle.flight_sockets.specs.Replies.{IsReply, IsReplyTo}
 
 -- The whole query has left and a message came behind it, which may be its reply: so it is.
@@ -38,3 +41,12 @@ heard_on opened sent came connected reported contents remaining exchange query o
       subst (λ (q : List ℕ). IsReply q octets) (sym is) heard.0,
       (line.place, line.is_place, subst (λ (over : Over). IsAskedAt opened sent came connected contents remaining over line.place exchange.asked.query octets) (sym line.over) way),
     )
+
+-- An exchange whose way has none yet is quiet.
+pub quiet : {S C : Type 0} (opened : S → SocketAddr → Type 0) (reported : S → Token → Type 0) (sent : S → List ℕ → Type 0) (connected : C → SocketAddr → Type 0) (reported' : C → Token → Type 0)
+    (contents remaining : C → Option (List ℕ)) (drained : S → Type 0) (again : S → Token → Type 0) (exchange : ExchangeState) (way : Way S C)
+    → IsUnderWay opened reported sent connected reported' contents remaining exchange way → HasNoneYet drained again exchange.token way → IsQuiet sent drained again exchange
+quiet opened reported sent connected reported' contents remaining drained again exchange (Udp line) under none over = (line, under.asks, none)
+quiet opened reported sent connected reported' contents remaining drained again exchange (Tcp line) under none over =
+    let other : OverUdp ≡ OverTcp = sym over ∙ under.over in absurd cc
+quiet opened reported sent connected reported' contents remaining drained again exchange Closed under none over = absurd none

@@ -1,5 +1,5 @@
 -- The exchanges of a worker, each over a socket of its own.
-use Rattle.std.specs.Prelude.{◌≡◌, ℕ, Option, List}
+use Rattle.std.specs.Prelude.{◌≡◌, ◌⊎◌, ℕ, Option, List}
 use Rattle.std.specs.declared.net.SocketAddr.{SocketAddr}
 use Rattle.mio.specs.declared.token.Token.{Token}
 use Rattle.dns_query.specs.declared.over.Over.TheVariants.{Udp as OverUdp, Tcp as OverTcp}
@@ -43,6 +43,17 @@ abbrev pub IsUnderWay : {S C : Type 0} → (S → SocketAddr → Type 0) → (S 
 IsUnderWay opened reported sent connected reported' contents remaining exchange (Udp line) = AsksBy opened reported sent exchange line
 IsUnderWay opened reported sent connected reported' contents remaining exchange (Tcp line) = AsksOn connected reported' contents remaining exchange line
 IsUnderWay opened reported sent connected reported' contents remaining exchange Closed = Unit {0}
+
+-- The socket of an exchange over UDP told that it had nothing more, or tells of what it has once more.
+abbrev pub HasNoneYet : {S C : Type 0} → (S → Type 0) → (S → Token → Type 0) → Token → Way S C → Type 0
+HasNoneYet drained reported_again token (Udp line) = drained line ⊎ reported_again line token
+HasNoneYet drained reported_again token (Tcp line) = Unit {0}
+HasNoneYet drained reported_again token Closed = ⊥
+
+-- Of an exchange over UDP: so it is of a socket by which its query left.
+abbrev pub IsQuiet : {S : Type 0} → (S → List ℕ → Type 0) → (S → Type 0) → (S → Token → Type 0) → ExchangeState → Type 0
+IsQuiet {S} sent drained reported_again exchange =
+    exchange.asked.over ≡ OverUdp → (socket : S) × sent socket exchange.asked.query × (drained socket ⊎ reported_again socket exchange.token)
 
 -- So it is where nothing came yet, or a reply did.
 abbrev pub OnUnbroken : Heard → Type 0 → Type 0

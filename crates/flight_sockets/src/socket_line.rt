@@ -2,8 +2,10 @@
 
 ghost use Rattle.std.specs.Prelude.{◌≡◌, length, IfOk};
 ghost use Rattle.dns_sockets.specs.declared.socket_exchange.TheConstants.{MOST_MESSAGE};
+ghost use Rattle.flight.specs.declared.world.Heard.TheVariants.{Nothing};
 ghost use Rattle.flight.specs.Flight.{query_to};
 ghost use Rattle.flight.specs.Told.{IsHeard};
+ghost use Rattle.flight_sockets.specs.Exchanges.{IsQuiet};
 ghost use Rattle.flight_sockets.specs.Replies.{IsReplyTo};
 
 use crate::way::Way;
@@ -82,6 +84,7 @@ impl<R: ReadyNet> SocketLine<R> {
     pub fn hear(&mut self, alloc: Global, registry: &Registry, room: &mut [u8]) -> Heard
         requires { length room.old ≡ MOST_MESSAGE }
         ensures heard { IsHeard (IsReplyTo R.Datagrams.opened R.Datagrams.sent R.Datagrams.came R.Connection.connected R.Connection.contents R.Connection.remaining self.old.asked) result }
+        ensures nothing { result ≡ Nothing → IsQuiet R.Datagrams.sent R.Datagrams.drained R.Datagrams.reported_again self.old }
         ensures kept { self.new ≡ self.old }
     {
         let query = self.query.get().as_slice();

@@ -6,7 +6,7 @@ ghost use Rattle.front_workers.specs.Framing.{framed};
 ghost use Rattle.server_lines.specs.Line.{WentFrom};
 ghost use Rattle.flight.specs.declared.world.Heard.TheVariants.{Nothing};
 ghost use Rattle.flight.specs.Told.{IsHeard};
-ghost use Rattle.flight_sockets.specs.Exchanges.{ExchangeState, IsUnderWay, OnUnbroken};
+ghost use Rattle.flight_sockets.specs.Exchanges.{ExchangeState, HasNoneYet, IsUnderWay, OnUnbroken};
 ghost use Rattle.flight_sockets.specs.Replies.{IsReply, IsReplyTo};
 
 use dns_sockets::fits;
@@ -82,6 +82,7 @@ impl<S: ReadySocket, C: ReadyConnection> Way<S, C> {
         ensures heard { (exchange : ExchangeState) → exchange.asked.query ≡ query.now
             → IsUnderWay S.opened S.reported S.sent C.connected C.reported C.contents C.remaining exchange self.old
             → IsHeard (IsReplyTo S.opened S.sent S.came C.connected C.contents C.remaining exchange.asked) result }
+        ensures nothing { result ≡ Nothing → HasNoneYet S.drained S.reported_again token self.old }
         ensures goes_on { result ≡ Nothing → (exchange : ExchangeState)
             → IsUnderWay S.opened S.reported S.sent C.connected C.reported C.contents C.remaining exchange self.old
             → IsUnderWay S.opened S.reported S.sent C.connected C.reported C.contents C.remaining exchange self.new }

@@ -5,8 +5,12 @@ ghost use Rattle.dns_wire.specs.declared.server.query.Asked.TheVariants.{Drop};
 ghost use Rattle.dns_wire.specs.Server.Asking.{AsksFor};
 ghost use Rattle.dns_sockets.specs.declared.socket_exchange.TheConstants.{MOST_MESSAGE};
 ghost use Rattle.front_workers.specs.Serves.{fault_octets};
-ghost use Rattle.flight.specs.Counted.{CountsOpened};
+ghost use Rattle.flight.specs.declared.world.Heard.TheVariants.{Nothing};
+ghost use Rattle.flight.specs.Counted.{CountsListened, CountsOpened};
 ghost use Rattle.flight.specs.Flight.{query_to};
+ghost use Rattle.flight.specs.Told.{IsHeard};
+ghost use Rattle.flight_sockets.specs.Exchanges.{IsQuiet};
+ghost use Rattle.flight_sockets.specs.Replies.{IsReplyTo};
 ghost use Rattle.flight_sockets.specs.Taken.{IsTakenFrom};
 
 use crate::client::{ROOM, UdpClient};
@@ -194,7 +198,14 @@ impl<'a, D: Numbered, C: Clock, R: ReadyNet + Log, S: ServiceSocket> World<
         }
     }
 
-    fn hear(&mut self, line: &mut SocketLine<R>) -> Heard {
+    fn hear(&mut self, line: &mut SocketLine<R>) -> Heard
+        // As of any world, and nothing is heard only of a quiet exchange.
+        ensures heard { IsHeard (IsReplyTo R.Datagrams.opened R.Datagrams.sent R.Datagrams.came R.Connection.connected R.Connection.contents R.Connection.remaining line.old.asked) result }
+        ensures asked { line.new.asked ≡ line.old.asked }
+        ensures port { self.new.server_port ≡ self.old.server_port }
+        ensures listened { CountsListened result self.old.counts self.new.counts }
+        ensures nothing { result ≡ Nothing → IsQuiet R.Datagrams.sent R.Datagrams.drained R.Datagrams.reported_again line.old }
+    {
         let heard = line.hear(self.alloc, self.listener.poll.registry(), &mut self.room);
         self.counts.listen(&heard);
         if matches!(heard, Heard::Broken) {
