@@ -82,7 +82,7 @@ impl LocalRecord {
     pub(crate) fn is_same(&self, other: &Record) -> bool
         ensures { result ≡ is_same self.now other.now }
     {
-        // Data come first: they differ more often than owners do, and are mostly shorter.
+        // Data come first: those of most records are shorter than owners, and sooner compared.
         *self.body() == other.body && self.is_of_set(other)
     }
 }
