@@ -1,5 +1,6 @@
 -- Turns of a search that are well made.
 use Rattle.std.proofs.Common.{◌≡◌, ℕ, ◌+◌, ◌<◌, ◌≤◌, List, [], ◌∷◌, length, drop, false, None, Result, Ok, Err, IfOk, sym, ap, subst, refl, arith}
+use Rattle.std.specs.Global.{Box}
 use Rattle.std.specs.List.{Contains}
 use Rattle.std.proofs.lemmas.List.{take_all}
 use Rattle.std.proofs.lemmas.List.Elements.{All-from_recursion, All-drop, All-same, All-head}
@@ -26,7 +27,7 @@ use Rattle.iterate.specs.Exchanges.{Exchange}
 use Rattle.iterate.specs.Hunting.{IsSmaller}
 use Rattle.iterate.specs.Known.{Known, Serves}
 use Rattle.iterate.specs.Measure.{hunts_left, left_in, left_of_search, left_of_seek, left_of_sending}
-use Rattle.iterate.specs.Phase.{Goes, IsSeeking, ask_at, Drawing, idle}
+use Rattle.iterate.specs.Phase.{Goes, IsSeeking, IsWaiting, ask_at, Drawing, idle}
 use Rattle.iterate.specs.Resolved.{ResolvedAs, Fails, Exhausted}
 use Rattle.iterate.specs.Searching.{IsPath, IsHunt, AreFrames, IsSearch, hunt_behind, hunt_of, question_behind, question_of}
 use Rattle.iterate.specs.Wanted.{MayCall, MayGo, id_drawn}
@@ -102,6 +103,11 @@ pub giving_up : (port : ℕ) (question : Question) (log : List Exchange) (moment
 giving_up port question log moment id looks search s none asked sought =
     failing_search port question log moment id looks search s (Fails.exhausted (exhausted search s none asked sought))
 
+-- as much is left
+pub left_same : {E : Type 0} (port : ℕ) (question : Question) (log : List Exchange) (moment : ℕ) (id : Drawing) {left more : ℕ} (r : Result Turn E) → left ≡ more
+    → IfOk r (λ t. Goes port question log moment id left t.phase t.want) → IfOk r (λ t. Goes port question log moment id more t.phase t.want)
+left_same port question log moment id r same g = subst (λ (n : ℕ). IfOk r (λ t. Goes port question log moment id n t.phase t.want)) same g
+
 -- ---- a server is asked
 
 hunt_known : (port : ℕ) (log since : List Exchange) (fs : List Frame) (base : Hunt) (last : Question) → IsHunt port log last.owner base → AreFrames port log since base fs
@@ -115,8 +121,9 @@ innermost_hunt {port} {question} {log} search s = hunt_known port log s.since se
 
 pub sending : (port : ℕ) (question : Question) (log : List Exchange) (moment : ℕ) (id : Drawing) (left : ℕ) (search : Search) (server : Addr) (over : Over) (bytes : List ℕ) (rest : List Addr)
     → IsSearch port question log search → search.path.sent < 64 → drop (hunt_of search).asked (hunt_of search).addrs.items ≡ server ∷ rest → MayGo log server (question_of search) over → left_of_sending search.path < left
-    → (drawn : ℕ) → id_drawn id.before ≡ drawn → id.after ≡ (next_u32 id.before).1 → IsQuery bytes drawn (question_of search) → Goes port question log moment id left (Sent search server drawn over) (Send server over bytes)
-sending port question log moment id left search server over bytes rest s few next goes less drawn same behind query =
+    → (drawn : ℕ) → id_drawn id.before ≡ drawn → id.after ≡ (next_u32 id.before).1 → IsQuery bytes drawn (question_of search)
+    → (kept : Box Search) → kept.value ≡ search → Goes port question log moment id left (Sent kept server drawn over) (Send server over bytes)
+sending port question log moment id left search server over bytes rest s few next goes less drawn same behind query kept is =
     let hunt = innermost_hunt search s in
     let P : Addr → Type 0 = λ addr. Known port log (Serves (hunt_of search).servers.zone addr) in
     let all = All-drop P (hunt_of search).asked (hunt_of search).addrs.items (All-from_recursion P (hunt_of search).addrs.items hunt.serve) in
@@ -130,8 +137,9 @@ sending port question log moment id left search server over bytes rest s few nex
         goes = goes;
       };
       drawn = behind;
-      fits = record { is_search = s; some = few; rest = rest; next = next; bytes = bytes; wanted = refl; query = query };
-      falls = less;
+      fits = subst (λ (x : Search). IsWaiting port question log (Send server over bytes) x server drawn over) (sym is)
+          (record { is_search = s; some = few; rest = rest; next = next; bytes = bytes; wanted = refl; query = query });
+      falls = subst (λ (x : Search). left_of_sending x.path < left) (sym is) less;
     }
 
 -- less is left where a query is out than where a search goes on
@@ -148,8 +156,13 @@ may_look port log moment target stage.Alias = refl
 may_look port log moment target stage.Servers = refl
 
 pub seeking : (port : ℕ) (question : Question) (log : List Exchange) (moment : ℕ) (id : Stream) (left : ℕ) (search : Search) (target : Labels) (then : Stage) → IsSeeking port question log search target then
-    → left_of_seek search then < left → Goes port question log moment (idle id) left (Seeking search target then) (Book (Look moment (ask_at then target)))
-seeking port question log moment id left search target then s less = record { wants = may_look port log moment target then; drawn = refl; fits = (s, record { moment = moment; wanted = refl }); falls = less }
+    → left_of_seek search then < left → (kept : Box Search) → kept.value ≡ search → Goes port question log moment (idle id) left (Seeking kept target then) (Book (Look moment (ask_at then target)))
+seeking port question log moment id left search target then s less kept is = record {
+  wants = may_look port log moment target then;
+  drawn = refl;
+  fits = (subst (λ (x : Search). IsSeeking port question log x target then) (sym is) s, record { moment = moment; wanted = refl });
+  falls = subst (λ (x : Search). left_of_seek x then < left) (sym is) less;
+}
 
 -- ---- a search goes on
 

@@ -1,5 +1,6 @@
 -- What a response that was heard gives.
 use Rattle.std.proofs.Common.{◌≡◌, ℕ, ◌+◌, ◌-◌, ◌<◌, ◌≤◌, ◌⊎◌, inl, inr, List, [], ◌∷◌, ◌++◌, length, map, drop, get_or, slice_index_or, false, None, Option, sym, ap, ◌∙◌, subst, refl, append_assoc, arith}
+use Rattle.std.specs.Global.{Box}
 use Rattle.std.specs.List.{AllByRecursion, Contains}
 use Rattle.std.specs.Option.{option_map}
 use Rattle.std.proofs.lemmas.List.{append-nil, length-map, get_or-map, length-drop, get_or-drop}
@@ -95,8 +96,8 @@ harvested {searching = searching} {heard = heard} h find among = record {
 
 -- ---- the book
 
-pub admitting : (port : ℕ) (question : Question) (log : List Exchange) (moment : ℕ) (id : Stream) (left : ℕ) (searching : Search) (heard : Heard) (next : ℕ) (find : Find) → IsHearing port question log searching heard
-    → next < length heard.harvest.finds → Contains heard.harvest.finds find → left_of_hearing searching.path (length heard.harvest.finds - next) < left
+pub admitting : (port : ℕ) (question : Question) (log : List Exchange) (moment : ℕ) (id : Stream) (left : ℕ) (searching : Box Search) (heard : Box Heard) (next : ℕ) (find : Find) → IsHearing port question log searching.value heard.value
+    → next < length heard.value.harvest.finds → Contains heard.value.harvest.finds find → left_of_hearing searching.value.path (length heard.value.harvest.finds - next) < left
     → Goes port question log moment (idle id) left (Admitting searching heard next) (Book (Admit moment find))
 admitting port question log moment id left searching heard next find h within among less = record {
   wants = (refl, harvested h find among);

@@ -13,3 +13,4 @@ pub mod Joined
 pub mod Supplying
 pub mod Finding
 pub mod Telling
+pub mod Settling

@@ -55,9 +55,9 @@ digits_in First = 65 ∷ 0 ∷ 0 ∷ 0 ∷ 0 ∷ 0 ∷ []
 digits_in (Looking path) = digits_of_path path 0 0 top 3
 digits_in (Aliasing path) = digits_of_path path 0 0 top 2
 digits_in (Listing path) = digits_of_path path 0 0 top 1
-digits_in (Seeking search target stage) = digits_of_seek search stage
-digits_in (Sent search server id over) = digits_of_path search.path 1 2 0 0
-digits_in (Admitting search heard next) = digits_of_path search.path 0 1 0 (length heard.harvest.finds - next)
+digits_in (Seeking search target stage) = digits_of_seek search.value stage
+digits_in (Sent search server id over) = digits_of_path search.value.path 1 2 0 0
+digits_in (Admitting search heard next) = digits_of_path search.value.path 0 1 0 (length heard.value.harvest.finds - next)
 digits_in Ended = 0 ∷ 0 ∷ 0 ∷ 0 ∷ 0 ∷ 0 ∷ []
 digits_in Broken = 0 ∷ 0 ∷ 0 ∷ 0 ∷ 0 ∷ 0 ∷ []
 

@@ -118,9 +118,9 @@ Fits port question log want First = (log ≡ []) × IsLook want (Asked question)
 Fits port question log want (Aliasing path) = IsPath port question log path × IsLook want (Asked (alias_question path.last.owner))
 Fits port question log want (Looking path) = IsPath port question log path × (1 ≤ length path.sets.items) × IsLook want (Asked path.last)
 Fits port question log want (Listing path) = IsPath port question log path × IsLook want (ServersFor path.last.owner)
-Fits port question log want (Seeking search target stage) = IsSeeking port question log search target stage × IsLook want (ask_at stage target)
-Fits port question log want (Sent search server id over) = IsWaiting port question log want search server id over
-Fits port question log want (Admitting search heard next) = IsHearing port question log search heard × (next < length heard.harvest.finds) × IsAdmission want
+Fits port question log want (Seeking search target stage) = IsSeeking port question log search.value target stage × IsLook want (ask_at stage target)
+Fits port question log want (Sent search server id over) = IsWaiting port question log want search.value server id over
+Fits port question log want (Admitting search heard next) = IsHearing port question log search.value heard.value × (next < length heard.value.harvest.finds) × IsAdmission want
 Fits port question log want Ended = (answer : Answer) × (want ≡ Finish answer) × (count_sends log ≤ MOST_SENDS)
 Fits port question log want Broken = ⊥
 

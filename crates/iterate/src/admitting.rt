@@ -36,16 +36,17 @@ pub(crate) fn admit<R: Rng>(
     port: u16,
     moment: u64,
     ids: &mut R,
-    search: Search,
-    heard: Heard,
+    search: Box<Search>,
+    heard: Box<Heard>,
     next: usize,
 ) -> Result<Turn, NoMemory>
-    ensures { (question : Question) (log : List Exchange) (left : ℕ) → IsHearing port question log search heard → left_of_hearing search.path 1 ≤ left
-        → (length heard.harvest.finds < 2 ^ 64 → left_of_hearing search.path (length heard.harvest.finds - next) < left)
+    ensures { (question : Question) (log : List Exchange) (left : ℕ) → IsHearing port question log search.value heard.value → left_of_hearing search.value.path 1 ≤ left
+        → (length heard.value.harvest.finds < 2 ^ 64 → left_of_hearing search.value.path (length heard.value.harvest.finds - next) < left)
         → IfOk result (λ t. Goes port question log moment (drawing (R.stream ids.old) (R.stream ids.new)) left t.phase t.want) }
 {
     if next >= count_finds(&heard) {
-        return conclude(alloc, port, moment, ids, search, heard);
+        let search = Box::into_inner(search);
+        return conclude(alloc, port, moment, ids, search, Box::into_inner(heard));
     }
     let find = heard.harvest.finds.as_slice()[next].share()?;
     Ok(Turn {
@@ -74,14 +75,14 @@ pub(crate) fn admitted<R: Rng>(
     port: u16,
     moment: u64,
     ids: &mut R,
-    search: Search,
-    heard: Heard,
+    search: Box<Search>,
+    heard: Box<Heard>,
     next: usize,
     input: &Input,
 ) -> Result<Turn, NoMemory>
-    ensures { (question : Question) (before log : List Exchange) (want : Want) → IsHearing port question before search heard → next < length heard.harvest.finds → IsAdmission want
+    ensures { (question : Question) (before log : List Exchange) (want : Want) → IsHearing port question before search.value heard.value → next < length heard.value.harvest.finds → IsAdmission want
         → Suits want input.now → Adds before (exchange want input.now) log
-        → IfOk result (λ t. Goes port question log moment (drawing (R.stream ids.old) (R.stream ids.new)) (left_of_hearing search.path (length heard.harvest.finds - next)) t.phase t.want) }
+        → IfOk result (λ t. Goes port question log moment (drawing (R.stream ids.old) (R.stream ids.new)) (left_of_hearing search.value.path (length heard.value.harvest.finds - next)) t.phase t.want) }
 {
     if !is_passed(input) {
         return Ok(failed(alloc));

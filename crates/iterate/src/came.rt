@@ -131,6 +131,10 @@ pub(crate) fn came<R: Rng>(
     match judged(alloc, port, over, zone, id, &question, input)? {
         Verdict::Struck => go_on(alloc, ids, moment, strike(search.counted())?),
         Verdict::Cut => again(alloc, ids, search.counted(), server),
-        Verdict::Heard(heard) => { admit(alloc, port, moment, ids, search.counted(), heard, 0) }
+        Verdict::Heard(heard) => {
+            let search = Box::new(alloc, search.counted())?;
+            let heard = Box::new(alloc, heard)?;
+            admit(alloc, port, moment, ids, search, heard, 0)
+        }
     }
 }

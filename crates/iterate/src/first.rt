@@ -1,21 +1,22 @@
 //! The first look, at the question itself.
 
-ghost use Rattle.std.specs.Prelude.{◌≡◌, [], ℕ, List, IfOk};
+ghost use Rattle.std.specs.Prelude.{◌≡◌, [], ℕ, List, IfOk, IfSome};
 ghost use Rattle.undo_book.specs.declared.event.Ask.TheVariants.{Answer as Asked};
 ghost use Rattle.undo_book.specs.declared.event.Event.TheVariants.{Look};
 ghost use Rattle.undo_book.specs.declared.event.Reply.TheVariants.{Seen as SeenReply};
 ghost use Rattle.undo_book.specs.declared.event.Seen.TheVariants.{Local as SeenLocal};
 ghost use Rattle.iterate.specs.declared.want.Input.{Input as InputValue};
 ghost use Rattle.iterate.specs.declared.want.Input.TheVariants.{Reply as Replied};
-ghost use Rattle.iterate.specs.declared.want.Want.TheVariants.{Book};
+ghost use Rattle.iterate.specs.declared.want.Want.TheVariants.{Book, Finish};
 ghost use Rattle.iterate.specs.Exchanges.{Exchange, exchange, Adds};
 ghost use Rattle.iterate.specs.Looked.{seen_of, IsReplied};
 ghost use Rattle.iterate.specs.Measure.{left_in};
 ghost use Rattle.iterate.specs.Phase.{Goes, Suits, idle};
-ghost use Rattle.iterate.specs.Resolved.{IsBarred};
+ghost use Rattle.iterate.specs.Resolved.{IsBarred, IsResolved};
 ghost use Rattle.iterate.specs.Shown.{IsLocalFor};
 ghost use Rattle.rand_core.specs.Stream.{Stream};
 
+use crate::answer::Answer;
 use crate::finishing::{ended, failed, held_ending, local_ending, refused, silent};
 use crate::path::{Path, alias};
 use crate::phase::{Phase, Turn};
@@ -36,16 +37,23 @@ fn copy_question(question: &Question) -> Result<Question, NoMemory>
     })
 }
 
+/// The look with which a task begins, at its question.
+pub fn first_look(question: &Question, moment: u64) -> Result<Event, NoMemory>
+    ensures { IfOk result (λ event. event ≡ Look moment (Asked question.now)) }
+{
+    Ok(Event::Look {
+        moment,
+        ask: Ask::Answer(copy_question(question)?),
+    })
+}
+
 /// Looks at the question.
 pub(crate) fn begin(question: &Question, moment: u64) -> Result<Turn, NoMemory>
     ensures { (port : ℕ) (ids : Stream) → IfOk result (λ t. Goes port question.now [] moment (idle ids) (left_in Phase.Fresh) t.phase t.want) }
 {
     Ok(Turn {
         phase: Phase::First,
-        want: Want::Book(Event::Look {
-            moment,
-            ask: Ask::Answer(copy_question(question)?),
-        }),
+        want: Want::Book(first_look(question, moment)?),
     })
 }
 
@@ -122,5 +130,50 @@ pub(crate) fn looked_first(
     match replied(input, &question.owner, question.kind) {
         Some(what) => seen_first(alloc, question, moment, what),
         None => Ok(failed(alloc)),
+    }
+}
+
+/// The answer in which a turn ends.
+fn answer_of(turn: Turn) -> Option<Answer>
+    ensures { IfSome result (λ answer. turn.want ≡ Finish answer) }
+{
+    let Turn { phase, want } = turn;
+    drop(phase);
+    match want {
+        Want::Finish(answer) => Some(answer),
+        _ => None,
+    }
+}
+
+/// The answer of a look that settles the question.
+fn answer_seen(
+    alloc: Global,
+    question: &Question,
+    moment: u64,
+    what: Looked<'_>,
+) -> Result<Option<Answer>, NoMemory>
+    ensures { (port m : ℕ) (input : InputValue) (log : List Exchange) → IsReplied question.now input (seen_of what.entry)
+        → Adds [] (exchange (Book (Look m (Asked question.now))) input) log → IfOk result (λ answer. IfSome answer (IsResolved port question.now log)) }
+{
+    match what {
+        Looked::Unknown => Ok(None),
+        _ => Ok(answer_of(seen_first(alloc, question, moment, what)?)),
+    }
+}
+
+/// The answer to a question that its first look settles, by what came of the look: what is held, or local. No task is needed
+/// then. None where one is.
+pub fn settled(
+    alloc: Global,
+    question: &Question,
+    moment: u64,
+    input: &Input,
+) -> Result<Option<Answer>, NoMemory>
+    ensures { (port m : ℕ) (log : List Exchange) → Adds [] (exchange (Book (Look m (Asked question.now))) input.now) log
+        → Suits (Book (Look m (Asked question.now))) input.now → IfOk result (λ answer. IfSome answer (IsResolved port question.now log)) }
+{
+    match replied(input, &question.owner, question.kind) {
+        Some(what) => answer_seen(alloc, question, moment, what),
+        None => Ok(None),
     }
 }

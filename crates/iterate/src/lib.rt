@@ -49,6 +49,7 @@ mod task;
 mod laws;
 
 pub use answer::{Answer, Soa, Told};
+pub use first::{first_look, settled};
 pub use laws::{due_law, resolved_law};
 pub use limits::{MOST_ALIASES, MOST_BEGUN, MOST_DEPTH, MOST_SENDS};
 pub use path::Path;

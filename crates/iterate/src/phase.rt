@@ -31,7 +31,7 @@ pub enum Stage {
     Servers,
 }
 
-/// Where a task stands.
+/// Where a task stands. What only a search remembers has a block of its own, so that a step which needs none moves little.
 #[derive(Debug, Drop)]
 pub enum Phase {
     /// It has not begun.
@@ -52,21 +52,21 @@ pub enum Phase {
     },
     /// It looks for a server without an address.
     Seeking {
-        search: Search,
+        search: Box<Search>,
         target: Name,
         stage: Stage,
     },
     /// It asks a server, the next one of the innermost question.
     Sent {
-        search: Search,
+        search: Box<Search>,
         server: Addr,
         id: u16,
         over: Over,
     },
     /// It hands what a response taught to the book, the find of this place now.
     Admitting {
-        search: Search,
-        heard: Heard,
+        search: Box<Search>,
+        heard: Box<Heard>,
         next: usize,
     },
     /// It has answered.
@@ -106,13 +106,19 @@ pub(crate) fn advance<R: Rng>(
             search,
             target,
             stage,
-        } => sought(alloc, port, ids, moment, search, target, stage, input),
+        } => {
+            let search = Box::into_inner(search);
+            sought(alloc, port, ids, moment, search, target, stage, input)
+        }
         Phase::Sent {
             search,
             server,
             id,
             over,
-        } => came(alloc, port, moment, ids, search, server, id, over, input),
+        } => {
+            let search = Box::into_inner(search);
+            came(alloc, port, moment, ids, search, server, id, over, input)
+        }
         Phase::Admitting {
             search,
             heard,

@@ -326,7 +326,7 @@ pub(crate) fn go_on<R: Rng>(
     'going: loop {
         match choose(&current)? {
             Next::Ask(server) => return ask(alloc, ids, current, server),
-            Next::Seek(target) => return seek(moment, current, target, Stage::Address),
+            Next::Seek(target) => return seek(alloc, moment, current, target, Stage::Address),
             Next::Pass => current = supply(alloc, current, &[])?,
             Next::Close => {
                 if is_outermost(&current) {

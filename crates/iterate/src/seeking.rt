@@ -48,6 +48,7 @@ fn ask_at(stage: Stage, target: &Name) -> Result<Ask, NoMemory>
 
 /// Looks for a server without an address, the next one of the innermost question.
 pub(crate) fn seek(
+    alloc: Global,
     moment: u64,
     search: Search,
     target: Name,
@@ -59,7 +60,7 @@ pub(crate) fn seek(
     let ask = ask_at(stage, &target)?;
     Ok(Turn {
         phase: Phase::Seeking {
-            search,
+            search: Box::new(alloc, search)?,
             target,
             stage,
         },
@@ -89,7 +90,7 @@ fn seek_on<R: Rng>(
         → IfOk result (λ t. Goes port question log moment (drawing (R.stream ids.old) (R.stream ids.new)) (left_of_search search 3) t.phase t.want) }
 {
     if search.path.begun < MOST_BEGUN {
-        return seek(moment, search.begun(), target, Stage::Alias);
+        return seek(alloc, moment, search.begun(), target, Stage::Alias);
     }
     let after = supply(alloc, search, &[])?;
     go_on(alloc, ids, moment, after)
@@ -170,7 +171,7 @@ fn alias_came<R: Rng>(
                 let after = supply(alloc, search, &[])?;
                 go_on(alloc, ids, moment, after)
             } else {
-                seek(moment, search, target, Stage::Servers)
+                seek(alloc, moment, search, target, Stage::Servers)
             }
         }
         None => Ok(failed(alloc)),

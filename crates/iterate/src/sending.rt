@@ -36,7 +36,7 @@ pub(crate) fn send<R: Rng>(
     let bytes = query(alloc, id, &search.question()?)?;
     Ok(Turn {
         phase: Phase::Sent {
-            search,
+            search: Box::new(alloc, search)?,
             server,
             id,
             over,

@@ -2,13 +2,17 @@
 
 ghost use Rattle.std.specs.Prelude.{◌≡◌, ◌<◌, ◌≤◌, ◌++◌, ◌∷◌, [], IfOk, OnOk, OnErr, IsErr};
 ghost use Rattle.iterate.specs.declared.answer.Answer.{Answer};
-ghost use Rattle.iterate.specs.declared.want.Want.TheVariants.{Finish};
+ghost use Rattle.undo_book.specs.declared.event.Ask.TheVariants.{Answer as Asked};
+ghost use Rattle.undo_book.specs.declared.event.Event.TheVariants.{Look};
+ghost use Rattle.iterate.specs.declared.want.Input.TheVariants.{Begin};
+ghost use Rattle.iterate.specs.declared.want.Want.TheVariants.{Book, Finish};
 ghost use Rattle.iterate.specs.Exchanges.{exchanges_of, sent_in};
 ghost use Rattle.iterate.specs.Measure.{left_in};
 ghost use Rattle.iterate.specs.Task.{IsTask, IsDueAt};
 ghost use Rattle.iterate.specs.Told.{IsFit};
 ghost use Rattle.iterate.specs.Wanted.{MayWant, id_drawn, stream_behind};
 
+use crate::first::first_look;
 use crate::limits::MOST_SENDS;
 use crate::phase::{Phase, Turn, advance};
 use crate::want::{Input, Step, Want};
@@ -108,6 +112,35 @@ impl Task {
                 phase: Phase::Fresh,
             },
         }
+    }
+
+    /// A task that has begun at this moment, and waits for what comes of the look at its question.
+    pub fn begun(
+        alloc: Global,
+        question: Question,
+        port: u16,
+        moment: u64,
+    ) -> Result<Task, NoMemory>
+        ensures question { IfOk result (λ task. task.question ≡ question) }
+        ensures port { IfOk result (λ task. task.port ≡ port) }
+        ensures steps { IfOk result (λ task. task.steps.items ≡ record { input = Begin; want = Book (Look moment (Asked question)) } ∷ []) }
+        ensures phase { IfOk result (λ task. task.phase ≡ Phase.First) }
+    {
+        let look = first_look(&question, moment)?;
+        let mut steps = Vec::new(alloc);
+        steps.push(Step {
+            input: Input::Begin,
+            want: Want::Book(look),
+        })?;
+        Ok(Task {
+            alloc,
+            state: State {
+                question,
+                port,
+                steps,
+                phase: Phase::First,
+            },
+        })
     }
 
     /// Takes what came, and says what is wanted next.

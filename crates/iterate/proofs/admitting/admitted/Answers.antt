@@ -13,12 +13,12 @@ returns-then-not-is_passed g c = λ question before log want h within a suits ad
     let here = subst (λ (v : Want). Adds before (exchange v input) log) a.wanted adds in
     let suited = subst (λ (v : Want). Suits v input) a.wanted suits in
     turned c.failed.ensures.phase c.failed.ensures.want
-    (failing_admission c.args.port question before log a.moment c.args.moment _ (length c.args.heard.harvest.finds - c.args.next) a.find input c.args.search.path h.is_search.path here
+    (failing_admission c.args.port question before log a.moment c.args.moment _ (length c.args.heard.value.harvest.finds - c.args.next) a.find input c.args.search.value.path h.is_search.path here
     (c.is_passed.ensures c.if-not-is_passed.true a.moment a.find suited))
 
 pub returns : goal.returns
 returns g c = λ question before log want h within a suits adds.
     let here = subst (λ (v : Want). Adds before (exchange v c.args.input.now) log) a.wanted adds in
-    let count = length c.args.heard.harvest.finds in
-    c.admit.ensures question log (left_of_hearing c.args.search.path (count - c.args.next)) (hearing_more h here refl) (finds_at_least c.args.search.path (count - c.args.next) (omega (arith, within)))
-    (λ few. find_less c.args.search.path (count - c.saturating_add.result) (count - c.args.next) (omega (arith, few)) (omega (arith, within, few, c.saturating_add.ensures)))
+    let count = length c.args.heard.value.harvest.finds in
+    c.admit.ensures question log (left_of_hearing c.args.search.value.path (count - c.args.next)) (hearing_more h here refl) (finds_at_least c.args.search.value.path (count - c.args.next) (omega (arith, within)))
+    (λ few. find_less c.args.search.value.path (count - c.saturating_add.result) (count - c.args.next) (omega (arith, few)) (omega (arith, within, few, c.saturating_add.ensures)))

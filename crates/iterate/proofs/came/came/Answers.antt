@@ -1,10 +1,11 @@
-use Rattle.std.proofs.Common.{◌≡◌, ◌-◌, length, ap, ◌∙◌, subst, arith}
+use Rattle.std.proofs.Common.{◌≡◌, ◌-◌, length, sym, ap, ◌∙◌, subst, arith}
 use Rattle.std.proofs.lemmas.Result.{IfOk-weaker}
+use Rattle.dns_query.specs.declared.verdict.Heard.{Heard}
 use Rattle.iterate.specs.declared.search.Hunt.{Hunt}
 use Rattle.iterate.specs.declared.search.Search.{Search}
 use Rattle.iterate.specs.declared.want.Want.{Want}
 use Rattle.iterate.specs.Measure.{left_of_sending}
-use Rattle.iterate.specs.Phase.{Suits}
+use Rattle.iterate.specs.Phase.{IsHearing, Suits}
 use Rattle.iterate.specs.Searching.{hunt_of, question_of}
 use Rattle.undo_book.specs.declared.servers.Servers.{Servers}
 use Rattle.iterate.proofs.Coming.{counted, asked_once, same_next, meant, useless, vain, was_truncated, from_less, below, going_less, again_less, ended_less, hearing_less, hearing}
@@ -40,10 +41,12 @@ returns g c = λ question before log want w suits adds.
     let here = subst (λ (v : Want). Suits v c.args.input.now) w.wanted suits in
     let zone : c.get.result.now.zone ≡ (hunt_of search_in).servers.zone = ap (λ (s : Servers). s.zone) c.get.ensures ∙ ap (λ (h : Hunt). h.servers.zone) c.hunt.ensures in
     let judged = meant c.args.port c.args.over c.args.id c.args.input.now _ zone c.in_ok-question.ensures (rw c.in-Heard.is at (c.in_ok-judged.ensures c.args.server w.bytes here)) in
-    let after = c.counted-in-Heard.result in
-    let heard = c.in-Heard.heard in
-    let same : after ≡ counted search_in = c.counted-in-Heard.ensures (omega (arith, w.some)) in
+    let after = c.in_ok-search-in-Heard.search.value in
+    let heard = c.in_ok-heard-in-Heard.heard.value in
+    let same : after ≡ counted search_in = c.in_ok-search-in-Heard.ensures.ok ∙ c.counted-in-Heard.ensures (omega (arith, w.some)) in
     let path = ap (λ (x : Search). x.path) same in
-    c.admit.ensures question log (left_of_sending search_in.path) (hearing c.args.port question before log want search_in c.args.server c.args.id c.args.over c.args.input.now after heard same w adds judged)
+    c.admit.ensures question log (left_of_sending search_in.path)
+    (subst (λ (h : Heard). IsHearing c.args.port question log after h) (sym c.in_ok-heard-in-Heard.ensures.ok)
+    (hearing c.args.port question before log want search_in c.args.server c.args.id c.args.over c.args.input.now after c.in-Heard.heard same w adds judged))
     (below _ _ (hearing_less search_in.path after.path 1 path (omega arith)))
     (λ few. hearing_less search_in.path after.path (length heard.harvest.finds - 0) path (omega (arith, few)))

@@ -1,7 +1,10 @@
-use Rattle.std.proofs.Common.{List, [], subst}
+use Rattle.std.proofs.Common.{List, [], sym, ap, subst}
+use Rattle.iterate.specs.declared.search.Search.{Search}
 use Rattle.iterate.specs.declared.want.Want.{Want}
 use Rattle.iterate.specs.Exchanges.{Exchange, exchange, Adds}
-use Rattle.iterate.specs.Phase.{Suits}
+use Rattle.iterate.specs.Measure.{left_of_seek, left_of_sending}
+use Rattle.iterate.specs.Phase.{IsSeeking, IsWaiting, Suits}
+use Rattle.iterate.proofs.Asking.{left_same}
 use Rattle.iterate.proofs.phase.advance.Goals as goal
 
 pub returns-in-First-clause-goes : goal.returns-in-First-clause-goes
@@ -30,12 +33,16 @@ returns-in-Listing-clause-goes g c = rw c.in-Listing.is (λ before log want f su
 
 pub returns-in-Seeking-clause-goes : goal.returns-in-Seeking-clause-goes
 returns-in-Seeking-clause-goes g c = rw c.in-Seeking.is (λ before log want f suits adds.
-    c.sought.ensures f.1.moment c.args.question.now before log f.0
+    left_same c.args.port c.args.question.now log c.args.moment _ c.sought.result (ap (λ (x : Search). left_of_seek x c.in-Seeking.stage) c.into_inner-search.ensures)
+    (c.sought.ensures f.1.moment c.args.question.now before log (subst (λ (x : Search). IsSeeking c.args.port c.args.question.now before x c.in-Seeking.target c.in-Seeking.stage) (sym c.into_inner-search.ensures) f.0)
     (subst (λ (w : Want). Adds before (exchange w c.args.input.now) log) f.1.wanted adds)
-    (subst (λ (w : Want). Suits w c.args.input.now) f.1.wanted suits))
+    (subst (λ (w : Want). Suits w c.args.input.now) f.1.wanted suits)))
 
 pub returns-in-Sent-clause-goes : goal.returns-in-Sent-clause-goes
-returns-in-Sent-clause-goes g c = rw c.in-Sent.is (λ before log want f suits adds. c.came.ensures c.args.question.now before log want f suits adds)
+returns-in-Sent-clause-goes g c = rw c.in-Sent.is (λ before log want f suits adds.
+    left_same c.args.port c.args.question.now log c.args.moment _ c.came.result (ap (λ (x : Search). left_of_sending x.path) c.into_inner-search-in-Sent.ensures)
+    (c.came.ensures c.args.question.now before log want
+    (subst (λ (x : Search). IsWaiting c.args.port c.args.question.now before want x c.in-Sent.server c.in-Sent.id c.in-Sent.over) (sym c.into_inner-search-in-Sent.ensures) f) suits adds))
 
 pub returns-in-Admitting-clause-goes : goal.returns-in-Admitting-clause-goes
 returns-in-Admitting-clause-goes g c = rw c.in-Admitting.is (λ before log want f suits adds.

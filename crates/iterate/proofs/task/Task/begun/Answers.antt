@@ -1,0 +1,12 @@
+use Rattle.std.proofs.Common.{[], ◌∷◌, List, ◌∙◌, ap}
+use Rattle.undo_book.specs.declared.event.Event.{Event}
+use Rattle.iterate.specs.declared.want.Input.TheVariants.{Begin}
+use Rattle.iterate.specs.declared.want.Step.{Step}
+use Rattle.iterate.specs.declared.want.Want.TheVariants.{Book}
+use Rattle.iterate.proofs.Settling.{looking}
+use Rattle.iterate.proofs.task.Task.begun.Goals as goal
+
+pub invariant_of-result : goal.invariant_of-result
+invariant_of-result c =
+    let first : Event → List Step = λ look. record { input = Begin; want = Book look } ∷ [] in
+    looking c.args.port c.args.question c.args.moment c.push.new.self.items (rw c.new-steps.ensures.items at c.in_ok-push.ensures.items ∙ ap first c.in_ok-look.ensures)
