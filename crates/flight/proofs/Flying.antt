@@ -26,7 +26,7 @@ pub asked_on : {K : Type 0} {sends : K → List ℕ → Type 0} {port : ℕ} {oc
     → IsAskedBy sends port octets client query task → task'.question ≡ task.question → task'.port ≡ task.port → IsAskedBy sends port octets client query task'
 asked_on asked question port = record { own = asked.own; good = asked.good; question = question ∙ asked.question; port_is = port ∙ asked.port_is }
 
-suits : {D : Type 0} {calls : Calls D} {seen : D → ℕ} {hears : Hears} {n n' : ℕ} {want : Want} {input : Input} → Answered calls seen hears n want input n' → Suits want input
+pub suits : {D : Type 0} {calls : Calls D} {seen : D → ℕ} {hears : Hears} {n n' : ℕ} {want : Want} {input : Input} → Answered calls seen hears n want input n' → Suits want input
 suits (replied known call is) = tt
 suits (refused known call is) = tt
 suits (came heard) = tt

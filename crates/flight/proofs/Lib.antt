@@ -5,3 +5,4 @@ mod Counting
 mod Queueing
 mod Accounting
 mod Flights
+mod Looking

@@ -5,10 +5,14 @@ use Rattle.dns_wire.specs.declared.server.query.Query.{Query}
 use Rattle.dns_wire.specs.declared.server.query.Asked.TheVariants.{Good}
 use Rattle.dns_wire.specs.Server.Asking.{AsksFor}
 use Rattle.iterate.specs.declared.task.State.{State}
+use Rattle.iterate.specs.declared.want.Input.{Input}
 use Rattle.iterate.specs.declared.want.Step.{Step}
+use Rattle.iterate.specs.declared.want.Want.TheVariants.{Book}
+use Rattle.undo_book.specs.declared.event.Ask.TheVariants.{Answer as Asked}
+use Rattle.undo_book.specs.declared.event.Event.TheVariants.{Look}
 use Rattle.front_workers.specs.Leads.{Calls, Ticks}
 use Rattle.flight.specs.declared.world.Heard.{Heard}
-use Rattle.flight.specs.Flight.{Sent, Hears, Awaits}
+use Rattle.flight.specs.Flight.{Sent, Hears, Answered, Awaits}
 use Rattle.flight.specs.Told.{IsHeard}
 
 -- The client may have sent the octets, they are this query, and the task is for its question.
@@ -17,6 +21,13 @@ pub record IsAskedBy {K : Type 0} (sends : K → List ℕ → Type 0) (port : �
   pub good : AsksFor octets (Good query)
   pub question : task.question ≡ query.question
   pub port_is : task.port ≡ port
+
+-- A question began by a look at it, at a reading of the clock: this came of that, and this is the number of the desk's latest call that it knows of.
+pub record HasLooked {D C : Type 0} (calls : Calls D) (seen : D → ℕ) (hears : Hears) (ticks : Ticks C) (question : Question) (moment : ℕ) (came : Input) (n : ℕ) : Type 0 where
+  pub clock : C
+  pub clock' : C
+  pub ticked : ticks clock moment clock'
+  pub answered : Answered calls seen hears 0 (Book (Look moment (Asked question))) came n
 
 -- A question waited for the reply to a query, of which this was heard.
 pub record HasHeard {D C : Type 0} (calls : Calls D) (seen : D → ℕ) (hears : Hears) (ticks : Ticks C) (port : ℕ) (question : Question) (steps : List Step) (heard : Heard) (n : ℕ) : Type 0 where

@@ -118,7 +118,8 @@ impl<D: Numbered, L: Line, C: Clock, G: Rng, K: Client> Flight<D, L, C, G, K> {
             match want {
                 Want::Book(event) => input = ask::<D, L>(desk, &mut asking.seen, event),
                 Want::Finish(answer) => {
-                    tell::<D, L, C, K, W>(self.alloc, world, asking, octets, &answer);
+                    let Asking { client, query, .. } = asking;
+                    tell::<D, L, C, K, W>(self.alloc, world, client, &query, octets, &answer);
                     return;
                 }
                 Want::Send {

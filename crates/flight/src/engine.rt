@@ -6,7 +6,6 @@ ghost use Rattle.dns_wire.specs.Server.Asking.{AsksFor};
 ghost use Rattle.front_workers.specs.Counts.{Rises};
 ghost use Rattle.flight.specs.Waiting.{EarlyGoOn, IsAccounted, IsPatient, IsPatientUntil, OthersGoOn, WaitsFrom, outstanding, since_at, time_left};
 
-use crate::asking::Asking;
 use crate::job::Job;
 use crate::line::Line;
 use crate::numbered::Numbered;
@@ -14,9 +13,7 @@ use crate::table::{PATIENCE, Table};
 use crate::telling::fault_of;
 use crate::world::{Client, Heard, Unserved, World};
 use command_text::Clock;
-use dns_wire::{Asked, Query, read_question};
-use front_workers::copy_question;
-use iterate::{Input, Task};
+use dns_wire::{Asked, read_question};
 use rand_core::Rng;
 use std::alloc::Global;
 use std::marker::Model;
@@ -98,41 +95,6 @@ impl<D: Numbered, L: Line, C: Clock, G: Rng, K: Client> Flight<D, L, C, G, K> {
             Asked::Fault(rcode) => world.give(client, octets, &fault_of(octets, rcode)),
             Asked::Good(query) => self.begin_query(desk, world, now, client, octets, query),
         }
-    }
-
-    /// Begins the question of a query.
-    fn begin_query<W: World<D, L, C, K>>(
-        &mut self,
-        desk: &mut D,
-        world: &mut W,
-        now: u64,
-        client: K,
-        octets: &[u8],
-        query: Query,
-    )
-        requires own { K.sent client octets.now }
-        requires good { AsksFor octets.now (Good query) }
-        ensures port { W.server_port world.new ≡ W.server_port world.old }
-        ensures accounted { IsAccounted 1 (outstanding self.old) (W.counts world.old) (outstanding self.new) (W.counts world.new) }
-        ensures unheard { (W.counts world.new).listened ≡ (W.counts world.old).listened }
-        ensures unexpired { (W.counts world.new).expired ≡ (W.counts world.old).expired }
-        ensures waits { WaitsFrom now self.old self.new }
-        ensures within { outstanding self.old ≤ self.old.limit → outstanding self.new ≤ self.old.limit }
-        ensures limit { self.new.limit ≡ self.old.limit }
-    {
-        let Ok(question) = copy_question(&query.question) else {
-            world.fail(client, octets, Unserved::NoMemory);
-            return;
-        };
-        let port = world.server_port();
-        let asking = Asking {
-            client,
-            query,
-            port,
-            task: Task::new(self.alloc, question, port),
-            seen: 0,
-        };
-        self.drive(desk, world, now, asking, octets, Input::Begin);
     }
 
     /// Listens on the line under a key, and ends its exchange where something came. There may be nothing yet, and no line: an

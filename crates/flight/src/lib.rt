@@ -22,6 +22,8 @@ mod table;
 mod telling;
 // Questions in flight.
 mod engine;
+// How a question begins.
+mod beginning;
 // How a question goes on.
 mod driving;
 

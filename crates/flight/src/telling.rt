@@ -1,7 +1,7 @@
 //! What a client is told.
 
 ghost use Rattle.std.specs.Prelude.{◌≡◌};
-ghost use Rattle.dns_wire.specs.declared.server.query.Asked.TheVariants.{Fault};
+ghost use Rattle.dns_wire.specs.declared.server.query.Asked.TheVariants.{Fault, Good};
 ghost use Rattle.dns_wire.specs.Server.Asking.{AsksFor};
 ghost use Rattle.front_workers.specs.Serves.{fault_octets};
 ghost use Rattle.iterate.specs.Told.{IsFit};
@@ -15,7 +15,7 @@ use crate::numbered::Numbered;
 use crate::world::{Client, Unserved, World};
 use command_text::Clock;
 use dns_query::Over;
-use dns_wire::{Rcode, fault_reply};
+use dns_wire::{Query, Rcode, fault_reply};
 use front_workers::write_answer;
 use iterate::Answer;
 use std::alloc::Global;
@@ -46,19 +46,21 @@ pub(crate) fn refuse<D: Numbered, L: Line, C: Clock, K: Client, W: World<D, L, C
 pub(crate) fn tell<D: Numbered, L: Line, C: Clock, K: Client, W: World<D, L, C, K>>(
     alloc: Global,
     world: &mut W,
-    asking: Asking<K>,
+    client: K,
+    query: &Query,
     octets: &[u8],
     answer: &Answer,
 )
-    requires asked { IsAskedBy K.sent asking.port octets.now asking.client asking.query asking.task }
-    requires lands { Lands D.calls D.seen L.hears C.ticks (W.server_port world.old) asking.query.question answer.now }
+    requires own { K.sent client octets.now }
+    requires good { AsksFor octets.now (Good query.now) }
+    requires lands { Lands D.calls D.seen L.hears C.ticks (W.server_port world.old) query.now.question answer.now }
     requires fit { IsFit answer.now }
     ensures port { W.server_port world.new ≡ W.server_port world.old }
     ensures settled { CountsSettled (W.counts world.old) (W.counts world.new) }
 {
-    match write_answer(alloc, Over::Udp, octets, &asking.query, answer) {
-        Ok(Some(reply)) => world.give(asking.client, octets, &reply),
-        Ok(None) => world.pass_over(asking.client, octets),
-        Err(_) => refuse::<D, L, C, K, W>(world, asking, octets, Unserved::NoMemory),
+    match write_answer(alloc, Over::Udp, octets, query, answer) {
+        Ok(Some(reply)) => world.give(client, octets, &reply),
+        Ok(None) => world.pass_over(client, octets),
+        Err(_) => world.fail(client, octets, Unserved::NoMemory),
     }
 }

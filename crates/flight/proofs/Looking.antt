@@ -1,0 +1,73 @@
+-- How a question begins.
+use Rattle.std.proofs.Common.{◌≡◌, ℕ, List, [], ◌∷◌, Option, Some, IfSome, refl, subst}
+use Rattle.dns_text.specs.declared.record.Question.{Question}
+use Rattle.undo_book.specs.declared.event.Ask.TheVariants.{Answer as Asked}
+use Rattle.undo_book.specs.declared.event.Event.{Event}
+use Rattle.undo_book.specs.declared.event.Event.TheVariants.{Look}
+use Rattle.iterate.specs.declared.answer.Answer.{Answer}
+use Rattle.iterate.specs.declared.want.Input.{Input}
+use Rattle.iterate.specs.declared.want.Input.TheVariants.{Begin}
+use Rattle.iterate.specs.declared.want.Step.{Step}
+use Rattle.iterate.specs.declared.want.Want.TheVariants.{Book, Finish}
+use Rattle.iterate.specs.Exchanges.{Exchange, exchange, Adds}
+use Rattle.iterate.specs.Phase.{Suits}
+use Rattle.iterate.specs.Resolved.{IsResolved}
+use Rattle.iterate.specs.Wanted.{id_drawn}
+use Rattle.rand_core.specs.Stream.{Stream}
+use Rattle.front_workers.specs.Leads.{Calls, Ticks, Draws}
+use Rattle.flight.specs.Asking.{HasLooked}
+use Rattle.flight.specs.Flight.{Hears, Answered, Flies, begins, goes_on, Lands}
+use Rattle.flight.proofs.Flying.{suits}
+
+-- the first step of a task
+abbrev pub look_step : Question → ℕ → Step
+look_step question moment = record { input = Begin; want = Book (Look moment (Asked question)) }
+
+module _ {D C : Type 0} {calls : Calls D} {seen : D → ℕ} {hears : Hears} {ticks : Ticks C} {question : Question} {moment : ℕ} {came : Input} {n : ℕ} where
+  pub looked_by : (clock clock' : C) {event : Event} → event ≡ Look moment (Asked question) → ticks clock moment clock' → Answered calls seen hears 0 (Book event) came n
+      → HasLooked calls seen hears ticks question moment came n
+  looked_by clock clock' is ticked answered =
+      record { clock = clock; clock' = clock'; ticked = ticked; answered = subst (λ (e : Event). Answered calls seen hears 0 (Book e) came n) is answered }
+
+  -- A task that has begun by the look goes on with what came of it. No number was drawn, so that the words may be any.
+  pub looked_flies : HasLooked calls seen hears ticks question moment came n → (port : ℕ) (words : Stream) (steps : List Step) → steps ≡ look_step question moment ∷ []
+      → Flies calls seen hears ticks port question steps came n
+  looked_flies looked port words steps is =
+      let draws : Draws ticks port question [] Begin (looked.clock, words) (Book (Look moment (Asked question))) steps (looked.clock', words) = record {
+        wants = record { moment = moment; ticked = looked.ticked; grown = is; id = id_drawn words; may = refl };
+        identifier = refl;
+        taken = refl;
+      } in
+      goes_on begins draws looked.answered
+
+  -- The look settles the question.
+  pub looked_resolves : HasLooked calls seen hears ticks question moment came n → (port : ℕ) (answer : Answer) (found : Option Answer) → found ≡ Some answer
+      → ((port m : ℕ) (log : List Exchange) → Adds [] (exchange (Book (Look m (Asked question))) came) log → Suits (Book (Look m (Asked question))) came → IfSome found (IsResolved port question log))
+      → IsResolved port question (exchange (Book (Look moment (Asked question))) came ∷ []) answer
+  looked_resolves looked port answer found is settles =
+      let log = exchange (Book (Look moment (Asked question))) came ∷ [] in
+      subst (λ (a : Option Answer). IfSome a (IsResolved port question log)) is (settles port moment log (record { adds = refl }) (suits looked.answered))
+
+  -- A task may give the answer then.
+  pub looked_lands : HasLooked calls seen hears ticks question moment came n → (port : ℕ) (words : Stream) (answer : Answer)
+      → IsResolved port question (exchange (Book (Look moment (Asked question))) came ∷ []) answer → Lands calls seen hears ticks port question answer
+  looked_lands looked port words answer resolved =
+      let first = look_step question moment in
+      let last : Step = record { input = came; want = Finish answer } in
+      let draws : Draws ticks port question (first ∷ []) came (looked.clock, words) (Finish answer) (first ∷ last ∷ []) (looked.clock', words) = record {
+        wants = record { moment = moment; ticked = looked.ticked; grown = refl; id = id_drawn words; may = resolved };
+        identifier = refl;
+        taken = refl;
+      } in
+      record {
+        steps = first ∷ last ∷ [];
+        n = n;
+        ends = record {
+          before = first ∷ [];
+          input = came;
+          l = (looked.clock, words);
+          l' = (looked.clock', words);
+          flies = looked_flies looked port words (first ∷ []) refl;
+          draws = draws;
+        };
+      }
