@@ -331,6 +331,40 @@ def check_referred(checks):
             has_ended(checks, "referrals", service, crowd)
 
 
+# Where a service listens, where it is asked, a name server's address that leads to it, and whether its replies leave from there.
+OWN = [
+    (HOST, HOST, HOST, True),
+    (HOST, HOST, "::ffff:7f00:1", True),
+    ("0.0.0.0", HOST, HOST, True),
+    ("0.0.0.0", HOST, "127.0.0.9", False),
+    ("::", "::1", "::1", True),
+    ("::", "::1", "127.0.0.9", False),
+]
+
+
+def check_own(checks, listens, host, own, replies):
+    """A name server that is the service itself is not asked: who asks about its zone is told so at once, and keeps no exchange.
+
+    A TCP client's worker asks the service, which does not ask itself."""
+    name = f"own address {own}, listening at {listens}"
+    try:
+        service = Service([f"{HOST}@1"], host=host, listens=listens)
+    except (OSError, RuntimeError):
+        return checks.skip(name, f"this machine has no {host}")
+    with service, LateServer(at_once) as server, Crowd(service) as crowd:
+        service.obey(f"stub_add test. {server.hint}", f"stub_add own.test. {own}@{service.port}")
+        began = time.monotonic()
+        crowd.ask([f"n{place}.own.test." for place in range(600)], 200)
+        if replies:
+            checks.equal(f"{name}: over TCP", service.ask("n600.own.test.", over="tcp").words(), FAILED)
+        took = time.monotonic() - began
+        checks.equal(name, set(crowd.words()), {FAILED})
+        checks.tell(f"{name}: at once", None if took < EXCHANGE else f"{took:.2f} seconds")
+        checks.equal(f"{name}: a line each", service.log().count(FAULT), 600 + replies)
+        checks.equal(f"{name}: others", service.ask("n7.test.").words(), answered("n7.test."))
+        has_ended(checks, name, service, crowd)
+
+
 def check_held(checks):
     """What is held, in the tables or in the cache, is answered before any of 200 questions that wait; so is an operator."""
     gate = threading.Event()
@@ -504,6 +538,8 @@ def main():
     checks.make(check_no_tcp)
     checks.make(check_dead_first)
     checks.make(check_referred)
+    for places in OWN:
+        checks.make(check_own, *places)
     checks.make(check_held)
     checks.make(check_stop, "udp", 1)
     checks.make(check_stop, "udp", 4)

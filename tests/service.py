@@ -134,8 +134,9 @@ class NotReady(RuntimeError):
 class Service:
     """A service that is ready, until it is stopped; at the end of a `with` it is ended whatever it does."""
 
-    def __init__(self, hints, *options, host=HOST, environment=None, most_descriptors=None, program=RESOLVER):
-        self.host = host
+    def __init__(self, hints, *options, host=HOST, listens=None, environment=None, most_descriptors=None, program=RESOLVER):
+        """It is asked and commanded at `host`, and listens there, or else at `listens`."""
+        self.host, self.listens = host, listens or host
         self.command = [program, "serve"]
         if most_descriptors:
             self.command = ["prlimit", f"--nofile={most_descriptors}", *self.command]
@@ -153,7 +154,7 @@ class Service:
         raise NotReady(self.process.returncode, told)
 
     def _start(self, arguments, environment):
-        places = ["--listen", f"{self.host}@{self.port}", "--control", f"{self.host}@{self.control_port}"]
+        places = ["--listen", f"{self.listens}@{self.port}", "--control", f"{self.host}@{self.control_port}"]
         self.process = subprocess.Popen(
             self.command + places + arguments, stdin=subprocess.DEVNULL, stdout=subprocess.PIPE, stderr=self.errors, env=environment,
         )

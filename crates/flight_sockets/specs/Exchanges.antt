@@ -2,10 +2,13 @@
 use Rattle.std.specs.Prelude.{◌≡◌, ◌⊎◌, ℕ, Option, List}
 use Rattle.std.specs.declared.net.SocketAddr.{SocketAddr}
 use Rattle.mio.specs.declared.token.Token.{Token}
+use Rattle.dns_text.specs.declared.addr.Addr.{Addr}
+use Rattle.dns_query.specs.declared.over.Over.{Over}
 use Rattle.dns_query.specs.declared.over.Over.TheVariants.{Udp as OverUdp, Tcp as OverTcp}
 use Rattle.dns_sockets.specs.Place.{IsPlaceOf}
 use Rattle.front_workers.specs.Framing.{framed}
 use Rattle.server_lines.specs.Line.{LineState, WentFrom}
+use Rattle.server_lines.specs.Own.{IsOwn}
 use Rattle.flight.specs.declared.world.Heard.{Heard}
 use Rattle.flight.specs.declared.world.Heard.TheVariants.{Nothing, Came}
 use Rattle.flight.specs.Flight.{Sent}
@@ -54,6 +57,12 @@ HasNoneYet drained reported_again token Closed = ⊥
 abbrev pub IsQuiet : {S : Type 0} → (S → List ℕ → Type 0) → (S → Type 0) → (S → Token → Type 0) → ExchangeState → Type 0
 IsQuiet {S} sent drained reported_again exchange =
     exchange.asked.over ≡ OverUdp → (socket : S) × sent socket exchange.asked.query × (drained socket ⊎ reported_again socket exchange.token)
+
+-- Over UDP no exchange with a server is to be had: no socket was, or one that is connected to its place failed, or the place is the service's own.
+abbrev pub IsNotToBeHad : {S : Type 0} → Type 0 → (S → SocketAddr → Type 0) → (S → SocketAddr → Type 0) → (S → Type 0) → SocketAddr → Addr → Over → Type 0
+IsNotToBeHad {S} failed opened is_at failed' service server over =
+    over ≡ OverUdp → failed ⊎ ((socket : S) × (place : SocketAddr) × IsPlaceOf server place × opened socket place
+    × (failed' socket ⊎ ((from : SocketAddr) × is_at socket from × IsOwn service from place)))
 
 -- So it is where nothing came yet, or a reply did.
 abbrev pub OnUnbroken : Heard → Type 0 → Type 0

@@ -20,6 +20,8 @@ const WAKE: Token = Token(usize::MAX - 1);
 pub struct UdpListener<S = UdpSocket> {
     pub(crate) poll: Poll,
     pub(crate) socket: S,
+    /// Where the service listens.
+    pub(crate) place: SocketAddr,
 }
 
 /// So many listeners at one address, each for a worker of its own and with what wakes that worker. `[::]` takes IPv4 as
@@ -36,11 +38,16 @@ pub fn listen_each<R: Net>(
     let mut wakers = Vec::new(alloc);
     for socket in bind_each(rt, alloc, addr, count)? {
         let poll = Poll::new(rt)?;
+        let place = socket.local_addr()?;
         let mut socket = UdpSocket::from_std(socket);
         poll.registry()
             .register(&mut socket, SERVICE, Interest::READABLE)?;
         wakers.push(Waker::new(poll.registry(), WAKE)?)?;
-        listeners.push(UdpListener { poll, socket })?;
+        listeners.push(UdpListener {
+            poll,
+            socket,
+            place,
+        })?;
     }
     Ok((listeners, wakers))
 }

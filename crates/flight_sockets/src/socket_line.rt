@@ -1,11 +1,11 @@
 //! An exchange over a socket of its own.
 
-ghost use Rattle.std.specs.Prelude.{◌≡◌, length, IfOk};
+ghost use Rattle.std.specs.Prelude.{◌≡◌, length, IfOk, OnErr};
 ghost use Rattle.dns_sockets.specs.declared.socket_exchange.TheConstants.{MOST_MESSAGE};
 ghost use Rattle.flight.specs.declared.world.Heard.TheVariants.{Nothing};
 ghost use Rattle.flight.specs.Flight.{query_to};
 ghost use Rattle.flight.specs.Told.{IsHeard};
-ghost use Rattle.flight_sockets.specs.Exchanges.{IsQuiet};
+ghost use Rattle.flight_sockets.specs.Exchanges.{IsNotToBeHad, IsQuiet};
 ghost use Rattle.flight_sockets.specs.Replies.{IsReplyTo};
 
 use crate::way::Way;
@@ -18,6 +18,7 @@ use server_lines::{ReadyNet, TcpLine, UdpLine};
 use std::alloc::Global;
 use std::io;
 use std::marker::Model;
+use std::net::SocketAddr;
 
 /// An exchange over a socket of its own. Contracts see the query that went out, and what the socket is reported under.
 ///
@@ -52,23 +53,26 @@ impl<R: ReadyNet> Line for SocketLine<R> {
 }
 
 impl<R: ReadyNet> SocketLine<R> {
-    /// Sends a query, or begins to connect, and has the poll watch for what comes.
+    /// Sends a query, or begins to connect, and has the poll watch for what comes. The service listens here: what it takes
+    /// queries at is not asked over UDP, and so not over TCP, which a cut reply over UDP comes before.
     pub fn open(
         rt: &R,
         alloc: Global,
         registry: &Registry,
         token: Token,
+        service: SocketAddr,
         server: &Addr,
         over: Over,
         query: Shared<Octets>,
     ) -> io::Result<SocketLine<R>>
         ensures asked { IfOk result (λ line. line.asked ≡ query_to server.now over query) }
         ensures token { IfOk result (λ line. line.token ≡ token) }
+        ensures failed { OnErr result (IsNotToBeHad R.failed R.Datagrams.opened R.Datagrams.is_at R.Datagrams.failed service server.now over) }
     {
         let place = place_of(server);
         let octets = query.get().as_slice();
         let way = match over {
-            Over::Udp => Way::Udp(UdpLine::begin(rt, registry, token, place, octets)?),
+            Over::Udp => Way::Udp(UdpLine::begin(rt, registry, token, service, place, octets)?),
             Over::Tcp => Way::Tcp(TcpLine::begin(rt, alloc, registry, token, place, octets)?),
         };
         Ok(SocketLine {

@@ -101,12 +101,13 @@ impl<'a, R: ReadyNet + Log + Timing, S: ServiceSocket> UdpWorker<'a, R, S> {
         self.failures = self.failures.saturating_add(1);
     }
 
-    /// Takes one datagram. Whether more may be there.
+    /// Takes one datagram, at this millisecond. Whether more may be there.
     fn take<D: Numbered, C: Clock, G: Rng>(
         &mut self,
         desk: &mut D,
         questions: &mut Questions<D, C, G, R>,
         room: &mut [u8; ROOM],
+        now: u64,
     ) -> io::Result<bool>
         ensures drained { IfOk result (λ more. more ≡ false → S.drained) }
         ensures accounts { Accounts (outstanding questions.old) self.old (outstanding questions.new) self.new }
@@ -119,7 +120,6 @@ impl<'a, R: ReadyNet + Log + Timing, S: ServiceSocket> UdpWorker<'a, R, S> {
             Taken::Passed => {}
             Taken::TooLong(peer) => self.sockets.refuse(peer, room),
             Taken::Query(client) => {
-                let now = self.millis.now();
                 let octets = &room[..client.count()];
                 self.count_taken();
                 questions.begin(desk, &mut self.sockets, now, client, octets);
@@ -142,11 +142,13 @@ impl<'a, R: ReadyNet + Log + Timing, S: ServiceSocket> UdpWorker<'a, R, S> {
         ensures failures { self.new.failures ≡ self.old.failures }
     {
         let begun = self.millis.now();
+        let mut now = begun;
         for _ in 0..MOST_TAKEN {
-            if !self.take(desk, questions, room)? {
+            if !self.take(desk, questions, room, now)? {
                 return Ok(false);
             }
-            if self.millis.now().saturating_sub(begun) >= MOST_TAKING {
+            now = self.millis.now();
+            if now.saturating_sub(begun) >= MOST_TAKING {
                 return Ok(true);
             }
         }

@@ -9,7 +9,7 @@ ghost use Rattle.flight.specs.declared.world.Heard.TheVariants.{Nothing};
 ghost use Rattle.flight.specs.Counted.{CountsListened, CountsOpened};
 ghost use Rattle.flight.specs.Flight.{query_to};
 ghost use Rattle.flight.specs.Told.{IsHeard};
-ghost use Rattle.flight_sockets.specs.Exchanges.{IsQuiet};
+ghost use Rattle.flight_sockets.specs.Exchanges.{IsNotToBeHad, IsQuiet};
 ghost use Rattle.flight_sockets.specs.Replies.{IsReplyTo};
 ghost use Rattle.flight_sockets.specs.Taken.{IsTakenFrom};
 
@@ -170,12 +170,14 @@ impl<'a, D: Numbered, C: Clock, R: ReadyNet + Log, S: ServiceSocket> World<
         over: Over,
         query: Shared<Octets>,
     ) -> Option<SocketLine<R>>
-        // As of any world, and the exchange is reported under the key.
+        // As of any world, and the exchange is reported under the key; over UDP there is one unless the network
+        // failed, or the server is the service itself.
         ensures asked { IfSome result (λ line. line.asked ≡ query_to server.now over query) }
         ensures port { self.new.server_port ≡ self.old.server_port }
         ensures opened { OnSome result (CountsOpened self.old.counts self.new.counts) }
         ensures unopened { IfNone result (self.new.counts ≡ self.old.counts) }
         ensures reported { IfSome result (λ line. line.token.0 ≡ key) }
+        ensures failed { IfNone result (IsNotToBeHad R.failed R.Datagrams.opened R.Datagrams.is_at R.Datagrams.failed self.old.listener.place server.now over) }
     {
         let registry = self.listener.poll.registry();
         match SocketLine::open(
@@ -183,6 +185,7 @@ impl<'a, D: Numbered, C: Clock, R: ReadyNet + Log, S: ServiceSocket> World<
             self.alloc,
             registry,
             Token(key),
+            self.listener.place,
             server,
             over,
             query,

@@ -1,2 +1,3 @@
 pub mod Line
+pub mod Own
 pub mod Wanting

@@ -7,6 +7,8 @@
 mod waiting;
 // Sockets and connections to name servers, none of whose calls waits.
 mod ready_net;
+// Places at which the service itself takes queries.
+mod own;
 // A socket by which a query goes out and its reply comes in.
 mod udp_line;
 // A query behind its length, and what has left of it.

@@ -1,6 +1,6 @@
 //! The network in which name servers are, where no call waits.
 
-ghost use Rattle.std.specs.Prelude.{◌≡◌, ℕ, List, ◌≤◌, length, take, IfOk, IfErr, OnOk};
+ghost use Rattle.std.specs.Prelude.{◌≡◌, ◌≢◌, ℕ, List, ◌≤◌, length, take, IfOk, IfErr, OnOk, OnErr};
 ghost use Rattle.std.specs.IoError.{error_kind};
 ghost use Rattle.std.specs.declared.net.SocketAddr.{SocketAddr};
 ghost use Rattle.mio.specs.declared.token.Token.{Token};
@@ -17,6 +17,9 @@ pub trait ReadySocket: Drop {
     /// It is connected to this place.
     ghost opened: { Self → SocketAddr → Type 0 };
 
+    /// What leaves by it comes from this place.
+    ghost is_at: { Self → SocketAddr → Type 0 };
+
     /// What comes is reported under this token.
     ghost reported: { Self → Token → Type 0 };
 
@@ -32,19 +35,30 @@ pub trait ReadySocket: Drop {
     /// What had come and was not taken is reported once more, under this token.
     ghost reported_again: { Self → Token → Type 0 };
 
+    /// A call failed, and not for want of a datagram or by a signal.
+    ghost failed: { Self → Type 0 };
+
+    /// From where its datagrams come.
+    fn place(&self) -> io::Result<SocketAddr>
+        ensures place { IfOk result (λ place. is_at self.now place) }
+        ensures failed { OnErr result (failed self.now) };
+
     fn send_datagram(&self, query: &[u8]) -> io::Result<()>
-        ensures { OnOk result (sent self.now query.now) };
+        ensures sent { OnOk result (sent self.now query.now) }
+        ensures failed { OnErr result (failed self.now) };
 
     /// The next datagram: how many octets of the room it fills.
     fn take_datagram(&self, room: &mut [u8]) -> io::Result<usize>
         ensures within { IfOk result (λ count. count ≤ length room.new) }
         ensures came { IfOk result (λ count. came self.now (take count room.new)) }
-        ensures drained { IfErr result (λ error. error_kind error ≡ ErrorKind.WouldBlock → drained self.now) };
+        ensures drained { IfErr result (λ error. error_kind error ≡ ErrorKind.WouldBlock → drained self.now) }
+        ensures failed { IfErr result (λ error. error_kind error ≢ ErrorKind.WouldBlock → error_kind error ≢ ErrorKind.Interrupted → failed self.now) };
 
     /// Has the poll report what is there once more.
     fn report_again(&mut self, registry: &Registry, token: Token) -> io::Result<()>
         ensures kept { self.new ≡ self.old }
-        ensures again { OnOk result (reported_again self.new token) };
+        ensures again { OnOk result (reported_again self.new token) }
+        ensures failed { OnErr result (failed self.new) };
 }
 
 /// A connection to one server, whose reads and writes tell where they would wait.
@@ -71,6 +85,9 @@ pub trait ReadyNet {
     /// A connection to one server.
     type Connection: ReadyConnection;
 
+    /// No socket was to be had, or no way to a place is known.
+    ghost failed: { Type 0 };
+
     /// A socket at a port that the system draws, and has the poll watch for what comes.
     fn open_socket(
         &self,
@@ -79,7 +96,8 @@ pub trait ReadyNet {
         place: SocketAddr,
     ) -> io::Result<Self::Datagrams>
         ensures opened { IfOk result (λ socket. Self.Datagrams.opened socket place) }
-        ensures reported { IfOk result (λ socket. Self.Datagrams.reported socket token) };
+        ensures reported { IfOk result (λ socket. Self.Datagrams.reported socket token) }
+        ensures failed { OnErr result failed };
 
     /// Begins to connect, and has the poll watch for what comes.
     fn begin_connection(
@@ -89,12 +107,15 @@ pub trait ReadyNet {
         place: SocketAddr,
     ) -> io::Result<Self::Connection>
         ensures connected { IfOk result (λ connection. Self.Connection.connected connection place) }
-        ensures reported { IfOk result (λ connection. Self.Connection.reported connection token) };
+        ensures reported { IfOk result (λ connection. Self.Connection.reported connection token) }
+        ensures failed { OnErr result failed };
 }
 
 impl ReadySocket for UdpSocket {
     // Nothing is known of the system's sockets.
     ghost opened = { λ _ _. Unit {0} };
+
+    ghost is_at = { λ _ _. Unit {0} };
 
     ghost reported = { λ _ _. Unit {0} };
 
@@ -105,6 +126,12 @@ impl ReadySocket for UdpSocket {
     ghost drained = { λ _. Unit {0} };
 
     ghost reported_again = { λ _ _. Unit {0} };
+
+    ghost failed = { λ _. Unit {0} };
+
+    fn place(&self) -> io::Result<SocketAddr> {
+        self.local_addr()
+    }
 
     fn send_datagram(&self, query: &[u8]) -> io::Result<()> {
         self.send(query)?;
@@ -140,6 +167,9 @@ impl<R: Net> ReadyNet for R {
     type Datagrams = UdpSocket;
 
     type Connection = TcpStream;
+
+    // Nor of why it gives none.
+    ghost failed = { Unit {0} };
 
     fn open_socket(
         &self,

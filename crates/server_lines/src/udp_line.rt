@@ -1,14 +1,18 @@
 //! A query and its reply over datagrams, without waiting.
 
-ghost use Rattle.std.specs.Prelude.{◌≡◌, ◌≤◌, ◌⊎◌, length, take, IfOk, IfSome, IsNone};
+ghost use Rattle.std.specs.Prelude.{◌≡◌, ◌≤◌, ◌⊎◌, length, take, IfOk, IfSome, IsNone, OnErr};
+ghost use Rattle.std.specs.declared.net.SocketAddr.{SocketAddr};
 ghost use Rattle.dns_sockets.specs.declared.socket_exchange.TheConstants.{MOST_MESSAGE};
 ghost use Rattle.dns_sockets.specs.Fits.{Fits};
+ghost use Rattle.server_lines.specs.Own.{IsOwn};
 
+use crate::own::is_own;
 use crate::ready_net::{ReadyNet, ReadySocket};
 use crate::waiting::would_wait;
 use dns_sockets::{MOST_MESSAGE, fits};
 use mio::{Registry, Token};
 use std::io;
+use std::io::ErrorKind;
 use std::marker::Model;
 use std::net::SocketAddr;
 
@@ -29,19 +33,26 @@ impl<S> Model for UdpLine<S> {
 }
 
 impl<S: ReadySocket> UdpLine<S> {
-    /// Sends a query. It fails where no descriptor is to be had, or where the system knows no way to the place.
+    /// Sends a query. It fails where no descriptor is to be had, where the system knows no way to the place, or where the
+    /// service itself, which listens here, takes queries there.
     pub fn begin<R: ReadyNet<Datagrams = S>>(
         rt: &R,
         registry: &Registry,
         token: Token,
+        service: SocketAddr,
         place: SocketAddr,
         query: &[u8],
     ) -> io::Result<UdpLine<S>>
         ensures opened { IfOk result (λ line. S.opened line place) }
         ensures reported { IfOk result (λ line. S.reported line token) }
         ensures sent { IfOk result (λ line. S.sent line query.now) }
+        ensures elsewhere { IfOk result (λ line. (from : SocketAddr) × S.is_at line from × ¬ (IsOwn service from place)) }
+        ensures failed { OnErr result (R.failed ⊎ ((socket : S) × S.opened socket place × (S.failed socket ⊎ ((from : SocketAddr) × S.is_at socket from × IsOwn service from place)))) }
     {
         let socket = rt.open_socket(registry, token, place)?;
+        if is_own(service, socket.place()?, place) {
+            return Err(io::Error::from(ErrorKind::AddrNotAvailable));
+        }
         socket.send_datagram(query)?;
         Ok(UdpLine { socket })
     }
@@ -61,6 +72,7 @@ impl<S: ReadySocket> UdpLine<S> {
         ensures fits { IfOk result (λ heard. IfSome heard (λ count. Fits query.now (take count room.new))) }
         ensures came { IfOk result (λ heard. IfSome heard (λ count. S.came self.old (take count room.new))) }
         ensures none { IfOk result (λ heard. IsNone heard → S.drained self.old ⊎ S.reported_again self.old token) }
+        ensures failed { OnErr result (S.failed self.old) }
     {
         for _ in 0..MOST_LOOKED_AT {
             match self.socket.take_datagram(room) {
