@@ -49,6 +49,11 @@ has_reason settings h event CountEnded a = a.0
 has_reason settings h event (Full stored) a = a.1
 has_reason settings h event NoMemory a = tt
 
+-- what a seat tells of a call's fault
+abbrev pub fault_at_desk : CallFault → DeskFault
+fault_at_desk (CallStep fault) = Step fault
+fault_at_desk (CallBehind at) = Behind at
+
 -- One call at a shared book that was made with these settings: the pass before, the event, the answer, the pass after.
 abbrev pub SeatCall : Settings → PassState → Event → Result Reply DeskFault → PassState → Type 0
 SeatCall settings pass event (Ok reply) pass' =

@@ -47,6 +47,34 @@ impl<B: Book, L: CallLedger> Kept<B, L> {
         }
     }
 
+    /// A step for a pass that has seen as many calls as are recorded, and no more than there are.
+    pub(crate) fn call_unrecorded(
+        &mut self,
+        pass: &mut Pass<L>,
+        event: Event,
+    ) -> Result<Reply, CallFault>
+        requires beyond { L.limit ≤ pass.old.seen }
+        ensures called { IfOk result (λ reply. IsCalled self.old self.new pass.old event reply pass.new) }
+        ensures later { OnOk result (pass.old.seen < pass.new.seen) }
+        ensures justified { IfOk result (λ reply. IsJustified L.settings pass.new.seen event reply) }
+        ensures reason { IfErr result (λ fault. IsReasonOf event fault) }
+        ensures fault { OnErr result (pass.new ≡ pass.old) }
+        ensures behind { (at : ℕ) → IsErrOf result (CallFault.Behind at) → at < pass.old.seen }
+        ensures same_record { OnErr result (IsSameRecord self.old self.new) }
+    {
+        if pass.seen() > self.total {
+            return Err(CallFault::Behind { at: self.total });
+        }
+        match untimely(self.total, &event) {
+            Ok(()) => {}
+            Err(fault) => return Err(CallFault::Step(fault)),
+        }
+        match self.pass_by(pass, event) {
+            Ok(told) => Ok(told),
+            Err(fault) => Err(CallFault::Step(fault)),
+        }
+    }
+
     /// Half of a pass's parts, in a pass with a caller number of its own.
     pub(crate) fn split(&mut self, pass: &mut Pass<L>) -> Result<Pass<L>, SplitFault>
         ensures refused { IsErr result ↔ ((pass.old.parts ≡ 1) ⊎ (2 ^ 62 ≤ self.old.callers)) }

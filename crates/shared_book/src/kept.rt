@@ -136,6 +136,26 @@ impl<B: Book, L: CallLedger> Kept<B, L> {
         self.take(pass, event, copy)
     }
 
+    /// Takes a timely event behind all calls that are recorded.
+    pub(crate) fn pass_by(&mut self, pass: &mut Pass<L>, event: Event) -> Result<Reply, StepFault>
+        requires timely { IsTimely self.old.total event }
+        requires beyond { self.old.limit ≤ self.old.total }
+        ensures answers { (h : List Event) → B.stands_for self.old.book h → Answers (B.settings self.old.book) h event result }
+        ensures stands { (h : List Event) → B.stands_for self.old.book h → B.stands_for self.new.book (history_after h event result) }
+        ensures full { (n : ℕ) → IsErrOf result (StepFault.Full n) → B.stored self.old.book ≡ n }
+        ensures settings { B.settings self.new.book ≡ B.settings self.old.book }
+        ensures called { IfOk result (λ reply. IsCalled self.old self.new pass.old event reply pass.new) }
+        ensures same_record { OnErr result (IsSameRecord self.old self.new) }
+        ensures same_store { OnErr result (B.stored self.new.book ≡ B.stored self.old.book) }
+        ensures same_pass { OnErr result (pass.new ≡ pass.old) }
+    {
+        let reply = self.book.step(event)?;
+        let number = self.total + 1;
+        pass.count(&mut self.calls, number);
+        self.total = number;
+        Ok(reply)
+    }
+
     /// Takes a timely event by its copy, and records the call.
     pub(crate) fn take(
         &mut self,
@@ -154,13 +174,10 @@ impl<B: Book, L: CallLedger> Kept<B, L> {
         ensures same_store { OnErr result (B.stored self.new.book ≡ B.stored self.old.book) }
         ensures same_pass { OnErr result (pass.new ≡ pass.old) }
     {
-        let number = self.total + 1;
-        if number > self.recorded.limit {
-            let reply = self.book.step(copy)?;
-            pass.count(&mut self.calls, number);
-            self.total = number;
-            return Ok(reply);
+        if self.total >= self.recorded.limit {
+            return self.pass_by(pass, copy);
         }
+        let number = self.total + 1;
         make_room(&mut self.recorded.entries)?;
         let ahead = look_ahead(&self.book, event.get())?;
         let reply = self.book.step(copy)?;

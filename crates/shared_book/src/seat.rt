@@ -1,7 +1,7 @@
 //! A shared book with a pass, as a desk.
 
 ghost use Rattle.std.specs.Prelude.{◌≡◌};
-ghost use Rattle.shared_book.specs.Calling.{SeatCall};
+ghost use Rattle.shared_book.specs.Calling.{fault_at_desk, SeatCall};
 
 use crate::blank::CallLedger;
 use crate::fault::CallFault;
@@ -47,6 +47,19 @@ impl<'a, B: Book, L: CallLedger, R: Wait> Seat<'a, B, L, R> {
         self.pass.seen()
     }
 
+    /// Takes an event that may be recorded, and is shared with the record.
+    fn call_recorded(&mut self, event: Event) -> Result<Reply, DeskFault>
+        ensures { SeatCall L.settings self.old.pass event result self.new.pass }
+    {
+        let Ok(event) = Shared::new(self.alloc, event) else {
+            return Err(DeskFault::Step(StepFault::NoMemory));
+        };
+        match self.book.call(self.rt, &mut self.pass, event) {
+            Ok(receipt) => Ok(reply_of(receipt)),
+            Err(fault) => Err(desk_fault(fault)),
+        }
+    }
+
     /// The pass.
     pub fn into_pass(self) -> Pass<L>
         ensures { result ≡ self.entry.pass }
@@ -65,13 +78,12 @@ impl<'a, B: Book, L: CallLedger, R: Wait> Desk for Seat<'a, B, L, R> {
     ghost calls = { λ before event answer after. SeatCall L.settings before.pass event answer after.pass };
 
     fn call(&mut self, event: Event) -> Result<Reply, DeskFault> {
-        let Ok(event) = Shared::new(self.alloc, event) else {
-            return Err(DeskFault::Step(StepFault::NoMemory));
-        };
-        match self.book.call(self.rt, &mut self.pass, event) {
-            Ok(receipt) => Ok(reply_of(receipt)),
-            Err(CallFault::Step(fault)) => Err(DeskFault::Step(fault)),
-            Err(CallFault::Behind { at }) => Err(DeskFault::Behind { at }),
+        if self.pass.seen() < self.book.limit() {
+            return self.call_recorded(event);
+        }
+        match self.book.call_unrecorded(self.rt, &mut self.pass, event) {
+            Ok(reply) => Ok(reply),
+            Err(fault) => Err(desk_fault(fault)),
         }
     }
 }
@@ -87,4 +99,14 @@ fn reply_of(receipt: Receipt) -> Reply
         reply,
     } = receipt;
     reply
+}
+
+/// What a seat tells of a call's fault.
+fn desk_fault(fault: CallFault) -> DeskFault
+    ensures { result ≡ fault_at_desk fault }
+{
+    match fault {
+        CallFault::Step(fault) => DeskFault::Step(fault),
+        CallFault::Behind { at } => DeskFault::Behind { at },
+    }
 }

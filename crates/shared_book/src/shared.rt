@@ -22,6 +22,9 @@ use undo_book::{Book, Event, MakeFault, Reply, StepFault};
 #[derive(Drop)]
 pub struct SharedBook<B: Book, L: CallLedger> {
     kept: Mutex<Kept<B, L>>,
+    /// How many calls are recorded.
+    limit: u64,
+    ghost same_limit: { limit ≡ L.limit },
 }
 
 impl<B: Book, L: CallLedger> SharedBook<B, L> {
@@ -45,6 +48,7 @@ impl<B: Book, L: CallLedger> SharedBook<B, L> {
             Ok((kept, pass)) => Ok((
                 SharedBook {
                     kept: Mutex::new(kept),
+                    limit,
                 },
                 pass,
             )),
@@ -101,6 +105,32 @@ impl<B: Book, L: CallLedger> SharedBook<B, L> {
         }
     }
 
+    /// How many calls are recorded.
+    pub fn limit(&self) -> u64
+        ensures { result ≡ L.limit }
+    {
+        self.limit
+    }
+
+    /// Takes an event of a pass that has seen as many calls as are recorded, and gives no receipt. So the event need not be
+    /// kept, and takes no block of memory.
+    pub fn call_unrecorded<R: Wait>(
+        &self,
+        rt: &R,
+        pass: &mut Pass<L>,
+        event: Event,
+    ) -> Result<Reply, CallFault>
+        requires beyond { L.limit ≤ pass.old.seen }
+        ensures counted { OnOk result (pass.new ≡ after_call pass.old pass.new.seen) }
+        ensures later { OnOk result (pass.old.seen < pass.new.seen) }
+        ensures justified { IfOk result (λ reply. IsJustified L.settings pass.new.seen event reply) }
+        ensures reason { IfErr result (λ fault. IsReasonOf event fault) }
+        ensures fault { OnErr result (pass.new ≡ pass.old) }
+        ensures behind { (at : ℕ) → IsErrOf result (CallFault.Behind at) → at < pass.old.seen }
+    {
+        self.kept.lock(rt).call_unrecorded(pass, event)
+    }
+
     /// The step, which alone is done under the lock.
     fn step<R: Wait>(
         &self,
@@ -131,7 +161,7 @@ impl<B: Book, L: CallLedger> SharedBook<B, L> {
         ensures limit { MatchResult result (λ kept. kept.limit ≡ L.limit) (λ not_closed. not_closed.kept.limit ≡ L.limit) }
         ensures whole { IfOk result (λ kept. IsWhole B.stands_for B.settings kept) }
     {
-        let SharedBook { kept } = self;
+        let SharedBook { kept, .. } = self;
         kept.into_inner().close(passes, receipts)
     }
 }

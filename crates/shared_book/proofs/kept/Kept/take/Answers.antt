@@ -16,7 +16,7 @@ told_again-requires g c =
     let k = c.self.invariant.2 in
     let settings : Settings = g.B.Book.settings c.self.inside.book in
     let past : Past = past_of settings.journal k.history in
-    let answers = c.in_ok-reply-2.ensures.answers k.history k.stands in (
+    let answers = c.in_ok-reply.ensures.answers k.history k.stands in (
       settings,
       past,
       c.args.event,
@@ -32,11 +32,11 @@ invariant_of-self-2 g c =
     let past : Past = past_of settings.journal k.history in
     let e : Receipt = record { number = c.self.inside.total + 1; caller = c.caller.result; event = c.args.event; reply = c.told_again.result } in
     let same : c.args.copy ≡ e.event = c.requires.same in
-    let answers = c.in_ok-reply-2.ensures.answers k.history k.stands in
+    let answers = c.in_ok-reply.ensures.answers k.history k.stands in
     let timely : IsTimely (length k.history) e.event = subst (λ (x : Event). IsTimely (length k.history) x) same answers.0 in
     let reply : e.reply ≡ reply_of settings past e.event = c.told_again.ensures ∙ answers.1 ∙ ap (λ (x : Event). reply_of settings past x) same in
-    let stands = subst (λ (x : Event). stands_for c.step-2.new.self (k.history ++ x ∷ [])) same (c.in_ok-reply-2.ensures.stands k.history k.stands) in
+    let stands = subst (λ (x : Event). stands_for c.step.new.self (k.history ++ x ∷ [])) same (c.in_ok-reply.ensures.stands k.history k.stands) in
     let grown : c.push_reserved.new.self.items ≡ c.self.inside.recorded.entries.items ++ e ∷ [] = search rules in
     let old : KeptState g.row.B.Denot
     = record { book = c.self.inside.book; first = c.self.inside.recorded.first; entries = c.self.inside.recorded.entries.items; limit = c.self.inside.recorded.limit; total = c.self.inside.total; callers = c.self.inside.callers } in
-    (search rules, search rules, keeps stands_for g.B.Book.settings old c.step-2.new.self c.push_reserved.new.self.items e k timely reply stands c.step-2.ensures.settings refl grown (omega arith))
+    (search rules, search rules, keeps stands_for g.B.Book.settings old c.step.new.self c.push_reserved.new.self.items e k timely reply stands c.step.ensures.settings refl grown (omega arith))
