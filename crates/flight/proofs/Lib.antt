@@ -6,3 +6,4 @@ mod Queueing
 mod Accounting
 mod Flights
 mod Looking
+mod Keeping

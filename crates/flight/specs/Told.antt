@@ -10,6 +10,8 @@ use Rattle.iterate.specs.declared.answer.Soa.{Soa}
 use Rattle.iterate.specs.declared.answer.Told.{Told}
 use Rattle.front_workers.specs.Leads.{Calls, Ticks}
 use Rattle.front_workers.specs.Serves.{fault_octets, reply_told, Written}
+use Rattle.flight.specs.declared.reply.ReplyOctets.{ReplyOctets}
+use Rattle.flight.specs.declared.reply.ReplyOctets.TheVariants.{Header, Message}
 use Rattle.flight.specs.declared.world.Heard.{Heard}
 use Rattle.flight.specs.declared.world.Heard.TheVariants.{Came}
 use Rattle.flight.specs.Flight.{Hears, Lands}
@@ -31,3 +33,12 @@ pub data IsUntold {D C : Type 0} (calls : Calls D) (seen : D → ℕ) (hears : H
 abbrev pub IsHeard : (List ℕ → Type 0) → Heard → Type 0
 IsHeard may (Came octets) = may octets
 IsHeard may _ = Unit {0}
+
+-- The octets of a reply.
+abbrev pub octets_of : ReplyOctets → List ℕ
+octets_of (Header octets) = octets
+octets_of (Message octets) = octets.items
+
+-- Whatever a client was told between two states of a world stays told.
+pub record Keeps {W K : Type 0} (told : W → K → List ℕ → Type 0) (old new : W) : Type 0 where
+  pub kept : (client : K) (octets : List ℕ) → told old client octets → told new client octets

@@ -4,6 +4,7 @@ ghost use Rattle.std.specs.Prelude.{◌≡◌, ◌≤◌};
 ghost use Rattle.dns_wire.specs.declared.server.query.Asked.TheVariants.{Good};
 ghost use Rattle.dns_wire.specs.Server.Asking.{AsksFor};
 ghost use Rattle.flight.specs.Asking.{HasLooked};
+ghost use Rattle.flight.specs.Told.{Keeps};
 ghost use Rattle.flight.specs.Waiting.{IsAccounted, WaitsFrom, outstanding};
 
 use crate::asking::{Asking, ask};
@@ -32,6 +33,7 @@ impl<D: Numbered, L: Line, C: Clock, G: Rng, K: Client> Flight<D, L, C, G, K> {
         requires own { K.sent client octets.now }
         requires good { AsksFor octets.now (Good query) }
         ensures port { W.server_port world.new ≡ W.server_port world.old }
+        ensures kept { Keeps W.told world.old world.new }
         ensures accounted { IsAccounted 1 (outstanding self.old) (W.counts world.old) (outstanding self.new) (W.counts world.new) }
         ensures unheard { (W.counts world.new).listened ≡ (W.counts world.old).listened }
         ensures unexpired { (W.counts world.new).expired ≡ (W.counts world.old).expired }
@@ -76,6 +78,7 @@ impl<D: Numbered, L: Line, C: Clock, G: Rng, K: Client> Flight<D, L, C, G, K> {
         requires looked { HasLooked D.calls D.seen L.hears C.ticks query.question moment came seen }
         requires known { seen ≤ D.seen desk.old }
         ensures port { W.server_port world.new ≡ W.server_port world.old }
+        ensures kept { Keeps W.told world.old world.new }
         ensures accounted { IsAccounted 1 (outstanding self.old) (W.counts world.old) (outstanding self.new) (W.counts world.new) }
         ensures unheard { (W.counts world.new).listened ≡ (W.counts world.old).listened }
         ensures unexpired { (W.counts world.new).expired ≡ (W.counts world.old).expired }

@@ -4,6 +4,7 @@ ghost use Rattle.std.specs.Prelude.{◌≡◌, ◌≤◌, ◌+◌};
 ghost use Rattle.front_workers.specs.Counts.{Rises};
 ghost use Rattle.flight.specs.Asking.{HasHeard, IsAskedBy};
 ghost use Rattle.flight.specs.Flight.{Flies, IsOpen, query_to};
+ghost use Rattle.flight.specs.Told.{Keeps};
 ghost use Rattle.flight.specs.Waiting.{IsAccounted, WaitsFrom, outstanding};
 ghost use Rattle.iterate.specs.declared.want.Want.{Want};
 
@@ -30,6 +31,7 @@ impl<D: Numbered, L: Line, C: Clock, G: Rng, K: Client> Flight<D, L, C, G, K> {
         job: Job<D, L, C, K>,
     )
         ensures port { W.server_port world.new ≡ W.server_port world.old }
+        ensures kept { Keeps W.told world.old world.new }
         ensures accounted { IsAccounted 0 (outstanding self.old + 1) (W.counts world.old) (outstanding self.new) (W.counts world.new) }
         ensures heard { Rises (W.counts world.old).listened (W.counts world.new).listened }
         ensures waits { WaitsFrom now self.old self.new }
@@ -63,6 +65,7 @@ impl<D: Numbered, L: Line, C: Clock, G: Rng, K: Client> Flight<D, L, C, G, K> {
         requires asked { IsAskedBy K.sent asking.port octets asking.client asking.query asking.task }
         requires heard { HasHeard D.calls D.seen L.hears C.ticks asking.port asking.query.question asking.task.steps.items heard asking.seen }
         ensures port { W.server_port world.new ≡ W.server_port world.old }
+        ensures kept { Keeps W.told world.old world.new }
         ensures accounted { IsAccounted 1 (outstanding self.old) (W.counts world.old) (outstanding self.new) (W.counts world.new) }
         ensures unheard { (W.counts world.new).listened ≡ (W.counts world.old).listened }
         ensures unexpired { (W.counts world.new).expired ≡ (W.counts world.old).expired }
@@ -99,6 +102,7 @@ impl<D: Numbered, L: Line, C: Clock, G: Rng, K: Client> Flight<D, L, C, G, K> {
         requires port { asking.port ≡ W.server_port world.old }
         requires known { asking.seen ≤ D.seen desk.old }
         ensures port { W.server_port world.new ≡ W.server_port world.old }
+        ensures kept { Keeps W.told world.old world.new }
         ensures accounted { IsAccounted 1 (outstanding self.old) (W.counts world.old) (outstanding self.new) (W.counts world.new) }
         ensures unheard { (W.counts world.new).listened ≡ (W.counts world.old).listened }
         ensures unexpired { (W.counts world.new).expired ≡ (W.counts world.old).expired }

@@ -4,11 +4,13 @@ ghost use Rattle.std.specs.Prelude.{◌≡◌, ◌⊎◌, ◌≤◌, ◌+◌, []
 ghost use Rattle.dns_wire.specs.declared.server.query.Asked.TheVariants.{Good};
 ghost use Rattle.dns_wire.specs.Server.Asking.{AsksFor};
 ghost use Rattle.front_workers.specs.Counts.{Rises};
+ghost use Rattle.flight.specs.Told.{Keeps};
 ghost use Rattle.flight.specs.Waiting.{EarlyGoOn, IsAccounted, IsPatient, IsPatientUntil, OthersGoOn, WaitsFrom, outstanding, since_at, time_left};
 
 use crate::job::Job;
 use crate::line::Line;
 use crate::numbered::Numbered;
+use crate::reply::ReplyOctets;
 use crate::table::{PATIENCE, Table};
 use crate::telling::fault_of;
 use crate::world::{Client, Heard, Unserved, World};
@@ -79,6 +81,7 @@ impl<D: Numbered, L: Line, C: Clock, G: Rng, K: Client> Flight<D, L, C, G, K> {
     )
         requires own { K.sent client octets.now }
         ensures port { W.server_port world.new ≡ W.server_port world.old }
+        ensures kept { Keeps W.told world.old world.new }
         ensures accounted { IsAccounted 1 (outstanding self.old) (W.counts world.old) (outstanding self.new) (W.counts world.new) }
         ensures unheard { (W.counts world.new).listened ≡ (W.counts world.old).listened }
         ensures unexpired { (W.counts world.new).expired ≡ (W.counts world.old).expired }
@@ -92,7 +95,10 @@ impl<D: Numbered, L: Line, C: Clock, G: Rng, K: Client> Flight<D, L, C, G, K> {
         };
         match asked {
             Asked::Drop => world.pass_over(client, octets),
-            Asked::Fault(rcode) => world.give(client, octets, &fault_of(octets, rcode)),
+            Asked::Fault(rcode) => {
+                let reply = ReplyOctets::Header(fault_of(octets, rcode));
+                world.give(client, octets, reply);
+            }
             Asked::Good(query) => self.begin_query(desk, world, now, client, octets, query),
         }
     }
@@ -104,6 +110,7 @@ impl<D: Numbered, L: Line, C: Clock, G: Rng, K: Client> Flight<D, L, C, G, K> {
         ensures hint { since_at self.old key ≡ None → (self.new ≡ self.old) × (world.new ≡ world.old) }
         ensures others { OthersGoOn key self.old self.new }
         ensures port { W.server_port world.new ≡ W.server_port world.old }
+        ensures kept { Keeps W.told world.old world.new }
         ensures accounted { IsAccounted 0 (outstanding self.old) (W.counts world.old) (outstanding self.new) (W.counts world.new) }
         ensures unexpired { (W.counts world.new).expired ≡ (W.counts world.old).expired }
         ensures no_more { outstanding self.new ≤ outstanding self.old }
@@ -141,6 +148,7 @@ impl<D: Numbered, L: Line, C: Clock, G: Rng, K: Client> Flight<D, L, C, G, K> {
         ensures patient { IsPatient PATIENCE now self.new }
         ensures early { EarlyGoOn PATIENCE now self.old self.new }
         ensures port { W.server_port world.new ≡ W.server_port world.old }
+        ensures kept { Keeps W.told world.old world.new }
         ensures accounted { IsAccounted 0 (outstanding self.old) (W.counts world.old) (outstanding self.new) (W.counts world.new) }
         ensures no_more { outstanding self.new ≤ outstanding self.old }
         ensures limit { self.new.limit ≡ self.old.limit }

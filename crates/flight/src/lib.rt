@@ -10,6 +10,8 @@ mod numbered;
 mod line;
 // What a worker counts.
 mod counts;
+// The octets of a reply.
+mod reply;
 // Clients and the sockets of a worker.
 mod world;
 // A question on its way.
@@ -35,5 +37,6 @@ pub use engine::Flight;
 pub use laws::{fall_law, rise_law};
 pub use line::Line;
 pub use numbered::Numbered;
+pub use reply::ReplyOctets;
 pub use table::PATIENCE;
 pub use world::{Client, Heard, Unserved, World};

@@ -8,10 +8,12 @@ ghost use Rattle.iterate.specs.Told.{IsFit};
 ghost use Rattle.flight.specs.Asking.{IsAskedBy};
 ghost use Rattle.flight.specs.Counted.{CountsSettled};
 ghost use Rattle.flight.specs.Flight.{Lands};
+ghost use Rattle.flight.specs.Told.{Keeps};
 
 use crate::asking::Asking;
 use crate::line::Line;
 use crate::numbered::Numbered;
+use crate::reply::ReplyOctets;
 use crate::world::{Client, Unserved, World};
 use command_text::Clock;
 use dns_query::Over;
@@ -37,6 +39,7 @@ pub(crate) fn refuse<D: Numbered, L: Line, C: Clock, K: Client, W: World<D, L, C
 )
     requires asked { IsAskedBy K.sent asking.port octets.now asking.client asking.query asking.task }
     ensures port { W.server_port world.new ≡ W.server_port world.old }
+    ensures kept { Keeps W.told world.old world.new }
     ensures settled { CountsSettled (W.counts world.old) (W.counts world.new) }
 {
     world.fail(asking.client, octets, why);
@@ -56,10 +59,11 @@ pub(crate) fn tell<D: Numbered, L: Line, C: Clock, K: Client, W: World<D, L, C, 
     requires lands { Lands D.calls D.seen L.hears C.ticks (W.server_port world.old) query.now.question answer.now }
     requires fit { IsFit answer.now }
     ensures port { W.server_port world.new ≡ W.server_port world.old }
+    ensures kept { Keeps W.told world.old world.new }
     ensures settled { CountsSettled (W.counts world.old) (W.counts world.new) }
 {
     match write_answer(alloc, Over::Udp, octets, query, answer) {
-        Ok(Some(reply)) => world.give(client, octets, &reply),
+        Ok(Some(reply)) => world.give(client, octets, ReplyOctets::Message(reply)),
         Ok(None) => world.pass_over(client, octets),
         Err(_) => world.fail(client, octets, Unserved::NoMemory),
     }

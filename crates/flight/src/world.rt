@@ -7,10 +7,11 @@ ghost use Rattle.front_workers.specs.Serves.{fault_octets};
 ghost use Rattle.flight.specs.declared.counts.Counts.{Counts};
 ghost use Rattle.flight.specs.Counted.{CountsExpired, CountsListened, CountsOpened, CountsSettled};
 ghost use Rattle.flight.specs.Flight.{query_to};
-ghost use Rattle.flight.specs.Told.{IsHeard, IsTold, IsUntold};
+ghost use Rattle.flight.specs.Told.{octets_of, IsHeard, IsTold, IsUntold, Keeps};
 
 use crate::line::Line;
 use crate::numbered::Numbered;
+use crate::reply::ReplyOctets;
 use command_text::Clock;
 use dns_query::Over;
 use dns_text::{Addr, Octets, Shared};
@@ -53,8 +54,8 @@ pub trait World<D: Numbered, L: Line, C: Clock, K: Client> {
     /// What was counted, each up to 2^64 - 1.
     ghost counts: { Self → Counts };
 
-    /// It was tried to send these octets to this client.
-    ghost told: { K → List ℕ → Type 0 };
+    /// It was tried to send these octets to this client, or they wait to be sent.
+    ghost told: { Self → K → List ℕ → Type 0 };
 
     /// The port of name servers that are known by name.
     fn server_port(&self) -> u16
@@ -65,26 +66,30 @@ pub trait World<D: Numbered, L: Line, C: Clock, K: Client> {
         ensures asked { IfSome result (λ line. L.asked line ≡ query_to server.now over query) }
         ensures port { server_port self.new ≡ server_port self.old }
         ensures opened { OnSome result (CountsOpened (counts self.old) (counts self.new)) }
-        ensures unopened { IfNone result (counts self.new ≡ counts self.old) };
+        ensures unopened { IfNone result (counts self.new ≡ counts self.old) }
+        ensures kept { Keeps told self.old self.new };
 
     /// Goes on with an exchange, without waiting.
     fn hear(&mut self, line: &mut L) -> Heard
         ensures heard { IsHeard (L.hears (L.asked line.old)) result }
         ensures asked { L.asked line.new ≡ L.asked line.old }
         ensures port { server_port self.new ≡ server_port self.old }
-        ensures listened { CountsListened result (counts self.old) (counts self.new) };
+        ensures listened { CountsListened result (counts self.old) (counts self.new) }
+        ensures kept { Keeps told self.old self.new };
 
     /// Ends an exchange whose time is up.
     fn expire(&mut self, line: L)
         ensures port { server_port self.new ≡ server_port self.old }
-        ensures expired { CountsExpired (counts self.old) (counts self.new) };
+        ensures expired { CountsExpired (counts self.old) (counts self.new) }
+        ensures kept { Keeps told self.old self.new };
 
-    /// Tells a client the reply to its octets. Whether it reaches the client is not known.
-    fn give(&mut self, client: K, octets: &[u8], reply: &[u8])
+    /// Tells a client the reply to its octets, now or later. Whether it reaches the client is not known.
+    fn give(&mut self, client: K, octets: &[u8], reply: ReplyOctets)
         requires own { K.sent client octets.now }
-        requires told { IsTold D.calls D.seen L.hears C.ticks (server_port self.old) octets.now reply.now }
-        requires short { length reply.now ≤ 512 }
-        ensures tried { told client reply.now }
+        requires told { IsTold D.calls D.seen L.hears C.ticks (server_port self.old) octets.now (octets_of reply) }
+        requires short { length (octets_of reply) ≤ 512 }
+        ensures told { told self.new client (octets_of reply) }
+        ensures kept { Keeps told self.old self.new }
         ensures port { server_port self.new ≡ server_port self.old }
         ensures settled { CountsSettled (counts self.old) (counts self.new) };
 
@@ -93,7 +98,8 @@ pub trait World<D: Numbered, L: Line, C: Clock, K: Client> {
         requires own { K.sent client octets.now }
         requires header { 12 ≤ length octets.now }
         requires owed { ¬ (AsksFor octets.now Drop) }
-        ensures tried { told client (fault_octets octets.now 2) }
+        ensures told { told self.new client (fault_octets octets.now 2) }
+        ensures kept { Keeps told self.old self.new }
         ensures port { server_port self.new ≡ server_port self.old }
         ensures settled { CountsSettled (counts self.old) (counts self.new) };
 
@@ -101,6 +107,7 @@ pub trait World<D: Numbered, L: Line, C: Clock, K: Client> {
     fn pass_over(&mut self, client: K, octets: &[u8])
         requires own { K.sent client octets.now }
         requires untold { IsUntold D.calls D.seen L.hears C.ticks (server_port self.old) octets.now }
+        ensures kept { Keeps told self.old self.new }
         ensures port { server_port self.new ≡ server_port self.old }
         ensures settled { CountsSettled (counts self.old) (counts self.new) };
 }

@@ -8,6 +8,7 @@ pub record WorkerState : Type 0 where
   pub server_port : ℕ  -- the port of name servers that are known by name
   pub taken : ℕ  -- how many queries were taken
   pub failures : ℕ  -- how many turns failed
+  pub unsent : ℕ  -- how many replies wait to be sent
   pub counts : Counts  -- what became of clients and exchanges
 
 -- Each query that was taken between two states of a worker waits or was settled once, as each that waited; and each exchange that began is under way for one of those that wait, or ended once.

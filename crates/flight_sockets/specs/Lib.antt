@@ -1,5 +1,6 @@
 pub mod Accounts
 pub mod Exchanges
+pub mod Outgoing
 pub mod Patience
 pub mod Replies
 pub mod Taken

@@ -1,14 +1,17 @@
--- What taking a datagram came to.
-use Rattle.std.specs.Prelude.{◌≡◌, ◌⊎◌, ◌<◌, ℕ, List, take}
-use Rattle.std.specs.declared.net.SocketAddr.{SocketAddr}
+-- What a datagram is.
+use Rattle.std.specs.Prelude.{◌≡◌, ◌<◌, ◌≤◌, ℕ, List, Option, Some, IfSome}
 use Rattle.dns_sockets.specs.Answerable.{IsAnswerable}
+use Rattle.front_workers.specs.declared.port.Came.{Came}
 use Rattle.front_workers.specs.declared.working.TheConstants.{MOST_DATAGRAM}
-use Rattle.flight_sockets.specs.declared.worker_sockets.Taken.{Taken}
-use Rattle.flight_sockets.specs.declared.worker_sockets.Taken.TheVariants.{Nothing, Passed, TooLong, Query}
+use Rattle.flight_sockets.specs.declared.inbox.Taken.{Taken}
+use Rattle.flight_sockets.specs.declared.inbox.Taken.TheVariants.{Passed, TooLong, Query}
 
--- A call told that none is there, or was ended by a signal; or one came, whose front the room has: that cannot be answered, that is too long, or that makes this client, whose datagram stands in the room.
-abbrev pub IsTakenFrom : (SocketAddr → List ℕ → Type 0) → Type 0 → Type 0 → List ℕ → Taken → Type 0
-IsTakenFrom came drained interrupted room Nothing = drained
-IsTakenFrom came drained interrupted room Passed = interrupted ⊎ ((peer : SocketAddr) × (count : ℕ) × came peer (take count room) × ¬ (IsAnswerable peer count))
-IsTakenFrom came drained interrupted room (TooLong peer) = (count : ℕ) × (MOST_DATAGRAM < count) × came peer (take count room)
-IsTakenFrom came drained interrupted room (Query client) = (client.room.value ≡ room) × IsAnswerable client.came.peer client.came.count × came client.came.peer (take client.came.count room)
+-- One that fills the front of a room cannot be answered, or there is none; or it is too long; or it makes this client, whose datagram stands in the room.
+abbrev pub IsTakenFrom : List ℕ → Option Came → Taken → Type 0
+IsTakenFrom room came Passed = IfSome came (λ c. ¬ (IsAnswerable c.peer c.count))
+IsTakenFrom room came (TooLong peer) = (count : ℕ) × (MOST_DATAGRAM < count) × (came ≡ Some (record { peer = peer; count = count }))
+IsTakenFrom room came (Query client) = (client.room.value ≡ room) × IsAnswerable client.came.peer client.came.count × (came ≡ Some client.came)
+
+-- A datagram came that can be answered and is read whole.
+abbrev pub IsQuery : Option Came → Type 0
+IsQuery came = (c : Came) × (came ≡ Some c) × IsAnswerable c.peer c.count × (c.count ≤ MOST_DATAGRAM)

@@ -15,10 +15,16 @@ mod client;
 mod way;
 // An exchange over a socket of its own.
 mod socket_line;
+// Datagrams that have come in.
+mod inbox;
+// A reply that waits to be sent.
+mod outgoing;
 // The sockets of one worker.
 mod worker_sockets;
 // How long exchanges take.
 mod millis;
+// The turns of a worker.
+mod turns;
 // A worker that keeps many questions in flight.
 mod udp_worker;
 

@@ -1,6 +1,7 @@
 //! The sockets of one worker.
 
-ghost use Rattle.std.specs.Prelude.{◌≡◌, ◌≤◌, length, vec_len, IfNone, IfOk, IfSome, OnSome};
+ghost use Rattle.std.specs.Prelude.{◌≡◌, ◌⊎◌, ◌≤◌, [], false, length, true, vec_len, IfNone, IfOk, IfSome, OnSome};
+ghost use Rattle.std.specs.List.{All};
 ghost use Rattle.dns_wire.specs.declared.server.query.Asked.TheVariants.{Drop};
 ghost use Rattle.dns_wire.specs.Server.Asking.{AsksFor};
 ghost use Rattle.dns_sockets.specs.declared.socket_exchange.TheConstants.{MOST_MESSAGE};
@@ -8,50 +9,53 @@ ghost use Rattle.front_workers.specs.Serves.{fault_octets};
 ghost use Rattle.flight.specs.declared.world.Heard.TheVariants.{Nothing};
 ghost use Rattle.flight.specs.Counted.{CountsListened, CountsOpened};
 ghost use Rattle.flight.specs.Flight.{query_to};
-ghost use Rattle.flight.specs.Told.{IsHeard};
+ghost use Rattle.flight.specs.Told.{octets_of, IsHeard, Keeps};
 ghost use Rattle.flight_sockets.specs.Exchanges.{IsNotToBeHad, IsQuiet};
+ghost use Rattle.flight_sockets.specs.Outgoing.{IsOnItsWay, StayOnTheirWay};
 ghost use Rattle.flight_sockets.specs.Replies.{IsReplyTo};
-ghost use Rattle.flight_sockets.specs.Taken.{IsTakenFrom};
+ghost use Rattle.flight_sockets.specs.declared.client.UdpClient.{UdpClient as UdpClientValue};
+ghost use Rattle.flight_sockets.specs.declared.inbox.TheConstants.{BATCH};
 
-use crate::client::{ROOM, UdpClient};
+use crate::client::UdpClient;
+use crate::inbox::{BATCH, Inbox};
 use crate::listener::UdpListener;
+use crate::outgoing::Outgoing;
 use crate::service_socket::ServiceSocket;
 use crate::socket_line::SocketLine;
 use command_text::Clock;
 use dns_query::Over;
-use dns_sockets::{MOST_MESSAGE, is_answerable};
+use dns_sockets::MOST_MESSAGE;
 use dns_text::{Addr, NoMemory, Octets, Shared};
 use dns_wire::{Rcode, fault_reply};
-use flight::{Counts, Heard, Numbered, Unserved, World};
-use front_workers::{Came, MOST_DATAGRAM, wants_reply};
+use flight::{Counts, Heard, Numbered, ReplyOctets, Unserved, World};
+use front_workers::wants_reply;
 use log::{Log, warn};
 use mio::{Events, Token};
-use server_lines::{ReadyNet, would_wait};
+use server_lines::ReadyNet;
 use std::alloc::Global;
 use std::io;
 use std::net::SocketAddr;
 use std::time::Duration;
 
-/// What taking a datagram came to.
-pub(crate) enum Taken {
-    /// None is there.
-    Nothing,
-    /// One came that no reply can reach, or that is empty; or a signal came.
-    Passed,
-    /// One came that does not fit the room, from here.
-    TooLong(SocketAddr),
-    Query(UdpClient),
+/// The reply that tells a fault, by the header alone.
+fn fault_of(front: &[u8], rcode: Rcode) -> ReplyOctets
+    requires { 12 ≤ length front.now }
+    ensures { octets_of result ≡ fault_octets front.now rcode }
+{
+    ReplyOctets::Header(fault_reply(front, rcode).unwrap())
 }
 
 /// The sockets of one worker: where questions come in and replies go out, and those of its exchanges.
 #[derive(Drop)]
-pub(crate) struct WorkerSockets<'a, R, S> {
+pub(crate) struct WorkerSockets<'a, R, S: ServiceSocket> {
     rt: &'a R,
     alloc: Global,
     listener: UdpListener<S>,
     server_port: u16,
     /// Where a reply of a name server is put.
     room: Vec<u8>,
+    /// Replies that wait to be sent.
+    waiting: Vec<Outgoing>,
     counts: Counts,
     ghost whole: { vec_len room ≡ MOST_MESSAGE },
 }
@@ -66,6 +70,7 @@ impl<'a, R: Log, S: ServiceSocket> WorkerSockets<'a, R, S> {
     ) -> Result<WorkerSockets<'a, R, S>, NoMemory>
         ensures port { IfOk result (λ sockets. sockets.server_port ≡ server_port) }
         ensures counts { IfOk result (λ sockets. sockets.counts ≡ record { settled = 0; opened = 0; ended = 0; expired = 0; listened = 0 }) }
+        ensures none { IfOk result (λ sockets. sockets.waiting.items ≡ []) }
     {
         let room = Vec::from_elem(alloc, 0u8, MOST_MESSAGE)?;
         Ok(WorkerSockets {
@@ -74,60 +79,84 @@ impl<'a, R: Log, S: ServiceSocket> WorkerSockets<'a, R, S> {
             listener,
             server_port,
             room,
+            waiting: Vec::new(alloc),
             counts: Counts::new(),
         })
     }
 
     /// Sends a reply. What fails here does not end a worker: it may be the client that cannot be reached.
-    pub fn send(&self, peer: SocketAddr, reply: &[u8])
-        ensures { S.tried peer reply.now }
+    fn send_now(&self, outgoing: &Outgoing)
+        ensures { S.tried outgoing.now.peer (octets_of outgoing.now.reply) }
     {
-        if self.listener.socket.send_datagram(reply, peer).is_err() {
+        let Outgoing { peer, reply } = outgoing;
+        let sent = self.listener.socket.send_datagram(reply.as_slice(), *peer);
+        if sent.is_err() {
             self.log_fault();
         }
+    }
+
+    /// Sends a reply with the next that leave, or at once where there is no memory in which it could wait.
+    fn send(&mut self, peer: SocketAddr, reply: ReplyOctets)
+        ensures sent { IsOnItsWay S.tried self.new.waiting.items peer (octets_of reply) }
+        ensures kept { StayOnTheirWay S.tried self.old.waiting.items self.new.waiting.items }
+        ensures port { self.new.server_port ≡ self.old.server_port }
+        ensures counts { self.new.counts ≡ self.old.counts }
+    {
+        let outgoing = Outgoing { peer, reply };
+        if let Err(failed) = self.waiting.push(outgoing) {
+            self.send_now(&failed.value);
+        }
+    }
+
+    /// Sends each reply that waits.
+    fn send_each(&self)
+        ensures { All (λ out. S.tried out.peer (octets_of out.reply)) self.now.waiting.items }
+    {
+        for outgoing in &self.waiting {
+            self.send_now(outgoing);
+        }
+    }
+
+    /// Sends each reply that waits, and then none does.
+    pub fn flush(&mut self)
+        ensures none { self.new.waiting.items ≡ [] }
+        ensures kept { StayOnTheirWay S.tried self.old.waiting.items self.new.waiting.items }
+        ensures port { self.new.server_port ≡ self.old.server_port }
+        ensures counts { self.new.counts ≡ self.old.counts }
+    {
+        self.send_each();
+        self.waiting.clear();
     }
 
     /// Waits no longer than this for what the sockets report.
     pub fn wait(&mut self, events: &mut Events, most: Duration) -> io::Result<()>
         ensures port { self.new.server_port ≡ self.old.server_port }
         ensures counts { self.new.counts ≡ self.old.counts }
+        ensures kept { self.new.waiting ≡ self.old.waiting }
     {
         let listener = &mut self.listener;
         listener.poll.poll(events, Some(most))
     }
 
-    /// Takes a datagram.
-    pub fn take(&self, room: &mut [u8; ROOM]) -> io::Result<Taken>
-        ensures { IfOk result (IsTakenFrom S.came S.drained S.interrupted room.new) }
+    /// Takes what datagrams there are, and no more than the inbox holds. Whether there may be more.
+    pub fn receive(&self, inbox: &mut Inbox<S>) -> io::Result<bool>
+        ensures drained { IfOk result (λ more. more ≡ false → S.drained) }
+        ensures full { IfOk result (λ more. more ≡ true → S.interrupted ⊎ (inbox.new.filled ≡ BATCH)) }
+        ensures keeps { inbox.old.filled ≤ inbox.new.filled }
     {
-        match self.listener.socket.take_datagram(room) {
-            Ok((count, peer)) => {
-                if !is_answerable(peer, count) {
-                    Ok(Taken::Passed)
-                } else if count > MOST_DATAGRAM {
-                    Ok(Taken::TooLong(peer))
-                } else {
-                    Ok(Taken::Query(UdpClient::new(Came { peer, count }, room)))
-                }
-            }
-            Err(error) => {
-                if would_wait(error)? {
-                    Ok(Taken::Nothing)
-                } else {
-                    Ok(Taken::Passed)
-                }
-            }
-        }
+        inbox.fill(&self.listener.socket)
     }
 
     /// Tells who sent a datagram that is not read whole that it is malformed, unless it is a reply itself.
-    pub fn refuse(&self, peer: SocketAddr, front: &[u8])
+    pub fn refuse(&mut self, peer: SocketAddr, front: &[u8])
         requires { 12 ≤ length front.now }
-        ensures { ¬ (AsksFor front.now Drop) → S.tried peer (fault_octets front.now 1) }
+        ensures sent { ¬ (AsksFor front.now Drop) → IsOnItsWay S.tried self.new.waiting.items peer (fault_octets front.now 1) }
+        ensures kept { StayOnTheirWay S.tried self.old.waiting.items self.new.waiting.items }
+        ensures port { self.new.server_port ≡ self.old.server_port }
+        ensures counts { self.new.counts ≡ self.old.counts }
     {
         if wants_reply(self.alloc, front) {
-            let reply = fault_reply(front, Rcode::FORMAT_ERROR).unwrap();
-            self.send(peer, &reply);
+            self.send(peer, fault_of(front, Rcode::FORMAT_ERROR));
         }
     }
 
@@ -156,8 +185,8 @@ impl<'a, D: Numbered, C: Clock, R: ReadyNet + Log, S: ServiceSocket> World<
 
     ghost counts = { λ sockets. sockets.counts };
 
-    // It was tried to send them to where the client's datagram came from.
-    ghost told = { λ client octets. S.tried client.came.peer octets };
+    // They are on their way to where the client's datagram came from.
+    ghost told = { λ sockets client octets. IsOnItsWay S.tried sockets.waiting.items client.came.peer octets };
 
     fn server_port(&self) -> u16 {
         self.server_port
@@ -177,6 +206,7 @@ impl<'a, D: Numbered, C: Clock, R: ReadyNet + Log, S: ServiceSocket> World<
         ensures opened { OnSome result (CountsOpened self.old.counts self.new.counts) }
         ensures unopened { IfNone result (self.new.counts ≡ self.old.counts) }
         ensures reported { IfSome result (λ line. line.token.0 ≡ key) }
+        ensures kept { Keeps (λ sockets (client : UdpClientValue) octets. IsOnItsWay S.tried sockets.waiting.items client.came.peer octets) self.old self.new }
         ensures failed { IfNone result (IsNotToBeHad R.failed R.Datagrams.opened R.Datagrams.is_at R.Datagrams.failed self.old.listener.place server.now over) }
     {
         let registry = self.listener.poll.registry();
@@ -207,6 +237,7 @@ impl<'a, D: Numbered, C: Clock, R: ReadyNet + Log, S: ServiceSocket> World<
         ensures asked { line.new.asked ≡ line.old.asked }
         ensures port { self.new.server_port ≡ self.old.server_port }
         ensures listened { CountsListened result self.old.counts self.new.counts }
+        ensures kept { Keeps (λ sockets (client : UdpClientValue) octets. IsOnItsWay S.tried sockets.waiting.items client.came.peer octets) self.old self.new }
         ensures nothing { result ≡ Nothing → IsQuiet R.Datagrams.sent R.Datagrams.drained R.Datagrams.reported_again line.old }
     {
         let heard = line.hear(self.alloc, self.listener.poll.registry(), &mut self.room);
@@ -222,14 +253,13 @@ impl<'a, D: Numbered, C: Clock, R: ReadyNet + Log, S: ServiceSocket> World<
         self.log_fault();
     }
 
-    fn give(&mut self, client: UdpClient, _octets: &[u8], reply: &[u8]) {
+    fn give(&mut self, client: UdpClient, _octets: &[u8], reply: ReplyOctets) {
         self.send(client.peer(), reply);
         self.counts.settle();
     }
 
     fn fail(&mut self, client: UdpClient, octets: &[u8], why: Unserved) {
-        let reply = fault_reply(octets, Rcode::SERVER_FAILURE).unwrap();
-        self.send(client.peer(), &reply);
+        self.send(client.peer(), fault_of(octets, Rcode::SERVER_FAILURE));
         self.log(why);
         self.counts.settle();
     }

@@ -8,7 +8,7 @@ use crate::worker::LineClock;
 use dns_name::NoMemory;
 use dns_query::Over;
 use dns_text::{Addr, Octets, Shared, write_addr};
-use flight::{Client, Counts, Heard, Line, Numbered, Unserved, World};
+use flight::{Client, Counts, Heard, Line, Numbered, ReplyOctets, Unserved, World};
 use std::alloc::Global;
 use std::mem;
 
@@ -172,7 +172,7 @@ impl<D: Numbered> World<D, Wire, LineClock, Peer> for Sockets {
     ghost counts = { λ s. s.counts };
 
     // What is told is written down for the rows, which judge it.
-    ghost told = { λ _ _. Unit {0} };
+    ghost told = { λ _ _ _. Unit {0} };
 
     fn server_port(&self) -> u16 {
         self.port
@@ -218,8 +218,8 @@ impl<D: Numbered> World<D, Wire, LineClock, Peer> for Sockets {
         self.counts.expire();
     }
 
-    fn give(&mut self, client: Peer, _: &[u8], reply: &[u8]) {
-        self.settle(b"reply ", client.number, reply, b"");
+    fn give(&mut self, client: Peer, _: &[u8], reply: ReplyOctets) {
+        self.settle(b"reply ", client.number, reply.as_slice(), b"");
     }
 
     fn fail(&mut self, client: Peer, _: &[u8], why: Unserved) {

@@ -2,6 +2,7 @@ use Rattle.std.proofs.Common.{◌∙◌, ℕ, ap, inr, map, max, refl, sym, arit
 use Rattle.flight.specs.Flight.{failed}
 use Rattle.flight.proofs.Flights.{begins, begun_behind}
 use Rattle.flight.proofs.Flying.{asked_on, awaits_at, due, flown, lands_at, open_on}
+use Rattle.flight.proofs.Keeping.{kept_on}
 use Rattle.flight.proofs.engine.Flight.drive.Goals as goal
 
 pub step-requires : goal.step-requires
@@ -18,6 +19,7 @@ loop-want-preserved-in-Book g c =
       flies = flown is c.ask-input.ensures.answered;
       port = before.port;
       known = omega (arith, c.ask-input.ensures.known);
+      kept = before.kept;
       port_kept = before.port_kept;
       counts_kept = before.counts_kept;
       exchanges_kept = before.exchanges_kept;
@@ -37,6 +39,7 @@ loop-want-preserved g c =
       flies = flown is failed;
       port = before.port ∙ sym c.open.ensures.port;
       known = before.known;
+      kept = kept_on before.kept c.open.ensures.kept;
       port_kept = c.open.ensures.port ∙ before.port_kept;
       counts_kept = c.in_default-open.ensures.unopened ∙ before.counts_kept;
       exchanges_kept = c.make_room.ensures.jobs ∙ before.exchanges_kept;

@@ -2,6 +2,7 @@ use Rattle.std.proofs.Common.{◌≡◌, ◌≤◌, map}
 use Rattle.iterate.specs.Measure.{left_in}
 use Rattle.flight.specs.Asking.{IsAskedBy}
 use Rattle.flight.specs.Flight.{Flies}
+use Rattle.flight.specs.Told.{Keeps}
 use Rattle.flight.proofs.engine.Flight.drive.Given as goal
 
 -- The question's steps lead here, and nothing else has changed.
@@ -11,6 +12,7 @@ invariant-loop-want g l = record {
   flies : Flies g.D.Desk.calls g.D.Numbered.seen g.L.Line.hears g.C.Clock.ticks l.asking.port l.asking.query.question l.asking.task.steps.items l.input l.asking.seen;
   port : l.asking.port ≡ g.W.World.server_port l.world;
   known : l.asking.seen ≤ g.D.Numbered.seen l.desk;
+  kept : Keeps g.W.World.told l.fn.world l.world;
   port_kept : g.W.World.server_port l.world ≡ g.W.World.server_port l.fn.world;
   counts_kept : g.W.World.counts l.world ≡ g.W.World.counts l.fn.world;
   exchanges_kept : l.self-inside.table.jobs.slots ≡ l.fn.self.exchanges;

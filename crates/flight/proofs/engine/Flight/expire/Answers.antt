@@ -2,6 +2,7 @@ use Rattle.std.proofs.Common.{◌∙◌, ℕ, ap, map, subst, sym, arith}
 use Rattle.flight.specs.Waiting.{FlightState, IsAccounted, outstanding, since_at}
 use Rattle.flight.proofs.Accounting.{accounted_then}
 use Rattle.flight.proofs.Flights.{early_then, less_over, no_more_then}
+use Rattle.flight.proofs.Keeping.{kept_on}
 use Rattle.flight.proofs.engine.Flight.expire.Goals as goal
 
 pub loop-wait-smaller-in-Some-pass : goal.loop-wait-smaller-in-Some-pass
@@ -21,6 +22,7 @@ loop-wait-preserved-in-Some-pass g c =
       early = early_then 2000 c.args.now key c.in-Some-pass.job c.args.self.now c.loop-wait.self _ c.end.new.self before.early (ap (λ (state : FlightState). since_at state key) (sym was) ∙ due.0) due.1
           (λ other differs. c.in-Some-pass.ensures.taken.others other differs ∙ ap (λ (state : FlightState). since_at state other) was) c.end.ensures.waits;
       port = c.end.ensures.port ∙ before.port;
+      kept = kept_on before.kept c.end.ensures.kept;
       accounted = accounted_then 0 0 _ _ _ _ _ _ before.accounted after;
       no_more = omega (arith, no_more_then c.args.now (outstanding c.loop-wait.self) _ c.end.new.self fewer c.end.ensures.waits, before.no_more);
       limit = c.end.ensures.limit ∙ c.in-Some-pass.ensures.limit ∙ ap (λ (state : FlightState). state.limit) was ∙ before.limit;

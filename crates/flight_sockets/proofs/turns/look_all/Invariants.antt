@@ -1,6 +1,6 @@
 use Rattle.std.proofs.Common.{◌≡◌, ◌≤◌}
 use Rattle.flight.specs.Waiting.{IsAccounted, outstanding}
-use Rattle.flight_sockets.proofs.udp_worker.look_all.Given as goal
+use Rattle.flight_sockets.proofs.turns.look_all.Given as goal
 
 -- none is lost so far
 abbrev pub invariant-loop-event : goal.invariant-loop-event

@@ -1,11 +1,11 @@
 use Rattle.std.proofs.Common.{◌≡◌, ◌≤◌}
 use Rattle.flight.specs.Waiting.{outstanding}
 use Rattle.flight_sockets.specs.Accounts.{Accounts}
-use Rattle.flight_sockets.proofs.udp_worker.UdpWorker.take_batch.Given as goal
+use Rattle.flight_sockets.proofs.turns.Turns.begin_each.Given as goal
 
--- what was taken so far is accounted for
-abbrev pub invariant-loop : goal.invariant-loop
-invariant-loop g l = record {
+-- what has begun so far is accounted for
+abbrev pub invariant-loop-slot : goal.invariant-loop-slot
+invariant-loop-slot g l = record {
   so_far : Accounts (outstanding l.initial.questions) l.initial.self (outstanding l.questions) l.self;
   within : outstanding l.initial.questions ≤ l.initial.questions.limit → outstanding l.questions ≤ l.initial.questions.limit;
   limit : l.questions.limit ≡ l.initial.questions.limit;

@@ -1,0 +1,287 @@
+//! The turns of a worker: in each it waits, goes on with what came of exchanges, and takes datagrams.
+
+ghost use Rattle.std.specs.Prelude.{◌≡◌, ◌≤◌, ℕ, Option, false, IfOk};
+ghost use Rattle.std.specs.Duration.{as_nanos};
+ghost use Rattle.front_workers.specs.Counts.{Rises};
+ghost use Rattle.dns_sockets.specs.Seconds.{moment_after};
+ghost use Rattle.flight.specs.declared.table.TheConstants.{PATIENCE};
+ghost use Rattle.flight.specs.Waiting.{IsAccounted, outstanding, time_left};
+ghost use Rattle.flight_sockets.specs.Accounts.{Accounts};
+ghost use Rattle.flight_sockets.specs.Patience.{patience_of};
+ghost use Rattle.flight_sockets.specs.Taken.{IsQuery};
+
+use crate::client::UdpClient;
+use crate::inbox::{BATCH, Inbox, Slot, Taken};
+use crate::listener::{SERVICE, UdpListener};
+use crate::millis::{Millis, Timing};
+use crate::service_socket::ServiceSocket;
+use crate::socket_line::SocketLine;
+use crate::worker_sockets::WorkerSockets;
+use command_text::Clock;
+use dns_sockets::glance;
+use dns_text::NoMemory;
+use flight::{Flight, Numbered};
+use log::Log;
+use mio::Events;
+use rand_core::Rng;
+use server_lines::ReadyNet;
+use std::alloc::Global;
+use std::io;
+use std::marker::Model;
+use std::time::{Duration, Instant};
+
+/// So many datagrams at most are taken in one turn.
+const MOST_TAKEN: usize = 256;
+
+/// So many milliseconds are spent on them at most, and on the last: then exchanges are looked at again.
+const MOST_TAKING: u64 = 10;
+
+/// So many events at most are looked at in one turn, so that a datagram does not wait behind many replies.
+const MOST_EVENTS: usize = 16;
+
+/// The questions of a worker that are in flight.
+pub(crate) type Questions<D, C, G, R> = Flight<D, SocketLine<R>, C, G, UdpClient>;
+
+/// What the turns of a worker are taken with. Contracts see its port of name servers, its counts, and how many replies wait
+/// to be sent.
+#[derive(Drop)]
+pub(crate) struct Turns<'a, R, S: ServiceSocket> {
+    sockets: WorkerSockets<'a, R, S>,
+    millis: Millis<'a, R>,
+    events: Events,
+    taken: u64,
+    failures: u64,
+}
+
+impl<'a, R, S: ServiceSocket> Model for Turns<'a, R, S> {
+    ghost use Rattle.std.specs.Prelude.{length};
+    ghost use Rattle.flight_sockets.specs.Accounts.{WorkerState};
+
+    ghost Value = { WorkerState };
+
+    ghost view = { λ turns. record { server_port = turns.sockets.server_port; taken = turns.taken; failures = turns.failures; unsent = length turns.sockets.waiting.items; counts = turns.sockets.counts } };
+}
+
+impl<'a, R: ReadyNet + Log + Timing, S: ServiceSocket> Turns<'a, R, S> {
+    /// Takes datagrams at a listener. Name servers that are known by name are asked at this port. Exchanges are timed from
+    /// the start on.
+    pub fn new(
+        rt: &'a R,
+        alloc: Global,
+        listener: UdpListener<S>,
+        server_port: u16,
+        start: Instant,
+    ) -> Result<Turns<'a, R, S>, NoMemory>
+        ensures { IfOk result (λ turns. turns ≡ record { server_port = server_port; taken = 0; failures = 0; unsent = 0; counts = record { settled = 0; opened = 0; ended = 0; expired = 0; listened = 0 } }) }
+    {
+        Ok(Turns {
+            sockets: WorkerSockets::new(rt, alloc, listener, server_port)?,
+            millis: Millis::new(rt, start),
+            events: Events::with_capacity(alloc, MOST_EVENTS)?,
+            taken: 0,
+            failures: 0,
+        })
+    }
+
+    fn count_taken(&mut self)
+        ensures taken { Rises self.old.taken self.new.taken }
+        ensures counts { self.new.counts ≡ self.old.counts }
+        ensures failures { self.new.failures ≡ self.old.failures }
+    {
+        self.taken = self.taken.saturating_add(1);
+    }
+
+    /// One turn more has failed.
+    pub fn count_failure(&mut self)
+        ensures failures { Rises self.old.failures self.new.failures }
+        ensures taken { self.new.taken ≡ self.old.taken }
+        ensures counts { self.new.counts ≡ self.old.counts }
+        ensures unsent { self.new.unsent ≡ self.old.unsent }
+    {
+        self.failures = self.failures.saturating_add(1);
+    }
+
+    /// Begins what a datagram asks, at this millisecond.
+    fn begin<D: Numbered, C: Clock, G: Rng>(
+        &mut self,
+        desk: &mut D,
+        questions: &mut Questions<D, C, G, R>,
+        slot: &Slot<S>,
+        now: u64,
+    )
+        ensures begun { IsQuery slot.now.came → Rises self.old.taken self.new.taken }
+        ensures accounts { Accounts (outstanding questions.old) self.old (outstanding questions.new) self.new }
+        ensures within { outstanding questions.old ≤ questions.old.limit → outstanding questions.new ≤ questions.old.limit }
+        ensures limit { questions.new.limit ≡ questions.old.limit }
+        ensures failures { self.new.failures ≡ self.old.failures }
+    {
+        match slot.taken() {
+            Taken::Passed => {}
+            Taken::TooLong(peer) => self.sockets.refuse(peer, &slot.room),
+            Taken::Query(client) => {
+                let octets = &slot.room[..client.count()];
+                self.count_taken();
+                questions.begin(desk, &mut self.sockets, now, client, octets);
+            }
+        }
+    }
+
+    /// Begins what each datagram asks.
+    fn begin_each<D: Numbered, C: Clock, G: Rng>(
+        &mut self,
+        desk: &mut D,
+        questions: &mut Questions<D, C, G, R>,
+        inbox: &Inbox<S>,
+        now: u64,
+    )
+        ensures accounts { Accounts (outstanding questions.old) self.old (outstanding questions.new) self.new }
+        ensures within { outstanding questions.old ≤ questions.old.limit → outstanding questions.new ≤ questions.old.limit }
+        ensures limit { questions.new.limit ≡ questions.old.limit }
+        ensures failures { self.new.failures ≡ self.old.failures }
+    {
+        for slot in inbox.datagrams() {
+            self.begin(desk, questions, slot, now);
+        }
+    }
+
+    /// Takes some datagrams, begins what they ask, and sends what is told at once. Whether more may be there.
+    fn take_some<D: Numbered, C: Clock, G: Rng>(
+        &mut self,
+        desk: &mut D,
+        questions: &mut Questions<D, C, G, R>,
+        inbox: &mut Inbox<S>,
+        now: u64,
+    ) -> io::Result<bool>
+        ensures drained { IfOk result (λ more. more ≡ false → S.drained) }
+        ensures accounts { Accounts (outstanding questions.old) self.old (outstanding questions.new) self.new }
+        ensures within { outstanding questions.old ≤ questions.old.limit → outstanding questions.new ≤ questions.old.limit }
+        ensures limit { questions.new.limit ≡ questions.old.limit }
+        ensures failures { self.new.failures ≡ self.old.failures }
+        ensures sent { self.new.unsent ≡ 0 }
+        ensures begun { inbox.new.filled ≡ 0 }
+    {
+        let received = self.sockets.receive(inbox);
+        self.begin_each(desk, questions, inbox, now);
+        inbox.clear();
+        self.sockets.flush();
+        received
+    }
+
+    /// Takes a batch of datagrams. Whether more may be there.
+    fn take_batch<D: Numbered, C: Clock, G: Rng>(
+        &mut self,
+        desk: &mut D,
+        questions: &mut Questions<D, C, G, R>,
+        inbox: &mut Inbox<S>,
+    ) -> io::Result<bool>
+        ensures drained { IfOk result (λ more. more ≡ false → S.drained) }
+        ensures accounts { Accounts (outstanding questions.old) self.old (outstanding questions.new) self.new }
+        ensures within { outstanding questions.old ≤ questions.old.limit → outstanding questions.new ≤ questions.old.limit }
+        ensures limit { questions.new.limit ≡ questions.old.limit }
+        ensures failures { self.new.failures ≡ self.old.failures }
+        ensures sent { self.old.unsent ≡ 0 → self.new.unsent ≡ 0 }
+    {
+        let begun = self.millis.now();
+        let mut now = begun;
+        for _ in 0..MOST_TAKEN / BATCH {
+            if !self.take_some(desk, questions, inbox, now)? {
+                return Ok(false);
+            }
+            now = self.millis.now();
+            if now.saturating_sub(begun) >= MOST_TAKING {
+                return Ok(true);
+            }
+        }
+        Ok(true)
+    }
+
+    /// Goes on with those that wait: what came of their exchanges is heard, and what is overdue ends.
+    fn go_on<D: Numbered, C: Clock, G: Rng>(
+        &mut self,
+        desk: &mut D,
+        questions: &mut Questions<D, C, G, R>,
+    )
+        ensures accounts { Accounts (outstanding questions.old) self.old (outstanding questions.new) self.new }
+        ensures no_more { outstanding questions.new ≤ outstanding questions.old }
+        ensures limit { questions.new.limit ≡ questions.old.limit }
+        ensures failures { self.new.failures ≡ self.old.failures }
+        ensures sent { self.new.unsent ≡ 0 }
+    {
+        look_all(
+            &self.events,
+            &mut self.sockets,
+            &mut self.millis,
+            desk,
+            questions,
+        );
+        let now = self.millis.now();
+        questions.expire(desk, &mut self.sockets, now);
+        self.sockets.flush();
+    }
+
+    /// Waits for what comes, and goes on with it. Where datagrams were left, nothing is waited for. Whether more may be
+    /// there.
+    #[tactic(auto, using(crate::proofs::Accounting::followed))]
+    pub fn turn<D: Numbered, C: Clock, G: Rng>(
+        &mut self,
+        desk: &mut D,
+        questions: &mut Questions<D, C, G, R>,
+        inbox: &mut Inbox<S>,
+        were_left: bool,
+    ) -> io::Result<bool>
+        ensures drained { IfOk result (λ more. more ≡ false → S.drained) }
+        ensures accounts { Accounts (outstanding questions.old) self.old (outstanding questions.new) self.new }
+        ensures within { outstanding questions.old ≤ questions.old.limit → outstanding questions.new ≤ questions.old.limit }
+        ensures limit { questions.new.limit ≡ questions.old.limit }
+        ensures failures { self.new.failures ≡ self.old.failures }
+        ensures sent { self.old.unsent ≡ 0 → self.new.unsent ≡ 0 }
+    {
+        let wait = if were_left {
+            Duration::ZERO
+        } else {
+            patience(&mut self.millis, questions, glance())
+        };
+        self.sockets.wait(&mut self.events, wait)?;
+        self.go_on(desk, questions);
+        // The event that names the service's socket may stand behind those of many replies.
+        self.take_batch(desk, questions, inbox)
+    }
+}
+
+/// How long the next wait may be: so long, and no longer than until an exchange is overdue.
+#[tactic(auto, using(crate::proofs::Durations::shorter_nanos))]
+fn patience<D: Numbered, C: Clock, G: Rng, R: ReadyNet + Timing>(
+    millis: &mut Millis<'_, R>,
+    questions: &Questions<D, C, G, R>,
+    most: Duration,
+) -> Duration
+    ensures { (passed : Option ℕ) × R.passed millis.old.start passed
+        × (as_nanos result ≡ patience_of (as_nanos most) (time_left PATIENCE (moment_after millis.old.last passed) questions.now.begun)) }
+{
+    let now = millis.now();
+    match questions.next_expiry(now) {
+        Some(left) => most.min(Duration::from_millis(left)),
+        None => most,
+    }
+}
+
+/// Looks at the exchanges that events name.
+fn look_all<D: Numbered, C: Clock, G: Rng, R: ReadyNet + Log + Timing, S: ServiceSocket>(
+    events: &Events,
+    sockets: &mut WorkerSockets<'_, R, S>,
+    millis: &mut Millis<'_, R>,
+    desk: &mut D,
+    questions: &mut Questions<D, C, G, R>,
+)
+    ensures accounted { IsAccounted 0 (outstanding questions.old) sockets.old.counts (outstanding questions.new) sockets.new.counts }
+    ensures no_more { outstanding questions.new ≤ outstanding questions.old }
+    ensures limit { questions.new.limit ≡ questions.old.limit }
+    ensures in_time { sockets.new.counts.expired ≡ sockets.old.counts.expired }
+{
+    for event in events.iter() {
+        let token = event.token();
+        if token != SERVICE {
+            questions.look(desk, sockets, millis.now(), token.0);
+        }
+    }
+}
