@@ -1,6 +1,7 @@
 """`resolver serve` with very many questions at once over UDP: none is lost and none answered twice, whatever name servers do; what
 is held waits for none of them; and it ends at once."""
 
+import os
 import random
 import re
 import signal
@@ -265,6 +266,17 @@ WRONG = "id_alone question_alone junk_on dead refuses echoes from_elsewhere".spl
 WRONG += "cut_twice cut_other_id cut_breaks cut_ends cut_silent cut_long cut_slow".split()
 # These are wrong, and yet replies to the query: their exchanges come to something.
 REPLIED = "refuses cut_twice".split()
+
+
+def check_table(checks, workers, most_descriptors, size):
+    """What exchanges may hold is in the system's table of descriptors before threads share it: it need not grow under them."""
+    with Service(["192.0.2.1"], "--udp", str(workers), most_descriptors=most_descriptors) as service:
+        with open(f"/proc/{service.process.pid}/status", encoding="ascii") as file:
+            found = int(re.search(r"FDSize:\s*(\d+)", file.read())[1])
+        held = len(os.listdir(f"/proc/{service.process.pid}/fd"))
+        name = f"{workers} workers, {most_descriptors} descriptors"
+        checks.tell(f"{name}: the table", found < size and f"{found} places")
+        checks.tell(f"{name}: what is held", held > 64 and f"{held} descriptors")
 
 
 def check_liars(checks):
@@ -534,6 +546,9 @@ def main():
     checks.make(check_passed_limit, 1_500, 1, 1_024, 512)
     checks.make(check_passed_limit, 300, 1, 100, 36)
     checks.make(check_passed_limit, 300, 4, 100, 36)
+    checks.make(check_table, 1, 1_024, 512)
+    checks.make(check_table, 4, 4_096, 2_048)
+    checks.make(check_table, 1, 100, 64)
     checks.make(check_liars)
     checks.make(check_no_tcp)
     checks.make(check_dead_first)

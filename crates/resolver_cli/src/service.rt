@@ -7,7 +7,7 @@ ghost use Rattle.resolver_args.specs.Mode.{IsService};
 
 use crate::fault::CliFault;
 use crate::operators::obey_operators;
-use crate::sockets::{Bound, wake_all};
+use crate::sockets::{Bound, hold_descriptors, wake_all};
 use crate::worker::{Lent, OverTcp, OverUdp, Terms, run_tcp, run_udp, tcp_workers, udp_workers};
 use dns_sockets::{descriptor_limit, place_of};
 use flight_sockets::{Waker, most_exchanges};
@@ -181,6 +181,8 @@ where
         exchanges: most_exchanges(descriptors, service.udp),
         start,
     };
+    let exchanges = terms.exchanges.saturating_mul(usize::from(terms.udp));
+    hold_descriptors(alloc, &bound.sockets.tcp, exchanges)?;
     let record_limit = service.record_limit;
     let book = PlainBook::new(alloc, service.settings).unwrap();
     let blank = Blank::new(PARTS);

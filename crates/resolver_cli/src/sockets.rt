@@ -65,6 +65,26 @@ impl Bound {
     }
 }
 
+/// Holds so many descriptors more for a moment, so that the system's table of them has grown before threads share it. Growing
+/// waits then until no thread can be reading the old one: milliseconds, in which a worker answers nobody. What cannot be
+/// held is left, as exchanges would find out.
+pub(crate) fn hold_descriptors(
+    alloc: Global,
+    socket: &TcpListener,
+    count: usize,
+) -> Result<(), CliFault> {
+    let Ok(mut held) = Vec::with_capacity(alloc, count) else {
+        return Err(CliFault::no_memory());
+    };
+    for _ in 0..count {
+        let Ok(copy) = socket.try_clone() else {
+            return Ok(());
+        };
+        let _ = held.push(copy);
+    }
+    Ok(())
+}
+
 /// Wakes each worker that waits, so that it sees the stop flag. One that cannot be woken so has a connection to accept, or
 /// looks at the flag by itself.
 pub(crate) fn wake_all<R: Net<Stream = TcpStream>>(
