@@ -1,11 +1,11 @@
 -- How the counts of a worker go on.
-use Rattle.std.proofs.Common.{◌≡◌, ℕ, ◌+◌, inl, inr, arith}
+use Rattle.std.proofs.Common.{◌≡◌, ◌∙◌, ℕ, ◌+◌, inl, inr, arith}
 use Rattle.front_workers.specs.Counts.{Rises}
 use Rattle.front_workers.specs.Working.{HasFailed}
 use Rattle.flight.specs.declared.counts.Counts.{Counts}
 use Rattle.flight.specs.Counted.{NeverFall, IsFull}
-use Rattle.flight.specs.Waiting.{IsAccounted}
-use Rattle.flight_sockets.specs.Accounts.{WorkerState, Accounts}
+use Rattle.flight.specs.Waiting.{FlightState, IsAccounted}
+use Rattle.flight_sockets.specs.Accounts.{WorkerState, Accounts, GoesOn}
 
 none_fell : (old mid new : Counts) → NeverFall old mid → NeverFall mid new → NeverFall old new
 none_fell old mid new before after = record {
@@ -38,6 +38,15 @@ followed w w' w'' old mid new before after = record {
       | inr many ↦ inr (inr (omega (arith, many, after.taken)))
     ]
   ];
+}
+
+-- What goes on and on goes on.
+pub gone_on : (a b c : FlightState) (old mid new : WorkerState) → GoesOn a old b mid → GoesOn b mid c new → GoesOn a old c new
+gone_on a b c old mid new before after = record {
+  accounts = followed _ _ _ old mid new before.accounts after.accounts;
+  within = λ few. omega (arith, after.within (omega (arith, before.within few, before.limit)), before.limit);
+  limit = after.limit ∙ before.limit;
+  failures = after.failures ∙ before.failures;
 }
 
 -- A query that was taken begins.

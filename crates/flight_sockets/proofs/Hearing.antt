@@ -1,5 +1,5 @@
 -- What is heard of an exchange over a connection.
-use Rattle.std.proofs.Common.{◌≡◌, ◌⊎◌, ℕ, List, length, take, Option, sym, ◌∙◌, subst, arith}
+use Rattle.std.proofs.Common.{◌≡◌, ℕ, List, length, take, Option, sym, ◌∙◌, subst, arith}
 use Rattle.std.proofs.lemmas.List.{take_all}
 use Rattle.std.specs.Io.KnownBytes.{Appends, Consumes}
 use Rattle.std.specs.declared.net.SocketAddr.{SocketAddr}

@@ -2,6 +2,7 @@
 use Rattle.std.specs.Prelude.{◌≡◌, ◌⊎◌, ◌≤◌, ℕ, ◌+◌, ◌-◌, ◌^◌}
 use Rattle.flight.specs.declared.counts.Counts.{Counts}
 use Rattle.flight.specs.Counted.{NeverFall, IsFull}
+use Rattle.flight.specs.Waiting.{FlightState, outstanding}
 
 -- what can be seen of a worker: each count ends at 2^64 - 1
 pub record WorkerState : Type 0 where
@@ -21,3 +22,10 @@ pub record Accounts (waiting : ℕ) (old : WorkerState) (waiting' : ℕ) (new : 
   pub taken : old.taken ≤ new.taken
   pub never_fall : NeverFall old.counts new.counts
   pub add_up : AllAddUp waiting old waiting' new ⊎ (IsFull new.counts ⊎ (2 ^ 64 - 1 ≤ new.taken))
+
+-- So a worker goes on with its questions in flight: each is accounted for, no more exchanges are under way than may be, and no turn fails.
+pub record GoesOn (flight : FlightState) (old : WorkerState) (flight' : FlightState) (new : WorkerState) : Type 0 where
+  pub accounts : Accounts (outstanding flight) old (outstanding flight') new
+  pub within : outstanding flight ≤ flight.limit → outstanding flight' ≤ flight.limit
+  pub limit : flight'.limit ≡ flight.limit
+  pub failures : new.failures ≡ old.failures

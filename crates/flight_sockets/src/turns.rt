@@ -6,7 +6,7 @@ ghost use Rattle.front_workers.specs.Counts.{Rises};
 ghost use Rattle.dns_sockets.specs.Seconds.{moment_after};
 ghost use Rattle.flight.specs.declared.table.TheConstants.{PATIENCE};
 ghost use Rattle.flight.specs.Waiting.{IsAccounted, outstanding, time_left};
-ghost use Rattle.flight_sockets.specs.Accounts.{Accounts};
+ghost use Rattle.flight_sockets.specs.Accounts.{GoesOn};
 ghost use Rattle.flight_sockets.specs.Patience.{patience_of};
 ghost use Rattle.flight_sockets.specs.Taken.{IsQuery};
 
@@ -110,10 +110,7 @@ impl<'a, R: ReadyNet + Log + Timing, S: ServiceSocket> Turns<'a, R, S> {
         now: u64,
     )
         ensures begun { IsQuery slot.now.came → Rises self.old.taken self.new.taken }
-        ensures accounts { Accounts (outstanding questions.old) self.old (outstanding questions.new) self.new }
-        ensures within { outstanding questions.old ≤ questions.old.limit → outstanding questions.new ≤ questions.old.limit }
-        ensures limit { questions.new.limit ≡ questions.old.limit }
-        ensures failures { self.new.failures ≡ self.old.failures }
+        ensures goes_on { GoesOn questions.old self.old questions.new self.new }
     {
         match slot.taken() {
             Taken::Passed => {}
@@ -134,10 +131,7 @@ impl<'a, R: ReadyNet + Log + Timing, S: ServiceSocket> Turns<'a, R, S> {
         inbox: &Inbox<S>,
         now: u64,
     )
-        ensures accounts { Accounts (outstanding questions.old) self.old (outstanding questions.new) self.new }
-        ensures within { outstanding questions.old ≤ questions.old.limit → outstanding questions.new ≤ questions.old.limit }
-        ensures limit { questions.new.limit ≡ questions.old.limit }
-        ensures failures { self.new.failures ≡ self.old.failures }
+        ensures goes_on { GoesOn questions.old self.old questions.new self.new }
     {
         for slot in inbox.datagrams() {
             self.begin(desk, questions, slot, now);
@@ -153,10 +147,7 @@ impl<'a, R: ReadyNet + Log + Timing, S: ServiceSocket> Turns<'a, R, S> {
         now: u64,
     ) -> io::Result<bool>
         ensures drained { IfOk result (λ more. more ≡ false → S.drained) }
-        ensures accounts { Accounts (outstanding questions.old) self.old (outstanding questions.new) self.new }
-        ensures within { outstanding questions.old ≤ questions.old.limit → outstanding questions.new ≤ questions.old.limit }
-        ensures limit { questions.new.limit ≡ questions.old.limit }
-        ensures failures { self.new.failures ≡ self.old.failures }
+        ensures goes_on { GoesOn questions.old self.old questions.new self.new }
         ensures sent { self.new.unsent ≡ 0 }
         ensures begun { inbox.new.filled ≡ 0 }
     {
@@ -175,10 +166,7 @@ impl<'a, R: ReadyNet + Log + Timing, S: ServiceSocket> Turns<'a, R, S> {
         inbox: &mut Inbox<S>,
     ) -> io::Result<bool>
         ensures drained { IfOk result (λ more. more ≡ false → S.drained) }
-        ensures accounts { Accounts (outstanding questions.old) self.old (outstanding questions.new) self.new }
-        ensures within { outstanding questions.old ≤ questions.old.limit → outstanding questions.new ≤ questions.old.limit }
-        ensures limit { questions.new.limit ≡ questions.old.limit }
-        ensures failures { self.new.failures ≡ self.old.failures }
+        ensures goes_on { GoesOn questions.old self.old questions.new self.new }
         ensures sent { self.old.unsent ≡ 0 → self.new.unsent ≡ 0 }
     {
         let begun = self.millis.now();
@@ -201,10 +189,8 @@ impl<'a, R: ReadyNet + Log + Timing, S: ServiceSocket> Turns<'a, R, S> {
         desk: &mut D,
         questions: &mut Questions<D, C, G, R>,
     )
-        ensures accounts { Accounts (outstanding questions.old) self.old (outstanding questions.new) self.new }
+        ensures goes_on { GoesOn questions.old self.old questions.new self.new }
         ensures no_more { outstanding questions.new ≤ outstanding questions.old }
-        ensures limit { questions.new.limit ≡ questions.old.limit }
-        ensures failures { self.new.failures ≡ self.old.failures }
         ensures sent { self.new.unsent ≡ 0 }
     {
         look_all(
@@ -221,7 +207,7 @@ impl<'a, R: ReadyNet + Log + Timing, S: ServiceSocket> Turns<'a, R, S> {
 
     /// Waits for what comes, and goes on with it. Where datagrams were left, nothing is waited for. Whether more may be
     /// there.
-    #[tactic(auto, using(crate::proofs::Accounting::followed))]
+    #[tactic(auto, using(crate::proofs::Accounting::gone_on))]
     pub fn turn<D: Numbered, C: Clock, G: Rng>(
         &mut self,
         desk: &mut D,
@@ -230,10 +216,7 @@ impl<'a, R: ReadyNet + Log + Timing, S: ServiceSocket> Turns<'a, R, S> {
         were_left: bool,
     ) -> io::Result<bool>
         ensures drained { IfOk result (λ more. more ≡ false → S.drained) }
-        ensures accounts { Accounts (outstanding questions.old) self.old (outstanding questions.new) self.new }
-        ensures within { outstanding questions.old ≤ questions.old.limit → outstanding questions.new ≤ questions.old.limit }
-        ensures limit { questions.new.limit ≡ questions.old.limit }
-        ensures failures { self.new.failures ≡ self.old.failures }
+        ensures goes_on { GoesOn questions.old self.old questions.new self.new }
         ensures sent { self.old.unsent ≡ 0 → self.new.unsent ≡ 0 }
     {
         let wait = if were_left {

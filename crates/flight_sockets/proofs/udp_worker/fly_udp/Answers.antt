@@ -5,37 +5,37 @@ use Rattle.flight_sockets.proofs.udp_worker.fly_udp.Goals as goal
 pub loop-preserved-in-Ok : goal.loop-preserved-in-Ok
 loop-preserved-in-Ok g c =
     let before = c.loop.invariant in
-    let within = c.turn-turned.ensures.within (omega (arith, before.within, before.limit)) in
+    let within = c.turn-turned.ensures.goes_on.within (omega (arith, before.within, before.limit)) in
     record {
-      so_far = followed _ _ _ _ _ _ before.so_far c.turn-turned.ensures.accounts;
+      so_far = followed _ _ _ _ _ _ before.so_far c.turn-turned.ensures.goes_on.accounts;
       within = omega (arith, within, before.limit);
-      limit = c.turn-turned.ensures.limit ∙ before.limit;
+      limit = c.turn-turned.ensures.goes_on.limit ∙ before.limit;
       few = omega arith;
-      counted = not_failed _ _ _ _ before.counted c.turn-turned.ensures.failures;
+      counted = not_failed _ _ _ _ before.counted c.turn-turned.ensures.goes_on.failures;
       sent = λ none. c.turn-turned.ensures.sent (before.sent none);
     }
 
 pub returns-then-failed-eq-MOST_FAILURES-clause-accounts :
     goal.returns-then-failed-eq-MOST_FAILURES-clause-accounts
 returns-then-failed-eq-MOST_FAILURES-clause-accounts g c =
-    let turned = followed _ _ _ _ _ _ c.loop.invariant.so_far c.turn-turned.ensures.accounts in
+    let turned = followed _ _ _ _ _ _ c.loop.invariant.so_far c.turn-turned.ensures.goes_on.accounts in
     (_, search rules, failed _ _ _ _ _ turned c.count_failure.ensures.taken c.count_failure.ensures.counts)
 
 pub returns-then-failed-eq-MOST_FAILURES-clause-failing :
     goal.returns-then-failed-eq-MOST_FAILURES-clause-failing
 returns-then-failed-eq-MOST_FAILURES-clause-failing g c =
-    λ _. rw (← c.if-failed-eq-MOST_FAILURES.true) (failed_more _ _ _ _ _ c.loop.invariant.counted c.turn-turned.ensures.failures c.count_failure.ensures.failures)
+    λ _. rw (← c.if-failed-eq-MOST_FAILURES.true) (failed_more _ _ _ _ _ c.loop.invariant.counted c.turn-turned.ensures.goes_on.failures c.count_failure.ensures.failures)
 
 pub loop-preserved : goal.loop-preserved
 loop-preserved g c =
     let before = c.loop.invariant in
-    let within = c.turn-turned.ensures.within (omega (arith, before.within, before.limit)) in
-    let turned = followed _ _ _ _ _ _ before.so_far c.turn-turned.ensures.accounts in
+    let within = c.turn-turned.ensures.goes_on.within (omega (arith, before.within, before.limit)) in
+    let turned = followed _ _ _ _ _ _ before.so_far c.turn-turned.ensures.goes_on.accounts in
     record {
       so_far = failed _ _ _ _ _ turned c.count_failure.ensures.taken c.count_failure.ensures.counts;
       within = omega (arith, within, before.limit);
-      limit = c.turn-turned.ensures.limit ∙ before.limit;
+      limit = c.turn-turned.ensures.goes_on.limit ∙ before.limit;
       few = omega (arith, before.few, c.if-failed-eq-MOST_FAILURES.false);
-      counted = failed_more _ _ _ _ _ before.counted c.turn-turned.ensures.failures c.count_failure.ensures.failures;
+      counted = failed_more _ _ _ _ _ before.counted c.turn-turned.ensures.goes_on.failures c.count_failure.ensures.failures;
       sent = λ none. c.count_failure.ensures.unsent ∙ c.turn-turned.ensures.sent (before.sent none);
     }

@@ -1,14 +1,10 @@
-use Rattle.std.proofs.Common.{◌≡◌, ◌≤◌}
-use Rattle.flight.specs.Waiting.{outstanding}
-use Rattle.flight_sockets.specs.Accounts.{Accounts}
+use Rattle.std.proofs.Common.{◌≡◌}
+use Rattle.flight_sockets.specs.Accounts.{GoesOn}
 use Rattle.flight_sockets.proofs.turns.Turns.take_batch.Given as goal
 
 -- what was taken so far is accounted for
 abbrev pub invariant-loop : goal.invariant-loop
 invariant-loop g l = record {
-  so_far : Accounts (outstanding l.initial.questions) l.initial.self (outstanding l.questions) l.self;
-  within : outstanding l.initial.questions ≤ l.initial.questions.limit → outstanding l.questions ≤ l.initial.questions.limit;
-  limit : l.questions.limit ≡ l.initial.questions.limit;
-  failures : l.self.failures ≡ l.initial.self.failures;
+  so_far : GoesOn l.initial.questions l.initial.self l.questions l.self;
   sent : l.initial.self.unsent ≡ 0 → l.self.unsent ≡ 0;
 }
