@@ -1,9 +1,9 @@
 """`resolver serve` with very many questions at once over UDP: none is lost and none answered twice, whatever name servers do; what
 is held waits for none of them; and it ends at once."""
 
-import os
 import random
 import re
+import resource
 import signal
 import socket
 import subprocess
@@ -270,11 +270,14 @@ REPLIED = "refuses cut_twice".split()
 
 def check_table(checks, workers, most_descriptors, size):
     """What exchanges may hold is in the system's table of descriptors before threads share it: it need not grow under them."""
+    name = f"{workers} workers, {most_descriptors} descriptors"
+    if resource.getrlimit(resource.RLIMIT_NOFILE)[1] < most_descriptors:
+        checks.skip(name, "a process may not have so many")
+        return
     with Service(["192.0.2.1"], "--udp", str(workers), most_descriptors=most_descriptors) as service:
         with open(f"/proc/{service.process.pid}/status", encoding="ascii") as file:
             found = int(re.search(r"FDSize:\s*(\d+)", file.read())[1])
-        held = len(os.listdir(f"/proc/{service.process.pid}/fd"))
-        name = f"{workers} workers, {most_descriptors} descriptors"
+        held = service.descriptors()
         checks.tell(f"{name}: the table", found < size and f"{found} places")
         checks.tell(f"{name}: what is held", held > 64 and f"{held} descriptors")
 
