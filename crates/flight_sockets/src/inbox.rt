@@ -1,6 +1,6 @@
 //! Datagrams that have come in, and what they are.
 
-ghost use Rattle.std.specs.Prelude.{◌≡◌, ◌⊎◌, ◌≤◌, false, true, IfErr, IfOk, IfSome, IsSome, take, vec_len};
+ghost use Rattle.std.specs.Prelude.{◌≡◌, ◌≢◌, ◌⊎◌, ◌≤◌, false, true, IfErr, IfOk, IfSome, IsSome, OnErr, take, vec_len};
 ghost use Rattle.std.specs.IoError.{error_kind};
 ghost use Rattle.std.specs.List.{AllWithin};
 ghost use Rattle.flight_sockets.specs.declared.inbox.TheConstants.{BATCH};
@@ -56,6 +56,7 @@ impl<S: ServiceSocket> Slot<S> {
         ensures filled { IfOk result (λ _. IsSome self.new.came) }
         ensures drained { IfErr result (λ error. error_kind error ≡ ErrorKind.WouldBlock → S.drained) }
         ensures interrupted { IfErr result (λ error. error_kind error ≡ ErrorKind.Interrupted → S.interrupted) }
+        ensures failed { IfErr result (λ error. error_kind error ≢ ErrorKind.WouldBlock → error_kind error ≢ ErrorKind.Interrupted → S.failed) }
     {
         self.came = None;
         let (count, peer) = socket.take_datagram(&mut self.room)?;
@@ -107,6 +108,7 @@ impl<S: ServiceSocket> Inbox<S> {
     pub fn fill(&mut self, socket: &S) -> io::Result<bool>
         ensures drained { IfOk result (λ more. more ≡ false → S.drained) }
         ensures full { IfOk result (λ more. more ≡ true → S.interrupted ⊎ (self.new.filled ≡ BATCH)) }
+        ensures failed { OnErr result S.failed }
         ensures keeps { self.old.filled ≤ self.new.filled }
     {
         while self.filled < BATCH {

@@ -1,6 +1,6 @@
 //! The socket at which questions come in and by which replies go out.
 
-ghost use Rattle.std.specs.Prelude.{◌≡◌, ℕ, List, ◌≤◌, length, take, IfOk, IfErr};
+ghost use Rattle.std.specs.Prelude.{◌≡◌, ◌≢◌, ℕ, List, ◌≤◌, length, take, IfOk, IfErr};
 ghost use Rattle.std.specs.IoError.{error_kind};
 ghost use Rattle.std.specs.declared.net.SocketAddr.{SocketAddr};
 
@@ -20,6 +20,9 @@ pub trait ServiceSocket: Drop {
     /// A call was ended by a signal.
     ghost interrupted: { Type 0 };
 
+    /// A call failed in another way.
+    ghost failed: { Type 0 };
+
     /// It was tried to send these octets to this peer.
     ghost tried: { SocketAddr → List ℕ → Type 0 };
 
@@ -28,7 +31,8 @@ pub trait ServiceSocket: Drop {
         ensures within { IfOk result (λ r. r.0 ≤ length room.new) }
         ensures came { IfOk result (λ r. came r.1 (take r.0 room.new)) }
         ensures drained { IfErr result (λ error. error_kind error ≡ ErrorKind.WouldBlock → drained) }
-        ensures interrupted { IfErr result (λ error. error_kind error ≡ ErrorKind.Interrupted → interrupted) };
+        ensures interrupted { IfErr result (λ error. error_kind error ≡ ErrorKind.Interrupted → interrupted) }
+        ensures failed { IfErr result (λ error. error_kind error ≢ ErrorKind.WouldBlock → error_kind error ≢ ErrorKind.Interrupted → failed) };
 
     /// Sends a datagram. It may fail where the peer cannot be reached.
     fn send_datagram(&self, octets: &[u8], peer: SocketAddr) -> io::Result<()>
@@ -42,6 +46,8 @@ impl ServiceSocket for UdpSocket {
     ghost drained = { Unit {0} };
 
     ghost interrupted = { Unit {0} };
+
+    ghost failed = { Unit {0} };
 
     // Nor of what leaves.
     ghost tried = { λ _ _. Unit {0} };

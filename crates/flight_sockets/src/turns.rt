@@ -1,6 +1,6 @@
 //! The turns of a worker: in each it waits, goes on with what came of exchanges, and takes datagrams.
 
-ghost use Rattle.std.specs.Prelude.{◌≡◌, ◌≤◌, ℕ, Option, false, IfOk};
+ghost use Rattle.std.specs.Prelude.{◌≡◌, ◌≤◌, ℕ, Option, false, IfOk, OnErr};
 ghost use Rattle.std.specs.Duration.{as_nanos};
 ghost use Rattle.front_workers.specs.Counts.{Rises};
 ghost use Rattle.dns_sockets.specs.Seconds.{moment_after};
@@ -147,6 +147,7 @@ impl<'a, R: ReadyNet + Log + Timing, S: ServiceSocket> Turns<'a, R, S> {
         now: u64,
     ) -> io::Result<bool>
         ensures drained { IfOk result (λ more. more ≡ false → S.drained) }
+        ensures failed { OnErr result S.failed }
         ensures goes_on { GoesOn questions.old self.old questions.new self.new }
         ensures sent { self.new.unsent ≡ 0 }
         ensures begun { inbox.new.filled ≡ 0 }
@@ -166,6 +167,7 @@ impl<'a, R: ReadyNet + Log + Timing, S: ServiceSocket> Turns<'a, R, S> {
         inbox: &mut Inbox<S>,
     ) -> io::Result<bool>
         ensures drained { IfOk result (λ more. more ≡ false → S.drained) }
+        ensures failed { OnErr result S.failed }
         ensures goes_on { GoesOn questions.old self.old questions.new self.new }
         ensures sent { self.old.unsent ≡ 0 → self.new.unsent ≡ 0 }
     {

@@ -1,6 +1,6 @@
 //! The sockets of one worker.
 
-ghost use Rattle.std.specs.Prelude.{◌≡◌, ◌⊎◌, ◌≤◌, [], false, length, true, vec_len, IfNone, IfOk, IfSome, OnSome};
+ghost use Rattle.std.specs.Prelude.{◌≡◌, ◌⊎◌, ◌≤◌, [], false, length, true, vec_len, IfNone, IfOk, IfSome, OnErr, OnSome};
 ghost use Rattle.std.specs.List.{All};
 ghost use Rattle.dns_wire.specs.declared.server.query.Asked.TheVariants.{Drop};
 ghost use Rattle.dns_wire.specs.Server.Asking.{AsksFor};
@@ -142,6 +142,7 @@ impl<'a, R: Log, S: ServiceSocket> WorkerSockets<'a, R, S> {
     pub fn receive(&self, inbox: &mut Inbox<S>) -> io::Result<bool>
         ensures drained { IfOk result (λ more. more ≡ false → S.drained) }
         ensures full { IfOk result (λ more. more ≡ true → S.interrupted ⊎ (inbox.new.filled ≡ BATCH)) }
+        ensures failed { OnErr result S.failed }
         ensures keeps { inbox.old.filled ≤ inbox.new.filled }
     {
         inbox.fill(&self.listener.socket)
