@@ -551,7 +551,6 @@ def main():
     checks.make(check_passed_limit, 300, 4, 100, 36)
     checks.make(check_table, 1, 1_024, 512)
     checks.make(check_table, 4, 4_096, 2_048)
-    checks.make(check_table, 1, 100, 64)
     checks.make(check_liars)
     checks.make(check_no_tcp)
     checks.make(check_dead_first)
