@@ -8,9 +8,9 @@ from programs import QUERIES, TASKS, run
 
 COUNT = 1000
 
-# A query, from octets in to octets out: the question's octets, the list of steps, and the reply. Of local data besides: the
-# records that the look tells, and the set that the task makes of them, its records and what shares them.
-MOST_OF_A_QUERY = {"held": 3, "local": 6, "refused": 3}
+# A query of a short question, from octets in to octets out: the list of steps, and the reply. Of local data besides: the records
+# that the look tells, and the set that the task makes of them, its records and what shares them.
+MOST_OF_A_QUERY = {"held": 2, "local": 5, "refused": 2}
 
 # A task, from its beginning to its answer: the list of steps; of local data besides the records that the look tells, and the set
 # that the task makes of them, its records and what shares them.

@@ -13,7 +13,7 @@ import time
 from checks import Checks
 from crowds import END, Crowd, LateServer, waiting_at
 from nameserver import Piece, framed
-from programs import RESOLVER
+from programs import RESOLVER, library
 from service import CANNOT_LISTEN, HOST, STOPPED, Service, free_port, until
 
 SEED = 17
@@ -487,6 +487,24 @@ def check_rest(checks):
             has_ended(checks, "rest", service, crowd)
 
 
+def check_memory(checks):
+    """A hit takes no memory, once as many calls are recorded as are. A larger batch takes more buffers, so 1,000 hits more may ask for some."""
+    once, twice = blocks_of_hits(1_000), blocks_of_hits(2_000)
+    few = None not in (once, twice) and 0 < once and twice - once < 100
+    checks.tell("hits: memory", None if few else f"asked for {once} and {twice} times")
+
+
+def blocks_of_hits(count):
+    """How often a service asks for memory that is asked so often what it holds, behind 1,000 times; None where it told none."""
+    environment = {"LD_PRELOAD": library("count"), "TELL": "2"}
+    with LateServer(at_once) as server, serving(server, "--record", "100", environment=environment) as service, Crowd(service) as crowd:
+        crowd.ask(["n1.test."], 1)
+        crowd.ask(["n1.test."] * (1_000 + count), 20)
+        all_told = set(crowd.words()) == {answered("n1.test.")} and service.stop() == STOPPED
+        told = [int(line.split()[1]) for line in service.log().splitlines() if line.startswith(b"allocations ")]
+        return told[0] if all_told and told else None
+
+
 def is_stopped(service):
     with open(f"/proc/{service.process.pid}/stat", encoding="ascii") as file:
         return file.read().rpartition(")")[2].split()[0] == "T"
@@ -565,6 +583,7 @@ def main():
     checks.make(check_stopped_clock)
     checks.make(check_interrupted)
     checks.make(check_rest)
+    checks.make(check_memory)
     checks.make(check_ipv6)
     checks.make(check_second)
     checks.end()

@@ -46,7 +46,7 @@ pub fn encode_lent_many(
     let mut sum = 0;
     for _ in 0..count {
         let out = encode_lent(
-            alloc,
+            Vec::new(alloc),
             &query,
             &message.head,
             &message.answer,

@@ -1,3 +1,4 @@
 pub mod Walking
+pub mod Spelling
 pub mod Asking
 pub mod Replying

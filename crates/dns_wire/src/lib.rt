@@ -30,4 +30,5 @@ pub use reserved::Reserved;
 pub use server::asking::{one_verdict, read_question};
 pub use server::query::{Asked, Query};
 pub use server::replying::{cut_for_udp, fault_reply};
+pub use server::spelling::QuestionOctets;
 pub use write::encoding::{EncodeFault, encode, encode_lent, encode_reply, written_is_read};

@@ -2,6 +2,8 @@
 
 // In the order in which to read them.
 
+// The octets of a question.
+pub mod spelling;
 // A query, and what else octets ask for.
 pub mod query;
 // Messages walked, and not kept.

@@ -1,10 +1,11 @@
 -- What is in flight, as exchanges begin and end.
-use Rattle.std.proofs.Common.{◌≡◌, ◌≢◌, ◌∙◌, ◌<◌, ◌≤◌, ◌+◌, ℕ, max, map, List, [], ◌∷◌, ◌++◌, Some, None, ap, arith, inl, inr}
+use Rattle.std.proofs.Common.{◌≡◌, ◌≢◌, ◌∙◌, ◌⊎◌, ◌<◌, ◌≤◌, ◌+◌, ℕ, max, map, List, [], ◌∷◌, ◌++◌, Option, Some, None, ap, sym, arith, inl, inr}
+use Rattle.std.proofs.lemmas.Bool.{cases_eq}
 use Rattle.std.proofs.lemmas.List.{map-append}
 use Rattle.slab.specs.Slab.{Slab, get, slab_len, Updates}
 use Rattle.flight.specs.declared.table.Wait.{Wait}
 use Rattle.flight.proofs.Counting.{time_over, fewer_over_then}
-use Rattle.flight.specs.Waiting.{FlightState, Begins, EarlyGoOn, WaitsFrom, outstanding, since_at}
+use Rattle.flight.specs.Waiting.{FlightState, Begins, EarlyGoOn, GoesOnOrBegins, WaitsFrom, outstanding, since_at}
 
 -- An exchange begins under the key of a question that is kept.
 pub begins : (now : ℕ) (old new : FlightState) (before after : Slab ℕ) (since : ℕ)
@@ -49,6 +50,57 @@ early_then patience now key due first old between new early was is_due others wa
     omega arith
     in
     goes_on_under now between new waits at since (others at differs ∙ still)
+
+-- What is under way goes on or begins now: where all goes on as it was,
+as_it_was : (now : ℕ) (old new : FlightState) → ((key : ℕ) → since_at new key ≡ since_at old key) → new.latest ≡ old.latest → GoesOnOrBegins now old new
+as_it_was now old new same latest = record { under_way = λ key since here. inl (sym (same key) ∙ here); latest = inl latest }
+
+-- where one was taken out,
+pub taken_out : (now key : ℕ) (old new : FlightState) → since_at new key ≡ None → ((other : ℕ) → other ≢ key → since_at new other ≡ since_at old other) → new.latest ≡ old.latest → GoesOnOrBegins now old new
+taken_out now key old new none others latest =
+    record {
+      under_way = λ at since here. elim (cases_eq at key) [
+        | inl same ↦ absurd (cc (none, here, ap (since_at new) same))
+        | inr differs ↦ inl (sym (others at differs) ∙ here)
+      ];
+      latest = inl latest;
+    }
+
+-- where one begins or not,
+begun_now : (now : ℕ) (old new : FlightState) → Begins now old new → GoesOnOrBegins now old new
+begun_now now old new begins =
+    record {
+      under_way = λ at since here. elim (cases_eq at begins.key) [
+        | inl same ↦ inr (cc (begins.begins, here, ap (since_at new) same))
+        | inr differs ↦ inl (sym (begins.others at differs) ∙ here)
+      ];
+      latest = inr begins.latest;
+    }
+
+pub begun_or_not : (now : ℕ) (old new : FlightState) → WaitsFrom now old new → GoesOnOrBegins now old new
+begun_or_not now old new waits =
+    elim waits [
+      | inl same ↦ as_it_was now old new (λ key. ap (λ (state : FlightState). since_at state key) same) (ap (λ (state : FlightState). state.latest) same)
+      | inr begins ↦ begun_now now old new begins
+    ]
+
+-- and where both happens at one moment.
+as_late : (now first latest : ℕ) → (latest ≡ first) ⊎ (latest ≡ max now first) → max now latest ≡ max now first
+as_late now first latest is = elim is [ inl same ↦ ap (max now) same | inr later ↦ omega (arith, later) ]
+
+pub on_or_begun_then : (now : ℕ) (old between new : FlightState) → GoesOnOrBegins now old between → GoesOnOrBegins now between new → GoesOnOrBegins now old new
+on_or_begun_then now old between new first second =
+    let late = as_late now old.latest between.latest first.latest in
+    record {
+      under_way = λ key since here. elim (second.under_way key since here) [
+        | inl was ↦ first.under_way key since was
+        | inr begun ↦ inr (begun ∙ late)
+      ];
+      latest = elim second.latest [
+        | inl same ↦ elim first.latest [ inl before ↦ inl (same ∙ before) | inr begun ↦ inr (same ∙ begun) ]
+        | inr begun ↦ inr (begun ∙ late)
+      ];
+    }
 
 -- Exchanges are less over their time, together, without the first of the queue, also where one begins.
 pub less_over : (now since : ℕ) (old between new : FlightState) → old.begun ≡ since ∷ between.begun → since + 2000 ≤ now → WaitsFrom now between new → time_over now new.begun < time_over now old.begun

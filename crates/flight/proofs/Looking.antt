@@ -1,5 +1,5 @@
 -- How a question begins.
-use Rattle.std.proofs.Common.{◌≡◌, ℕ, List, [], ◌∷◌, Option, Some, IfSome, refl, subst}
+use Rattle.std.proofs.Common.{◌≡◌, ℕ, List, [], ◌∷◌, Option, Some, MatchOption, refl, subst}
 use Rattle.dns_text.specs.declared.record.Question.{Question}
 use Rattle.undo_book.specs.declared.event.Ask.TheVariants.{Answer as Asked}
 use Rattle.undo_book.specs.declared.event.Event.{Event}
@@ -11,7 +11,7 @@ use Rattle.iterate.specs.declared.want.Step.{Step}
 use Rattle.iterate.specs.declared.want.Want.TheVariants.{Book, Finish}
 use Rattle.iterate.specs.Exchanges.{Exchange, exchange, Adds}
 use Rattle.iterate.specs.Phase.{Suits}
-use Rattle.iterate.specs.Resolved.{IsResolved}
+use Rattle.iterate.specs.Resolved.{IsNoAnswer, IsResolved}
 use Rattle.iterate.specs.Wanted.{id_drawn}
 use Rattle.rand_core.specs.Stream.{Stream}
 use Rattle.front_workers.specs.Leads.{Calls, Ticks, Draws}
@@ -42,11 +42,12 @@ module _ {D C : Type 0} {calls : Calls D} {seen : D → ℕ} {hears : Hears} {ti
 
   -- The look settles the question.
   pub looked_resolves : HasLooked calls seen hears ticks question moment came n → (port : ℕ) (answer : Answer) (found : Option Answer) → found ≡ Some answer
-      → ((port m : ℕ) (log : List Exchange) → Adds [] (exchange (Book (Look m (Asked question))) came) log → Suits (Book (Look m (Asked question))) came → IfSome found (IsResolved port question log))
+      → ((port m : ℕ) (log : List Exchange) → Adds [] (exchange (Book (Look m (Asked question))) came) log → Suits (Book (Look m (Asked question))) came
+      → MatchOption found (IsNoAnswer question came) (IsResolved port question log))
       → IsResolved port question (exchange (Book (Look moment (Asked question))) came ∷ []) answer
   looked_resolves looked port answer found is settles =
       let log = exchange (Book (Look moment (Asked question))) came ∷ [] in
-      subst (λ (a : Option Answer). IfSome a (IsResolved port question log)) is (settles port moment log (record { adds = refl }) (suits looked.answered))
+      subst (λ (a : Option Answer). MatchOption a (IsNoAnswer question came) (IsResolved port question log)) is (settles port moment log (record { adds = refl }) (suits looked.answered))
 
   -- A task may give the answer then.
   pub looked_lands : HasLooked calls seen hears ticks question moment came n → (port : ℕ) (words : Stream) (answer : Answer)

@@ -43,6 +43,11 @@ pub record Begins (now : ℕ) (old new : FlightState) : Type 0 where
 abbrev pub WaitsFrom : ℕ → FlightState → FlightState → Type 0
 WaitsFrom now old new = (new ≡ old) ⊎ Begins now old new
 
+-- What is under way was so before, or begins now, no earlier than those before.
+pub record GoesOnOrBegins (now : ℕ) (old new : FlightState) : Type 0 where
+  pub under_way : (key since : ℕ) → since_at new key ≡ Some since → (since_at old key ≡ Some since) ⊎ (since ≡ max now old.latest)
+  pub latest : (new.latest ≡ old.latest) ⊎ (new.latest ≡ max now old.latest)
+
 -- What is under way under any other key goes on.
 abbrev pub OthersGoOn : ℕ → FlightState → FlightState → Type 0
 OthersGoOn key old new = (other since : ℕ) → other ≢ key → since_at old other ≡ Some since → since_at new other ≡ Some since

@@ -49,7 +49,7 @@ impl<D: Numbered, L: Line, C: Clock, G: Rng, K: Client> Flight<D, L, C, G, K> {
         };
         let mut seen = 0;
         let came = ask::<D, L>(desk, &mut seen, look);
-        match settled(self.alloc, &query.question, moment, &came) {
+        match settled(self.alloc, &query.question, &came) {
             Ok(Some(answer)) => {
                 tell::<D, L, C, K, W>(self.alloc, world, client, &query, octets, &answer);
             }
@@ -60,7 +60,9 @@ impl<D: Numbered, L: Line, C: Clock, G: Rng, K: Client> Flight<D, L, C, G, K> {
         }
     }
 
-    /// Begins the task of a question that its first look, at this moment, did not settle.
+    /// Begins the task of a question that its first look, at this moment, did not settle. It stands apart, since a task takes
+    /// much of the stack.
+    #[inline(never)]
     fn begin_task<W: World<D, L, C, K>>(
         &mut self,
         desk: &mut D,

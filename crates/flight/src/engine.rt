@@ -5,7 +5,7 @@ ghost use Rattle.dns_wire.specs.declared.server.query.Asked.TheVariants.{Good};
 ghost use Rattle.dns_wire.specs.Server.Asking.{AsksFor};
 ghost use Rattle.front_workers.specs.Counts.{Rises};
 ghost use Rattle.flight.specs.Told.{Keeps};
-ghost use Rattle.flight.specs.Waiting.{EarlyGoOn, IsAccounted, IsPatient, IsPatientUntil, OthersGoOn, WaitsFrom, outstanding, since_at, time_left};
+ghost use Rattle.flight.specs.Waiting.{EarlyGoOn, GoesOnOrBegins, IsAccounted, IsPatient, IsPatientUntil, OthersGoOn, WaitsFrom, outstanding, since_at, time_left};
 
 use crate::job::Job;
 use crate::line::Line;
@@ -109,6 +109,7 @@ impl<D: Numbered, L: Line, C: Clock, G: Rng, K: Client> Flight<D, L, C, G, K> {
         ensures listens { IfSome (since_at self.old key) (λ _. Rises (W.counts world.old).listened (W.counts world.new).listened) }
         ensures hint { since_at self.old key ≡ None → (self.new ≡ self.old) × (world.new ≡ world.old) }
         ensures others { OthersGoOn key self.old self.new }
+        ensures begins { GoesOnOrBegins now self.old self.new }
         ensures port { W.server_port world.new ≡ W.server_port world.old }
         ensures kept { Keeps W.told world.old world.new }
         ensures accounted { IsAccounted 0 (outstanding self.old) (W.counts world.old) (outstanding self.new) (W.counts world.new) }
@@ -147,6 +148,7 @@ impl<D: Numbered, L: Line, C: Clock, G: Rng, K: Client> Flight<D, L, C, G, K> {
     pub fn expire<W: World<D, L, C, K>>(&mut self, desk: &mut D, world: &mut W, now: u64)
         ensures patient { IsPatient PATIENCE now self.new }
         ensures early { EarlyGoOn PATIENCE now self.old self.new }
+        ensures begins { GoesOnOrBegins now self.old self.new }
         ensures port { W.server_port world.new ≡ W.server_port world.old }
         ensures kept { Keeps W.told world.old world.new }
         ensures accounted { IsAccounted 0 (outstanding self.old) (W.counts world.old) (outstanding self.new) (W.counts world.new) }

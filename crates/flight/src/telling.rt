@@ -62,7 +62,8 @@ pub(crate) fn tell<D: Numbered, L: Line, C: Clock, K: Client, W: World<D, L, C, 
     ensures kept { Keeps W.told world.old world.new }
     ensures settled { CountsSettled (W.counts world.old) (W.counts world.new) }
 {
-    match write_answer(alloc, Over::Udp, octets, query, answer) {
+    let buffer = world.buffer();
+    match write_answer(alloc, buffer, Over::Udp, octets, query, answer) {
         Ok(Some(reply)) => world.give(client, octets, ReplyOctets::Message(reply)),
         Ok(None) => world.pass_over(client, octets),
         Err(_) => world.fail(client, octets, Unserved::NoMemory),

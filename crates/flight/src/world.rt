@@ -61,6 +61,12 @@ pub trait World<D: Numbered, L: Line, C: Clock, K: Client> {
     fn server_port(&self) -> u16
         ensures { result ≡ server_port self.now };
 
+    /// A buffer for a reply: whatever octets it holds, those of the reply take their place.
+    fn buffer(&mut self) -> Vec<u8>
+        ensures port { server_port self.new ≡ server_port self.old }
+        ensures counts { counts self.new ≡ counts self.old }
+        ensures kept { Keeps told self.old self.new };
+
     /// Begins an exchange, which is watched under the key. None where the device failed.
     fn open(&mut self, key: usize, server: &Addr, over: Over, query: Shared<Octets>) -> Option<L>
         ensures asked { IfSome result (λ line. L.asked line ≡ query_to server.now over query) }

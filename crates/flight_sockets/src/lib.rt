@@ -19,6 +19,8 @@ mod socket_line;
 mod inbox;
 // A reply that waits to be sent.
 mod outgoing;
+// Buffers of replies that were sent.
+mod buffers;
 // The sockets of one worker.
 mod worker_sockets;
 // How long exchanges take.

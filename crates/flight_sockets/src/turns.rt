@@ -138,8 +138,9 @@ impl<'a, R: ReadyNet + Log + Timing, S: ServiceSocket> Turns<'a, R, S> {
         }
     }
 
-    /// Takes some datagrams, begins what they ask, and sends what is told at once. Whether more may be there.
-    fn take_some<D: Numbered, C: Clock, G: Rng>(
+    /// Takes a batch of datagrams, begins what they ask, and sends what is told at once. Whether more may be there, as where any
+    /// came: others may have followed while those were answered.
+    fn take_batch<D: Numbered, C: Clock, G: Rng>(
         &mut self,
         desk: &mut D,
         questions: &mut Questions<D, C, G, R>,
@@ -153,14 +154,15 @@ impl<'a, R: ReadyNet + Log + Timing, S: ServiceSocket> Turns<'a, R, S> {
         ensures begun { inbox.new.filled ≡ 0 }
     {
         let received = self.sockets.receive(inbox);
+        let took = !inbox.datagrams().is_empty();
         self.begin_each(desk, questions, inbox, now);
         inbox.clear();
         self.sockets.flush();
-        received
+        Ok(received? || took)
     }
 
-    /// Takes a batch of datagrams. Whether more may be there.
-    fn take_batch<D: Numbered, C: Clock, G: Rng>(
+    /// Takes what datagrams there are, batch by batch, but no more than a turn may. Whether more may be there.
+    fn take_datagrams<D: Numbered, C: Clock, G: Rng>(
         &mut self,
         desk: &mut D,
         questions: &mut Questions<D, C, G, R>,
@@ -174,7 +176,7 @@ impl<'a, R: ReadyNet + Log + Timing, S: ServiceSocket> Turns<'a, R, S> {
         let begun = self.millis.now();
         let mut now = begun;
         for _ in 0..MOST_TAKEN / BATCH {
-            if !self.take_some(desk, questions, inbox, now)? {
+            if !self.take_batch(desk, questions, inbox, now)? {
                 return Ok(false);
             }
             now = self.millis.now();
@@ -229,7 +231,7 @@ impl<'a, R: ReadyNet + Log + Timing, S: ServiceSocket> Turns<'a, R, S> {
         self.sockets.wait(&mut self.events, wait)?;
         self.go_on(desk, questions);
         // The event that names the service's socket may stand behind those of many replies.
-        self.take_batch(desk, questions, inbox)
+        self.take_datagrams(desk, questions, inbox)
     }
 }
 

@@ -16,6 +16,7 @@ ghost use Rattle.flight_sockets.specs.Replies.{IsReplyTo};
 ghost use Rattle.flight_sockets.specs.declared.client.UdpClient.{UdpClient as UdpClientValue};
 ghost use Rattle.flight_sockets.specs.declared.inbox.TheConstants.{BATCH};
 
+use crate::buffers::Buffers;
 use crate::client::UdpClient;
 use crate::inbox::{BATCH, Inbox};
 use crate::listener::UdpListener;
@@ -56,6 +57,8 @@ pub(crate) struct WorkerSockets<'a, R, S: ServiceSocket> {
     room: Vec<u8>,
     /// Replies that wait to be sent.
     waiting: Vec<Outgoing>,
+    /// Buffers for replies to come.
+    buffers: Buffers,
     counts: Counts,
     ghost whole: { vec_len room ≡ MOST_MESSAGE },
 }
@@ -80,6 +83,7 @@ impl<'a, R: Log, S: ServiceSocket> WorkerSockets<'a, R, S> {
             server_port,
             room,
             waiting: Vec::new(alloc),
+            buffers: Buffers::new(alloc),
             counts: Counts::new(),
         })
     }
@@ -125,7 +129,7 @@ impl<'a, R: Log, S: ServiceSocket> WorkerSockets<'a, R, S> {
         ensures counts { self.new.counts ≡ self.old.counts }
     {
         self.send_each();
-        self.waiting.clear();
+        self.buffers.keep_each(&mut self.waiting);
     }
 
     /// Waits no longer than this for what the sockets report.
@@ -191,6 +195,10 @@ impl<'a, D: Numbered, C: Clock, R: ReadyNet + Log, S: ServiceSocket> World<
 
     fn server_port(&self) -> u16 {
         self.server_port
+    }
+
+    fn buffer(&mut self) -> Vec<u8> {
+        self.buffers.take(self.alloc)
     }
 
     fn open(

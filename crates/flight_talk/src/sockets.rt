@@ -178,6 +178,10 @@ impl<D: Numbered> World<D, Wire, LineClock, Peer> for Sockets {
         self.port
     }
 
+    fn buffer(&mut self) -> Vec<u8> {
+        Vec::new(self.alloc)
+    }
+
     fn open(
         &mut self,
         key: usize,

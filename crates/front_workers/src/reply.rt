@@ -61,9 +61,11 @@ fn cut(over: Over, query: &Query, mut out: Vec<u8>) -> Vec<u8>
     }
 }
 
-/// A reply as it goes out. Where it has too many octets for any message, it tells that the server failed.
+/// A reply as it goes out, in place of what a buffer holds. Where it has too many octets for any message, it tells that
+/// the server failed.
 fn write_reply<A: Section, B: Section>(
     alloc: Global,
+    buffer: Vec<u8>,
     over: Over,
     octets: &[u8],
     query: &Query,
@@ -77,16 +79,17 @@ fn write_reply<A: Section, B: Section>(
     ensures short { IfOk result (λ out. length out.items ≤ most_octets over) }
     ensures written { IfOk result (λ out. Written over octets.now query.now (lent_reply head.now query.now.question (A.parts answer.now) (B.parts authority.now)) out.items) }
 {
-    match encode_lent(alloc, query, head, answer, authority) {
+    match encode_lent(buffer, query, head, answer, authority) {
         Ok(out) => Ok(cut(over, query, out)),
         Err(EncodeFault::TooLong) => write_fault(alloc, octets, Rcode::SERVER_FAILURE),
         Err(EncodeFault::NoMemory) => Err(AllocError),
     }
 }
 
-/// What a query is told of an answer, as it goes out. None where the answer is silence.
+/// What a query is told of an answer, as it goes out, in place of what a buffer holds. None where the answer is silence.
 pub fn write_answer(
     alloc: Global,
+    buffer: Vec<u8>,
     over: Over,
     octets: &[u8],
     query: &Query,
@@ -109,7 +112,9 @@ pub fn write_answer(
             let head = head_of(query, *rcode, *aa);
             let answer = AnswerSection { aliases, last };
             let authority = AuthoritySection { authority };
-            let out = write_reply(alloc, over, octets, query, &head, &answer, &authority)?;
+            let out = write_reply(
+                alloc, buffer, over, octets, query, &head, &answer, &authority,
+            )?;
             Ok(Some(out))
         }
     }

@@ -1,5 +1,5 @@
 -- Steps of a path that are well made.
-use Rattle.std.proofs.Common.{◌≡◌, ℕ, ◌+◌, ◌-◌, ◌<◌, ◌≤◌, List, [], ◌∷◌, ◌++◌, length, sym, ap, ◌∙◌, subst, refl, arith, true, false, Option, Some, None}
+use Rattle.std.proofs.Common.{◌≡◌, ℕ, ◌+◌, ◌-◌, ◌<◌, ◌≤◌, List, [], ◌∷◌, ◌++◌, length, sym, ap, ◌∙◌, subst, refl, arith, true, false, Option, Some, None, MatchOption}
 use Rattle.std.proofs.lemmas.List.{length-append}
 use Rattle.dns_name.specs.Labels.{Labels}
 use Rattle.dns_query.specs.Query.{alias_question}
@@ -180,7 +180,7 @@ set_known port m question input before log (Servers servers) told r set adds = a
 
 -- ---- the first look
 
-first_began : {question : Question} {input : Input} {log : List Exchange} {m : ℕ} → Adds [] (exchange (Book (Look m (Asked question))) input) log → Began question input log
+pub first_began : {question : Question} {input : Input} {log : List Exchange} {m : ℕ} → Adds [] (exchange (Book (Look m (Asked question))) input) log → Began question input log
 first_began {m = m} adds = record { moment = m; rest = []; begins = adds.adds }
 
 first_few : {question : Question} {input : Input} {log : List Exchange} {m : ℕ} → Adds [] (exchange (Book (Look m (Asked question))) input) log → count_sends log ≤ 64
@@ -190,22 +190,23 @@ pub first_some : left_in Ended < left_in First
 first_some = omega arith
 
 -- What it sees ends the question.
-pub first_seeing : {port : ℕ} {question : Question} {log : List Exchange} {m moment : ℕ} {id : Stream} (seen : SeenValue) {rcode : ℕ} {last : Option Told} {authority : Option Soa}
+pub first_ends : {port : ℕ} {question : Question} {log : List Exchange} {m : ℕ} (seen : SeenValue) {rcode : ℕ} {last : Option Told} {authority : Option Soa}
     → Adds [] (exchange (Book (Look m (Asked question))) (Reply (Seen seen))) log → Ends question seen rcode last authority
-    → Goes port question log moment (idle id) (left_in First) Ended (Finish (Replies rcode (is_local seen) [] last authority))
-first_seeing seen {rcode} {last} {authority} adds ends =
-    answering (Replies rcode (is_local seen) [] last authority) (ResolvedAs.at_once {seen = seen} (first_began adds) ends) (first_few adds) first_some
+    → IsResolved port question log (Replies rcode (is_local seen) [] last authority)
+first_ends seen adds ends = ResolvedAs.at_once {seen = seen} (first_began adds) ends
 
-pub first_refusing : {port : ℕ} {question : Question} {log : List Exchange} {m moment : ℕ} {id : Stream} → Adds [] (exchange (Book (Look m (Asked question))) (Reply (Seen (LocalSeen local.Refuse)))) log
-    → Goes port question log moment (idle id) (left_in First) Ended (Finish (Replies 5 true [] None None))
-first_refusing adds = answering (Replies 5 true [] None None) (ResolvedAs.refused (first_began adds)) (first_few adds) first_some
+pub first_refused : {port : ℕ} {question : Question} {log : List Exchange} {m : ℕ} → Adds [] (exchange (Book (Look m (Asked question))) (Reply (Seen (LocalSeen local.Refuse)))) log
+    → IsResolved port question log (Replies 5 true [] None None)
+first_refused adds = ResolvedAs.refused (first_began adds)
 
-pub first_silent : {port : ℕ} {question : Question} {log : List Exchange} {m moment : ℕ} {id : Stream} → Adds [] (exchange (Book (Look m (Asked question))) (Reply (Seen (LocalSeen local.Drop)))) log
-    → Goes port question log moment (idle id) (left_in First) Ended (Finish Silent)
-first_silent adds = answering Silent (first_began adds) (first_few adds) first_some
+-- An answer that resolves behind it may be given.
+pub first_answering : {port : ℕ} {question : Question} {input : Input} {log : List Exchange} {m moment : ℕ} {id : Stream} (answer : Answer)
+    → Adds [] (exchange (Book (Look m (Asked question))) input) log → IsResolved port question log answer
+    → Goes port question log moment (idle id) (left_in First) Ended (Finish answer)
+first_answering answer adds resolved = answering answer resolved (first_few adds) first_some
 
 -- What may not be replied to it is no answer.
-no_answer : (m : ℕ) (question : Question) (input : Input) → IsMisanswered (Look m (Asked question)) input → IsNoAnswer question input
+pub no_answer : (m : ℕ) (question : Question) (input : Input) → IsMisanswered (Look m (Asked question)) input → IsNoAnswer question input
 no_answer m question (Reply (Seen (Held shown))) bad = bad
 no_answer m question (Reply (Seen (LocalSeen answer))) bad = bad
 no_answer m question (Reply (Seen Unknown)) bad = tt
@@ -233,6 +234,12 @@ pub first_failing : {port : ℕ} {question : Question} {log : List Exchange} {m 
 first_failing {question = question} {m = m} input adds bad =
     failing_behind [] question first_some (record { input = input; began = first_began adds; no_answer = no_answer m question input bad }) Chain.start refl
     (Fails.misanswered {event = Look m (Asked question)} {input = input} (happened_last adds) bad) (first_few adds)
+
+-- Where nothing was known there is no answer.
+pub unless_known : (port : ℕ) (question : Question) (input : Input) (log : List Exchange) (answer : Option Answer)
+    → MatchOption answer (input ≡ Reply (Seen Unknown)) (IsResolved port question log) → MatchOption answer (IsNoAnswer question input) (IsResolved port question log)
+unless_known port question input log None unknown = subst (λ (i : Input). IsNoAnswer question i) (sym unknown) tt
+unless_known port question input log (Some answer) resolved = resolved
 
 -- It knew nothing: the path begins.
 pub first_path : {port : ℕ} {question : Question} {log : List Exchange} {m : ℕ} (path : Path) → Adds [] (exchange (Book (Look m (Asked question))) (Reply (Seen Unknown))) log

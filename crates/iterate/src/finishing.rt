@@ -27,6 +27,36 @@ use local_zone::{Local, LocalRecord, SeenRecord};
 use ranked::{Body, SharedFind, Shown};
 use std::alloc::Global;
 
+/// A reply to the question.
+fn reply(
+    rcode: Rcode,
+    aa: bool,
+    aliases: Vec<Told>,
+    last: Option<Told>,
+    authority: Option<Soa>,
+) -> Answer
+    ensures { result ≡ Answer.Reply rcode aa aliases.items last authority }
+{
+    Answer::Reply {
+        rcode,
+        aa,
+        aliases: Items::new(aliases),
+        last,
+        authority,
+    }
+}
+
+/// The question ends in this answer.
+pub(crate) fn finish(answer: Answer) -> Turn
+    ensures phase { result.phase ≡ Phase.Ended }
+    ensures want { result.want ≡ Want.Finish answer }
+{
+    Turn {
+        phase: Phase::Ended,
+        want: Want::Finish(answer),
+    }
+}
+
 fn finished(
     rcode: Rcode,
     aa: bool,
@@ -37,16 +67,7 @@ fn finished(
     ensures phase { result.phase ≡ Phase.Ended }
     ensures want { result.want ≡ Want.Finish (Answer.Reply rcode aa aliases.items last authority) }
 {
-    Turn {
-        phase: Phase::Ended,
-        want: Want::Finish(Answer::Reply {
-            rcode,
-            aa,
-            aliases: Items::new(aliases),
-            last,
-            authority,
-        }),
-    }
+    finish(reply(rcode, aa, aliases, last, authority))
 }
 
 /// The question fails (SERVFAIL; RFC 1035, section 4.1.1).
@@ -58,22 +79,10 @@ pub(crate) fn failed(alloc: Global) -> Turn
 }
 
 /// A local zone refuses the question (REFUSED; RFC 1035, section 4.1.1).
-pub(crate) fn refused(alloc: Global) -> Turn
-    ensures phase { result.phase ≡ Phase.Ended }
-    ensures want { result.want ≡ Want.Finish (Answer.Reply 5 true [] None None) }
+pub(crate) fn refusal(alloc: Global) -> Answer
+    ensures { result ≡ Answer.Reply 5 true [] None None }
 {
-    finished(Rcode::REFUSED, true, Vec::new(alloc), None, None)
-}
-
-/// A local zone drops the question.
-pub(crate) fn silent() -> Turn
-    ensures phase { result.phase ≡ Phase.Ended }
-    ensures want { result.want ≡ Want.Finish Answer.Silent }
-{
-    Turn {
-        phase: Phase::Ended,
-        want: Want::Finish(Answer::Silent),
-    }
+    reply(Rcode::REFUSED, true, Vec::new(alloc), None, None)
 }
 
 /// A set ends the path.
@@ -182,15 +191,22 @@ pub(crate) fn local_ending(
     }
 }
 
-/// What a look says ends a question behind these aliases.
-pub(crate) fn ended(aa: bool, aliases: Vec<Told>, ending: Ending) -> Turn
-    ensures phase { result.phase ≡ Phase.Ended }
-    ensures want { result.want ≡ Want.Finish (Answer.Reply ending.rcode aa aliases.items ending.last ending.authority) }
+/// The answer of a question that ends so behind these aliases.
+pub(crate) fn answer_with(aa: bool, aliases: Vec<Told>, ending: Ending) -> Answer
+    ensures { result ≡ Answer.Reply ending.rcode aa aliases.items ending.last ending.authority }
 {
     let Ending {
         rcode,
         last,
         authority,
     } = ending;
-    finished(rcode, aa, aliases, last, authority)
+    reply(rcode, aa, aliases, last, authority)
+}
+
+/// What a look says ends a question behind these aliases.
+pub(crate) fn ended(aa: bool, aliases: Vec<Told>, ending: Ending) -> Turn
+    ensures phase { result.phase ≡ Phase.Ended }
+    ensures want { result.want ≡ Want.Finish (Answer.Reply ending.rcode aa aliases.items ending.last ending.authority) }
+{
+    finish(answer_with(aa, aliases, ending))
 }

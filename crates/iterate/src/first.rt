@@ -1,23 +1,23 @@
 //! The first look, at the question itself.
 
-ghost use Rattle.std.specs.Prelude.{◌≡◌, [], ℕ, List, IfOk, IfSome};
+ghost use Rattle.std.specs.Prelude.{◌≡◌, [], ℕ, List, IfOk, MatchOption};
 ghost use Rattle.undo_book.specs.declared.event.Ask.TheVariants.{Answer as Asked};
 ghost use Rattle.undo_book.specs.declared.event.Event.TheVariants.{Look};
 ghost use Rattle.undo_book.specs.declared.event.Reply.TheVariants.{Seen as SeenReply};
-ghost use Rattle.undo_book.specs.declared.event.Seen.TheVariants.{Local as SeenLocal};
+ghost use Rattle.undo_book.specs.declared.event.Seen.TheVariants.{Unknown as SeenUnknown, Held as SeenHeld, Local as SeenLocal};
 ghost use Rattle.iterate.specs.declared.want.Input.{Input as InputValue};
 ghost use Rattle.iterate.specs.declared.want.Input.TheVariants.{Reply as Replied};
-ghost use Rattle.iterate.specs.declared.want.Want.TheVariants.{Book, Finish};
+ghost use Rattle.iterate.specs.declared.want.Want.TheVariants.{Book};
 ghost use Rattle.iterate.specs.Exchanges.{Exchange, exchange, Adds};
 ghost use Rattle.iterate.specs.Looked.{seen_of, IsReplied};
 ghost use Rattle.iterate.specs.Measure.{left_in};
 ghost use Rattle.iterate.specs.Phase.{Goes, Suits, idle};
-ghost use Rattle.iterate.specs.Resolved.{IsBarred, IsResolved};
-ghost use Rattle.iterate.specs.Shown.{IsLocalFor};
+ghost use Rattle.iterate.specs.Resolved.{IsBarred, IsNoAnswer, IsResolved};
+ghost use Rattle.iterate.specs.Shown.{IsShownFor, IsLocalFor};
 ghost use Rattle.rand_core.specs.Stream.{Stream};
 
 use crate::answer::Answer;
-use crate::finishing::{ended, failed, held_ending, local_ending, refused, silent};
+use crate::finishing::{answer_with, failed, finish, held_ending, local_ending, refusal};
 use crate::path::{Path, alias};
 use crate::phase::{Phase, Turn};
 use crate::shown::{Looked, replied};
@@ -25,6 +25,7 @@ use crate::want::{Input, Want};
 use dns_name::NoMemory;
 use dns_text::{Items, Question};
 use local_zone::{Local, LocalRecord, SeenRecord};
+use ranked::{SharedFind, Shown};
 use std::alloc::Global;
 use undo_book::{Ask, Event};
 
@@ -71,34 +72,57 @@ fn start(alloc: Global, question: &Question) -> Result<Path, NoMemory>
     })
 }
 
-/// A local zone refuses the question or drops it.
-fn barred(alloc: Global, answer: &Local<Items<SeenRecord>, LocalRecord>) -> Turn
-    ensures { (port m moment : ℕ) (ids : Stream) (question : Question) (log : List Exchange) → IsBarred (SeenLocal answer.now)
+/// The answer where a local zone refuses the question or drops it.
+fn barred(alloc: Global, answer: &Local<Items<SeenRecord>, LocalRecord>) -> Answer
+    ensures { (port m : ℕ) (question : Question) (log : List Exchange) → IsBarred (SeenLocal answer.now)
         → Adds [] (exchange (Book (Look m (Asked question))) (Replied (SeenReply (SeenLocal answer.now)))) log
-        → Goes port question log moment (idle ids) (left_in Phase.First) result.phase result.want }
+        → IsResolved port question log result }
 {
     match answer {
-        Local::Drop => silent(),
-        _ => refused(alloc),
+        Local::Drop => Answer::Silent,
+        _ => refusal(alloc),
     }
 }
 
-/// Goes on from what local zones answer the question.
-fn local_first(
+/// The answer of a first look that local zones answered.
+fn answer_local(
     alloc: Global,
     answer: &Local<Items<SeenRecord>, LocalRecord>,
-) -> Result<Turn, NoMemory>
-    ensures { (port m moment : ℕ) (ids : Stream) (question : Question) (log : List Exchange) → IsLocalFor question answer.now
+) -> Result<Answer, NoMemory>
+    ensures { (port m : ℕ) (question : Question) (log : List Exchange) → IsLocalFor question answer.now
         → Adds [] (exchange (Book (Look m (Asked question))) (Replied (SeenReply (SeenLocal answer.now)))) log
-        → IfOk result (λ t. Goes port question log moment (idle ids) (left_in Phase.First) t.phase t.want) }
+        → IfOk result (IsResolved port question log) }
 {
     match local_ending(alloc, answer)? {
-        Some(ending) => Ok(ended(true, Vec::new(alloc), ending)),
+        Some(ending) => Ok(answer_with(true, Vec::new(alloc), ending)),
         None => Ok(barred(alloc, answer)),
     }
 }
 
-/// Goes on from what the first look was answered.
+/// The answer of a first look that was shown a find.
+fn answer_held(alloc: Global, shown: &Shown<SharedFind>) -> Result<Answer, NoMemory>
+    ensures { (port m : ℕ) (question : Question) (log : List Exchange) → IsShownFor question shown.now
+        → Adds [] (exchange (Book (Look m (Asked question))) (Replied (SeenReply (SeenHeld shown.now)))) log
+        → IfOk result (IsResolved port question log) }
+{
+    let ending = held_ending(shown)?;
+    Ok(answer_with(false, Vec::new(alloc), ending))
+}
+
+/// The answer of a first look that was answered so. None where nothing was known.
+fn answer_seen(alloc: Global, what: Looked<'_>) -> Result<Option<Answer>, NoMemory>
+    ensures { (port m : ℕ) (question : Question) (input : InputValue) (log : List Exchange) → IsReplied question input (seen_of what.entry)
+        → Adds [] (exchange (Book (Look m (Asked question))) input) log
+        → IfOk result (λ answer. MatchOption answer (input ≡ Replied (SeenReply SeenUnknown)) (IsResolved port question log)) }
+{
+    match what {
+        Looked::Unknown => Ok(None),
+        Looked::Held(shown) => Ok(Some(answer_held(alloc, shown)?)),
+        Looked::Local(answer) => Ok(Some(answer_local(alloc, answer)?)),
+    }
+}
+
+/// Ends with what the first look was answered, or goes on where nothing was known.
 fn seen_first(
     alloc: Global,
     question: &Question,
@@ -109,10 +133,9 @@ fn seen_first(
         → Adds [] (exchange (Book (Look m (Asked question.now))) input) log
         → IfOk result (λ t. Goes port question.now log moment (idle ids) (left_in Phase.First) t.phase t.want) }
 {
-    match what {
-        Looked::Unknown => alias(start(alloc, question)?, moment),
-        Looked::Held(shown) => Ok(ended(false, Vec::new(alloc), held_ending(shown)?)),
-        Looked::Local(answer) => local_first(alloc, answer),
+    match answer_seen(alloc, what)? {
+        Some(answer) => Ok(finish(answer)),
+        None => alias(start(alloc, question)?, moment),
     }
 }
 
@@ -133,47 +156,19 @@ pub(crate) fn looked_first(
     }
 }
 
-/// The answer in which a turn ends.
-fn answer_of(turn: Turn) -> Option<Answer>
-    ensures { IfSome result (λ answer. turn.want ≡ Finish answer) }
-{
-    let Turn { phase, want } = turn;
-    drop(phase);
-    match want {
-        Want::Finish(answer) => Some(answer),
-        _ => None,
-    }
-}
-
-/// The answer of a look that settles the question.
-fn answer_seen(
-    alloc: Global,
-    question: &Question,
-    moment: u64,
-    what: Looked<'_>,
-) -> Result<Option<Answer>, NoMemory>
-    ensures { (port m : ℕ) (input : InputValue) (log : List Exchange) → IsReplied question.now input (seen_of what.entry)
-        → Adds [] (exchange (Book (Look m (Asked question.now))) input) log → IfOk result (λ answer. IfSome answer (IsResolved port question.now log)) }
-{
-    match what {
-        Looked::Unknown => Ok(None),
-        _ => Ok(answer_of(seen_first(alloc, question, moment, what)?)),
-    }
-}
-
 /// The answer to a question that its first look settles, by what came of the look: what is held, or local. No task is needed
-/// then. None where one is.
+/// then. None where the look got neither.
 pub fn settled(
     alloc: Global,
     question: &Question,
-    moment: u64,
     input: &Input,
 ) -> Result<Option<Answer>, NoMemory>
     ensures { (port m : ℕ) (log : List Exchange) → Adds [] (exchange (Book (Look m (Asked question.now))) input.now) log
-        → Suits (Book (Look m (Asked question.now))) input.now → IfOk result (λ answer. IfSome answer (IsResolved port question.now log)) }
+        → Suits (Book (Look m (Asked question.now))) input.now
+        → IfOk result (λ answer. MatchOption answer (IsNoAnswer question.now input.now) (IsResolved port question.now log)) }
 {
     match replied(input, &question.owner, question.kind) {
-        Some(what) => answer_seen(alloc, question, moment, what),
+        Some(what) => answer_seen(alloc, what),
         None => Ok(None),
     }
 }

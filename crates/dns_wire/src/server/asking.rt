@@ -15,9 +15,10 @@ use crate::read::name::name_at;
 use crate::read::number::u16_at;
 use crate::read::place::{Next, next_at};
 use crate::server::query::{Asked, Query};
+use crate::server::spelling::QuestionOctets;
 use crate::server::walking::sections_end;
 use dns_name::{MAX_NAME_OCTETS, NoMemory};
-use dns_text::{Octets, Question, is_excluded};
+use dns_text::{Question, is_excluded};
 use std::alloc::{AllocError, Global};
 
 /// The place after the name at a place of a message, where one stands whole.
@@ -85,12 +86,12 @@ fn query_of(alloc: Global, message: &[u8], at: usize) -> Result<Query, NoMemory>
     let kind = u16_at(message, at);
     let (front, _) = message.split_at(at + 4);
     let (_, octets) = front.split_at(12);
-    let octets = Vec::from_slice(alloc, octets)?;
+    let octets = QuestionOctets::from_slice(alloc, octets)?;
     Ok(Query {
         id: head.id,
         rd: head.rd,
         question: Question { owner, kind },
-        octets: Octets::new(octets),
+        octets,
     })
 }
 

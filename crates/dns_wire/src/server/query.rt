@@ -3,7 +3,8 @@
 ghost use Rattle.dns_wire.specs.Write.Question.{IsQuestionOctets};
 
 use crate::rcode::Rcode;
-use dns_text::{Octets, Question};
+use crate::server::spelling::QuestionOctets;
+use dns_text::Question;
 
 /// A query of one question of class IN, its name whole (RFC 1035, section 4.1.2).
 #[derive(Debug, Drop)]
@@ -13,7 +14,7 @@ pub struct Query {
     pub rd: bool,
     pub question: Question,
     /// The question's octets in the case in which they came, at most 259: a reply repeats them.
-    pub octets: Octets,
+    pub octets: QuestionOctets,
     pub ghost spelled: { IsQuestionOctets octets question },
 }
 

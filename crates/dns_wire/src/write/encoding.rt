@@ -83,10 +83,10 @@ pub fn encode(alloc: Global, message: &Message) -> Result<Vec<u8>, EncodeFault>
     }
 }
 
-/// A reply that isn't too long, in one buffer with room for it.
+/// A reply that isn't too long, in place of what a buffer holds, which gets room for it.
 #[tactic(auto, unfolding(crate::specs::Write::Message::octets_with))]
 fn write_reply<A: Section, B: Section, C: Section>(
-    alloc: Global,
+    mut out: Vec<u8>,
     query: &Query,
     head: &Head,
     sections: &Sections<'_, A, B, C>,
@@ -100,16 +100,17 @@ fn write_reply<A: Section, B: Section, C: Section>(
 {
     let owner = &query.question.owner;
     let _len = owner.wire_len();
-    let mut out = Vec::with_capacity(alloc, room)?;
+    out.clear();
+    out.reserve(room)?;
     push_header(&mut out, head, 1, sections)?;
     out.extend_from_slice(query.octets.as_slice())?;
     push_sections(&mut out, Some(owner), sections)?;
     Ok(out)
 }
 
-/// A reply as octets, its question in the case in which the query asked it.
+/// A reply as octets, its question in the case in which the query asked it, in place of what a buffer holds.
 fn encode_sections<A: Section, B: Section, C: Section>(
-    alloc: Global,
+    buffer: Vec<u8>,
     query: &Query,
     head: &Head,
     sections: &Sections<'_, A, B, C>,
@@ -124,7 +125,7 @@ fn encode_sections<A: Section, B: Section, C: Section>(
 {
     match reply_room(query, sections) {
         None => Err(EncodeFault::TooLong),
-        Some(room) => Ok(write_reply(alloc, query, head, sections, room)?),
+        Some(room) => Ok(write_reply(buffer, query, head, sections, room)?),
     }
 }
 
@@ -139,13 +140,13 @@ pub fn encode_reply(alloc: Global, query: &Query, reply: &Message) -> Result<Vec
     ensures too_long { IsTooLong reply.now → result ≡ Err TooLong }
     ensures fault { IfErr result (λ fault. (fault ≡ NoMemory) ⊎ IsTooLong reply.now) }
 {
-    encode_sections(alloc, query, &reply.head, &reply.sections())
+    encode_sections(Vec::new(alloc), query, &reply.head, &reply.sections())
 }
 
 /// A reply as octets, of a head and of sections that are lent, its question in the case in which the query asked it. It
-/// copies no name and takes one block of memory, the reply's own.
+/// stands in place of what a buffer holds; no name is copied, and memory is taken where the buffer has too little room.
 pub fn encode_lent<A: Section, B: Section>(
-    alloc: Global,
+    buffer: Vec<u8>,
     query: &Query,
     head: &Head,
     answer: &A,
@@ -165,7 +166,7 @@ pub fn encode_lent<A: Section, B: Section>(
         authority,
         additional: &NoRecords,
     };
-    encode_sections(alloc, query, head, &sections)
+    encode_sections(buffer, query, head, &sections)
 }
 
 /// What a message is written as is read back, and is no other message.

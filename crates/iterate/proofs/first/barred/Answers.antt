@@ -8,11 +8,15 @@ use Rattle.undo_book.specs.declared.event.Seen.TheVariants.{Local as LocalSeen}
 use Rattle.iterate.specs.declared.want.Input.TheVariants.{Reply}
 use Rattle.iterate.specs.declared.want.Want.TheVariants.{Book}
 use Rattle.iterate.specs.Exchanges.{exchange, Adds}
-use Rattle.iterate.proofs.PathTurns.{turned, first_refusing, barred_refused}
+use Rattle.iterate.proofs.PathTurns.{first_began, first_refused, barred_refused}
 use Rattle.iterate.proofs.first.barred.Goals as goal
 
+pub returns-in-Drop : goal.returns-in-Drop
+returns-in-Drop c = λ port m question log is adds.
+    first_began (subst (λ (a : Local (List Record) Record). Adds [] (exchange (Book (Look m (Asked question))) (Reply (Seen (LocalSeen a)))) log) c.in-Drop.is adds)
+
 pub returns-in_default : goal.returns-in_default
-returns-in_default c = λ port m moment id question log is adds.
+returns-in_default c = λ port m question log is adds.
     let refuses = barred_refused is c.in_default.not-Drop in
-    turned c.refused.ensures.phase c.refused.ensures.want
-    (first_refusing (subst (λ (a : Local (List Record) Record). Adds [] (exchange (Book (Look m (Asked question))) (Reply (Seen (LocalSeen a)))) log) refuses adds))
+    rw c.refusal.ensures
+    (first_refused (subst (λ (a : Local (List Record) Record). Adds [] (exchange (Book (Look m (Asked question))) (Reply (Seen (LocalSeen a)))) log) refuses adds))

@@ -1,7 +1,7 @@
 use Rattle.std.proofs.Common.{◌∙◌, ℕ, ap, map, subst, sym, arith}
 use Rattle.flight.specs.Waiting.{FlightState, IsAccounted, outstanding, since_at}
 use Rattle.flight.proofs.Accounting.{accounted_then}
-use Rattle.flight.proofs.Flights.{early_then, less_over, no_more_then}
+use Rattle.flight.proofs.Flights.{begun_or_not, early_then, less_over, no_more_then, on_or_begun_then, taken_out}
 use Rattle.flight.proofs.Keeping.{kept_on}
 use Rattle.flight.proofs.engine.Flight.expire.Goals as goal
 
@@ -18,9 +18,14 @@ loop-wait-preserved-in-Some-pass g c =
     let due = c.in-Some-pass.ensures.due in
     let fewer = c.in-Some-pass.ensures.len ∙ ap outstanding was in
     let after = subst (λ (waiting : ℕ). IsAccounted 0 waiting (g.W.World.counts c.loop-wait.world) (outstanding c.end.new.self) (g.W.World.counts c.end.new.world)) fewer c.end.ensures.accounted in
+    let out = taken_out c.args.now key c.loop-wait.self _ c.in-Some-pass.ensures.taken.changed (λ other differs. c.in-Some-pass.ensures.taken.others other differs ∙ ap (λ (state : FlightState). since_at state other) was)
+    (c.in-Some-pass.ensures.latest ∙ ap (λ (state : FlightState). state.latest) was)
+    in
     record {
       early = early_then 2000 c.args.now key c.in-Some-pass.job c.args.self.now c.loop-wait.self _ c.end.new.self before.early (ap (λ (state : FlightState). since_at state key) (sym was) ∙ due.0) due.1
           (λ other differs. c.in-Some-pass.ensures.taken.others other differs ∙ ap (λ (state : FlightState). since_at state other) was) c.end.ensures.waits;
+      begins = on_or_begun_then c.args.now c.args.self.now c.loop-wait.self c.end.new.self before.begins
+          (on_or_begun_then c.args.now c.loop-wait.self _ c.end.new.self out (begun_or_not c.args.now _ c.end.new.self c.end.ensures.waits));
       port = c.end.ensures.port ∙ before.port;
       kept = kept_on before.kept c.end.ensures.kept;
       accounted = accounted_then 0 0 _ _ _ _ _ _ before.accounted after;

@@ -1,6 +1,6 @@
 use Rattle.std.proofs.Common.{◌≡◌}
 use Rattle.flight_sockets.specs.Accounts.{GoesOn}
-use Rattle.flight_sockets.proofs.turns.Turns.take_batch.Given as goal
+use Rattle.flight_sockets.proofs.turns.Turns.take_datagrams.Given as goal
 
 -- what was taken so far is accounted for
 abbrev pub invariant-loop : goal.invariant-loop
