@@ -1,7 +1,6 @@
 """`resolver serve` with very many questions at once over UDP: none is lost and none answered twice, whatever name servers do; what
 is held waits for none of them; and it ends at once."""
 
-import random
 import re
 import resource
 import signal
@@ -10,42 +9,16 @@ import subprocess
 import threading
 import time
 
+from behaviours import EXCHANGE, REPLIED, RIGHT, WRONG, Lies, address, answered, at_once, never, right
 from checks import Checks
-from crowds import END, Crowd, LateServer, waiting_at
-from nameserver import Piece, framed
+from crowds import Crowd, LateServer, waiting_at
 from programs import RESOLVER, library
 from service import CANNOT_LISTEN, HOST, STOPPED, Service, free_port, until
 
-SEED = 17
-# An exchange ends after so many seconds.
-EXCHANGE = 2
 HELD = "aa | answer held.test. A 192.0.2.1"
 TOO_MANY = b"resolver: too many exchanges"
 FAULT = b"resolver: device fault"
 FAILED = "rcode 2"
-
-
-def address(name):
-    """The address that a name has here, by the number in it."""
-    number = int(re.search(r"\d+", name).group())
-    return f"10.{number >> 16}.{number >> 8 & 255}.{number & 255}"
-
-
-def right(asked, ttl=60):
-    name = asked.question.split()[0]
-    return asked.response(f"aa | answer {name} {ttl} A {address(name)}")
-
-
-def answered(name):
-    return f"- | answer {name} A {address(name)}"
-
-
-def at_once(asked):
-    yield 0, right(asked)
-
-
-def never(asked):
-    return ()
 
 
 def serving(server, *options, **settings):
@@ -98,7 +71,9 @@ def check_cut(checks):
 
 
 def check_passed_limit(checks, count, workers, most_descriptors, room):
-    """More questions at once than exchanges may be under way: those above are answered that the server failed."""
+    """More questions at once than exchanges may be under way: those above are answered that the server failed.
+
+    On a slow machine the first exchanges end before the last question is asked: those were in vain."""
     name = f"{count} at once, {workers} workers, {most_descriptors} descriptors"
     held_back, gate = [], threading.Event()
 
@@ -111,6 +86,7 @@ def check_passed_limit(checks, count, workers, most_descriptors, room):
     with LateServer(late) as server, Service([server.hint], "--udp", str(workers), most_descriptors=most_descriptors) as service:
         before, most = service.idle_descriptors(), 0
         with Crowd(service, 20) as crowd:
+            began = time.monotonic()
             for start in range(0, count, 100):
                 crowd.send_all(f"n{place}.test." for place in range(start, start + 100))
                 until(lambda: waiting_at(service.port) == 0)
@@ -119,153 +95,22 @@ def check_passed_limit(checks, count, workers, most_descriptors, room):
             for asked in held_back:
                 asked.send(right(asked))
             crowd.wait()
-            wanted = {answered(name) for name in crowd.names} | {FAILED}
-            strange = [words for words in crowd.words() if words not in wanted]
+            took = time.monotonic() - began
+            strange = [words for asked, words in zip(crowd.names, crowd.words()) if words not in (answered(asked), FAILED)]
             checks.equal(f"{name}: what is told", strange, [])
             checks.tell(f"{name}: exchanges at once", None if room // 2 < most <= room else f"{most}, where there is room for {room}")
             refused = service.log().count(TOO_MANY)
             checks.tell(f"{name}: too many", None if refused else "none is logged")
             checks.equal(f"{name}: asked or refused", len(server.asked) + refused, count)
-            checks.equal(f"{name}: other faults", service.log().count(b"fault"), 0)
+            in_vain = service.log().count(FAULT)
+            checks.equal(f"{name}: refused or in vain", crowd.words().count(FAILED), refused + in_vain)
+            checks.tell(f"{name}: in vain", f"{in_vain} in {took:.2f} seconds" if in_vain and took < EXCHANGE else None)
+            checks.equal(f"{name}: other faults", service.log().count(b"fault"), in_vain)
             checks.equal(f"{name}: descriptors", until(lambda: service.descriptors() <= before), True)
             with Crowd(service) as later:
                 later.ask(names_of("later", 100), 10)
                 all_answered(checks, f"{name}: later", later)
             has_ended(checks, name, service, crowd)
-
-
-class Lies:
-    """What a server does on a question, by the word before the number in its name: a method for each."""
-
-    def __init__(self):
-        self.random = random.Random(SEED)
-        self.waiting = None
-        self.stray = socket.socket(socket.AF_INET, socket.SOCK_DGRAM)
-
-    def __call__(self, asked):
-        return getattr(self, re.match(r"[a-z_]+", asked.question).group())(asked)
-
-    def other_id(self, asked):
-        octets = right(asked)
-        return bytes([octets[0] ^ 1]) + octets[1:]
-
-    def other_question(self, asked):
-        return asked.response("aa asks other1.test. A | answer other1.test. 60 A 192.0.2.66")
-
-    def junk(self):
-        return self.random.randbytes(self.random.randrange(100))
-
-    def right(self, asked):
-        yield self.random.random(), right(asked)
-
-    def thrice(self, asked):
-        for _ in range(3):
-            yield 0.1, right(asked)
-
-    def id_first(self, asked):
-        yield 0, self.other_id(asked)
-        yield 0.1, right(asked)
-
-    def question_first(self, asked):
-        yield 0, self.other_question(asked)
-        yield 0.1, right(asked)
-
-    def junk_first(self, asked):
-        for _ in range(10):
-            yield 0, self.junk()
-        yield 0.1, right(asked)
-
-    def flooded(self, asked):
-        for _ in range(100):
-            yield 0, self.junk()
-        yield 0, right(asked)
-
-    def swapped(self, asked):
-        """Of two questions each gets the reply to the other first."""
-        if self.waiting is None:
-            self.waiting = asked
-            return
-        first, self.waiting = self.waiting, None
-        now = time.monotonic()
-        asked.servers.send_at(now, first.send, right(asked))
-        asked.servers.send_at(now + 0.1, first.send, right(first))
-        yield 0, right(first)
-        yield 0.1, right(asked)
-
-    def id_alone(self, asked):
-        yield 0, self.other_id(asked)
-
-    def question_alone(self, asked):
-        yield 0, self.other_question(asked)
-
-    def junk_on(self, asked):
-        for tenth in range(30):
-            yield tenth / 10, self.junk()
-
-    def dead(self, asked):
-        return never(asked)
-
-    def refuses(self, asked):
-        yield 0, asked.response("rcode 5")
-
-    def echoes(self, asked):
-        yield 0, asked.query
-
-    def from_elsewhere(self, asked):
-        """The right reply, from a port that was not asked."""
-        asked.servers.send_at(0, lambda octets: self.stray.sendto(octets, asked.peer), right(asked))
-        return ()
-
-    def as_it_ends(self, asked):
-        """About when the exchange ends."""
-        yield self.random.uniform(EXCHANGE - 0.1, EXCHANGE + 0.1), right(asked)
-
-    def cut(self, asked, *over_tcp):
-        yield from [(0, asked.response("aa tc"))] if asked.over == "udp" else over_tcp
-
-    def cut_right(self, asked):
-        return self.cut(asked, (0.1, right(asked)))
-
-    def cut_drips(self, asked):
-        octets = framed(right(asked))
-        return self.cut(asked, *((place / 100, Piece([octet])) for place, octet in enumerate(octets)))
-
-    def cut_slow(self, asked):
-        """Octet by octet, each in time, and all of them far too late."""
-        octets = framed(right(asked))
-        return self.cut(asked, *((place / 5, Piece([octet])) for place, octet in enumerate(octets)))
-
-    def cut_right_ends(self, asked):
-        return self.cut(asked, (0, right(asked)), (0, END))
-
-    def cut_twice(self, asked):
-        return self.cut(asked, (0, asked.response("aa tc")))
-
-    def cut_other_id(self, asked):
-        return self.cut(asked, (0, self.other_id(asked)))
-
-    def cut_breaks(self, asked):
-        return self.cut(asked, (0, Piece(framed(right(asked))[:20])), (0.1, END))
-
-    def cut_ends(self, asked):
-        return self.cut(asked, (0, END))
-
-    def cut_silent(self, asked):
-        return self.cut(asked)
-
-    def cut_long(self, asked):
-        return self.cut(asked, (0, Piece(b"\xff\xff" + right(asked))))
-
-    def cut_more(self, asked):
-        """A message, and more behind it."""
-        return self.cut(asked, (0, Piece(2 * framed(right(asked)))))
-
-
-RIGHT = "right thrice id_first question_first junk_first flooded swapped cut_right cut_drips cut_more cut_right_ends".split()
-WRONG = "id_alone question_alone junk_on dead refuses echoes from_elsewhere".split()
-WRONG += "cut_twice cut_other_id cut_breaks cut_ends cut_silent cut_long cut_slow".split()
-# These are wrong, and yet replies to the query: their exchanges come to something.
-REPLIED = "refuses cut_twice".split()
 
 
 def check_table(checks, workers, most_descriptors, size):
@@ -360,7 +205,8 @@ OWN = [
 def check_own(checks, listens, host, own, replies):
     """A name server that is the service itself is not asked: who asks about its zone is told so at once, and keeps no exchange.
 
-    A TCP client's worker asks the service, which does not ask itself."""
+    A TCP client's worker asks the service, which does not ask itself. Exchanges that were kept would end six times behind
+    each other, as 100 questions wait at once; half of that is enough for a slow machine."""
     name = f"own address {own}, listening at {listens}"
     try:
         service = Service([f"{HOST}@1"], host=host, listens=listens)
@@ -369,12 +215,12 @@ def check_own(checks, listens, host, own, replies):
     with service, LateServer(at_once) as server, Crowd(service) as crowd:
         service.obey(f"stub_add test. {server.hint}", f"stub_add own.test. {own}@{service.port}")
         began = time.monotonic()
-        crowd.ask([f"n{place}.own.test." for place in range(600)], 200)
+        crowd.ask([f"n{place}.own.test." for place in range(600)], 100)
         if replies:
             checks.equal(f"{name}: over TCP", service.ask("n600.own.test.", over="tcp").words(), FAILED)
         took = time.monotonic() - began
         checks.equal(name, set(crowd.words()), {FAILED})
-        checks.tell(f"{name}: at once", None if took < EXCHANGE else f"{took:.2f} seconds")
+        checks.tell(f"{name}: at once", None if took < 3 * EXCHANGE else f"{took:.2f} seconds")
         checks.equal(f"{name}: a line each", service.log().count(FAULT), 600 + replies)
         checks.equal(f"{name}: others", service.ask("n7.test.").words(), answered("n7.test."))
         has_ended(checks, name, service, crowd)

@@ -102,12 +102,6 @@ pub fn lent_octets(
         ttl: ttl_of(ttl)?,
         data: &data,
     };
-    let octets = encode_lent(
-        Vec::new(alloc),
-        &query,
-        &head_of(&query),
-        &set,
-        &NoRecords,
-    )?;
+    let octets = encode_lent(Vec::new(alloc), &query, &head_of(&query), &set, &NoRecords)?;
     Ok(digits(alloc, &octets)?)
 }

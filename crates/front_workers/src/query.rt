@@ -46,14 +46,7 @@ fn answer_query<D: Desk, X: Exchange, C: Clock, R: Rng>(
 {
     let question = copy_question(&query.question)?;
     let answer = run_task(alloc, desk, tools, question)?;
-    Ok(write_answer(
-        alloc,
-        Vec::new(alloc),
-        over,
-        octets,
-        query,
-        &answer,
-    )?)
+    Ok(write_answer(alloc, Vec::new(alloc), over, octets, query, &answer)?)
 }
 
 /// Serves a query that came in these octets. None where it gets no reply.
