@@ -19,9 +19,9 @@ def address(name):
     return f"10.{number >> 16}.{number >> 8 & 255}.{number & 255}"
 
 
-def right(asked, ttl=60):
+def right(asked):
     name = asked.question.split()[0]
-    return asked.response(f"aa | answer {name} {ttl} A {address(name)}")
+    return asked.response(f"aa | answer {name} 60 A {address(name)}")
 
 
 def answered(name):

@@ -171,7 +171,7 @@ class Drawn:
     def __init__(self, checks):
         self.checks, self.some, self.talker = checks, random.Random(7), Talker()
         self.asked, self.open, self.often, self.kinds, self.now = {}, {}, Counter(), Counter(), 0
-        self.say("limit 20")
+        self.say(f"limit {LIMIT}")
         self.say("hints 127.0.0.1@5301 127.0.0.2@5301")
 
     def say(self, line):

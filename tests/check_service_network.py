@@ -236,7 +236,7 @@ def check_ipv6_servers(checks):
 
 
 def check_burst(checks):
-    """200 datagrams at once are all answered, while the only worker is held by the first."""
+    """200 datagrams at once are all answered, while the first waits for its name server."""
     gate = threading.Event()
 
     def held(asked):

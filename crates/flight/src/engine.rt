@@ -61,7 +61,7 @@ impl<D: Numbered, L: Line, C: Clock, G: Rng, K: Client> Flight<D, L, C, G, K> {
     }
 
     /// How many milliseconds until `expire` has something to do: what the exchange that began first has left, which may
-    /// have ended since. None where no exchange is under way.
+    /// have ended since. None only where no exchange is under way.
     pub fn next_expiry(&self, now: u64) -> Option<u64>
         ensures first { result ≡ time_left PATIENCE now self.now.begun }
         ensures idle { result ≡ None → outstanding self.now ≡ 0 }

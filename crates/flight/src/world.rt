@@ -29,7 +29,7 @@ pub enum Heard {
     Nothing,
     /// These octets, and nothing more.
     Came(Octets),
-    /// Nothing, then or later: the device failed, or the server closed.
+    /// Nothing, then or later: the device failed, the server closed, or what it said first over TCP does not fit.
     Broken,
     /// Something for which there is no memory.
     NoMemory,
@@ -67,7 +67,7 @@ pub trait World<D: Numbered, L: Line, C: Clock, K: Client> {
         ensures counts { counts self.new ≡ counts self.old }
         ensures kept { Keeps told self.old self.new };
 
-    /// Begins an exchange, which is watched under the key. None where the device failed.
+    /// Begins an exchange, which is watched under the key. None where it could not be begun.
     fn open(&mut self, key: usize, server: &Addr, over: Over, query: Shared<Octets>) -> Option<L>
         ensures asked { IfSome result (λ line. L.asked line ≡ query_to server.now over query) }
         ensures port { server_port self.new ≡ server_port self.old }

@@ -11,7 +11,7 @@ use flight::ReplyOctets;
 use front_workers::MOST_DATAGRAM;
 use std::alloc::Global;
 
-/// Buffers that wait for a reply, so that a short one takes no memory: as many as are told behind one another at most, and no large one.
+/// Buffers that wait for a reply, so that a short one takes no memory: as many as a batch has datagrams at most, and no large one.
 #[derive(Drop)]
 pub(crate) struct Buffers {
     spare: Vec<Vec<u8>>,

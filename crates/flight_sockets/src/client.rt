@@ -11,7 +11,7 @@ use std::snapshot::Snapshot;
 /// One octet more than the longest datagram tells of one that is too long.
 pub(crate) const ROOM: usize = MOST_DATAGRAM + 1;
 
-/// Who waits for the reply to a datagram. No two are made of one datagram.
+/// Who waits for the reply to a datagram. A worker makes one of each.
 #[derive(Drop)]
 pub(crate) struct UdpClient {
     came: Came,

@@ -11,6 +11,7 @@ pub trait Timing {
     /// So many had passed, or that could not be told.
     ghost passed: { Instant → Option ℕ → Type 0 };
 
+    /// The milliseconds since then. None where the clock cannot be read.
     fn millis_since(&self, start: Instant) -> Option<u64>
         ensures { passed start result };
 }

@@ -8,6 +8,7 @@ pub enum DeviceFault {
     /// The device failed, or what it waited for did not come.
     #[error("the device failed")]
     Device,
+    /// Memory was refused.
     #[error("out of memory")]
     NoMemory,
 }

@@ -10,11 +10,13 @@ pub enum StreamFault {
     /// A read failed, or the reader was read as often as it may be.
     #[error("read failed")]
     Read,
+    /// A write failed.
     #[error("write failed")]
     Write,
     /// The input ended inside a message.
     #[error("the input ended inside a message")]
     Short,
+    /// Memory was refused.
     #[error("out of memory")]
     NoMemory,
 }

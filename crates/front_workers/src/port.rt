@@ -13,6 +13,7 @@ use streams::{Sink, Source};
 /// A datagram that came.
 #[derive(Clone, Copy, Debug)]
 pub struct Came {
+    /// Who sent it.
     pub peer: SocketAddr,
     /// How many octets of the room it fills.
     pub count: usize,

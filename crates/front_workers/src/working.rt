@@ -31,7 +31,7 @@ use undo_book::Desk;
 /// How a worker ended.
 #[derive(Clone, Copy, Debug, PartialEq, Eq)]
 pub enum WorkEnd {
-    /// The port or the listener has ended.
+    /// The port or the listener has ended, or the stop flag is set.
     Ended,
     /// It failed as often as `MOST_FAILURES`, with no success between.
     Failing,

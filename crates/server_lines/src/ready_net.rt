@@ -43,6 +43,7 @@ pub trait ReadySocket: Drop {
         ensures place { IfOk result (λ place. is_at self.now place) }
         ensures failed { OnErr result (failed self.now) };
 
+    /// Sends a query to where it is connected.
     fn send_datagram(&self, query: &[u8]) -> io::Result<()>
         ensures sent { OnOk result (sent self.now query.now) }
         ensures failed { OnErr result (failed self.now) };

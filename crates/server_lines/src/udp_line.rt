@@ -33,8 +33,8 @@ impl<S> Model for UdpLine<S> {
 }
 
 impl<S: ReadySocket> UdpLine<S> {
-    /// Sends a query. It fails where no descriptor is to be had, where the system knows no way to the place, or where the
-    /// service itself, which listens here, takes queries there.
+    /// Sends a query. It fails where no descriptor is to be had, where the system knows no way to the place or cannot send
+    /// or tell from where, or where the service itself, which listens here, takes queries there.
     pub fn begin<R: ReadyNet<Datagrams = S>>(
         rt: &R,
         registry: &Registry,

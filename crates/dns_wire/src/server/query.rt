@@ -9,9 +9,11 @@ use dns_text::Question;
 /// A query of one question of class IN, its name whole (RFC 1035, section 4.1.2).
 #[derive(Debug, Drop)]
 pub struct Query {
+    /// Its identifier, which a reply repeats.
     pub id: u16,
     /// Whether recursion is desired.
     pub rd: bool,
+    /// What it asks.
     pub question: Question,
     /// The question's octets in the case in which they came, at most 259: a reply repeats them.
     pub octets: QuestionOctets,
@@ -26,5 +28,6 @@ pub enum Asked {
     /// A reply of a header alone with this RCODE: `FORMAT_ERROR` where they are malformed, `NOT_IMPLEMENTED` where what
     /// they ask is.
     Fault(Rcode),
+    /// An answer to this query.
     Good(Query),
 }

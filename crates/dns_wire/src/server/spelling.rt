@@ -9,7 +9,7 @@ use std::fmt;
 use std::fmt::{Debug, Formatter, Write};
 use std::marker::Model;
 
-/// The octets of most questions are no more than these: a name of 40 octets or fewer, its end, and four of type and class.
+/// The octets of most questions are no more than these: a name of 42 octets or fewer, its end among them, and four of type and class.
 const SHORT: usize = 46;
 
 /// At most `SHORT` octets: the first `len` of `octets`.
