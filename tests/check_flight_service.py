@@ -106,7 +106,7 @@ def check_passed_limit(checks, count, workers, most_descriptors, room):
             in_vain = service.log().count(FAULT)
             checks.equal(f"{name}: refused or in vain", crowd.words().count(FAILED), refused + in_vain)
             checks.tell(f"{name}: in vain", f"{in_vain} in {took:.2f} seconds" if in_vain and took < EXCHANGE else None)
-            others = [line for line in service.log().splitlines() if not line.startswith((STARTED, TOO_MANY, FAULT))]
+            others = [line for line in service.log().splitlines() if not line.endswith((STARTED, TOO_MANY, FAULT))]
             checks.equal(f"{name}: other lines", others, [])
             checks.equal(f"{name}: descriptors", until(lambda: service.descriptors() <= before), True)
             with Crowd(service) as later:

@@ -43,12 +43,11 @@ fn book(alloc: Global, journal: usize, cells: usize) -> Result<PlainBook, MakeFa
     PlainBook::new(alloc, settings)
 }
 
-/// The seconds that what is held has left.
-fn left(book: &PlainBook, alloc: Global, moment: u64) -> Result<Option<u32>, Fail> {
-    let asked = question(alloc)?;
-    match book.look(&asked, moment) {
-        Look::Held(shown) => Ok(Some(shown.left)),
-        _ => Ok(None),
+/// The seconds that what is held of a question has left.
+fn left(book: &PlainBook, asked: &Question, moment: u64) -> Option<u32> {
+    match book.look(asked, moment) {
+        Look::Held(shown) => Some(shown.left),
+        _ => None,
     }
 }
 
@@ -63,28 +62,44 @@ fn settings_have_ranges(rt: HostRuntime) {
     }
 }
 
+/// Whether an undo takes back the command of this ticket. What is told ends here, and in the next three: tests that hold many
+/// replies are long to prove.
+fn undoes(book: &mut PlainBook, moment: u64, undone: u64) -> Result<bool, Fail> {
+    let reply = book.step(Event::Undo { moment })?;
+    Ok(matches!(reply, Reply::Undone { ticket } if ticket == undone))
+}
+
+/// Whether a redo gives the command of this ticket again.
+fn redoes(book: &mut PlainBook, moment: u64, redone: u64) -> Result<bool, Fail> {
+    let reply = book.step(Event::Redo { moment })?;
+    Ok(matches!(reply, Reply::Redone { ticket } if ticket == redone))
+}
+
+/// Whether there is nothing to redo.
+fn has_nothing_to_redo(book: &mut PlainBook, moment: u64) -> Result<bool, Fail> {
+    let reply = book.step(Event::Redo { moment })?;
+    Ok(matches!(reply, Reply::NothingToRedo))
+}
+
+/// Whether a flush is the command of this ticket.
+fn flushes(book: &mut PlainBook, alloc: Global, moment: u64, done: u64) -> Result<bool, Fail> {
+    let reply = book.step(flush(alloc, moment)?)?;
+    Ok(matches!(reply, Reply::Done { ticket } if ticket == done))
+}
+
 /// What is put back stands where it stood: the set of rank 2 came while the struck flush let it in.
 #[test]
 fn redo_puts_back(rt: HostRuntime) -> Result<(), Fail> {
     let alloc = rt.alloc();
+    let asked = question(alloc)?;
     let mut book = book(alloc, 64, 100)?;
     book.step(admit(alloc, 0, Rank::AuthoritativeAnswer, 60)?)?;
-    book.step(flush(alloc, 1)?)?;
-    assert_eq!(rt; left(&book, alloc, 1)?, None);
-    assert!(rt;
-        matches!(
-            book.step(Event::Undo { moment: 1 })?,
-            Reply::Undone { ticket: 1 }
-        )
-    );
-    assert_eq!(rt; left(&book, alloc, 1)?, Some(59));
-    assert!(rt;
-        matches!(
-            book.step(Event::Redo { moment: 1 })?,
-            Reply::Redone { ticket: 1 }
-        )
-    );
-    assert_eq!(rt; left(&book, alloc, 1)?, None);
+    assert!(rt; flushes(&mut book, alloc, 1, 1)?);
+    assert_eq!(rt; left(&book, &asked, 1), None);
+    assert!(rt; undoes(&mut book, 1, 1)?);
+    assert_eq!(rt; left(&book, &asked, 1), Some(59));
+    assert!(rt; redoes(&mut book, 1, 1)?);
+    assert_eq!(rt; left(&book, &asked, 1), None);
     Ok(())
 }
 
@@ -92,17 +107,12 @@ fn redo_puts_back(rt: HostRuntime) -> Result<(), Fail> {
 fn nothing_to_redo(rt: HostRuntime) -> Result<(), Fail> {
     let alloc = rt.alloc();
     let mut book = book(alloc, 64, 100)?;
-    assert!(rt; matches!(book.step(Event::Redo { moment: 0 })?, Reply::NothingToRedo));
-    book.step(flush(alloc, 0)?)?;
-    book.step(Event::Undo { moment: 0 })?;
-    book.step(flush(alloc, 0)?)?;
-    assert!(rt; matches!(book.step(Event::Redo { moment: 0 })?, Reply::NothingToRedo));
-    assert!(rt;
-        matches!(
-            book.step(Event::Undo { moment: 0 })?,
-            Reply::Undone { ticket: 2 }
-        )
-    );
+    assert!(rt; has_nothing_to_redo(&mut book, 0)?);
+    assert!(rt; flushes(&mut book, alloc, 0, 1)?);
+    assert!(rt; undoes(&mut book, 0, 1)?);
+    assert!(rt; flushes(&mut book, alloc, 0, 2)?);
+    assert!(rt; has_nothing_to_redo(&mut book, 0)?);
+    assert!(rt; undoes(&mut book, 0, 2)?);
     Ok(())
 }
 
@@ -110,13 +120,14 @@ fn nothing_to_redo(rt: HostRuntime) -> Result<(), Fail> {
 #[test]
 fn looks_take_every_moment(rt: HostRuntime) -> Result<(), Fail> {
     let alloc = rt.alloc();
+    let asked = question(alloc)?;
     let mut book = book(alloc, 64, 100)?;
     book.step(admit(alloc, 5, Rank::AuthoritativeAnswer, 9)?)?;
-    assert_eq!(rt; left(&book, alloc, u64::MAX)?, None);
-    let ask = Ask::Answer(question(alloc)?);
+    assert_eq!(rt; left(&book, &asked, u64::MAX), None);
+    assert_eq!(rt; left(&book, &asked, 0), Some(9));
+    let ask = Ask::Answer(asked);
     assert!(rt; book.seen(&ask, u64::MAX)? == Seen::Unknown);
     assert!(rt; book.seen(&ask, 0)? != Seen::Unknown);
-    assert_eq!(rt; left(&book, alloc, 0)?, Some(9));
     Ok(())
 }
 
