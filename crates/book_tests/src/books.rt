@@ -87,7 +87,7 @@ fn flushes(book: &mut PlainBook, alloc: Global, moment: u64, done: u64) -> Resul
     Ok(matches!(reply, Reply::Done { ticket } if ticket == done))
 }
 
-/// What is put back stands where it stood: the set of rank 2 came while the struck flush let it in.
+/// An undo shows again what a flush hid, and a redo hides it.
 #[test]
 fn redo_puts_back(rt: HostRuntime) -> Result<(), Fail> {
     let alloc = rt.alloc();
