@@ -2,7 +2,7 @@
 
 ghost use Rattle.std.specs.Prelude.{◌≡◌, ◌↔◌, ◌++◌, IsTrue, IfOk, IfErr, OnOk, MatchOption, List, ℕ, ◌+◌, ◌≤◌, [], length, drop, map};
 ghost use Rattle.std.specs.Iterator.{YieldsFirstBy, item_count};
-ghost use Rattle.dns_name.specs.Labels.{IsAtOrBelow, octets_of, spelled, wire_len, IsName, IsOctets, labels_in, labels_of, parent_of};
+ghost use Rattle.dns_name.specs.Labels.{Labels, IsAtOrBelow, octets_of, spelled, wire_len, IsName, IsOctets, labels_in, labels_of, parent_of};
 ghost use Rattle.dns_name.specs.Below.{is_at_or_below};
 ghost use Rattle.dns_name.specs.Making.{Gives, name_after, lowercase_labels};
 ghost use Rattle.dns_name.specs.Building.{IsComing, starts_from, Begins, Ends, IsOver};
@@ -27,7 +27,7 @@ use std::marker::Model;
 ///
 /// A copy takes no memory. That of a name of more than 31 octets in a message is one more owner of
 /// the same octets; where there are too many owners to count, `clone` answers `NoMemory`.
-#[derive(Debug, Drop)]
+#[derive(Drop)]
 pub struct Name {
     // The labels from the root, each behind its length: those of a zone are a prefix.
     octets: Octets,
@@ -103,8 +103,8 @@ impl Name {
         }
     }
 
-    /// The labels from the root, each behind its length.
-    pub(crate) fn octets(&self) -> &[u8]
+    /// The labels from the root, each behind its length. It takes no memory.
+    pub fn octets(&self) -> &[u8]
         ensures value { result.now ≡ octets_of self.now }
         ensures spelled { IsOctets result.now }
         ensures labels { labels_of result.now ≡ self.now }
@@ -264,6 +264,12 @@ fn compare(a: &[u8], b: &[u8]) -> Ordering
 pub fn subtree_law()
     ensures zone_is_first { ZoneIsFirst }
     ensures contiguous { SubtreeIsContiguous }
+{}
+
+/// The octets of a zone are a prefix of those of a name exactly where the name is at or below the zone.
+pub fn octets_law()
+    ensures below { (n z : Labels) → IsAtOrBelow n z → (rest : List ℕ) × (octets_of n ≡ octets_of z ++ rest) }
+    ensures prefix { (n z : Labels) (rest : List ℕ) → octets_of n ≡ octets_of z ++ rest → IsAtOrBelow n z }
 {}
 
 impl PartialEq for Name {

@@ -5,8 +5,6 @@ ghost use Rattle.std.specs.Prelude.{◌≡◌, ◌+◌, ◌<◌, ◌≤◌, [], 
 use crate::NoMemory;
 use crate::limits::MAX_SPELLED_OCTETS;
 use std::alloc::Global;
-use std::fmt;
-use std::fmt::{Debug, Formatter, Write};
 use std::marker::Model;
 use std::mem::size_of;
 use std::sync::Arc;
@@ -138,11 +136,5 @@ impl Clone for Octets {
             Kept::Long(run) => Kept::Long(Arc::try_clone(run)?),
         };
         Ok(Octets { kept })
-    }
-}
-
-impl Debug for Octets {
-    fn fmt<W: Write>(&self, f: &mut Formatter<W>) -> fmt::Result {
-        f.debug_list().slice(self.as_slice()).finish()
     }
 }

@@ -5,7 +5,7 @@ use harvest::PassingSet;
 use ranked::SharedFind;
 
 /// A set that a harvest has.
-#[derive(Clone, Copy, Debug)]
+#[derive(Clone, Copy)]
 pub enum Believed<'a> {
     Find(&'a SharedFind),
     /// One with a time to live of 0.

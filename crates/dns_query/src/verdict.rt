@@ -7,7 +7,7 @@ use harvest::Harvest;
 use ranked::SharedFind;
 
 /// Servers nearer to a name, as a response names them (RFC 1034, section 5.3.3, step 4b).
-#[derive(Debug, Drop, PartialEq)]
+#[derive(Drop, PartialEq)]
 pub struct Referral {
     /// Their zone, strictly below the one asked.
     pub zone: Name,
@@ -18,7 +18,7 @@ pub struct Referral {
 }
 
 /// What a response says of the question.
-#[derive(Debug, Drop, PartialEq)]
+#[derive(Drop, PartialEq)]
 pub enum Says {
     /// The harvest has, at rank 2 or more, the set that is asked for, or an alias of the name.
     Answers,
@@ -34,14 +34,14 @@ pub enum Says {
 }
 
 /// A response that is of use.
-#[derive(Debug, Drop, PartialEq)]
+#[derive(Drop, PartialEq)]
 pub struct Heard {
     pub harvest: Harvest,
     pub says: Says,
 }
 
 /// What came of a query.
-#[derive(Debug, Drop, PartialEq)]
+#[derive(Drop, PartialEq)]
 pub enum Verdict {
     /// Nothing of use: no response, or one that says nothing of the question.
     Struck,

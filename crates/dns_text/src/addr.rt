@@ -14,14 +14,14 @@ use dns_name::NoMemory;
 use std::alloc::Global;
 
 /// The octets of an IPv4 or IPv6 address.
-#[derive(Clone, Copy, Debug, PartialEq, Eq)]
+#[derive(Clone, Copy, PartialEq, Eq)]
 pub enum Ip {
     V4([u8; 4]),
     V6([u8; 16]),
 }
 
 /// Where a server listens.
-#[derive(Clone, Copy, Debug, PartialEq, Eq)]
+#[derive(Clone, Copy, PartialEq, Eq)]
 pub struct Addr {
     pub ip: Ip,
     pub port: u16,

@@ -12,7 +12,7 @@ use crate::types;
 use std::alloc::{AllocError, Global};
 
 /// How the data of a type is laid out.
-#[derive(Clone, Copy, Debug, PartialEq, Eq)]
+#[derive(Clone, Copy, PartialEq, Eq)]
 pub enum Form {
     A,
     Aaaa,

@@ -10,14 +10,14 @@ use crate::ttl::Ttl;
 use dns_name::Name;
 
 /// A name and a type (RFC 1035, section 4.1.2).
-#[derive(Debug, Drop, PartialEq)]
+#[derive(Drop, PartialEq)]
 pub struct Question {
     pub owner: Name,
     pub kind: u16,
 }
 
 /// What a record says (RFC 1035, section 3.3).
-#[derive(Debug, Drop, PartialEq)]
+#[derive(Drop, PartialEq)]
 pub enum Data {
     /// An IPv4 address, its first octet first (RFC 1035, section 3.4.1).
     A([u8; 4]),
@@ -54,7 +54,7 @@ pub enum Data {
 }
 
 /// A record (RFC 1035, section 3.2).
-#[derive(Debug, Drop, PartialEq)]
+#[derive(Drop, PartialEq)]
 pub struct Record {
     pub owner: Name,
     pub kind: u16,

@@ -7,7 +7,7 @@ use std::marker::Model;
 use std::sync::Arc;
 
 /// A value with several owners, which contracts see as the value itself.
-#[derive(Debug, Drop)]
+#[derive(Drop)]
 pub struct Shared<T> {
     value: Arc<T>,
 }

@@ -8,7 +8,7 @@ use std::marker::Model;
 pub const MOST_TTL: u64 = 2147483647;
 
 /// For how many seconds a record may be kept: below 2^31 (RFC 2181, section 8). Contracts see the number.
-#[derive(Clone, Copy, Debug, PartialEq, Eq)]
+#[derive(Clone, Copy, PartialEq, Eq)]
 pub struct Ttl {
     seconds: u32,
 }

@@ -1,18 +1,17 @@
 -- Replies of a header alone, or of a header and a question, spell what they are to say.
-use Rattle.std.proofs.Common.{◌≡◌, ℕ, ◌+◌, ◌-◌, ◌≤◌, List, [], ◌∷◌, length, take, refl, ap, inl, inr, arith, length-append}
+use Rattle.std.proofs.Common.{◌≡◌, ℕ, ◌+◌, ◌-◌, List, [], ◌∷◌, length, take, refl, ap, arith, length-append}
 use Rattle.std.specs.Prelude.{true}
 use Rattle.std.specs.Char.{to_ascii_lowercase}
 use Rattle.std.proofs.lemmas.List.{length-map, length-take, length-drop}
 use Rattle.dns_name.specs.Labels.{IsName, spelled}
 use Rattle.dns_text.specs.declared.record.Question.{Question}
 use Rattle.dns_wire.specs.declared.message.Head.{Head}
-use Rattle.dns_wire.specs.declared.message.Message.{Message}
 use Rattle.dns_wire.specs.Read.Message.{SpelledMessage}
 use Rattle.dns_wire.specs.Server.Replying.{head_alone, cut_reply}
 use Rattle.dns_wire.specs.WellFormed.{IsHead}
 use Rattle.dns_wire.specs.Write.Header.{header_octets}
 use Rattle.dns_wire.specs.Write.Question.{IsQuestionOctets}
-use Rattle.dns_wire.specs.Write.Message.{octets_with, message_octets, IsTooLong}
+use Rattle.dns_wire.specs.Write.Message.{octets_with}
 use Rattle.dns_wire.proofs.WrittenSize.{length-octets_with, not_long, as_long}
 use Rattle.dns_wire.proofs.WrittenMessage.{message_written, reply_written}
 

@@ -10,7 +10,7 @@ use dns_text::{Data, Items, Record, Ttl};
 use std::marker::Model;
 
 /// A record whose name and data are lent. Contracts see a record with its class.
-#[derive(Debug, Drop)]
+#[derive(Drop)]
 pub struct LentRecord<'a> {
     pub(crate) owner: &'a Name,
     pub(crate) kind: u16,

@@ -13,7 +13,7 @@ use dns_name::Name;
 use dns_text::{Items, Question, Record};
 
 /// The header of a message without its counts (RFC 1035, section 4.1.1).
-#[derive(Clone, Copy, Debug, PartialEq, Eq)]
+#[derive(Clone, Copy, PartialEq, Eq)]
 pub struct Head {
     /// A response has that of its query.
     pub id: u16,
@@ -37,14 +37,14 @@ pub struct Head {
 pub const CLASS_IN: u16 = 1;
 
 /// A question or a record with its class (RFC 1035, section 3.2.4).
-#[derive(Debug, Drop, PartialEq)]
+#[derive(Drop, PartialEq)]
 pub struct Classed<T> {
     pub item: T,
     pub class: u16,
 }
 
 /// A message (RFC 1035, section 4.1). A record of another class than IN has opaque data.
-#[derive(Debug, Drop, PartialEq)]
+#[derive(Drop, PartialEq)]
 pub struct Message {
     pub head: Head,
     pub questions: Items<Classed<Question>>,

@@ -5,7 +5,7 @@ ghost use Rattle.std.specs.Prelude.{◌≡◌, ◌<◌, ◌/◌, ◌%◌, ◌↔
 use std::marker::Model;
 
 /// The bits Z, 3 of them, which are reserved (RFC 1035, section 4.1.1). Contracts see the number.
-#[derive(Clone, Copy, Debug, PartialEq, Eq)]
+#[derive(Clone, Copy, PartialEq, Eq)]
 pub struct Reserved {
     number: u8,
 }

@@ -5,7 +5,7 @@ use dns_text::{Items, Shared};
 use ranked::SharedFind;
 
 /// What a message is believed to say.
-#[derive(Debug, Drop, PartialEq)]
+#[derive(Drop, PartialEq)]
 pub struct Harvest {
     pub finds: Items<SharedFind>,
     /// The sets that may be told and not kept, which an answer shares.

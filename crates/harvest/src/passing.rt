@@ -9,7 +9,7 @@ use dns_text::{Data, Items};
 use ranked::Rank;
 
 /// A set with a time to live of 0, which may be told once and not kept (RFC 1035, section 3.2.1).
-#[derive(Debug, Drop, PartialEq)]
+#[derive(Drop, PartialEq)]
 pub struct PassingSet {
     pub owner: Name,
     pub kind: u16,

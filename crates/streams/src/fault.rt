@@ -4,7 +4,7 @@ use crate::source::ReadFailed;
 use thiserror::Error;
 
 /// What ended the lines.
-#[derive(Clone, Copy, Debug, PartialEq, Eq)]
+#[derive(Clone, Copy, PartialEq, Eq)]
 pub enum Ended {
     EndOfInput,
     /// A line that was the last. What was read behind it is lost.
@@ -12,7 +12,7 @@ pub enum Ended {
 }
 
 /// Whether more lines are obeyed.
-#[derive(Clone, Copy, Debug, PartialEq, Eq)]
+#[derive(Clone, Copy, PartialEq, Eq)]
 pub enum Flow {
     On,
     Stopped,

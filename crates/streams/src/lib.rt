@@ -1,16 +1,26 @@
 //! Octets in pieces: what is read from and written to, with counts; lines cut from the pieces, and obeyed.
 #![tactic(auto)]
 
-mod source; // what is read from
-mod sink; // what is written to
-mod sending; // a whole text is written
-mod filling; // a whole room is read
-mod held_line; // what is held of a line that has begun
-mod text; // what a line is told
-mod obeyer; // what obeys a line
-mod fault; // why no more lines are obeyed
-mod engine; // lines in, a transcript out
-mod laws; // what the definitions come to, by themselves
+// Readers, with counts of calls and failures.
+mod source;
+// Writers, with counts of failures.
+mod sink;
+// The write of a whole text.
+mod sending;
+// The read of a whole room.
+mod filling;
+// The front of a line that has begun.
+mod held_line;
+// The text that answers a line.
+mod text;
+// The trait of what obeys a line.
+mod obeyer;
+// Why no more lines are obeyed.
+mod fault;
+// The engine: lines in, a transcript out.
+mod engine;
+// Laws of the definitions alone.
+mod laws;
 
 pub use engine::{MOST_READS, run_lines};
 pub use fault::{Ended, ScriptFault};

@@ -8,7 +8,7 @@ use crate::text::Text;
 use std::alloc::Global;
 
 /// What a line is told, and whether it is the last.
-#[derive(Debug, Drop)]
+#[derive(Drop)]
 pub struct Told {
     pub text: Text,
     /// No line after it is obeyed.

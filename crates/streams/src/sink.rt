@@ -8,7 +8,7 @@ ghost use Rattle.streams.specs.declared.source.TheConstants.{MOST_COUNTED};
 use std::io::{ErrorKind, Write};
 
 /// A write failed.
-#[derive(Clone, Copy, Debug, PartialEq, Eq)]
+#[derive(Clone, Copy, PartialEq, Eq)]
 pub struct WriteFailed;
 
 /// What takes octets in pieces. It counts the calls that failed: each other one takes an octet at least.

@@ -11,7 +11,7 @@ use std::io::{ErrorKind, Read};
 pub const MOST_COUNTED: u64 = 1 << 63;
 
 /// A read failed.
-#[derive(Clone, Copy, Debug, PartialEq, Eq)]
+#[derive(Clone, Copy, PartialEq, Eq)]
 pub struct ReadFailed;
 
 /// What gives octets in pieces. It counts its calls, and those that failed.

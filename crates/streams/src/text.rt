@@ -6,7 +6,7 @@ ghost use Rattle.streams.specs.Text.{octets_in};
 use arrayvec::ArrayVec;
 
 /// What a line is told, with its end.
-#[derive(Debug, Drop)]
+#[derive(Drop)]
 pub enum Text {
     Fixed(&'static [u8]),
     /// A line with one number, which takes no memory.

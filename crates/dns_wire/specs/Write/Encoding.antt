@@ -1,11 +1,30 @@
 -- What encoding answers, and that what is written is read back.
-use Rattle.std.specs.Prelude.{◌≡◌, ℕ, List, [], ◌∷◌}
+use Rattle.std.specs.Prelude.{◌≡◌, ◌≤◌, ◌⊎◌, ℕ, List, [], ◌∷◌, length, Result, Err, IfErr}
 use Rattle.dns_text.specs.declared.record.Question.{Question}
 use Rattle.dns_wire.specs.declared.message.Message.{Message}
+use Rattle.dns_wire.specs.declared.server.query.Query.{Query}
+use Rattle.dns_wire.specs.declared.write.encoding.EncodeFault.{EncodeFault}
+use Rattle.dns_wire.specs.declared.write.encoding.EncodeFault.TheVariants.{TooLong, NoMemory}
 use Rattle.dns_wire.specs.Read.Message.{SpelledMessage}
 use Rattle.dns_wire.specs.WellFormed.{IsWellFormed}
 use Rattle.dns_wire.specs.Write.Question.{in_class_in, IsQuestionOctets}
 use Rattle.dns_wire.specs.Write.Message.{message_octets, octets_with, IsTooLong}
+
+-- The octets of a message that fits: they are its spelling (RFC 1035, section 4.1), at most 65,535 (section 4.2.2).
+pub record Encodes (spelling : List ℕ) (message : Message) (out : List ℕ) : Type 0 where
+  pub octets : out ≡ spelling
+  pub spelled : SpelledMessage out message
+  pub short : length out ≤ 65535
+  pub fits : ¬ (IsTooLong message)
+
+-- A message that is too long has no octets; any other has them unless memory is refused.
+pub record FailsFor {A : Type 0} (message : Message) (result : Result A EncodeFault) : Type 0 where
+  pub too_long : IsTooLong message → result ≡ Err TooLong
+  pub only : IfErr result (λ fault. (fault ≡ NoMemory) ⊎ IsTooLong message)
+
+-- The octets of a reply to a query, whose question is in the case in which the query asked it.
+abbrev pub EncodesReply : Query → Message → List ℕ → Type 0
+EncodesReply query reply out = Encodes (octets_with query.octets reply) reply out
 
 -- The octets spell this message, and no other.
 pub record SpellsOnly (octets : List ℕ) (v : Message) : Type 0 where

@@ -7,7 +7,7 @@ use crate::server::spelling::QuestionOctets;
 use dns_text::Question;
 
 /// A query of one question of class IN, its name whole (RFC 1035, section 4.1.2).
-#[derive(Debug, Drop)]
+#[derive(Drop)]
 pub struct Query {
     /// Its identifier, which a reply repeats.
     pub id: u16,
@@ -21,7 +21,7 @@ pub struct Query {
 }
 
 /// What octets that came to a server ask for.
-#[derive(Debug, Drop)]
+#[derive(Drop)]
 pub enum Asked {
     /// No reply: they have no header, or are a reply themselves.
     Drop,

@@ -5,8 +5,6 @@ ghost use Rattle.dns_wire.specs.declared.server.spelling.TheConstants.{SHORT};
 
 use dns_name::NoMemory;
 use std::alloc::Global;
-use std::fmt;
-use std::fmt::{Debug, Formatter, Write};
 use std::marker::Model;
 
 /// The octets of most questions are no more than these: a name of 42 octets or fewer, its end among them, and four of type and class.
@@ -78,11 +76,5 @@ impl QuestionOctets {
             Kept::Short(run) => &run.octets[..usize::from(run.len)],
             Kept::Long(octets) => octets,
         }
-    }
-}
-
-impl Debug for QuestionOctets {
-    fn fmt<W: Write>(&self, f: &mut Formatter<W>) -> fmt::Result {
-        f.debug_list().slice(self.as_slice()).finish()
     }
 }

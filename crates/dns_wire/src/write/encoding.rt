@@ -5,7 +5,7 @@ ghost use Rattle.std.specs.List.{AllByRecursion};
 ghost use Rattle.dns_name.specs.Labels.{IsName};
 ghost use Rattle.dns_wire.specs.declared.write.encoding.EncodeFault.{EncodeFault};
 ghost use Rattle.dns_wire.specs.declared.write.encoding.EncodeFault.TheVariants.{TooLong, NoMemory};
-ghost use Rattle.dns_wire.specs.Write.Encoding.{WrittenIsRead, RepliesAreRead};
+ghost use Rattle.dns_wire.specs.Write.Encoding.{Encodes, EncodesReply, FailsFor, WrittenIsRead, RepliesAreRead};
 ghost use Rattle.dns_wire.specs.Read.Message.{SpelledMessage};
 ghost use Rattle.dns_wire.specs.Lent.{reply_of, lent_reply};
 ghost use Rattle.dns_wire.specs.WellFormed.{HasItsForm, HasForms, IsHead, AreFormed, AreRecords, IsWellFormed};
@@ -70,12 +70,8 @@ fn write_message(alloc: Global, message: &Message, room: usize) -> Result<Vec<u8
 /// (RFC 1035, section 4.1).
 pub fn encode(alloc: Global, message: &Message) -> Result<Vec<u8>, EncodeFault>
     requires { HasForms message.now }
-    ensures octets { IfOk result (λ out. out.items ≡ message_octets message.now) }
-    ensures spelled { IfOk result (λ out. SpelledMessage out.items message.now) }
-    ensures short { IfOk result (λ out. length out.items ≤ 65535) }
-    ensures fits { IfOk result (λ _. ¬ (IsTooLong message.now)) }
-    ensures too_long { IsTooLong message.now → result ≡ Err TooLong }
-    ensures fault { IfErr result (λ fault. (fault ≡ NoMemory) ⊎ IsTooLong message.now) }
+    ensures encoded { IfOk result (λ out. Encodes (message_octets message.now) message.now out.items) }
+    ensures fails { FailsFor message.now result }
 {
     match message_room(message) {
         None => Err(EncodeFault::TooLong),
@@ -116,12 +112,8 @@ fn encode_sections<A: Section, B: Section, C: Section>(
     sections: &Sections<'_, A, B, C>,
 ) -> Result<Vec<u8>, EncodeFault>
     requires { AreFormed sections.now }
-    ensures octets { IfOk result (λ out. out.items ≡ octets_with query.now.octets (reply_of head.now query.now.question sections.now)) }
-    ensures spelled { IfOk result (λ out. SpelledMessage out.items (reply_of head.now query.now.question sections.now)) }
-    ensures short { IfOk result (λ out. length out.items ≤ 65535) }
-    ensures fits { IfOk result (λ _. ¬ (IsTooLong (reply_of head.now query.now.question sections.now))) }
-    ensures too_long { IsTooLong (reply_of head.now query.now.question sections.now) → result ≡ Err TooLong }
-    ensures fault { IfErr result (λ fault. (fault ≡ NoMemory) ⊎ IsTooLong (reply_of head.now query.now.question sections.now)) }
+    ensures encoded { IfOk result (λ out. EncodesReply query.now (reply_of head.now query.now.question sections.now) out.items) }
+    ensures fails { FailsFor (reply_of head.now query.now.question sections.now) result }
 {
     match reply_room(query, sections) {
         None => Err(EncodeFault::TooLong),
@@ -133,12 +125,8 @@ fn encode_sections<A: Section, B: Section, C: Section>(
 pub fn encode_reply(alloc: Global, query: &Query, reply: &Message) -> Result<Vec<u8>, EncodeFault>
     requires forms { HasForms reply.now }
     requires question { reply.now.questions ≡ in_class_in query.now.question ∷ [] }
-    ensures octets { IfOk result (λ out. out.items ≡ octets_with query.now.octets reply.now) }
-    ensures spelled { IfOk result (λ out. SpelledMessage out.items reply.now) }
-    ensures short { IfOk result (λ out. length out.items ≤ 65535) }
-    ensures fits { IfOk result (λ _. ¬ (IsTooLong reply.now)) }
-    ensures too_long { IsTooLong reply.now → result ≡ Err TooLong }
-    ensures fault { IfErr result (λ fault. (fault ≡ NoMemory) ⊎ IsTooLong reply.now) }
+    ensures encoded { IfOk result (λ out. EncodesReply query.now reply.now out.items) }
+    ensures fails { FailsFor reply.now result }
 {
     encode_sections(Vec::new(alloc), query, &reply.head, &reply.sections())
 }
@@ -154,12 +142,8 @@ pub fn encode_lent<A: Section, B: Section>(
 ) -> Result<Vec<u8>, EncodeFault>
     requires answer { AllByRecursion (AllByRecursion HasItsForm) (A.parts answer.now) }
     requires authority { AllByRecursion (AllByRecursion HasItsForm) (B.parts authority.now) }
-    ensures octets { IfOk result (λ out. out.items ≡ octets_with query.now.octets (lent_reply head.now query.now.question (A.parts answer.now) (B.parts authority.now))) }
-    ensures spelled { IfOk result (λ out. SpelledMessage out.items (lent_reply head.now query.now.question (A.parts answer.now) (B.parts authority.now))) }
-    ensures short { IfOk result (λ out. length out.items ≤ 65535) }
-    ensures fits { IfOk result (λ _. ¬ (IsTooLong (lent_reply head.now query.now.question (A.parts answer.now) (B.parts authority.now)))) }
-    ensures too_long { IsTooLong (lent_reply head.now query.now.question (A.parts answer.now) (B.parts authority.now)) → result ≡ Err TooLong }
-    ensures fault { IfErr result (λ fault. (fault ≡ NoMemory) ⊎ IsTooLong (lent_reply head.now query.now.question (A.parts answer.now) (B.parts authority.now))) }
+    ensures encoded { IfOk result (λ out. EncodesReply query.now (lent_reply head.now query.now.question (A.parts answer.now) (B.parts authority.now)) out.items) }
+    ensures fails { FailsFor (lent_reply head.now query.now.question (A.parts answer.now) (B.parts authority.now)) result }
 {
     let sections = Sections {
         answer,

@@ -1,5 +1,4 @@
 use Rattle.std.proofs.Common.{◌≤◌, subst, sym}
-use Rattle.std.specs.Option.{option_copied}
 use Rattle.dns_wire.specs.Write.Size.{records_len}
 use Rattle.dns_wire.specs.Write.Question.{first_name}
 use Rattle.dns_wire.proofs.WrittenSize.{sections_fit}

@@ -1,6 +1,5 @@
-use Rattle.std.proofs.Common.{◌+◌, ◌<◌, ◌≤◌, length, take, [], arith}
+use Rattle.std.proofs.Common.{◌<◌, length, [], arith}
 use Rattle.std.proofs.lemmas.List.Folds.{length-flat_map-take}
-use Rattle.dns_wire.specs.Lent.{part_at, in_order}
 use Rattle.dns_wire.proofs.write.header.count_of.Goals as goal
 
 pub overflow_cast-count : goal.overflow_cast-count

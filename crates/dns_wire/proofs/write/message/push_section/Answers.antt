@@ -1,9 +1,9 @@
-use Rattle.std.proofs.Common.{◌≡◌, ℕ, List, [], ◌++◌, ◌<◌, ◌≤◌, length, take, sym, ap, subst, ◌∙◌, arith}
+use Rattle.std.proofs.Common.{ℕ, List, [], ◌++◌, ◌<◌, length, sym, ap, ◌∙◌, arith}
 use Rattle.std.specs.List.{flat_map, AllByRecursion}
 use Rattle.std.specs.Option.{option_copied}
 use Rattle.std.proofs.lemmas.List.{take_all}
 use Rattle.std.proofs.lemmas.List.Folds.{length-flat_map-take}
-use Rattle.dns_wire.specs.Lent.{Parts, in_order}
+use Rattle.dns_wire.specs.Lent.{Parts}
 use Rattle.dns_wire.specs.WellFormed.{HasItsForm, IsRecord}
 use Rattle.dns_wire.specs.Write.Record.{records_octets}
 use Rattle.dns_wire.proofs.EachLaws.{all_passed}

@@ -1,0 +1,83 @@
+//! A flush: the cells that one command empties.
+
+ghost use Rattle.std.specs.Prelude.{◌≡◌, IfOk};
+ghost use Rattle.ranked.specs.Flush.{is_flushed};
+
+use dns_name::{Name, NoMemory};
+use dns_text::types;
+
+/// Which cells a flush of a name empties, as the three commands of `unbound-control(8)` have it.
+#[derive(Clone, Copy, PartialEq, Eq)]
+pub enum Reach {
+    /// `flush_type`: the cell of this type.
+    OneType(u16),
+    /// `flush`: the cells of the types that the manual page names.
+    Name,
+    /// `flush_zone`: the cells of every type, of every name at or below the name.
+    Zone,
+}
+
+impl Reach {
+    ghost use Rattle.ranked.specs.Flush.{reaches};
+    ghost use Rattle.dns_text.specs.declared.record.Question.{Question};
+
+    /// Whether a flush of a name empties the cell of the question of this owner and type.
+    pub fn covers(self, name: &Name, owner: &Name, kind: u16) -> bool
+        ensures { result ≡ reaches self name.now (record { owner = owner.now; kind = kind }) }
+    {
+        match self {
+            Reach::OneType(flushed) => *name == *owner && flushed == kind,
+            Reach::Name => *name == *owner && is_flushed(kind),
+            Reach::Zone => owner.at_or_below(name),
+        }
+    }
+}
+
+/// A name, and which of its cells are emptied.
+#[derive(Drop, PartialEq)]
+pub struct Flush {
+    pub name: Name,
+    pub reach: Reach,
+}
+
+impl Flush {
+    ghost use Rattle.ranked.specs.Flush.{covers};
+    ghost use Rattle.dns_text.specs.declared.record.Question.{Question};
+
+    /// Another of the same.
+    pub fn copy(&self) -> Result<Flush, NoMemory>
+        ensures { IfOk result (λ flush. flush ≡ self.now) }
+    {
+        let name = self.name.clone()?;
+        Ok(Flush {
+            name,
+            reach: self.reach,
+        })
+    }
+
+    /// Whether it empties the cell of the question of this owner and type.
+    pub fn covers(&self, owner: &Name, kind: u16) -> bool
+        ensures { result ≡ covers self.now (record { owner = owner.now; kind = kind }) }
+    {
+        self.reach.covers(&self.name, owner, kind)
+    }
+}
+
+/// Whether `flush` of a name empties its cell of this type.
+fn is_flushed(kind: u16) -> bool
+    ensures { result ≡ is_flushed kind }
+{
+    matches!(
+        kind,
+        types::A
+            | types::NS
+            | types::SOA
+            | types::CNAME
+            | types::PTR
+            | types::MX
+            | types::AAAA
+            | types::SRV
+            | types::NAPTR
+            | types::DNAME
+    )
+}
