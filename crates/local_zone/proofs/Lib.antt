@@ -1,6 +1,13 @@
 pub mod AnswerLaws
 pub mod ClosestLaws
-pub mod ListLaws
 pub mod ReasonLaws
 pub mod SoundLaws
 pub mod ZoneLaws
+pub mod IndexLaws
+pub mod ImpliedLaws
+pub mod RetimeLaws
+pub mod AddLaws
+pub mod GapLaws
+pub mod GroupLaws
+pub mod TagLaws
+pub mod CountLaws

@@ -1,7 +1,10 @@
 pub mod ZoneType
 pub mod Closest
 pub mod Tables
+pub mod Tag
+pub mod Index
 pub mod Change
+pub mod Added
 pub mod Reason
 pub mod Saved
 pub mod Show
@@ -9,3 +12,5 @@ pub mod Shown
 pub mod Answer
 pub mod Equal
 pub mod EqualLaws
+pub mod Gaps
+pub mod Count

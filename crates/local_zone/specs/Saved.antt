@@ -1,20 +1,17 @@
 -- What a change saves for its way back.
-use Rattle.std.specs.Prelude.{◌≡◌, List, take}
-use Rattle.local_zone.specs.declared.saved.SavedList.{SavedList}
-use Rattle.local_zone.specs.declared.saved.SavedList.TheVariants.{First, Whole}
+use Rattle.std.specs.Prelude.{◌≡◌}
 use Rattle.local_zone.specs.declared.saved.SavedTables.{SavedTables}
 use Rattle.local_zone.specs.Tables.{Tables, AreTables}
+use Rattle.named_list.specs.Turn.{other_of, Fits}
+use Rattle.local_zone.specs.Added.{records_other, GoesBack}
 
--- the list before a change, from the one that the change left
-abbrev pub list_before : {A : Type 0} → SavedList A → List A → List A
-list_before (First count) left = take count left
-list_before (Whole items) left = items
-
--- the lists before a change, by what the change saved, from those that it left
+-- the lists on the other side of a change, by what the change saved, from those on this side
 abbrev pub before_of : SavedTables → Tables → Tables
-before_of saved left = record { zones = list_before saved.zones left.zones; records = list_before saved.records left.records }
+before_of saved left = record { zones = other_of saved.zones left.zones; records = records_other saved.records left.records }
 
 -- From the lists that a change left, the saved value gives those before it.
 pub record TakesBack (saved : SavedTables) (left before : Tables) : Type 0 where
   pub gives : before_of saved left ≡ before
+  pub fits : Fits (λ z. z.name) saved.zones left.zones
+  pub goes : GoesBack saved.records left.records
   pub sound : AreTables before

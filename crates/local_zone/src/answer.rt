@@ -7,16 +7,17 @@ ghost use Rattle.local_zone.specs.Answer.{absent_in, absent_or_pass, answer_in, 
 ghost use Rattle.local_zone.specs.Show.{data_shown, is_for};
 ghost use Rattle.local_zone.specs.declared.local.Local.TheVariants as local;
 
-use crate::closest::closest;
 use crate::local::{Local, LocalSet};
 use crate::next::is_for;
 use crate::record::LocalRecord;
+use crate::record_list::RecordList;
 use crate::zone::Zone;
 use crate::zone_type::ZoneType;
-use crate::zones::lies_in;
+use crate::zones::{closest, lies_in};
 use dns_name::Name;
+use dns_text::Question;
 use dns_text::types::{CNAME, SOA};
-use dns_text::{Question, Shared};
+use named_list::NamedList;
 
 /// Whether an owner has a record of this type.
 fn has_set(records: &[LocalRecord], owner: &Name, kind: u16) -> bool
@@ -40,15 +41,11 @@ fn has_record(records: &[LocalRecord], name: &Name) -> bool
 }
 
 /// Whether a name, or one below it, has a record that lies in the zone.
-fn has_record_below(
-    zones: &Vec<Shared<Zone>>,
-    records: &[LocalRecord],
-    zone: &Zone,
-    name: &Name,
-) -> bool
-    ensures { result ≡ has_record_below name.now zone.now (record { zones = zones.now.items; records = records.now }) }
+fn has_record_below(zones: &NamedList<Zone>, records: &RecordList, zone: &Zone, name: &Name) -> bool
+    ensures { result ≡ has_record_below name.now zone.now (record { zones = zones.now; records = records.now }) }
 {
-    records.iter().any(|r| r.owner().at_or_below(name) && lies_in(zones, &zone.name, r.owner()))
+    records.as_slice().iter().any(|r| r.owner().at_or_below(name)
+        && lies_in(zones, &zone.name, r.owner()))
 }
 
 /// The CNAME of an owner, else its set of the type, shown as of the name that is asked for; nothing where there is neither.
@@ -79,6 +76,32 @@ fn data<'a>(
     None
 }
 
+/// The same of all records.
+fn data_of<'a>(
+    records: &'a RecordList,
+    asked: &'a Name,
+    owner: &'a Name,
+    kind: u16,
+) -> Option<LocalSet<'a>>
+    ensures { result ≡ data_shown asked.now owner.now kind records.now }
+{
+    data(records.of(owner), asked, owner, kind)
+}
+
+/// The first SOA record at a zone's name, of all records.
+fn soa_at<'a>(records: &'a RecordList, name: &Name) -> Option<&'a LocalRecord>
+    ensures { option_map (λ r. r.now) result ≡ soa_of name.now records.now }
+{
+    soa_of(records.of(name), name)
+}
+
+/// Whether a name has a record, of all records.
+fn has_owner(records: &RecordList, name: &Name) -> bool
+    ensures { result ≡ has_record name.now records.now }
+{
+    has_record(records.of(name), name)
+}
+
 /// The data, or what is answered where there is none.
 fn data_or<'a>(
     found: Option<LocalSet<'a>>,
@@ -94,14 +117,14 @@ fn data_or<'a>(
 
 /// What is not there in a static zone: data of the type, or the name.
 fn absent<'a>(
-    zones: &Vec<Shared<Zone>>,
-    records: &'a [LocalRecord],
+    zones: &NamedList<Zone>,
+    records: &'a RecordList,
     zone: &Zone,
     name: &Name,
 ) -> Local<LocalSet<'a>, &'a LocalRecord>
-    ensures { local_now result ≡ absent_in (record { zones = zones.now.items; records = records.now }) name.now zone.now }
+    ensures { local_now result ≡ absent_in (record { zones = zones.now; records = records.now }) name.now zone.now }
 {
-    let soa = soa_of(records, &zone.name);
+    let soa = soa_at(records, &zone.name);
     if has_record_below(zones, records, zone, name) {
         Local::NoData(soa)
     } else {
@@ -111,14 +134,14 @@ fn absent<'a>(
 
 /// What a transparent zone answers where it has no data of the type.
 fn absent_or_pass<'a>(
-    records: &'a [LocalRecord],
+    records: &'a RecordList,
     zone: &Zone,
     name: &Name,
 ) -> Local<LocalSet<'a>, &'a LocalRecord>
     ensures { local_now result ≡ absent_or_pass records.now name.now zone.now }
 {
-    if has_record(records, name) {
-        Local::NoData(soa_of(records, &zone.name))
+    if has_owner(records, name) {
+        Local::NoData(soa_at(records, &zone.name))
     } else {
         Local::Pass
     }
@@ -126,15 +149,15 @@ fn absent_or_pass<'a>(
 
 /// What a static zone answers.
 fn in_static<'a>(
-    zones: &Vec<Shared<Zone>>,
-    records: &'a [LocalRecord],
+    zones: &NamedList<Zone>,
+    records: &'a RecordList,
     zone: &Zone,
     question: &'a Question,
 ) -> Local<LocalSet<'a>, &'a LocalRecord>
-    ensures { local_now result ≡ data_or (absent_in (record { zones = zones.now.items; records = records.now }) question.now.owner zone.now) (data_shown question.now.owner question.now.owner question.now.kind records.now) }
+    ensures { local_now result ≡ data_or (absent_in (record { zones = zones.now; records = records.now }) question.now.owner zone.now) (data_shown question.now.owner question.now.owner question.now.kind records.now) }
 {
     let name = &question.owner;
-    match data(records, name, name, question.kind) {
+    match data_of(records, name, name, question.kind) {
         Some(set) => Local::Data(set),
         None => absent(zones, records, zone, name),
     }
@@ -142,14 +165,14 @@ fn in_static<'a>(
 
 /// What a transparent zone answers.
 fn in_transparent<'a>(
-    records: &'a [LocalRecord],
+    records: &'a RecordList,
     zone: &Zone,
     question: &'a Question,
 ) -> Local<LocalSet<'a>, &'a LocalRecord>
     ensures { local_now result ≡ data_or (absent_or_pass records.now question.now.owner zone.now) (data_shown question.now.owner question.now.owner question.now.kind records.now) }
 {
     let name = &question.owner;
-    match data(records, name, name, question.kind) {
+    match data_of(records, name, name, question.kind) {
         Some(set) => Local::Data(set),
         None => absent_or_pass(records, zone, name),
     }
@@ -157,35 +180,35 @@ fn in_transparent<'a>(
 
 /// What a redirect zone answers.
 fn in_redirect<'a>(
-    records: &'a [LocalRecord],
+    records: &'a RecordList,
     zone: &'a Zone,
     question: &'a Question,
 ) -> Local<LocalSet<'a>, &'a LocalRecord>
     ensures { local_now result ≡ data_or (local.NoData (soa_of zone.now.name records.now)) (data_shown question.now.owner zone.now.name question.now.kind records.now) }
 {
-    match data(records, &question.owner, &zone.name, question.kind) {
+    match data_of(records, &question.owner, &zone.name, question.kind) {
         Some(set) => Local::Data(set),
-        None => Local::NoData(soa_of(records, &zone.name)),
+        None => Local::NoData(soa_at(records, &zone.name)),
     }
 }
 
 /// What a zone answers.
 fn answer_in<'a>(
-    zones: &'a Vec<Shared<Zone>>,
-    records: &'a [LocalRecord],
+    zones: &'a NamedList<Zone>,
+    records: &'a RecordList,
     zone: &'a Zone,
     question: &'a Question,
 ) -> Local<LocalSet<'a>, &'a LocalRecord>
-    ensures { local_now result ≡ answer_in (record { zones = zones.now.items; records = records.now }) question.now zone.now zone.now.kind }
+    ensures { local_now result ≡ answer_in (record { zones = zones.now; records = records.now }) question.now zone.now zone.now.kind }
 {
     let name = &question.owner;
     let kind = question.kind;
     match zone.kind {
-        ZoneType::Deny => data_or(data(records, name, name, kind), Local::Drop),
-        ZoneType::Refuse => data_or(data(records, name, name, kind), Local::Refuse),
+        ZoneType::Deny => data_or(data_of(records, name, name, kind), Local::Drop),
+        ZoneType::Refuse => data_or(data_of(records, name, name, kind), Local::Refuse),
         ZoneType::Static => in_static(zones, records, zone, question),
         ZoneType::Transparent => in_transparent(records, zone, question),
-        ZoneType::TypeTransparent => data_or(data(records, name, name, kind), Local::Pass),
+        ZoneType::TypeTransparent => data_or(data_of(records, name, name, kind), Local::Pass),
         ZoneType::Redirect => in_redirect(records, zone, question),
         ZoneType::AlwaysTransparent => Local::Pass,
         ZoneType::AlwaysRefuse => Local::Refuse,
@@ -196,11 +219,11 @@ fn answer_in<'a>(
 
 /// What the table answers.
 pub(crate) fn answer<'a>(
-    zones: &'a Vec<Shared<Zone>>,
-    records: &'a [LocalRecord],
+    zones: &'a NamedList<Zone>,
+    records: &'a RecordList,
     question: &'a Question,
 ) -> Local<LocalSet<'a>, &'a LocalRecord>
-    ensures { local_now result ≡ local_of (record { zones = zones.now.items; records = records.now }) question.now }
+    ensures { local_now result ≡ local_of (record { zones = zones.now; records = records.now }) question.now }
 {
     match closest(zones, &question.owner) {
         Some(zone) => answer_in(zones, records, zone, question),

@@ -10,16 +10,17 @@ ghost use Rattle.local_zone.specs.Closest.{closest, lies_in};
 ghost use Rattle.local_zone.specs.Tables.{is_cname};
 ghost use Rattle.local_zone.specs.declared.table.TheConstants.{MOST_ZONES, MOST_RECORDS};
 
-use crate::closest::closest;
 use crate::fault::TableFault;
 use crate::record::LocalRecord;
+use crate::record_list::RecordList;
 use crate::zone::Zone;
 use crate::zone_type::ZoneType;
-use crate::zones::{has_no_room_for, would_lie_below};
+use crate::zones::{closest, has_no_room_for, would_lie_below};
 use crate::{records, zones};
 use dns_name::Name;
+use dns_text::Record;
 use dns_text::types::CNAME;
-use dns_text::{Record, Shared};
+use named_list::NamedList;
 
 fn is_cname(kind: u16) -> bool
     ensures { result ≡ is_cname kind }
@@ -41,24 +42,25 @@ fn differ(a: bool, b: bool) -> bool
 }
 
 /// Whether a record would lie in the new zone, strictly below its name.
-fn has_record_below(zones: &Vec<Shared<Zone>>, records: &[LocalRecord], new: &Zone) -> bool
-    ensures { result ≡ list_any (λ r. lies_in (zones_with new.now zones.now.items) new.now.name r.owner && not (name_eq r.owner new.now.name)) records.now }
+fn has_record_below(zones: &NamedList<Zone>, records: &RecordList, new: &Zone) -> bool
+    ensures { result ≡ list_any (λ r. lies_in (zones_with new.now zones.now) new.now.name r.owner && not (name_eq r.owner new.now.name)) records.now }
 {
     records
+        .as_slice()
         .iter()
         .any(|r| would_lie_below(zones, new, r.owner()))
 }
 
 /// Whether a record would lie strictly below the name of the redirect zone.
-fn has_data_below(zones: &Vec<Shared<Zone>>, records: &[LocalRecord], new: &Zone) -> bool
-    ensures { result ≡ has_data_below new.now (record { zones = zones.now.items; records = records.now }) }
+fn has_data_below(zones: &NamedList<Zone>, records: &RecordList, new: &Zone) -> bool
+    ensures { result ≡ has_data_below new.now (record { zones = zones.now; records = records.now }) }
 {
     is_redirect(new.kind) && has_record_below(zones, records, new)
 }
 
 /// Whether the owner lies strictly below the name of the redirect zone that it lies in.
-fn is_below_redirect(zones: &Vec<Shared<Zone>>, owner: &Name) -> bool
-    ensures { result ≡ redirects_below owner.now (closest zones.now.items owner.now) }
+fn is_below_redirect(zones: &NamedList<Zone>, owner: &Name) -> bool
+    ensures { result ≡ redirects_below owner.now (closest zones.now owner.now) }
 {
     match closest(zones, owner) {
         Some(zone) => is_redirect(zone.kind) && *owner != zone.name,
@@ -67,23 +69,30 @@ fn is_below_redirect(zones: &Vec<Shared<Zone>>, owner: &Name) -> bool
 }
 
 /// Whether a CNAME would not stand alone at the owner.
-fn clashes(zones: &Vec<Shared<Zone>>, records: &[LocalRecord], new: &Record) -> bool
-    ensures { result ≡ clashes new.now (record { zones = zones.now.items; records = records.now }) }
+fn clashes(zones: &NamedList<Zone>, records: &[LocalRecord], new: &Record) -> bool
+    ensures { result ≡ clashes new.now (record { zones = zones.now; records = records.now }) }
 {
     // The types come first: they seldom differ, and are compared sooner than owners.
     records.iter().any(|r| differ(is_cname(r.kind()), is_cname(new.kind))
         && *r.owner() == new.owner)
 }
 
+/// The same of all records.
+fn clashes_in(zones: &NamedList<Zone>, records: &RecordList, new: &Record) -> bool
+    ensures { result ≡ clashes new.now (record { zones = zones.now; records = records.now }) }
+{
+    clashes(zones, records.of(&new.owner), new)
+}
+
 /// Why a zone can't be set.
 pub(crate) fn reason_of_set(
-    zones: &Vec<Shared<Zone>>,
-    records: &[LocalRecord],
+    zones: &NamedList<Zone>,
+    records: &RecordList,
     new: &Zone,
 ) -> Option<TableFault>
-    requires few_zones { length zones.now.items ≤ MOST_ZONES }
+    requires few_zones { length zones.now ≤ MOST_ZONES }
     requires few_records { length records.now ≤ MOST_RECORDS }
-    ensures { result ≡ reason_of_set new.now (record { zones = zones.now.items; records = records.now }) }
+    ensures { result ≡ reason_of_set new.now (record { zones = zones.now; records = records.now }) }
 {
     if has_data_below(zones, records, new) {
         return Some(TableFault::DataBelow);
@@ -96,18 +105,18 @@ pub(crate) fn reason_of_set(
 
 /// Why a record can't be added.
 pub(crate) fn reason_of_add(
-    zones: &Vec<Shared<Zone>>,
-    records: &[LocalRecord],
+    zones: &NamedList<Zone>,
+    records: &RecordList,
     new: &Record,
 ) -> Option<TableFault>
-    requires few_zones { length zones.now.items ≤ MOST_ZONES }
+    requires few_zones { length zones.now ≤ MOST_ZONES }
     requires few_records { length records.now ≤ MOST_RECORDS }
-    ensures { result ≡ reason_of_add new.now (record { zones = zones.now.items; records = records.now }) }
+    ensures { result ≡ reason_of_add new.now (record { zones = zones.now; records = records.now }) }
 {
     if is_below_redirect(zones, &new.owner) {
         return Some(TableFault::BelowRedirect);
     }
-    if clashes(zones, records, new) {
+    if clashes_in(zones, records, new) {
         return Some(TableFault::CnameClash);
     }
     if has_no_room_for(zones, &new.owner) || records::has_no_room(records, new) {

@@ -2,33 +2,43 @@
 
 ghost use Rattle.std.specs.Prelude.{◌≡◌, IfOk};
 
+use crate::tag::tag_of;
 use dns_name::{Name, NoMemory};
 use dns_text::{Data, Record, Shared, Ttl};
 use std::marker::Model;
 
 /// A record of local data, which contracts see as one. Its owner and data are shared, so that saved lists and a new time to live copy neither.
-#[derive(Debug, Drop)]
+#[derive(Drop)]
 pub struct LocalRecord {
     said: Shared<Record>,
     ttl: Ttl,
+    // A number of the owner's octets: most other owners differ in it, so that their names need not be read.
+    tag: u32,
 }
 
 impl Model for LocalRecord {
+    ghost use Rattle.std.specs.Prelude.{◌≡◌};
     ghost use Rattle.dns_text.specs.declared.record.Record.{Record};
+    ghost use Rattle.local_zone.specs.Tag.{tag_of};
 
     ghost Value = { Record };
 
     ghost view = { λ r. record r.said { ttl = r.ttl } };
+
+    ghost invariant = { λ r. r.tag ≡ tag_of r.said.owner };
 }
 
 impl LocalRecord {
+    ghost use Rattle.dns_name.specs.Order.{name_eq};
     ghost use Rattle.local_zone.specs.Tables.{is_of_set, is_same};
+    ghost use Rattle.local_zone.specs.Tag.{tag_of};
 
     pub(crate) fn new(said: Shared<Record>) -> LocalRecord
         ensures { result ≡ said }
     {
         let ttl = said.get().ttl;
-        LocalRecord { said, ttl }
+        let tag = tag_of(&said.get().owner);
+        LocalRecord { said, ttl, tag }
     }
 
     /// Another owner of the same record. It takes no memory; there can be too many owners to count.
@@ -44,7 +54,14 @@ impl LocalRecord {
         Ok(LocalRecord {
             said: self.said.share()?,
             ttl,
+            tag: self.tag,
         })
+    }
+
+    pub(crate) fn set_ttl(&mut self, ttl: Ttl)
+        ensures { self.new ≡ record self.old { ttl = ttl } }
+    {
+        self.ttl = ttl;
     }
 
     pub fn owner(&self) -> &Name
@@ -76,6 +93,24 @@ impl LocalRecord {
         ensures { result ≡ is_of_set self.now other.now }
     {
         self.kind() == other.kind && *self.owner() == other.owner
+    }
+
+    /// The same, with the tag of the other owner.
+    #[tactic(auto, using(crate::proofs::TagLaws::other_set))]
+    pub(crate) fn is_of_tagged_set(&self, tag: u32, other: &Record) -> bool
+        requires { tag ≡ tag_of other.now.owner }
+        ensures { result ≡ is_of_set self.now other.now }
+    {
+        self.tag == tag && self.is_of_set(other)
+    }
+
+    /// Whether a name, of which the tag is given too, is the owner.
+    #[tactic(auto, using(crate::proofs::TagLaws::other_tag))]
+    pub(crate) fn has_tagged_owner(&self, tag: u32, name: &Name) -> bool
+        requires { tag ≡ tag_of name.now }
+        ensures { result ≡ name_eq self.now.owner name.now }
+    {
+        self.tag == tag && *self.owner() == *name
     }
 
     /// Whether both are of one set and say the same.

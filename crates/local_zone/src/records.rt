@@ -1,139 +1,314 @@
-//! The list of records, and how each change makes the next one.
+//! How each change makes the next list of records, and its way back.
 
-ghost use Rattle.std.specs.Prelude.{◌≡◌, ◌&&◌, not, ◌==◌, IfOk, OnErr, OnOk, filter, length, map, nat_lt, ◌≤◌};
-ghost use Rattle.std.specs.List.{list_any};
+ghost use Rattle.std.specs.Prelude.{◌≡◌, ◌≤◌, filter, length, nat_lt, not, true, IfOk, OnOk, OnErr};
 ghost use Rattle.dns_name.specs.Order.{name_eq};
-ghost use Rattle.local_zone.specs.Change.{is_there, records_with, retimed_by, with_record};
 ghost use Rattle.local_zone.specs.Closest.{lies_in};
-ghost use Rattle.local_zone.specs.Saved.{list_before};
+ghost use Rattle.local_zone.specs.Gaps.{at_gaps, gaps_where, put_back, rest_of, AreApart, AreWithin};
+ghost use Rattle.std.specs.List.{Contains, find};
+ghost use Rattle.std.specs.Option.{option_map};
+ghost use Rattle.dns_text.specs.declared.record.Record.{Record};
+ghost use Rattle.local_zone.specs.Added.{ttl_of, records_before, records_other, GoesBack};
+ghost use Rattle.local_zone.specs.declared.added.RecordTurn.TheVariants as RecordTurn;
+ghost use Rattle.local_zone.specs.Tables.{is_of_set};
+ghost use Rattle.local_zone.specs.Change.{is_there, records_with, with_record};
 ghost use Rattle.local_zone.specs.declared.table.TheConstants.{MOST_RECORDS};
-ghost use Rattle.local_zone.specs.Tables.{is_of_set, is_same};
 
+use crate::added::{Added, RecordTurn};
 use crate::record::LocalRecord;
-use crate::saved::SavedList;
+use crate::record_list::RecordList;
+use crate::removed::Removed;
 use crate::table::MOST_RECORDS;
+use crate::tag::tag_of;
 use crate::zone::Zone;
 use crate::zones::lies_in;
 use dns_name::{Name, NoMemory};
-use dns_text::{Items, Record, Shared};
+use dns_text::{Record, Shared, Ttl};
+use named_list::NamedList;
 use std::alloc::Global;
 use std::mem;
 
 /// Whether a record of the list says the same.
-pub(crate) fn is_there(records: &[LocalRecord], new: &Record) -> bool
+fn is_among(records: &[LocalRecord], new: &Record) -> bool
     ensures { result ≡ is_there records.now new.now }
 {
     records.iter().any(|r| r.is_same(new))
 }
 
+/// Whether a record says the same. It reads only those of the owner.
+pub(crate) fn is_there(records: &RecordList, new: &Record) -> bool
+    ensures { result ≡ is_there records.now new.now }
+{
+    is_among(records.of(&new.owner), new)
+}
+
 /// Whether there would be too many records with the new one.
-pub(crate) fn has_no_room(records: &[LocalRecord], new: &Record) -> bool
+pub(crate) fn has_no_room(records: &RecordList, new: &Record) -> bool
     requires { length records.now ≤ MOST_RECORDS }
     ensures { result ≡ nat_lt MOST_RECORDS (length (records_with new.now records.now)) }
 {
-    records.len() == MOST_RECORDS && !is_there(records, new)
+    records.as_slice().len() == MOST_RECORDS && !is_there(records, new)
 }
 
-/// Whether a record of the set has another time to live.
-fn has_other_ttl(records: &[LocalRecord], new: &Record) -> bool
-    ensures { result ≡ list_any (λ r. is_of_set r new.now && not (r.ttl == new.now.ttl)) records.now }
+/// The first record of the set of a record.
+fn first_of_set<'a>(records: &'a [LocalRecord], new: &Record) -> Option<&'a LocalRecord>
+    ensures { option_map (λ r. r.now) result ≡ find (λ r. is_of_set r new.now) records.now }
 {
-    // The times come first: they seldom differ, and are compared sooner than owners.
-    records.iter().any(|r| r.ttl().seconds() != new.ttl.seconds() && r.is_of_set(new))
+    records.iter().find(|r| r.is_of_set(new))
 }
 
-/// The records with the new one's time to live in its set.
-fn retimed(
-    alloc: Global,
-    records: &Vec<LocalRecord>,
-    new: &Record,
-) -> Result<Vec<LocalRecord>, NoMemory>
-    ensures { IfOk result (λ v. v.items ≡ map (retimed_by new.now) records.now.items) }
+/// The time to live of a record's set, or its own where it has none.
+fn ttl_among(records: &[LocalRecord], new: &Record) -> Ttl
+    ensures { result ≡ ttl_of new.now records.now }
 {
-    let mut after = Vec::new(alloc);
-    for r in records {
-        after.push(retimed_by(r, new)?)?;
-    }
-    Ok(after)
-}
-
-fn retimed_by(r: &LocalRecord, new: &Record) -> Result<LocalRecord, NoMemory>
-    ensures { IfOk result (λ after. after ≡ retimed_by new.now r.now) }
-{
-    if r.is_of_set(new) {
-        r.with_ttl(new.ttl)
-    } else {
-        r.share()
+    match first_of_set(records, new) {
+        Some(r) => r.ttl(),
+        None => new.ttl,
     }
 }
 
-/// Puts a record last unless it is there, and gives how many stood before it.
-fn put_last(records: &mut Vec<LocalRecord>, new: &Shared<Record>) -> Result<usize, NoMemory>
-    ensures ok { OnOk result (records.new.items ≡ with_record new.now records.old.items) }
-    ensures err { OnErr result (records.new.items ≡ records.old.items) }
-    ensures count { IfOk result (λ count. count ≡ length records.old.items) }
+/// The same of all records. It reads only those of the owner.
+fn ttl_of(records: &RecordList, new: &Record) -> Ttl
+    ensures { result ≡ ttl_of new.now records.now }
 {
-    let count = records.len();
-    if !is_there(records, new.get()) {
-        records.push(LocalRecord::new(new.share()?))?;
+    ttl_among(records.of(&new.owner), new)
+}
+
+/// Puts a record last unless it is there, and returns whether it did.
+fn put_last(alloc: Global, records: &mut RecordList, new: &Shared<Record>) -> Result<bool, NoMemory>
+    ensures ok { OnOk result (records.new ≡ with_record new.now records.old) }
+    ensures put { IfOk result (λ put. put ≡ not (is_there records.old new.now)) }
+    ensures err { OnErr result (records.new ≡ records.old) }
+{
+    if is_there(records, new.get()) {
+        return Ok(false);
     }
-    Ok(count)
+    records.push(alloc, LocalRecord::new(new.share()?))?;
+    Ok(true)
 }
 
 /// Puts a record last unless it is there, and gives its time to live to its set.
 pub(crate) fn put_record(
     alloc: Global,
-    records: &mut Vec<LocalRecord>,
+    records: &mut RecordList,
     new: &Shared<Record>,
-) -> Result<SavedList<LocalRecord>, NoMemory>
-    ensures ok { OnOk result (records.new.items ≡ records_with new.now records.old.items) }
-    ensures err { OnErr result (records.new.items ≡ records.old.items) }
-    ensures saved { IfOk result (λ saved. list_before saved records.new.items ≡ records.old.items) }
+) -> Result<Added, NoMemory>
+    requires { (r s : Record) → Contains records.old r → Contains records.old s → is_of_set r s ≡ true → r.ttl ≡ s.ttl }
+    ensures ok { OnOk result (records.new ≡ records_with new.now records.old) }
+    ensures err { OnErr result (records.new ≡ records.old) }
+    ensures saved { IfOk result (λ added. records_before added records.new ≡ records.old) }
+    ensures said { IfOk result (λ added. added.said ≡ new.now) }
 {
-    let said = new.get();
-    if has_other_ttl(records, said) {
-        let mut after = retimed(alloc, records, said)?;
-        put_last(&mut after, new)?;
-        let before = mem::replace(records, after);
-        return Ok(SavedList::Whole(Items::new(before)));
-    }
-    let count = put_last(records, new)?;
-    Ok(SavedList::First(count))
+    let said = new.share()?;
+    let ttl = ttl_of(records, new.get());
+    let is_new = put_last(alloc, records, new)?;
+    records.retime(new.get(), new.get().ttl);
+    Ok(Added { said, ttl, is_new })
 }
 
-/// The records but those that lie in the zone of this name.
-pub(crate) fn records_outside(
-    alloc: Global,
-    records: &Vec<LocalRecord>,
-    zones: &Vec<Shared<Zone>>,
-    name: &Name,
-) -> Result<Vec<LocalRecord>, NoMemory>
-    ensures { IfOk result (λ v. v.items ≡ filter (λ r. not (lies_in zones.now.items name.now r.owner)) records.now.items) }
+/// Takes back what `put_record` did. It takes no memory.
+pub(crate) fn take_back(records: &mut RecordList, added: &Added)
+    ensures { records.new ≡ records_before added.now records.old }
 {
-    let mut left = Vec::new(alloc);
+    if added.is_new {
+        records.pop();
+    }
+    records.retime(added.said.get(), added.ttl);
+}
+
+/// Takes back what was added, and leaves the way to add it again. It takes no memory.
+fn take_added(records: &mut RecordList, added: Added) -> RecordTurn
+    requires { GoesBack (RecordTurn.Added added) records.old }
+    ensures list { records.new ≡ records_before added records.old }
+    ensures again { GoesBack result records.new × (records_other result records.new ≡ records.old) }
+{
+    take_back(records, &added);
+    let Added { said, .. } = added;
+    RecordTurn::Adds(said)
+}
+
+/// Adds a record once more. If there is no memory, `turn` is the way to do so later.
+fn add_again(
+    alloc: Global,
+    records: &mut RecordList,
+    new: Shared<Record>,
+    turn: &mut RecordTurn,
+) -> Result<(), NoMemory>
+    requires one_ttl { (r s : Record) → Contains records.old r → Contains records.old s → is_of_set r s ≡ true → r.ttl ≡ s.ttl }
+    ensures ok { OnOk result (records.new ≡ records_with new records.old) }
+    ensures again { OnOk result (GoesBack turn.new records.new × (records_other turn.new records.new ≡ records.old)) }
+    ensures err { OnErr result ((records.new ≡ records.old) × (turn.new ≡ RecordTurn.Adds new)) }
+{
+    match put_record(alloc, records, &new) {
+        Ok(added) => {
+            *turn = RecordTurn::Added(added);
+            Ok(())
+        }
+        Err(e) => {
+            *turn = RecordTurn::Adds(new);
+            Err(e)
+        }
+    }
+}
+
+/// Puts records that were taken out back in their places. If there is no memory, `turn` is the way to do so later.
+fn put_again(
+    alloc: Global,
+    records: &mut RecordList,
+    removed: Removed,
+    turn: &mut RecordTurn,
+) -> Result<(), NoMemory>
+    requires { GoesBack (RecordTurn.Removed removed) records.old }
+    ensures ok { OnOk result (records.new ≡ put_back removed records.old) }
+    ensures again { OnOk result (GoesBack turn.new records.new × (records_other turn.new records.new ≡ records.old)) }
+    ensures err { OnErr result ((records.new ≡ records.old) × (turn.new ≡ RecordTurn.Removed removed)) }
+{
+    let mut removed = removed;
+    match records.put_in(alloc, &mut removed) {
+        Ok(gaps) => {
+            *turn = RecordTurn::Removes(gaps);
+            Ok(())
+        }
+        Err(e) => {
+            *turn = RecordTurn::Removed(removed);
+            Err(e)
+        }
+    }
+}
+
+/// Takes the records at the gaps out. If there is no memory, `turn` is the way to do so later.
+fn take_again(
+    alloc: Global,
+    records: &mut RecordList,
+    gaps: Vec<usize>,
+    turn: &mut RecordTurn,
+) -> Result<(), NoMemory>
+    requires { GoesBack (RecordTurn.Removes gaps) records.old }
+    ensures ok { OnOk result (records.new ≡ rest_of gaps.items records.old) }
+    ensures again { OnOk result (GoesBack turn.new records.new × (records_other turn.new records.new ≡ records.old)) }
+    ensures err { OnErr result ((records.new ≡ records.old) × (turn.new ≡ RecordTurn.Removes gaps)) }
+{
+    match records.take_out(alloc, gaps.as_slice()) {
+        Ok(removed) => {
+            *turn = RecordTurn::Removed(removed);
+            Ok(())
+        }
+        Err(e) => {
+            *turn = RecordTurn::Removes(gaps);
+            Err(e)
+        }
+    }
+}
+
+/// Goes to the list on the other side of a change, and leaves the way back from there.
+pub(crate) fn turn_over(
+    alloc: Global,
+    records: &mut RecordList,
+    turn: &mut RecordTurn,
+) -> Result<(), NoMemory>
+    requires goes { GoesBack turn.old records.old }
+    requires one_ttl { (r s : Record) → Contains records.old r → Contains records.old s → is_of_set r s ≡ true → r.ttl ≡ s.ttl }
+    ensures ok { OnOk result (records.new ≡ records_other turn.old records.old) }
+    ensures again { OnOk result (GoesBack turn.new records.new × (records_other turn.new records.new ≡ records.old)) }
+    ensures err { OnErr result ((records.new ≡ records.old) × (turn.new ≡ turn.old)) }
+{
+    match mem::replace(turn, RecordTurn::Nothing) {
+        RecordTurn::Nothing => Ok(()),
+        RecordTurn::Added(added) => {
+            *turn = take_added(records, added);
+            Ok(())
+        }
+        RecordTurn::Adds(new) => add_again(alloc, records, new, turn),
+        RecordTurn::Removed(removed) => put_again(alloc, records, removed, turn),
+        RecordTurn::Removes(gaps) => take_again(alloc, records, gaps, turn),
+    }
+}
+
+/// The gaps before the records that lie in a zone.
+fn gaps_in(
+    alloc: Global,
+    records: &[LocalRecord],
+    zones: &NamedList<Zone>,
+    name: &Name,
+) -> Result<Vec<usize>, NoMemory>
+    ensures { IfOk result (λ gaps. gaps.items ≡ gaps_where (λ r. lies_in zones.now name.now r.owner) 0 records.now) }
+{
+    let mut gaps = Vec::new(alloc);
+    let mut gap = 0;
     for r in records {
         if lies_in(zones, name, r.owner()) {
-            continue;
+            gaps.push(gap)?;
+            gap = 0;
+        } else {
+            gap += 1;
         }
-        left.push(r.share()?)?;
     }
-    Ok(left)
+    Ok(gaps)
 }
 
-/// The records but those of this owner.
-pub(crate) fn records_without(
-    alloc: Global,
-    records: &Vec<LocalRecord>,
-    name: &Name,
-) -> Result<Vec<LocalRecord>, NoMemory>
-    ensures { IfOk result (λ v. v.items ≡ filter (λ r. not (name_eq r.owner name.now)) records.now.items) }
+/// The gaps before the records of an owner.
+fn gaps_of(alloc: Global, records: &[LocalRecord], owner: &Name) -> Result<Vec<usize>, NoMemory>
+    ensures { IfOk result (λ gaps. gaps.items ≡ gaps_where (λ r. name_eq r.owner owner.now) 0 records.now) }
 {
-    let mut left = Vec::new(alloc);
+    let tag = tag_of(owner);
+    let mut gaps = Vec::new(alloc);
+    let mut gap = 0;
     for r in records {
-        if *r.owner() == *name {
-            continue;
+        if r.has_tagged_owner(tag, owner) {
+            gaps.push(gap)?;
+            gap = 0;
+        } else {
+            gap += 1;
         }
-        left.push(r.share()?)?;
     }
-    Ok(left)
+    Ok(gaps)
+}
+
+/// Takes the records at the gaps out, and gives the way back. If there are none, it copies nothing.
+fn take_gaps(
+    alloc: Global,
+    records: &mut RecordList,
+    gaps: &[usize],
+) -> Result<RecordTurn, NoMemory>
+    requires within { AreWithin gaps.now records.old }
+    requires apart { AreApart (at_gaps gaps.now records.old) (rest_of gaps.now records.old) }
+    ensures ok { OnOk result (records.new ≡ rest_of gaps.now records.old) }
+    ensures saved { IfOk result (λ turn. GoesBack turn records.new × (records_other turn records.new ≡ records.old)) }
+    ensures err { OnErr result (records.new ≡ records.old) }
+{
+    if gaps.is_empty() {
+        return Ok(RecordTurn::Nothing);
+    }
+    let removed = records.take_out(alloc, gaps)?;
+    Ok(RecordTurn::Removed(removed))
+}
+
+/// Takes the records that lie in a zone out, and gives the way back. Without memory nothing has changed.
+pub(crate) fn take_in(
+    alloc: Global,
+    records: &mut RecordList,
+    zones: &NamedList<Zone>,
+    name: &Name,
+) -> Result<RecordTurn, NoMemory>
+    ensures ok { OnOk result (records.new ≡ filter (λ r. not (lies_in zones.now name.now r.owner)) records.old) }
+    ensures saved { IfOk result (λ turn. GoesBack turn records.new × (records_other turn records.new ≡ records.old)) }
+    ensures err { OnErr result (records.new ≡ records.old) }
+{
+    let gaps = gaps_in(alloc, records.as_slice(), zones, name)?;
+    let turn = take_gaps(alloc, records, gaps.as_slice())?;
+    Ok(turn)
+}
+
+/// Takes the records of an owner out, and gives the way back. Without memory nothing has changed.
+pub(crate) fn take_of(
+    alloc: Global,
+    records: &mut RecordList,
+    owner: &Name,
+) -> Result<RecordTurn, NoMemory>
+    ensures ok { OnOk result (records.new ≡ filter (λ r. not (name_eq r.owner owner.now)) records.old) }
+    ensures saved { IfOk result (λ turn. GoesBack turn records.new × (records_other turn records.new ≡ records.old)) }
+    ensures err { OnErr result (records.new ≡ records.old) }
+{
+    let gaps = gaps_of(alloc, records.as_slice(), owner)?;
+    let turn = take_gaps(alloc, records, gaps.as_slice())?;
+    Ok(turn)
 }

@@ -1,21 +1,13 @@
 //! What a change saves for its way back.
 
-use crate::record::LocalRecord;
+use crate::added::RecordTurn;
 use crate::zone::Zone;
-use dns_text::{Items, Shared};
+use named_list::Turn;
 
-/// A list as it was before a change.
-#[derive(Debug, Drop)]
-pub(crate) enum SavedList<T> {
-    /// As many of the items that stand first in the list that was left.
-    First(usize),
-    /// These items.
-    Whole(Items<T>),
-}
-
-/// The lists before a change, for `ZoneTable::back`.
-#[derive(Debug, Drop)]
+/// The way from the lists that a change left to those before it, for `ZoneTable::back`. From there it leads back, for
+/// `ZoneTable::again`.
+#[derive(Drop)]
 pub struct SavedTables {
-    pub(crate) zones: SavedList<Shared<Zone>>,
-    pub(crate) records: SavedList<LocalRecord>,
+    pub(crate) zones: Turn<Zone>,
+    pub(crate) records: RecordTurn,
 }

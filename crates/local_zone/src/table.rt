@@ -2,22 +2,23 @@
 
 ghost use Rattle.std.specs.Prelude.{◌≡◌, [], IfErr, IfOk, OnErr, OnOk, None};
 
+use crate::added::RecordTurn;
 use crate::answer::answer;
-use crate::back::take_back;
 use crate::fault::TableFault;
 use crate::local::{Local, LocalSet};
 use crate::reason::{reason_of_add, reason_of_set};
 use crate::record::LocalRecord;
-use crate::records::{put_record, records_outside, records_without};
-use crate::saved::{SavedList, SavedTables};
+use crate::record_list::RecordList;
+use crate::records::{put_record, take_back, take_in, take_of, turn_over};
+use crate::saved::SavedTables;
 use crate::zone::Zone;
 use crate::zone_type::ZoneType;
-use crate::zones::{put_implied, put_zone, zones_without};
+use crate::zones::put_implied;
 use dns_name::{Name, NoMemory};
-use dns_text::{Items, Question, Record, Shared};
+use dns_text::{Question, Record, Shared};
+use named_list::{NamedList, Turn};
 use std::alloc::Global;
 use std::marker::Model;
-use std::mem;
 
 /// The greatest number of local zones.
 pub const MOST_ZONES: usize = 4096;
@@ -26,10 +27,10 @@ pub const MOST_ZONES: usize = 4096;
 pub const MOST_RECORDS: usize = 65536;
 
 /// Local zones and local data, each a list in the order in which its items came.
-#[derive(Debug, Drop)]
+#[derive(Drop)]
 pub struct ZoneTable {
-    zones: Vec<Shared<Zone>>,
-    records: Vec<LocalRecord>,
+    zones: NamedList<Zone>,
+    records: RecordList,
     alloc: Global,
 }
 
@@ -38,9 +39,9 @@ impl Model for ZoneTable {
 
     ghost Value = { Tables };
 
-    ghost view = { λ t. record { zones = t.zones.items; records = t.records.items } };
+    ghost view = { λ t. record { zones = t.zones; records = t.records } };
 
-    ghost invariant = { λ t. AreTables (record { zones = t.zones.items; records = t.records.items }) };
+    ghost invariant = { λ t. AreTables (record { zones = t.zones; records = t.records }) };
 }
 
 impl ZoneTable {
@@ -55,8 +56,8 @@ impl ZoneTable {
         ensures { result ≡ record { zones = []; records = [] } }
     {
         ZoneTable {
-            zones: Vec::new(alloc),
-            records: Vec::new(alloc),
+            zones: NamedList::new(alloc),
+            records: RecordList::new(alloc),
             alloc,
         }
     }
@@ -65,14 +66,14 @@ impl ZoneTable {
     pub fn zones(&self) -> &[Shared<Zone>]
         ensures { result.now ≡ self.now.zones }
     {
-        &self.zones
+        self.zones.as_slice()
     }
 
     /// The records in order.
     pub fn records(&self) -> &[LocalRecord]
         ensures { result.now ≡ self.now.records }
     {
-        &self.records
+        self.records.as_slice()
     }
 
     /// What a question is answered. It takes no memory.
@@ -93,11 +94,34 @@ impl ZoneTable {
             return Err(reason);
         }
         let new = Shared::new(self.alloc, new)?;
-        let zones = put_zone(self.alloc, &mut self.zones, new)?;
+        let zones = self.zones.put(self.alloc, new)?;
         Ok(SavedTables {
             zones,
-            records: SavedList::First(self.records.len()),
+            records: RecordTurn::Nothing,
         })
+    }
+
+    /// Adds a record, with a zone for it where none covers its owner, and gives its time to live to its set. The only faults
+    /// are `BelowRedirect`, `CnameClash`, `TooMany` and `NoMemory`.
+    pub fn add_record(&mut self, new: Shared<Record>) -> Result<SavedTables, TableFault>
+        ensures ok { OnOk result ((reason_of_add new self.old ≡ None) × (self.new ≡ after_add new self.old)) }
+        ensures err { IfErr result (λ fault. IsFaultFor (reason_of_add new self.old) fault × (self.new ≡ self.old)) }
+        ensures saved { IfOk result (λ saved. TakesBack saved self.new self.old) }
+    {
+        if let Some(reason) = reason_of_add(&self.zones, &self.records, new.get()) {
+            return Err(reason);
+        }
+        let added = put_record(self.alloc, &mut self.records, &new)?;
+        match put_implied(self.alloc, &mut self.zones, &new.get().owner) {
+            Ok(zones) => Ok(SavedTables {
+                zones,
+                records: RecordTurn::Added(added),
+            }),
+            Err(_) => {
+                take_back(&mut self.records, &added);
+                Err(TableFault::NoMemory)
+            }
+        }
     }
 
     /// Removes a zone and the records that lie in it; where there is none, nothing. The only fault is `NoMemory`.
@@ -106,34 +130,9 @@ impl ZoneTable {
         ensures err { IfErr result (λ fault. (fault ≡ TableFault.NoMemory) × (self.new ≡ self.old)) }
         ensures saved { IfOk result (λ saved. TakesBack saved self.new self.old) }
     {
-        let records = records_outside(self.alloc, &self.records, &self.zones, name)?;
-        let zones = zones_without(self.alloc, &self.zones, name)?;
-        let records = mem::replace(&mut self.records, records);
-        let zones = mem::replace(&mut self.zones, zones);
-        Ok(SavedTables {
-            zones: SavedList::Whole(Items::new(zones)),
-            records: SavedList::Whole(Items::new(records)),
-        })
-    }
-
-    /// Adds a record, with a zone for it where none covers its owner, and gives its time to live to its set. The only faults are `BelowRedirect`, `CnameClash`, `TooMany` and `NoMemory`.
-    pub fn add_record(&mut self, new: Shared<Record>) -> Result<SavedTables, TableFault>
-        ensures ok { OnOk result ((reason_of_add new self.old ≡ None) × (self.new ≡ after_add new self.old)) }
-        ensures err { IfErr result (λ fault. IsFaultFor (reason_of_add new self.old) fault × (self.new ≡ self.old)) }
-        ensures saved { IfOk result (λ saved. TakesBack saved self.new self.old) }
-    {
-        let said = new.get();
-        if let Some(reason) = reason_of_add(&self.zones, &self.records, said) {
-            return Err(reason);
-        }
-        let mut zones = put_implied(self.alloc, &mut self.zones, &said.owner)?;
-        match put_record(self.alloc, &mut self.records, &new) {
-            Ok(records) => Ok(SavedTables { zones, records }),
-            Err(_) => {
-                take_back(&mut self.zones, &mut zones);
-                Err(TableFault::NoMemory)
-            }
-        }
+        let records = take_in(self.alloc, &mut self.records, &self.zones, name)?;
+        let zones = self.zones.take(name);
+        Ok(SavedTables { zones, records })
     }
 
     /// Removes all records of an owner; where there are none, nothing. The only fault is `NoMemory`.
@@ -142,22 +141,61 @@ impl ZoneTable {
         ensures err { IfErr result (λ fault. (fault ≡ TableFault.NoMemory) × (self.new ≡ self.old)) }
         ensures saved { IfOk result (λ saved. TakesBack saved self.new self.old) }
     {
-        let records = records_without(self.alloc, &self.records, name)?;
-        let records = mem::replace(&mut self.records, records);
+        let records = take_of(self.alloc, &mut self.records, name)?;
         Ok(SavedTables {
-            zones: SavedList::First(self.zones.len()),
-            records: SavedList::Whole(Items::new(records)),
+            zones: Turn::Nothing,
+            records,
         })
     }
 
-    /// Takes a change back, where the lists are those that it left. The saved value is used up then.
+    // Goes to the other side of a change, and leaves the way from there to here. A zone that goes in may need memory, and so may
+    // records; if they get none, the zone comes out again, which needs none.
+    fn turn_over(&mut self, saved: &mut SavedTables) -> Result<(), NoMemory>
+        requires { (other : Tables) × TakesBack saved.old self.old other }
+        ensures ok { OnOk result (self.new ≡ before_of saved.old self.old) }
+        ensures again { OnOk result (TakesBack saved.new self.new self.old) }
+        ensures err { OnErr result ((self.new ≡ self.old) × (saved.new ≡ saved.old)) }
+    {
+        if saved.zones.puts_in() {
+            self.zones.put_in(&mut saved.zones)?;
+            match turn_over(self.alloc, &mut self.records, &mut saved.records) {
+                Ok(()) => Ok(()),
+                Err(e) => {
+                    self.zones.turn_out(&mut saved.zones);
+                    Err(e)
+                }
+            }
+        } else {
+            turn_over(self.alloc, &mut self.records, &mut saved.records)?;
+            self.zones.turn_out(&mut saved.zones);
+            Ok(())
+        }
+    }
+
+    /// Takes a change back, where the lists are those that it left. The saved value is then that for `again`.
     pub fn back(&mut self, saved: &mut SavedTables) -> Result<(), NoMemory>
         requires { (before : Tables) × TakesBack saved.old self.old before }
         ensures ok { OnOk result (self.new ≡ before_of saved.old self.old) }
+        ensures again { OnOk result (TakesBack saved.new self.new self.old) }
         ensures err { OnErr result ((self.new ≡ self.old) × (saved.new ≡ saved.old)) }
     {
-        take_back(&mut self.zones, &mut saved.zones);
-        take_back(&mut self.records, &mut saved.records);
-        Ok(())
+        self.turn_over(saved)
+    }
+
+    /// Makes a change again that was taken back, where the lists are those before it. The saved value is then that for `back`.
+    pub fn again(&mut self, saved: &mut SavedTables) -> Result<(), NoMemory>
+        requires { (left : Tables) × TakesBack saved.old self.old left }
+        ensures ok { OnOk result (self.new ≡ before_of saved.old self.old) }
+        ensures back { OnOk result (TakesBack saved.new self.new self.old) }
+        ensures err { OnErr result ((self.new ≡ self.old) × (saved.new ≡ saved.old)) }
+    {
+        self.turn_over(saved)
+    }
+
+    /// Drops what a change saved, so that it can't be taken back or made again any more.
+    pub fn settle(&mut self, saved: SavedTables)
+        ensures { self.new ≡ self.old }
+    {
+        drop(saved);
     }
 }

@@ -1,33 +1,55 @@
-//! The list of zones, and how each change makes the next one.
+//! The zone that speaks for a name, where what has an owner lies, and how many zones there may be.
 
-ghost use Rattle.std.specs.Prelude.{◌≡◌, ◌+◌, ◌≤◌, ◌&&◌, not, IfOk, OnErr, OnOk, filter, length, map, nat_lt};
+ghost use Rattle.std.specs.Prelude.{◌≡◌, ◌≤◌, ◌&&◌, not, length, nat_lt, IfOk, OnErr, OnOk};
 ghost use Rattle.std.specs.Option.{option_map};
 ghost use Rattle.dns_name.specs.Order.{name_eq};
-ghost use Rattle.local_zone.specs.Change.{has_zone, put_over, zones_for, zones_with};
+ghost use Rattle.local_zone.specs.Change.{zones_for, zones_with};
 ghost use Rattle.local_zone.specs.Closest.{closest, gives_way, lies_in};
-ghost use Rattle.local_zone.specs.Saved.{list_before};
+ghost use Rattle.named_list.specs.Turn.{IsWayBack};
 ghost use Rattle.local_zone.specs.declared.table.TheConstants.{MOST_ZONES};
 
-use crate::closest::closest;
-use crate::saved::SavedList;
 use crate::table::MOST_ZONES;
 use crate::zone::Zone;
 use crate::zone_type::ZoneType;
 use dns_name::{Name, NoMemory};
-use dns_text::{Items, Shared};
+use dns_text::Shared;
+use named_list::{NamedList, Turn};
 use std::alloc::Global;
-use std::mem;
 
-/// Whether a zone has this name.
-pub(crate) fn has_zone(zones: &[Shared<Zone>], name: &Name) -> bool
-    ensures { result ≡ has_zone zones.now name.now }
+/// The longest zone at or above a name.
+pub(crate) fn closest<'a>(zones: &'a NamedList<Zone>, name: &Name) -> Option<&'a Zone>
+    ensures { option_map (λ z. z.now) result ≡ closest zones.now name.now }
 {
-    zones.iter().any(|zone| zone.get().name == *name)
+    match zones.closest(name) {
+        Some(zone) => Some(zone.get()),
+        None => None,
+    }
+}
+
+/// If no zone covers the owner, puts a transparent one of its name last.
+pub(crate) fn put_implied(
+    alloc: Global,
+    zones: &mut NamedList<Zone>,
+    owner: &Name,
+) -> Result<Turn<Zone>, NoMemory>
+    ensures ok { OnOk result (zones.new ≡ zones_for owner.now zones.old) }
+    ensures err { OnErr result (zones.new ≡ zones.old) }
+    ensures saved { IfOk result (λ turn. IsWayBack (λ z. z.name) turn zones.new zones.old) }
+{
+    if closest(zones, owner).is_some() {
+        return Ok(Turn::Nothing);
+    }
+    let implied = Zone {
+        name: owner.clone()?,
+        kind: ZoneType::Transparent,
+    };
+    let implied = Shared::new(alloc, implied)?;
+    zones.put(alloc, implied)
 }
 
 /// Whether what has this owner lies in the zone of that name.
-pub(crate) fn lies_in(zones: &Vec<Shared<Zone>>, name: &Name, owner: &Name) -> bool
-    ensures { result ≡ lies_in zones.now.items name.now owner.now }
+pub(crate) fn lies_in(zones: &NamedList<Zone>, name: &Name, owner: &Name) -> bool
+    ensures { result ≡ lies_in zones.now name.now owner.now }
 {
     if owner.at_or_below(name) {
         match closest(zones, owner) {
@@ -50,8 +72,8 @@ fn gives_way(name: &Name, zone: Option<&Zone>) -> bool
 }
 
 /// Whether what has this owner would lie in the new zone.
-fn would_lie_in(zones: &Vec<Shared<Zone>>, new: &Zone, owner: &Name) -> bool
-    ensures { result ≡ lies_in (zones_with new.now zones.now.items) new.now.name owner.now }
+fn would_lie_in(zones: &NamedList<Zone>, new: &Zone, owner: &Name) -> bool
+    ensures { result ≡ lies_in (zones_with new.now zones.now) new.now.name owner.now }
 {
     if owner.at_or_below(&new.name) {
         gives_way(&new.name, closest(zones, owner))
@@ -61,109 +83,24 @@ fn would_lie_in(zones: &Vec<Shared<Zone>>, new: &Zone, owner: &Name) -> bool
 }
 
 /// Whether what has this owner would lie in the new zone, strictly below its name.
-pub(crate) fn would_lie_below(zones: &Vec<Shared<Zone>>, new: &Zone, owner: &Name) -> bool
-    ensures { result ≡ (lies_in (zones_with new.now zones.now.items) new.now.name owner.now && not (name_eq owner.now new.now.name)) }
+pub(crate) fn would_lie_below(zones: &NamedList<Zone>, new: &Zone, owner: &Name) -> bool
+    ensures { result ≡ (lies_in (zones_with new.now zones.now) new.now.name owner.now && not (name_eq owner.now new.now.name)) }
 {
     would_lie_in(zones, new, owner) && *owner != new.name
 }
 
 /// Whether there would be too many zones with the new one.
-pub(crate) fn has_no_room(zones: &[Shared<Zone>], new: &Zone) -> bool
+pub(crate) fn has_no_room(zones: &NamedList<Zone>, new: &Zone) -> bool
     requires { length zones.now ≤ MOST_ZONES }
     ensures { result ≡ nat_lt MOST_ZONES (length (zones_with new.now zones.now)) }
 {
-    zones.len() == MOST_ZONES && !has_zone(zones, &new.name)
+    zones.as_slice().len() == MOST_ZONES && !zones.has(&new.name)
 }
 
 /// Whether there would be too many zones with one for the owner.
-pub(crate) fn has_no_room_for(zones: &Vec<Shared<Zone>>, owner: &Name) -> bool
-    requires { length zones.now.items ≤ MOST_ZONES }
-    ensures { result ≡ nat_lt MOST_ZONES (length (zones_for owner.now zones.now.items)) }
+pub(crate) fn has_no_room_for(zones: &NamedList<Zone>, owner: &Name) -> bool
+    requires { length zones.now ≤ MOST_ZONES }
+    ensures { result ≡ nat_lt MOST_ZONES (length (zones_for owner.now zones.now)) }
 {
-    zones.len() == MOST_ZONES && closest(zones, owner).is_none()
-}
-
-/// The zones with the new one in the place of that of its name.
-fn put_over(
-    alloc: Global,
-    zones: &Vec<Shared<Zone>>,
-    new: &Shared<Zone>,
-) -> Result<Vec<Shared<Zone>>, NoMemory>
-    ensures { IfOk result (λ v. v.items ≡ map (put_over new.now) zones.now.items) }
-{
-    let mut after = Vec::new(alloc);
-    for zone in zones {
-        after.push(over(zone, new)?)?;
-    }
-    Ok(after)
-}
-
-fn over(zone: &Shared<Zone>, new: &Shared<Zone>) -> Result<Shared<Zone>, NoMemory>
-    ensures { IfOk result (λ z. z ≡ put_over new.now zone.now) }
-{
-    if zone.get().name == new.get().name {
-        new.share()
-    } else {
-        zone.share()
-    }
-}
-
-/// Puts a zone in the place of that of its name, or last.
-pub(crate) fn put_zone(
-    alloc: Global,
-    zones: &mut Vec<Shared<Zone>>,
-    new: Shared<Zone>,
-) -> Result<SavedList<Shared<Zone>>, NoMemory>
-    ensures ok { OnOk result (zones.new.items ≡ zones_with new zones.old.items) }
-    ensures err { OnErr result (zones.new.items ≡ zones.old.items) }
-    ensures saved { IfOk result (λ saved. list_before saved zones.new.items ≡ zones.old.items) }
-{
-    if has_zone(zones, &new.get().name) {
-        let after = put_over(alloc, zones, &new)?;
-        let before = mem::replace(zones, after);
-        return Ok(SavedList::Whole(Items::new(before)));
-    }
-    let count = zones.len();
-    zones.push(new)?;
-    Ok(SavedList::First(count))
-}
-
-/// Where no zone covers the owner, puts a transparent one of its name last.
-pub(crate) fn put_implied(
-    alloc: Global,
-    zones: &mut Vec<Shared<Zone>>,
-    owner: &Name,
-) -> Result<SavedList<Shared<Zone>>, NoMemory>
-    ensures ok { OnOk result (zones.new.items ≡ zones_for owner.now zones.old.items) }
-    ensures err { OnErr result (zones.new.items ≡ zones.old.items) }
-    ensures saved { IfOk result (λ saved. list_before saved zones.new.items ≡ zones.old.items) }
-{
-    let count = zones.len();
-    if closest(zones, owner).is_some() {
-        return Ok(SavedList::First(count));
-    }
-    let implied = Zone {
-        name: owner.clone()?,
-        kind: ZoneType::Transparent,
-    };
-    zones.push(Shared::new(alloc, implied)?)?;
-    Ok(SavedList::First(count))
-}
-
-/// The zones but that of this name.
-pub(crate) fn zones_without(
-    alloc: Global,
-    zones: &Vec<Shared<Zone>>,
-    name: &Name,
-) -> Result<Vec<Shared<Zone>>, NoMemory>
-    ensures { IfOk result (λ v. v.items ≡ filter (λ z. not (name_eq z.name name.now)) zones.now.items) }
-{
-    let mut left = Vec::new(alloc);
-    for zone in zones {
-        if zone.get().name == *name {
-            continue;
-        }
-        left.push(zone.share()?)?;
-    }
-    Ok(left)
+    zones.as_slice().len() == MOST_ZONES && closest(zones, owner).is_none()
 }

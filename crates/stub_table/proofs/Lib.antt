@@ -1,4 +1,2 @@
-pub mod ClosestLaws
-pub mod ListLaws
 pub mod ReasonLaws
 pub mod SoundLaws

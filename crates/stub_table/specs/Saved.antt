@@ -1,20 +1,15 @@
 -- What a change saves for its way back.
-use Rattle.std.specs.Prelude.{◌≡◌, take}
-use Rattle.stub_table.specs.declared.saved.SavedList.{SavedList}
-use Rattle.stub_table.specs.declared.saved.SavedList.TheVariants.{First, Whole}
+use Rattle.std.specs.Prelude.{◌≡◌}
+use Rattle.named_list.specs.Turn.{other_of, Fits}
 use Rattle.stub_table.specs.declared.saved.SavedStubs.{SavedStubs}
 use Rattle.stub_table.specs.Stubs.{Stubs, AreStubs}
 
--- the list before a change, from the one that the change left
-abbrev pub list_before : SavedList → Stubs → Stubs
-list_before (First count) left = take count left
-list_before (Whole stubs) left = stubs
-
--- the same by what the change saved
+-- the list on the other side of a change, by what the change saved
 abbrev pub before_of : SavedStubs → Stubs → Stubs
-before_of saved left = list_before saved.list left
+before_of saved left = other_of saved.turn left
 
 -- From the list that a change left, the saved value gives the one before it.
 pub record TakesBack (saved : SavedStubs) (left before : Stubs) : Type 0 where
   pub gives : before_of saved left ≡ before
+  pub fits : Fits (λ s. s.name) saved.turn left
   pub sound : AreStubs before

@@ -7,8 +7,6 @@
 mod stub;
 // The stub that speaks for a name.
 mod closest;
-// How each change makes the next list.
-mod list;
 // What keeps a stub from being set.
 mod reason;
 // The list.

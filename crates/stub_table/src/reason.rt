@@ -6,10 +6,9 @@ ghost use Rattle.stub_table.specs.Reason.{has_addrs, reason_of_stub};
 ghost use Rattle.stub_table.specs.declared.table.TheConstants.{MOST_STUBS};
 
 use crate::fault::StubFault;
-use crate::list::has_stub;
 use crate::stub::{MOST_ADDRS, Stub};
 use crate::table::MOST_STUBS;
-use dns_text::Shared;
+use named_list::NamedList;
 
 /// Whether the addresses of a stub are 1 to 8 in number.
 fn has_addrs(stub: &Stub) -> bool
@@ -20,15 +19,15 @@ fn has_addrs(stub: &Stub) -> bool
 }
 
 /// Whether there would be too many stubs with the new one.
-fn has_no_room(stubs: &[Shared<Stub>], new: &Stub) -> bool
+fn has_no_room(stubs: &NamedList<Stub>, new: &Stub) -> bool
     requires { length stubs.now ≤ MOST_STUBS }
     ensures { result ≡ nat_lt MOST_STUBS (length (stubs_with new.now stubs.now)) }
 {
-    stubs.len() == MOST_STUBS && !has_stub(stubs, &new.name)
+    stubs.as_slice().len() == MOST_STUBS && !stubs.has(&new.name)
 }
 
 /// Why a stub can't be set.
-pub(crate) fn reason_of_stub(stubs: &[Shared<Stub>], new: &Stub) -> Option<StubFault>
+pub(crate) fn reason_of_stub(stubs: &NamedList<Stub>, new: &Stub) -> Option<StubFault>
     requires { length stubs.now ≤ MOST_STUBS }
     ensures { result ≡ reason_of_stub new.now stubs.now }
 {

@@ -3,25 +3,23 @@
 ghost use Rattle.std.specs.Prelude.{◌≡◌, [], IfErr, IfOk, OnErr, OnOk, None};
 ghost use Rattle.std.specs.Option.{option_map};
 
-use crate::closest::closest;
 use crate::fault::StubFault;
-use crate::list::{put_stub, stubs_without};
 use crate::reason::reason_of_stub;
-use crate::saved::{SavedList, SavedStubs, take_back};
+use crate::saved::SavedStubs;
 use crate::stub::Stub;
 use dns_name::{Name, NoMemory};
-use dns_text::{Items, Shared};
+use dns_text::Shared;
+use named_list::NamedList;
 use std::alloc::Global;
 use std::marker::Model;
-use std::mem;
 
 /// The greatest number of stubs.
 pub const MOST_STUBS: usize = 1024;
 
 /// Stubs, in the order in which they came.
-#[derive(Debug, Drop)]
+#[derive(Drop)]
 pub struct StubTable {
-    stubs: Vec<Shared<Stub>>,
+    stubs: NamedList<Stub>,
     alloc: Global,
 }
 
@@ -30,9 +28,9 @@ impl Model for StubTable {
 
     ghost Value = { Stubs };
 
-    ghost view = { λ t. t.stubs.items };
+    ghost view = { λ t. t.stubs };
 
-    ghost invariant = { λ t. AreStubs t.stubs.items };
+    ghost invariant = { λ t. AreStubs t.stubs };
 }
 
 impl StubTable {
@@ -47,7 +45,7 @@ impl StubTable {
         ensures { result ≡ [] }
     {
         StubTable {
-            stubs: Vec::new(alloc),
+            stubs: NamedList::new(alloc),
             alloc,
         }
     }
@@ -57,14 +55,14 @@ impl StubTable {
         ensures value { result.now ≡ self.now }
         ensures sound { AreStubs self.now }
     {
-        &self.stubs
+        self.stubs.as_slice()
     }
 
     /// The stub with the longest name at or above a name. It takes no memory.
     pub fn closest(&self, name: &Name) -> Option<&Shared<Stub>>
         ensures { option_map (λ s. s.now) result ≡ closest_stub self.now name.now }
     {
-        closest(&self.stubs, name)
+        self.stubs.closest(name)
     }
 
     /// Adds a stub, or gives the stub of this name other addresses.
@@ -76,8 +74,8 @@ impl StubTable {
         if let Some(reason) = reason_of_stub(&self.stubs, stub.get()) {
             return Err(reason);
         }
-        let list = put_stub(self.alloc, &mut self.stubs, stub)?;
-        Ok(SavedStubs { list })
+        let turn = self.stubs.put(self.alloc, stub)?;
+        Ok(SavedStubs { turn })
     }
 
     /// Removes a stub; where there is none, nothing.
@@ -86,20 +84,34 @@ impl StubTable {
         ensures err { OnErr result (self.new ≡ self.old) }
         ensures saved { IfOk result (λ saved. TakesBack saved self.new self.old) }
     {
-        let left = stubs_without(self.alloc, &self.stubs, name)?;
-        let before = mem::replace(&mut self.stubs, left);
-        Ok(SavedStubs {
-            list: SavedList::Whole(Items::new(before)),
-        })
+        let turn = self.stubs.take(name);
+        Ok(SavedStubs { turn })
     }
 
-    /// Takes a change back, where the list is the one that it left. The saved value is used up then.
+    /// Takes a change back, where the list is the one that it left. The saved value is then that for `again`.
     pub fn back(&mut self, saved: &mut SavedStubs) -> Result<(), NoMemory>
         requires { (before : Stubs) × TakesBack saved.old self.old before }
         ensures ok { OnOk result (self.new ≡ before_of saved.old self.old) }
+        ensures again { OnOk result (TakesBack saved.new self.new self.old) }
         ensures err { OnErr result ((self.new ≡ self.old) × (saved.new ≡ saved.old)) }
     {
-        take_back(&mut self.stubs, saved);
-        Ok(())
+        self.stubs.turn_over(&mut saved.turn)
+    }
+
+    /// Makes a change again that was taken back, where the list is the one before it. The saved value is then that for `back`.
+    pub fn again(&mut self, saved: &mut SavedStubs) -> Result<(), NoMemory>
+        requires { (after : Stubs) × TakesBack saved.old self.old after }
+        ensures ok { OnOk result (self.new ≡ before_of saved.old self.old) }
+        ensures back { OnOk result (TakesBack saved.new self.new self.old) }
+        ensures err { OnErr result ((self.new ≡ self.old) × (saved.new ≡ saved.old)) }
+    {
+        self.stubs.turn_over(&mut saved.turn)
+    }
+
+    /// Drops what a change saved, so that it can't be taken back or made again any more.
+    pub fn settle(&mut self, saved: SavedStubs)
+        ensures { self.new ≡ self.old }
+    {
+        drop(saved);
     }
 }

@@ -1,19 +1,23 @@
--- Where the set has the new time to live, giving it to the set changes nothing.
-use Rattle.std.proofs.Common.{◌≡◌, Bool, false, ◌&&◌, not, ap, sym, ◌∙◌}
-use Rattle.std.specs.Prelude.{◌==◌}
-use Rattle.std.specs.List.{list_any}
+use Rattle.std.proofs.Common.{◌≡◌, List, map, ap, ◌∙◌}
 use Rattle.dns_text.specs.declared.record.Record.{Record}
-use Rattle.local_zone.specs.Tables.{is_of_set}
-use Rattle.local_zone.specs.Change.{with_record}
-use Rattle.local_zone.proofs.ReasonLaws.{retimed_itself}
+use Rattle.local_zone.specs.Added.{ttl_of, records_before}
+use Rattle.local_zone.specs.Change.{retimed_by, records_with}
+use Rattle.local_zone.proofs.AddLaws.{retimed-with, back-with}
 use Rattle.local_zone.proofs.records.put_record.Goals as goal
 
+after : (c : goal.After-retime) → c.retime.new.self ≡ records_with c.args.new.now c.args.records.now
+after c =
+    c.retime.ensures ∙ (λ i. map (retimed_by (record (c.get-2.ensures i) { ttl = (c.get-3.ensures i).ttl })) (c.in_ok-is_new.ensures.ok i)) ∙ retimed-with c.args.new.now c.args.records.now
+
 pub returns-clause-ok : goal.returns-clause-ok
-returns-clause-ok c =
-    let other : Record → Record → Bool = λ new r. is_of_set r new && not (r.ttl == new.ttl) in
-    let none : list_any (other c.args.new.now) c.args.records.now.items ≡ false =
-    ap (λ (new : Record). list_any (other new) c.args.records.now.items) (sym c.get-said.ensures)
-    ∙ ap (list_any (other c.get-said.result.now)) (sym c.deref.ensures.value)
-    ∙ sym c.has_other_ttl.ensures
-    ∙ c.if-has_other_ttl.false in
-    c.in_ok-count.ensures.ok ∙ ap (with_record c.args.new.now) (sym (retimed_itself c.args.new.now c.args.records.now.items none))
+returns-clause-ok c = after c
+
+pub returns-clause-saved : goal.returns-clause-saved
+returns-clause-saved c =
+    let new : Record = c.args.new.now in
+    let records : List Record = c.args.records.now in
+    let ttl = c.ttl_of-ttl.result in
+    let put = c.in_ok-is_new.is_new in
+    ap (λ (x : List Record). records_before (record { said = c.in_ok-said.said; ttl = ttl; is_new = put }) x) (after c)
+    ∙ ap (λ (s : Record). records_before (record { said = s; ttl = ttl; is_new = put }) (records_with new records)) c.in_ok-said.ensures
+    ∙ back-with new ttl put records c.requires (c.ttl_of-ttl.ensures ∙ ap (λ (s : Record). ttl_of s records) c.get.ensures) c.in_ok-is_new.ensures.put

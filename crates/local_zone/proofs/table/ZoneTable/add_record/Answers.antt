@@ -1,4 +1,4 @@
-use Rattle.std.proofs.Common.{◌≡◌, List, ap, sym, ◌∙◌, None}
+use Rattle.std.proofs.Common.{◌≡◌, ap, sym, ◌∙◌, None}
 use Rattle.dns_text.specs.declared.record.Record.{Record}
 use Rattle.local_zone.specs.Tables.{Tables}
 use Rattle.local_zone.specs.Change.{zones_for}
@@ -8,8 +8,7 @@ use Rattle.local_zone.proofs.table.ZoneTable.add_record.Goals as goal
 
 pub invariant_of-self-in-Ok : goal.invariant_of-self-in-Ok
 invariant_of-self-in-Ok c =
-    let with_records : List Record → Tables = λ records. record { zones = c.self.inside.zones.items; records = records } in
-    let before : Tables = with_records c.self.inside.records.items in
-    let none : reason_of_add c.args.new before ≡ None = ap (λ (new : Record). reason_of_add new before) (sym c.get-said.ensures) ∙ ap (λ (records : List Record). reason_of_add c.get-said.result.now (with_records records)) (sym c.deref.ensures.value) ∙ sym c.reason_of_add.ensures ∙ c.in_default.is in
-    let implied = c.in_ok-zones.ensures.ok ∙ ap (λ (new : Record). zones_for new.owner c.self.inside.zones.items) c.get-said.ensures in
-    rw (implied, c.in-Ok.ensures.ok) (add_is_sound c.args.new before c.self.invariant none)
+    let before : Tables = record { zones = c.self.inside.zones; records = c.self.inside.records } in
+    let none : reason_of_add c.args.new before ≡ None = ap (λ (new : Record). reason_of_add new before) (sym c.get.ensures) ∙ sym c.reason_of_add.ensures ∙ c.in_default.is in
+    let implied = c.in-Ok.ensures.ok ∙ ap (λ (new : Record). zones_for new.owner c.self.inside.zones) c.get-2.ensures in
+    rw (implied, c.in_ok-added.ensures.ok) (add_is_sound c.args.new before c.self.invariant none)

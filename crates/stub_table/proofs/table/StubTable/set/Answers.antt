@@ -6,7 +6,6 @@ use Rattle.stub_table.proofs.table.StubTable.set.Goals as goal
 
 pub invariant_of-self-2 : goal.invariant_of-self-2
 invariant_of-self-2 c =
-    let before : List Stub = c.self.inside.stubs.items in
-    let none : reason_of_stub c.args.stub before ≡ None =
-    ap (λ (new : Stub). reason_of_stub new before) (sym c.get.ensures) ∙ ap (λ (stubs : List Stub). reason_of_stub c.get.result.now stubs) (sym c.deref.ensures.value) ∙ sym c.reason_of_stub.ensures ∙ c.in_default.is in
-    rw (c.in_ok-list.ensures.ok) (set_is_sound c.args.stub before c.self.invariant none)
+    let before : List Stub = c.self.inside.stubs in
+    let none : reason_of_stub c.args.stub before ≡ None = ap (λ (new : Stub). reason_of_stub new before) (sym c.get.ensures) ∙ sym c.reason_of_stub.ensures ∙ c.in_default.is in
+    rw c.in_ok-turn.ensures.ok (set_is_sound c.args.stub before c.self.invariant none)

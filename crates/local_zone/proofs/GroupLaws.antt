@@ -1,0 +1,219 @@
+-- The records of owners that go from the index to a list of groups, and come back.
+use Rattle.std.proofs.Common.{◌≡◌, ℕ, ◌⊎◌, inl, inr, Bool, true, false, cond, List, [], ◌∷◌, ◌++◌, Option, Some, None, refl, ap, sym, subst, ◌∙◌}
+use Rattle.std.specs.Prelude.{nat_eq, IsOk, OnOk, Result, Ok, Err}
+use Rattle.std.specs.List.{AllByRecursion}
+use Rattle.std.specs.Map.{lookup_key, KeepsOthers}
+use Rattle.std.specs.Cmp.Lexicographic.{pointwise}
+use Rattle.std.proofs.lemmas.Bool.{false≢true}
+use Rattle.std.proofs.lemmas.Map.Made.{lookup_key_passes}
+use Rattle.std.proofs.lemmas.Slice.Eq.{bytes_eq-Decides}
+use Rattle.dns_name.specs.Labels.{Labels, octets_of}
+use Rattle.dns_name.specs.Order.{name_eq, name_eq_exact, name_eq_itself}
+use Rattle.dns_text.specs.declared.record.Record.{Record}
+use Rattle.local_zone.specs.declared.taken.Taken.{Taken}
+use Rattle.local_zone.specs.Gaps.{records_of, put_back, at_gaps, rest_of, AreApart, AreWithin}
+use Rattle.local_zone.specs.Index.{of_owner, items_in, under, IsIndexed, IsGrouped}
+use Rattle.local_zone.proofs.GapLaws.{back_at, put_none, put_all}
+
+abbrev pub first_of : {G : Type 0} → Option G → Option G → Option G
+first_of None other = other
+first_of (Some g) other = Some g
+
+first_none : {G : Type 0} (x : Option G) → first_of x None ≡ x
+first_none None = refl
+first_none (Some g) = refl
+
+first_three : {G : Type 0} (x y z : Option G) → first_of (first_of x y) z ≡ first_of x (first_of y z)
+first_three None y z = refl
+first_three (Some g) y z = refl
+
+same_octets : (a b : List ℕ) → pointwise nat_eq a b ≡ true → a ≡ b
+same_octets a b h = (bytes_eq-Decides a b).0 h
+
+module _ {K G : Type 0} (octets : K → List ℕ) (items : G → List Record) where
+  under_append : (name : List ℕ) (a b : List (K × G)) → under octets name (a ++ b) ≡ first_of (under octets name a) (under octets name b)
+  under_append name [] b = refl
+  under_append name (x ∷ a) b = by (pointwise nat_eq name (octets x.0)) (under_append name a b)
+    where
+      by : (t : Bool) → under octets name (a ++ b) ≡ first_of (under octets name a) (under octets name b)
+          → cond t (Some x.1) (under octets name (a ++ b)) ≡ first_of (cond t (Some x.1) (under octets name a)) (under octets name b)
+      by true more = refl
+      by false more = more
+
+  one_here : (name : List ℕ) (k : K) (g : G) → octets k ≡ name → under octets name ((k, g) ∷ []) ≡ Some g
+  one_here name k g e = ap (λ t. cond t (Some g) None) (ap (pointwise nat_eq name) e ∙ (bytes_eq-Decides name name).1 refl)
+
+  one_there : (name : List ℕ) (k : K) (g : G) → pointwise nat_eq name (octets k) ≡ false → under octets name ((k, g) ∷ []) ≡ None
+  one_there name k g e = ap (λ t. cond t (Some g) None) e
+
+  -- no key is that of two names
+  apart_from : (a b : Labels) (k : List ℕ) → name_eq a b ≡ false → pointwise nat_eq (octets_of a) k ≡ true → pointwise nat_eq (octets_of b) k ≡ false
+  apart_from a b k e here = by (pointwise nat_eq (octets_of b) k) refl
+    where
+      by : (t : Bool) → pointwise nat_eq (octets_of b) k ≡ t → pointwise nat_eq (octets_of b) k ≡ false
+      by true there = absurd (false≢true (sym e ∙ (bytes_eq-Decides (octets_of a) (octets_of b)).1 (same_octets _ _ here ∙ sym (same_octets _ _ there))))
+      by false there = there
+
+  -- a change under one key leaves what stands under others
+  pub others_kept : (spelled name : List ℕ) (es after : List (K × G))
+      → KeepsOthers (λ x y. pointwise nat_eq (octets x) (octets y)) (λ k. pointwise nat_eq spelled (octets k)) es after
+      → ((k : K) → pointwise nat_eq spelled (octets k) ≡ true → pointwise nat_eq name (octets k) ≡ false) → under octets name after ≡ under octets name es
+  unfolding KeepsOthers
+  others_kept spelled name es after h far = h (λ k. pointwise nat_eq name (octets k)) (λ x y is. ap (λ s. pointwise nat_eq s (octets y)) (same_octets name (octets x) is)) far
+
+  pub under_others : (owner other : Labels) (es after : List (K × G))
+      → KeepsOthers (λ x y. pointwise nat_eq (octets x) (octets y)) (λ k. pointwise nat_eq (octets_of owner) (octets k)) es after → name_eq owner other ≡ false
+      → under octets (octets_of other) after ≡ under octets (octets_of other) es
+  under_others owner other es after h e = others_kept (octets_of owner) (octets_of other) es after h (λ k is. apart_from owner other (octets k) e is)
+
+  -- ---- a group goes
+
+  pub record IsMoved (owner : Labels) (groups es groups' es' : List (K × G)) : Type 0 where
+    pub here : first_of (under octets (octets_of owner) groups') (under octets (octets_of owner) es') ≡ first_of (under octets (octets_of owner) groups) (under octets (octets_of owner) es)
+    pub kept : (other : Labels) → name_eq owner other ≡ false → under octets (octets_of other) es' ≡ under octets (octets_of other) es
+    pub others : (other : Labels) → name_eq owner other ≡ false → under octets (octets_of other) groups' ≡ under octets (octets_of other) groups
+
+  pub index_moved : (owner : Labels) (groups es groups' es' : List (K × G)) → IsMoved owner groups es groups' es' → (records : List Record)
+      → IsIndexed octets items records (groups ++ es) → IsIndexed octets items records (groups' ++ es')
+  index_moved owner groups es groups' es' m records h other = by (name_eq owner other) refl
+    where
+      by : (b : Bool) → name_eq owner other ≡ b → items_in items (under octets (octets_of other) (groups' ++ es')) ≡ of_owner other records
+      by true e =
+          let one : under octets (octets_of owner) (groups' ++ es') ≡ under octets (octets_of owner) (groups ++ es)
+          = under_append (octets_of owner) groups' es' ∙ m.here ∙ sym (under_append (octets_of owner) groups es) in
+          subst (λ (o : Labels). items_in items (under octets (octets_of o) (groups' ++ es')) ≡ of_owner o records) (name_eq_exact owner other e) (ap (items_in items) one ∙ h owner)
+      by false e =
+          ap (items_in items) (under_append (octets_of other) groups' es' ∙ (λ i. first_of (m.others other e i) (m.kept other e i)) ∙ sym (under_append (octets_of other) groups es)) ∙ h other
+
+  pub moved_some : (owner : Labels) (groups es after : List (K × G)) (k : K) (g : G) → octets k ≡ octets_of owner → under octets (octets_of owner) es ≡ Some g → under octets (octets_of owner) after ≡ None
+      → KeepsOthers (λ x y. pointwise nat_eq (octets x) (octets y)) (λ k. pointwise nat_eq (octets_of owner) (octets k)) es after → IsMoved owner groups es (groups ++ (k, g) ∷ []) after
+  moved_some owner groups es after k g key found gone keeps = record {
+    here =
+        (λ i. first_of (under_append (octets_of owner) groups ((k, g) ∷ []) i) (gone i)) ∙ first_none (first_of (under octets (octets_of owner) groups) (under octets (octets_of owner) ((k, g) ∷ [])))
+        ∙ ap (first_of (under octets (octets_of owner) groups)) (one_here (octets_of owner) k g key ∙ sym found);
+    kept = λ other e. under_others owner other es after keeps e;
+    others = λ other e.
+        under_append (octets_of other) groups ((k, g) ∷ [])
+        ∙ ap (first_of (under octets (octets_of other) groups)) (one_there (octets_of other) k g (apart_from owner other (octets k) e (ap (pointwise nat_eq (octets_of owner)) key ∙ name_eq_itself owner)))
+        ∙ first_none (under octets (octets_of other) groups);
+  }
+
+  pub moved_none : (owner : Labels) (groups es after : List (K × G)) → under octets (octets_of owner) es ≡ None → under octets (octets_of owner) after ≡ None
+      → KeepsOthers (λ x y. pointwise nat_eq (octets x) (octets y)) (λ k. pointwise nat_eq (octets_of owner) (octets k)) es after → IsMoved owner groups es groups after
+  moved_none owner groups es after none gone keeps = record {
+    here = ap (first_of (under octets (octets_of owner) groups)) (gone ∙ sym none);
+    kept = λ other e. under_others owner other es after keeps e;
+    others = λ other e. refl;
+  }
+
+  -- what was not there is not there after
+  pub still_none : (owner other : Labels) (es after : List (K × G)) → under octets (octets_of owner) after ≡ None
+      → KeepsOthers (λ x y. pointwise nat_eq (octets x) (octets y)) (λ k. pointwise nat_eq (octets_of owner) (octets k)) es after → under octets (octets_of other) es ≡ None → under octets (octets_of other) after ≡ None
+  still_none owner other es after gone keeps none = by (name_eq owner other) refl
+    where
+      by : (b : Bool) → name_eq owner other ≡ b → under octets (octets_of other) after ≡ None
+      by true e = subst (λ (o : Labels). under octets (octets_of o) after ≡ None) (name_eq_exact owner other e) gone
+      by false e = under_others owner other es after keeps e ∙ none
+
+  -- ---- a group comes back
+
+  pub index_put : (groups es after : List (K × G)) (k : K) (g : G) → under octets (octets k) after ≡ Some g
+      → KeepsOthers (λ x y. pointwise nat_eq (octets x) (octets y)) (λ q. pointwise nat_eq (octets k) (octets q)) es after → (records : List Record)
+      → IsIndexed octets items records ((groups ++ (k, g) ∷ []) ++ es) → IsIndexed octets items records (groups ++ after)
+  index_put groups es after k g here keeps records h owner = ap (items_in items) same ∙ h owner
+    where
+      name : List ℕ
+      name = octets_of owner
+
+      rest : (b : Bool) → pointwise nat_eq (octets_of owner) (octets k) ≡ b → under octets (octets_of owner) after ≡ first_of (under octets (octets_of owner) ((k, g) ∷ [])) (under octets (octets_of owner) es)
+      rest true is =
+          let e : octets_of owner ≡ octets k = same_octets _ _ is in
+          ap (λ (s : List ℕ). under octets s after) e ∙ here ∙ ap (λ (x : Option G). first_of x (under octets (octets_of owner) es)) (sym (one_here (octets_of owner) k g (sym e)))
+      rest false is =
+          others_kept (octets k) (octets_of owner) es after keeps (λ q at. ap (pointwise nat_eq (octets_of owner)) (sym (same_octets _ _ at)) ∙ is)
+          ∙ ap (λ (x : Option G). first_of x (under octets (octets_of owner) es)) (sym (one_there (octets_of owner) k g is))
+
+      same : under octets (octets_of owner) (groups ++ after) ≡ under octets (octets_of owner) ((groups ++ (k, g) ∷ []) ++ es)
+      same =
+          under_append (octets_of owner) groups after ∙ ap (first_of (under octets (octets_of owner) groups)) (rest (pointwise nat_eq (octets_of owner) (octets k)) refl)
+          ∙ sym (first_three (under octets (octets_of owner) groups) (under octets (octets_of owner) ((k, g) ∷ [])) (under octets (octets_of owner) es))
+          ∙ ap (λ (x : Option G). first_of x (under octets (octets_of owner) es)) (sym (under_append (octets_of owner) groups ((k, g) ∷ [])))
+          ∙ sym (under_append (octets_of owner) (groups ++ (k, g) ∷ []) es)
+
+  -- ---- the index of what stayed, and that of what was taken
+
+  owner_gone : (owner : Labels) (es : List (K × G)) (taken : List Taken) → AllByRecursion (λ t. under octets (octets_of t.item.owner) es ≡ None) taken
+      → (of_owner owner (records_of taken) ≡ []) ⊎ (under octets (octets_of owner) es ≡ None)
+  owner_gone owner es [] h = inl refl
+  owner_gone owner es (t ∷ taken) h = by (name_eq t.item.owner owner) refl (owner_gone owner es taken h.1)
+    where
+      by : (b : Bool) → name_eq t.item.owner owner ≡ b → (of_owner owner (records_of taken) ≡ []) ⊎ (under octets (octets_of owner) es ≡ None)
+          → (cond b (t.item ∷ of_owner owner (records_of taken)) (of_owner owner (records_of taken)) ≡ []) ⊎ (under octets (octets_of owner) es ≡ None)
+      by true e more = inr (subst (λ (o : Labels). under octets (octets_of o) es ≡ None) (name_eq_exact t.item.owner owner e) h.0)
+      by false e more = more
+
+  module _ (taken : List Taken) (left : List Record) (groups es : List (K × G)) (apart : AreApart taken left) where
+    first_groups : (owner : Labels) → under octets (octets_of owner) groups ≡ None → under octets (octets_of owner) (groups ++ es) ≡ under octets (octets_of owner) es
+    first_groups owner none = under_append (octets_of owner) groups es ∙ ap (λ (x : Option G). first_of x (under octets (octets_of owner) es)) none
+
+    pub split_left : IsIndexed octets items (put_back taken left) (groups ++ es) → ((owner : Labels) → of_owner owner (records_of taken) ≡ [] → under octets (octets_of owner) groups ≡ None)
+        → AllByRecursion (λ t. under octets (octets_of t.item.owner) es ≡ None) taken → IsIndexed octets items left es
+    split_left h only gone owner = by (owner_gone owner es taken gone)
+      where
+        where_none : of_owner owner (records_of taken) ≡ [] → items_in items (under octets (octets_of owner) es) ≡ of_owner owner left
+        where_none none = ap (items_in items) (sym (first_groups owner (only owner none))) ∙ h owner ∙ put_none owner taken left none
+
+        by : (of_owner owner (records_of taken) ≡ []) ⊎ (under octets (octets_of owner) es ≡ None) → items_in items (under octets (octets_of owner) es) ≡ of_owner owner left
+        by (inl none) = where_none none
+        by (inr out) = elim (apart owner) [ inl none ↦ where_none none | inr stayed ↦ ap (items_in items) out ∙ sym stayed ]
+
+    pub split_taken : IsIndexed octets items (put_back taken left) (groups ++ es) → ((owner : Labels) → of_owner owner (records_of taken) ≡ [] → under octets (octets_of owner) groups ≡ None)
+        → AllByRecursion (λ t. under octets (octets_of t.item.owner) es ≡ None) taken → IsGrouped octets items (records_of taken) groups
+    split_taken h only gone = (λ owner. by owner (owner_gone owner es taken gone), only)
+      where
+        where_none : (owner : Labels) → of_owner owner (records_of taken) ≡ [] → items_in items (under octets (octets_of owner) groups) ≡ of_owner owner (records_of taken)
+        where_none owner none = ap (items_in items) (only owner none) ∙ sym none
+
+        by : (owner : Labels) → (of_owner owner (records_of taken) ≡ []) ⊎ (under octets (octets_of owner) es ≡ None) → items_in items (under octets (octets_of owner) groups) ≡ of_owner owner (records_of taken)
+        by owner (inl none) = where_none owner none
+        by owner (inr out) =
+            elim (apart owner) [
+              | inl none ↦ where_none owner none
+              | inr stayed ↦
+                  ap (items_in items) (sym (under_append (octets_of owner) groups es ∙ ap (first_of (under octets (octets_of owner) groups)) out ∙ first_none (under octets (octets_of owner) groups)))
+                  ∙ h owner ∙ put_all owner taken left stayed
+            ]
+
+    pub joined : IsGrouped octets items (records_of taken) groups → IsIndexed octets items left es → IsIndexed octets items (put_back taken left) (groups ++ es)
+    joined t l owner =
+        elim (apart owner) [
+          | inl none ↦ ap (items_in items) (first_groups owner (t.1 owner none)) ∙ l owner ∙ sym (put_none owner taken left none)
+          | inr stayed ↦ by stayed (under octets (octets_of owner) groups) refl
+        ]
+      where
+        by : of_owner owner left ≡ [] → (x : Option G) → under octets (octets_of owner) groups ≡ x → items_in items (under octets (octets_of owner) (groups ++ es)) ≡ of_owner owner (put_back taken left)
+        by stayed None is =
+            ap (items_in items) (first_groups owner is) ∙ l owner ∙ stayed ∙ sym (ap (items_in items) is) ∙ t.0 owner ∙ sym (put_all owner taken left stayed)
+        by stayed (Some g) is =
+            ap (items_in items) (under_append (octets_of owner) groups es ∙ ap (λ (x : Option G). first_of x (under octets (octets_of owner) es)) is ∙ sym is) ∙ t.0 owner ∙ sym (put_all owner taken left stayed)
+
+-- what is left of a list and its index, and what was taken of both
+pub parts : {K G : Type 0} (octets : K → List ℕ) (items : G → List Record) (before : List Record) (gaps : List ℕ) (taken : List Taken) (left : List Record) (groups es start : List (K × G))
+    → AreWithin gaps before → AreApart (at_gaps gaps before) (rest_of gaps before) → taken ≡ at_gaps gaps before → left ≡ rest_of gaps before → IsIndexed octets items before start
+    → ((records : List Record) → IsIndexed octets items records start → IsIndexed octets items records (groups ++ es))
+    → AllByRecursion (λ (t : Taken). under octets (octets_of t.item.owner) es ≡ None) taken
+    → ((owner : Labels) → of_owner owner (records_of taken) ≡ [] → under octets (octets_of owner) groups ≡ None)
+    → IsGrouped octets items (records_of taken) groups × IsIndexed octets items left es
+parts octets items before gaps taken left groups es start within apart taken_is left_is h moves gone only =
+    let same : put_back taken left ≡ before = (λ i. put_back (taken_is i) (left_is i)) ∙ back_at gaps before within in
+    let whole : IsIndexed octets items (put_back taken left) (groups ++ es) = moves (put_back taken left) (subst (λ (x : List Record). IsIndexed octets items x start) (sym same) h) in
+    let parted : AreApart taken left = subst (λ (x : List Taken). AreApart x left) (sym taken_is) (subst (λ (y : List Record). AreApart (at_gaps gaps before) y) (sym left_is) apart) in
+    (split_taken octets items taken left groups es parted whole only gone, split_left octets items taken left groups es parted whole only gone)
+
+-- the owner of what is found under a key
+pub key_found : {K G : Type 0} (octets : K → List ℕ) (name : List ℕ) (es : List (K × G)) (k : K) → lookup_key (λ k. pointwise nat_eq name (octets k)) es ≡ Some k → octets k ≡ name
+key_found octets name es k e = sym (same_octets name (octets k) (lookup_key_passes (λ k. pointwise nat_eq name (octets k)) es k e))
+
+pub is_ok_of : {X E A : Type 0} (r : Result X E) → IsOk r → OnOk r A → A
+is_ok_of (Ok x) i h = h
+is_ok_of (Err e) i h = absurd (false≢true i)

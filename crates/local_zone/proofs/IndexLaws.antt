@@ -1,0 +1,221 @@
+-- The index of records by their owners: what a look-up in it tells of the list, and what it is after a change.
+use Rattle.std.proofs.Common.{◌≡◌, ℕ, ◌-◌, Bool, true, false, ◌||◌, ◌&&◌, ◌==◌, cond, List, [], ◌∷◌, ◌++◌, map, filter, length, take, length-append, arith, Option, Some, None, refl, ap, sym, subst, ◌∙◌}
+use Rattle.std.specs.Prelude.{nat_eq}
+use Rattle.std.specs.List.{list_any, find}
+use Rattle.std.specs.Map.{set_value, KeepsOthers}
+use Rattle.std.specs.Cmp.Lexicographic.{pointwise}
+use Rattle.std.proofs.lemmas.Bool.{and_parts, false≢true}
+use Rattle.std.proofs.lemmas.Slice.Eq.{bytes_eq-Decides}
+use Rattle.std.proofs.lemmas.List.{append-nil, take_at}
+use Rattle.dns_name.specs.Labels.{Labels, octets_of}
+use Rattle.dns_name.specs.Order.{name_eq, name_eq_exact, name_eq_itself}
+use Rattle.dns_text.specs.declared.record.Record.{Record}
+use Rattle.dns_text.specs.Equal.{data_eq}
+use Rattle.dns_text.specs.declared.types.TheConstants.{CNAME, SOA}
+use Rattle.local_zone.specs.declared.zone.Zone.{Zone}
+use Rattle.local_zone.specs.Answer.{soa_of, has_record}
+use Rattle.local_zone.specs.Change.{is_there}
+use Rattle.local_zone.specs.Reason.{clashes, differ}
+use Rattle.local_zone.specs.Show.{is_for, set_of, or_list, shown_as, unless_empty, data_shown}
+use Rattle.local_zone.specs.Tables.{is_cname, is_of_set, is_same}
+use Rattle.local_zone.specs.Index.{of_owner, items_in, under, IsIndexed}
+
+-- ---- tests of the records of an owner
+
+module _ {X : Type 0} (p q : X → Bool) (only : (x : X) → p x ≡ true → q x ≡ true) where
+  not_so : (x : X) → q x ≡ false → p x ≡ false
+  not_so x e = by (p x) refl
+    where
+      by : (b : Bool) → p x ≡ b → p x ≡ false
+      by true is = absurd (false≢true (sym e ∙ only x is))
+      by false is = is
+
+  -- a test that only records of the owner pass tells the same of them as of all
+  pub any_of : (xs : List X) → list_any p (filter q xs) ≡ list_any p xs
+  any_of [] = refl
+  any_of (x ∷ xs) = by (q x) refl (any_of xs)
+    where
+      by : (b : Bool) → q x ≡ b → list_any p (filter q xs) ≡ list_any p xs → list_any p (cond b (x ∷ filter q xs) (filter q xs)) ≡ (p x || list_any p xs)
+      by true e more = ap (λ r. p x || r) more
+      by false e more = more ∙ sym (ap (λ r. r || list_any p xs) (not_so x e))
+
+  pub find_of : (xs : List X) → find p (filter q xs) ≡ find p xs
+  find_of [] = refl
+  find_of (x ∷ xs) = by (q x) refl (find_of xs)
+    where
+      by : (b : Bool) → q x ≡ b → find p (filter q xs) ≡ find p xs → find p (cond b (x ∷ filter q xs) (filter q xs)) ≡ cond (p x) (Some x) (find p xs)
+      by true e more = ap (λ r. cond (p x) (Some x) r) more
+      by false e more = more ∙ sym (ap (λ r. cond r (Some x) (find p xs)) (not_so x e))
+
+  pub filter_of : (xs : List X) → filter p (filter q xs) ≡ filter p xs
+  filter_of [] = refl
+  filter_of (x ∷ xs) = by (q x) refl (filter_of xs)
+    where
+      by : (b : Bool) → q x ≡ b → filter p (filter q xs) ≡ filter p xs → filter p (cond b (x ∷ filter q xs) (filter q xs)) ≡ cond (p x) (x ∷ filter p xs) (filter p xs)
+      by true e more = ap (λ r. cond (p x) (x ∷ r) r) more
+      by false e more = more ∙ sym (ap (λ r. cond r (x ∷ filter p xs) (filter p xs)) (not_so x e))
+
+-- ---- a record goes last
+
+filter_push : {X : Type 0} (q : X → Bool) (xs : List X) (x : X) → filter q (xs ++ x ∷ []) ≡ filter q xs ++ cond (q x) (x ∷ []) []
+filter_push q [] x = by (q x)
+  where
+    by : (b : Bool) → cond b (x ∷ []) [] ≡ cond b (x ∷ []) []
+    by b = refl
+filter_push q (y ∷ xs) x = by (q y) (filter_push q xs x)
+  where
+    by : (b : Bool) → filter q (xs ++ x ∷ []) ≡ filter q xs ++ cond (q x) (x ∷ []) [] → cond b (y ∷ filter q (xs ++ x ∷ [])) (filter q (xs ++ x ∷ [])) ≡ cond b (y ∷ filter q xs) (filter q xs) ++ cond (q x) (x ∷ []) []
+    by true more = ap (λ r. y ∷ r) more
+    by false more = more
+
+-- the records of the owner, with one more of it last
+pub own-push : (owner : Labels) (records : List Record) (new : Record) → name_eq new.owner owner ≡ true → of_owner owner (records ++ new ∷ []) ≡ of_owner owner records ++ new ∷ []
+own-push owner records new e =
+    filter_push (λ (r : Record). name_eq r.owner owner) records new ∙ ap (λ b. of_owner owner records ++ cond b (new ∷ []) []) e
+
+-- those of another owner
+pub others-push : (owner : Labels) (records : List Record) (new : Record) → name_eq new.owner owner ≡ false → of_owner owner (records ++ new ∷ []) ≡ of_owner owner records
+others-push owner records new e =
+    filter_push (λ (r : Record). name_eq r.owner owner) records new ∙ ap (λ b. of_owner owner records ++ cond b (new ∷ []) []) e ∙ append-nil (of_owner owner records)
+
+module _ {K G : Type 0} (octets : K → List ℕ) (items : G → List Record) where
+  -- ---- what stands under a name
+
+  -- no key is that of two names
+  apart : (a b : Labels) (k : K) → name_eq a b ≡ false → pointwise nat_eq (octets_of a) (octets k) ≡ true → pointwise nat_eq (octets_of b) (octets k) ≡ false
+  apart a b k e here = by (pointwise nat_eq (octets_of b) (octets k)) refl
+    where
+      by : (t : Bool) → pointwise nat_eq (octets_of b) (octets k) ≡ t → pointwise nat_eq (octets_of b) (octets k) ≡ false
+      by true there =
+          let same : octets_of a ≡ octets_of b = (bytes_eq-Decides _ _).0 here ∙ sym ((bytes_eq-Decides _ _).0 there) in
+          absurd (false≢true (sym e ∙ (bytes_eq-Decides (octets_of a) (octets_of b)).1 same))
+      by false there = there
+
+  set_here : (name : List ℕ) (es : List (K × G)) (g w : G) → under octets name es ≡ Some g → under octets name (set_value (λ k. pointwise nat_eq name (octets k)) es w) ≡ Some w
+  set_here name [] g w e = absurd cc
+  set_here name (x ∷ es) g w e = by (pointwise nat_eq name (octets x.0)) refl e (set_here name es g w)
+    where
+      by : (b : Bool) → pointwise nat_eq name (octets x.0) ≡ b → cond b (Some x.1) (under octets name es) ≡ Some g → (under octets name es ≡ Some g → under octets name (set_value (λ k. pointwise nat_eq name (octets k)) es w) ≡ Some w)
+          → under octets name (cond b ((x.0, w) ∷ es) (x ∷ set_value (λ k. pointwise nat_eq name (octets k)) es w)) ≡ Some w
+      by true is e more = ap (λ t. cond t (Some w) (under octets name es)) is
+      by false is e more = ap (λ t. cond t (Some x.1) (under octets name (set_value (λ k. pointwise nat_eq name (octets k)) es w))) is ∙ more e
+
+  set_there : (a b : Labels) (es : List (K × G)) (w : G) → name_eq a b ≡ false → under octets (octets_of b) (set_value (λ k. pointwise nat_eq (octets_of a) (octets k)) es w) ≡ under octets (octets_of b) es
+  set_there a b [] w e = refl
+  set_there a b (x ∷ es) w e = by (pointwise nat_eq (octets_of a) (octets x.0)) refl (set_there a b es w e)
+    where
+      by : (t : Bool) → pointwise nat_eq (octets_of a) (octets x.0) ≡ t → under octets (octets_of b) (set_value (λ k. pointwise nat_eq (octets_of a) (octets k)) es w) ≡ under octets (octets_of b) es
+          → under octets (octets_of b) (cond t ((x.0, w) ∷ es) (x ∷ set_value (λ k. pointwise nat_eq (octets_of a) (octets k)) es w)) ≡ cond (pointwise nat_eq (octets_of b) (octets x.0)) (Some x.1) (under octets (octets_of b) es)
+      by true is more = let other = apart a b x.0 e is in ap (λ c. cond c (Some w) (under octets (octets_of b) es)) other ∙ sym (ap (λ c. cond c (Some x.1) (under octets (octets_of b) es)) other)
+      by false is more = ap (λ r. cond (pointwise nat_eq (octets_of b) (octets x.0)) (Some x.1) r) more
+
+  push_here : (a : Labels) (es : List (K × G)) (k : K) (g : G) → octets k ≡ octets_of a → under octets (octets_of a) es ≡ None → under octets (octets_of a) (es ++ (k, g) ∷ []) ≡ Some g
+  push_here a [] k g e none = ap (λ t. cond t (Some g) None) (ap (pointwise nat_eq (octets_of a)) e ∙ name_eq_itself a)
+  push_here a (x ∷ es) k g e none = by (pointwise nat_eq (octets_of a) (octets x.0)) none (push_here a es k g e)
+    where
+      by : (b : Bool) → cond b (Some x.1) (under octets (octets_of a) es) ≡ None → (under octets (octets_of a) es ≡ None → under octets (octets_of a) (es ++ (k, g) ∷ []) ≡ Some g)
+          → cond b (Some x.1) (under octets (octets_of a) (es ++ (k, g) ∷ [])) ≡ Some g
+      by true none more = absurd cc
+      by false none more = more none
+
+  push_there : (a b : Labels) (es : List (K × G)) (k : K) (g : G) → octets k ≡ octets_of a → name_eq a b ≡ false → under octets (octets_of b) (es ++ (k, g) ∷ []) ≡ under octets (octets_of b) es
+  push_there a b [] k g e differ = ap (λ t. cond t (Some g) None) (apart a b k differ (ap (pointwise nat_eq (octets_of a)) e ∙ name_eq_itself a))
+  push_there a b (x ∷ es) k g e differ = ap (λ r. cond (pointwise nat_eq (octets_of b) (octets x.0)) (Some x.1) r) (push_there a b es k g e differ)
+
+  -- ---- the index after a record goes last
+
+  pub index-set : (records : List Record) (es : List (K × G)) (new : Record) (g w : G) → IsIndexed octets items records es → under octets (octets_of new.owner) es ≡ Some g → items w ≡ items g ++ new ∷ []
+      → IsIndexed octets items (records ++ new ∷ []) (set_value (λ k. pointwise nat_eq (octets_of new.owner) (octets k)) es w)
+  index-set records es new g w h found is owner = by (name_eq new.owner owner) refl
+    where
+      by : (b : Bool) → name_eq new.owner owner ≡ b → items_in items (under octets (octets_of owner) (set_value (λ k. pointwise nat_eq (octets_of new.owner) (octets k)) es w)) ≡ of_owner owner (records ++ new ∷ [])
+      by true e =
+          let same : new.owner ≡ owner = name_eq_exact new.owner owner e in
+          let here = ap (items_in items) (set_here (octets_of new.owner) es g w found) ∙ is ∙ ap (λ r. r ++ new ∷ []) (sym (ap (items_in items) found) ∙ h new.owner) ∙ sym (own-push new.owner records new (name_eq_itself new.owner)) in
+          subst (λ o. items_in items (under octets (octets_of o) (set_value (λ k. pointwise nat_eq (octets_of new.owner) (octets k)) es w)) ≡ of_owner o (records ++ new ∷ [])) same here
+      by false e = ap (items_in items) (set_there new.owner owner es w e) ∙ h owner ∙ sym (others-push owner records new e)
+
+  pub index-push : (records : List Record) (es : List (K × G)) (new : Record) (k : K) (w : G) → IsIndexed octets items records es → under octets (octets_of new.owner) es ≡ None → octets k ≡ octets_of new.owner → items w ≡ new ∷ []
+      → IsIndexed octets items (records ++ new ∷ []) (es ++ (k, w) ∷ [])
+  index-push records es new k w h none key is owner = by (name_eq new.owner owner) refl
+    where
+      by : (b : Bool) → name_eq new.owner owner ≡ b → items_in items (under octets (octets_of owner) (es ++ (k, w) ∷ [])) ≡ of_owner owner (records ++ new ∷ [])
+      by true e =
+          let same : new.owner ≡ owner = name_eq_exact new.owner owner e in
+          let here = ap (items_in items) (push_here new.owner es k w key none) ∙ is ∙ ap (λ r. r ++ new ∷ []) (sym (ap (items_in items) none) ∙ h new.owner) ∙ sym (own-push new.owner records new (name_eq_itself new.owner)) in
+          subst (λ o. items_in items (under octets (octets_of o) (es ++ (k, w) ∷ [])) ≡ of_owner o (records ++ new ∷ [])) same here
+      by false e = ap (items_in items) (push_there new.owner owner es k w key e) ∙ h owner ∙ sym (others-push owner records new e)
+
+  -- ---- the index after the records of one owner are written anew
+
+  pub index-write : (records after : List Record) (es : List (K × G)) (name : Labels) (g w : G) → IsIndexed octets items records es → under octets (octets_of name) es ≡ Some g → items w ≡ of_owner name after
+      → ((o : Labels) → name_eq name o ≡ false → of_owner o after ≡ of_owner o records) → IsIndexed octets items after (set_value (λ k. pointwise nat_eq (octets_of name) (octets k)) es w)
+  index-write records after es name g w h found is others owner = by (name_eq name owner) refl
+    where
+      by : (b : Bool) → name_eq name owner ≡ b → items_in items (under octets (octets_of owner) (set_value (λ k. pointwise nat_eq (octets_of name) (octets k)) es w)) ≡ of_owner owner after
+      by true e =
+          let here = ap (items_in items) (set_here (octets_of name) es g w found) ∙ is in
+          subst (λ o. items_in items (under octets (octets_of o) (set_value (λ k. pointwise nat_eq (octets_of name) (octets k)) es w)) ≡ of_owner o after) (name_eq_exact name owner e) here
+      by false e = ap (items_in items) (set_there name owner es w e) ∙ h owner ∙ sym (others owner e)
+
+  pub index-keep : (records : List Record) (es : List (K × G)) (name : Labels) (g w : G) → IsIndexed octets items records es → under octets (octets_of name) es ≡ Some g → items w ≡ items g
+      → IsIndexed octets items records (set_value (λ k. pointwise nat_eq (octets_of name) (octets k)) es w)
+  index-keep records es name g w h found is = index-write records records es name g w h found (is ∙ sym (ap (items_in items) found) ∙ h name) (λ o e. refl)
+
+  -- ---- the index after the last record of its owner goes
+
+  pub index-front : (front : List Record) (last : Record) (es : List (K × G)) (g w : G) (n : ℕ) → IsIndexed octets items (front ++ last ∷ []) es → under octets (octets_of last.owner) es ≡ Some g → n ≡ length (items g) → items w ≡ take (n - 1) (items g)
+      → IsIndexed octets items front (set_value (λ k. pointwise nat_eq (octets_of last.owner) (octets k)) es w)
+  index-front front last es g w n h found long is =
+      let own : items g ≡ of_owner last.owner front ++ last ∷ [] = sym (ap (items_in items) found) ∙ h last.owner ∙ own-push last.owner front last (name_eq_itself last.owner) in
+      let short : length (of_owner last.owner front) ≡ n - 1 = omega (arith, long, ap length own, length-append (of_owner last.owner front) (last ∷ [])) in
+      let rest : items w ≡ of_owner last.owner front = is ∙ ap (take (n - 1)) own ∙ take_at (of_owner last.owner front) (last ∷ []) (n - 1) short in
+      index-write (front ++ last ∷ []) front es last.owner g w h found rest (λ o differ. sym (others-push o front last differ))
+
+  pub index-some : (front : List Record) (last : Record) (es : List (K × G)) → IsIndexed octets items (front ++ last ∷ []) es → under octets (octets_of last.owner) es ≡ None → ⊥
+  index-some front last es h none =
+      let empty : [] ≡ of_owner last.owner front ++ last ∷ [] = sym (ap (items_in items) none) ∙ h last.owner ∙ own-push last.owner front last (name_eq_itself last.owner) in
+      omega (arith, ap length empty, length-append (of_owner last.owner front) (last ∷ []))
+
+  pub index-drop : (records : List Record) (es after : List (K × G)) (name : Labels) → IsIndexed octets items records es → items_in items (under octets (octets_of name) es) ≡ [] → under octets (octets_of name) after ≡ None
+      → KeepsOthers (λ x y. pointwise nat_eq (octets x) (octets y)) (λ k. pointwise nat_eq (octets_of name) (octets k)) es after → IsIndexed octets items records after
+  unfolding KeepsOthers
+  index-drop records es after name h empty none others owner = by (name_eq name owner) refl
+    where
+      by : (b : Bool) → name_eq name owner ≡ b → items_in items (under octets (octets_of owner) after) ≡ of_owner owner records
+      by true e =
+          let here : items_in items (under octets (octets_of name) after) ≡ of_owner name records = ap (items_in items) none ∙ sym empty ∙ h name in
+          subst (λ o. items_in items (under octets (octets_of o) after) ≡ of_owner o records) (name_eq_exact name owner e) here
+      by false e =
+          ap (items_in items) (others (λ k. pointwise nat_eq (octets_of owner) (octets k))
+          (λ x y is. ap (λ s. pointwise nat_eq s (octets y)) ((bytes_eq-Decides (octets_of owner) (octets x)).0 is))
+          (λ k is. apart name owner k e is))
+          ∙ h owner
+
+  -- what a look-up in the index tells
+  pub of-found : (records : List Record) (es : List (K × G)) (owner : Labels) (spelled : List ℕ) (found : Option G) → IsIndexed octets items records es → spelled ≡ octets_of owner → under octets spelled es ≡ found → items_in items found ≡ of_owner owner records
+  of-found records es owner spelled found h e is = ap (items_in items) (sym is) ∙ ap (λ (s : List ℕ). items_in items (under octets s es)) e ∙ h owner
+
+-- ---- what is asked of all records is asked of those of the owner
+
+set-of : (owner : Labels) (kind : ℕ) (records : List Record) → set_of owner kind (of_owner owner records) ≡ set_of owner kind records
+set-of owner kind records = filter_of (is_for owner kind) (λ (r : Record). name_eq r.owner owner) (λ r e. (and_parts (name_eq r.owner owner) (r.kind == kind) e).0) records
+
+pub data-of : (asked owner : Labels) (kind : ℕ) (records : List Record) → data_shown asked owner kind (of_owner owner records) ≡ data_shown asked owner kind records
+data-of asked owner kind records = λ i. unless_empty (map (shown_as asked) (or_list (set-of owner CNAME records i) (set-of owner kind records i)))
+
+pub soa-of : (name : Labels) (records : List Record) → soa_of name (of_owner name records) ≡ soa_of name records
+soa-of name records = find_of (is_for name SOA) (λ (r : Record). name_eq r.owner name) (λ r e. (and_parts (name_eq r.owner name) (r.kind == SOA) e).0) records
+
+pub has-record-of : (name : Labels) (records : List Record) → has_record name (of_owner name records) ≡ has_record name records
+has-record-of name records = any_of (λ (r : Record). name_eq r.owner name) (λ (r : Record). name_eq r.owner name) (λ r e. e) records
+
+pub clashes-of : (new : Record) (zones : List Zone) (records : List Record) → clashes new (record { zones = zones; records = of_owner new.owner records }) ≡ clashes new (record { zones = zones; records = records })
+clashes-of new zones records =
+    any_of (λ (r : Record). name_eq r.owner new.owner && differ (is_cname r.kind) (is_cname new.kind)) (λ (r : Record). name_eq r.owner new.owner)
+    (λ r e. (and_parts (name_eq r.owner new.owner) (differ (is_cname r.kind) (is_cname new.kind)) e).0) records
+
+pub is_there-of : (new : Record) (records : List Record) → is_there (of_owner new.owner records) new ≡ is_there records new
+is_there-of new records =
+    any_of (λ (r : Record). is_same r new) (λ (r : Record). name_eq r.owner new.owner)
+    (λ r e. (and_parts (name_eq r.owner new.owner) (r.kind == new.kind) (and_parts (is_of_set r new) (data_eq r.body new.body) e).0).0) records

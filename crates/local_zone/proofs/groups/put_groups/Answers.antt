@@ -1,0 +1,35 @@
+use Rattle.std.proofs.Common.{◌<◌, ℕ, List, ◌++◌, Vec, Global, subst, arith}
+use Rattle.indexmap.specs.IndexMap.{spare}
+use Rattle.dns_text.specs.declared.record.Record.{Record}
+use Rattle.local_zone.specs.declared.record.LocalRecord.{LocalRecord}
+use Rattle.local_zone.specs.Index.{IsIndexed}
+use Rattle.local_zone.proofs.GroupLaws.{index_put, is_ok_of}
+use Rattle.local_zone.proofs.groups.put_groups.Goals as goal
+
+abbrev octets : Vec ℕ Global → List ℕ
+octets k = k.items
+
+abbrev items : Vec LocalRecord Global → List Record
+items g = g.items
+
+pub loop-key-preserved-in-Some : goal.loop-key-preserved-in-Some
+loop-key-preserved-in-Some c =
+    let room : 0 < spare c.loop-key.owners = omega (arith, c.loop-key.invariant.room, c.in-Some.ensures.len) in
+    let updates = is_ok_of c.insert.result (c.insert.ensures.succeeds room) c.insert.ensures.updates in
+    record {
+      index = λ records h.
+          index_put octets items c.pop.new.self.items c.loop-key.owners.entries c.insert.new.self.entries c.in-Some.key c.in-Some.records updates.1 updates.3 records
+          (subst (λ gs. IsIndexed octets items records (gs ++ c.loop-key.owners.entries)) c.in-Some.ensures.items (c.loop-key.invariant.index records h));
+      room = omega (arith, c.loop-key.invariant.room, c.in-Some.ensures.len, c.insert.ensures.spare);
+    }
+
+pub loop-key-preserved-in-Some-2 : goal.loop-key-preserved-in-Some-2
+loop-key-preserved-in-Some-2 c =
+    let room : 0 < spare c.loop-key.owners = omega (arith, c.loop-key.invariant.room, c.in-Some.ensures.len) in
+    let updates = is_ok_of c.insert.result (c.insert.ensures.succeeds room) c.insert.ensures.updates in
+    record {
+      index = λ records h.
+          index_put octets items c.pop.new.self.items c.loop-key.owners.entries c.insert.new.self.entries c.in-Some.key c.in-Some.records updates.1 updates.3 records
+          (subst (λ gs. IsIndexed octets items records (gs ++ c.loop-key.owners.entries)) c.in-Some.ensures.items (c.loop-key.invariant.index records h));
+      room = omega (arith, c.loop-key.invariant.room, c.in-Some.ensures.len, c.insert.ensures.spare);
+    }

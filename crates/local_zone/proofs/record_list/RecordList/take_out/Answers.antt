@@ -1,0 +1,56 @@
+use Rattle.std.proofs.Common.{◌≡◌, ℕ, List, ◌++◌, length, None, Vec, Global, ap, sym, subst, ◌∙◌, arith}
+use Rattle.std.specs.List.{AllByRecursion}
+use Rattle.std.specs.Vec.Iter.{into_iter_items}
+use Rattle.dns_name.specs.Labels.{octets_of}
+use Rattle.dns_text.specs.declared.record.Record.{Record}
+use Rattle.local_zone.specs.declared.record.LocalRecord.{LocalRecord}
+use Rattle.local_zone.specs.declared.taken.Taken.{Taken}
+use Rattle.local_zone.specs.Gaps.{records_of, at_gaps, rest_of, AreApart, AreWithin}
+use Rattle.local_zone.specs.Index.{of_owner, under, IsIndexed}
+use Rattle.local_zone.proofs.GapLaws.{length_at}
+use Rattle.local_zone.proofs.GroupLaws.{parts}
+use Rattle.local_zone.proofs.record_list.RecordList.take_out.Goals as goal
+
+abbrev octets : Vec ℕ Global → List ℕ
+octets k = k.items
+
+abbrev items : Vec LocalRecord Global → List Record
+items g = g.items
+
+pub move_groups-requires : goal.move_groups-requires
+move_groups-requires c =
+    let taken_is : c.take_pass.new.taken.items ≡ at_gaps c.args.gaps.now c.self.inside.list.items = c.take_pass.ensures.taken ∙ ap (λ (x : List Taken). x ++ at_gaps c.args.gaps.now (into_iter_items c.into_iter-from.result)) c.in_ok-taken.ensures.items
+    ∙ ap (at_gaps c.args.gaps.now) (c.into_iter-from.ensures.rest ∙ ap (λ v. v.items) c.replace.ensures.value) in
+    omega (arith, c.in_ok-groups.ensures.len, c.in_ok-groups.ensures.capacity, ap (λ (x : List Taken). length x) (c.deref.ensures.value ∙ taken_is), length_at c.args.gaps.now c.self.inside.list.items)
+
+pub invariant_of-result : goal.invariant_of-result
+invariant_of-result c =
+    let before : List Record = c.self.inside.list.items in
+    let gaps : List ℕ = c.args.gaps.now in
+    let taken_is : c.take_pass.new.taken.items ≡ at_gaps gaps before = c.take_pass.ensures.taken ∙ ap (λ (x : List Taken). x ++ at_gaps c.args.gaps.now (into_iter_items c.into_iter-from.result)) c.in_ok-taken.ensures.items
+    ∙ ap (at_gaps c.args.gaps.now) (c.into_iter-from.ensures.rest ∙ ap (λ v. v.items) c.replace.ensures.value) in
+    let left_is : c.take_pass.new.to.items ≡ rest_of gaps before = c.take_pass.ensures.to ∙ ap (λ (x : List Record). x ++ rest_of c.args.gaps.now (into_iter_items c.into_iter-from.result)) c.in_ok-left.ensures.items
+    ∙ ap (rest_of c.args.gaps.now) (c.into_iter-from.ensures.rest ∙ ap (λ v. v.items) c.replace.ensures.value) in
+    (parts octets items before gaps c.take_pass.new.taken.items c.take_pass.new.to.items c.move_groups.new.groups.items c.move_groups.new.owners.entries c.self.inside.owners.entries
+    (subst (λ (x : List Record). AreWithin gaps x) (sym c.self.view_is) c.requires.within)
+    (subst (λ (x : List Record). AreApart (at_gaps gaps x) (rest_of gaps x)) (sym c.self.view_is) c.requires.apart)
+    taken_is left_is c.self.invariant
+    (λ records h. c.move_groups.ensures.index records (subst (λ gs. IsIndexed octets items records (gs ++ c.self.inside.owners.entries)) (sym c.in_ok-groups.ensures.items) h))
+    (subst (λ (ts : List Taken). AllByRecursion (λ (t : Taken). under octets (octets_of t.item.owner) c.move_groups.new.owners.entries ≡ None) ts) c.deref.ensures.value c.move_groups.ensures.gone)
+    (λ owner none. c.move_groups.ensures.only owner (ap (λ (ts : List Taken). of_owner owner (records_of ts)) c.deref.ensures.value ∙ none) (ap (λ gs. under octets (octets_of owner) gs) c.in_ok-groups.ensures.items))).0
+
+pub invariant_of-self : goal.invariant_of-self
+invariant_of-self c =
+    let before : List Record = c.self.inside.list.items in
+    let gaps : List ℕ = c.args.gaps.now in
+    let taken_is : c.take_pass.new.taken.items ≡ at_gaps gaps before = c.take_pass.ensures.taken ∙ ap (λ (x : List Taken). x ++ at_gaps c.args.gaps.now (into_iter_items c.into_iter-from.result)) c.in_ok-taken.ensures.items
+    ∙ ap (at_gaps c.args.gaps.now) (c.into_iter-from.ensures.rest ∙ ap (λ v. v.items) c.replace.ensures.value) in
+    let left_is : c.take_pass.new.to.items ≡ rest_of gaps before = c.take_pass.ensures.to ∙ ap (λ (x : List Record). x ++ rest_of c.args.gaps.now (into_iter_items c.into_iter-from.result)) c.in_ok-left.ensures.items
+    ∙ ap (rest_of c.args.gaps.now) (c.into_iter-from.ensures.rest ∙ ap (λ v. v.items) c.replace.ensures.value) in
+    (parts octets items before gaps c.take_pass.new.taken.items c.take_pass.new.to.items c.move_groups.new.groups.items c.move_groups.new.owners.entries c.self.inside.owners.entries
+    (subst (λ (x : List Record). AreWithin gaps x) (sym c.self.view_is) c.requires.within)
+    (subst (λ (x : List Record). AreApart (at_gaps gaps x) (rest_of gaps x)) (sym c.self.view_is) c.requires.apart)
+    taken_is left_is c.self.invariant
+    (λ records h. c.move_groups.ensures.index records (subst (λ gs. IsIndexed octets items records (gs ++ c.self.inside.owners.entries)) (sym c.in_ok-groups.ensures.items) h))
+    (subst (λ (ts : List Taken). AllByRecursion (λ (t : Taken). under octets (octets_of t.item.owner) c.move_groups.new.owners.entries ≡ None) ts) c.deref.ensures.value c.move_groups.ensures.gone)
+    (λ owner none. c.move_groups.ensures.only owner (ap (λ (ts : List Taken). of_owner owner (records_of ts)) c.deref.ensures.value ∙ none) (ap (λ gs. under octets (octets_of owner) gs) c.in_ok-groups.ensures.items))).1

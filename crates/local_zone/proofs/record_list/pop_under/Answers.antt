@@ -1,0 +1,33 @@
+use Rattle.std.proofs.Common.{◌≡◌, ℕ, length, List, Some, Vec, Global, ap, sym, subst, ◌∙◌, nat_eq, arith}
+use Rattle.std.specs.Map.{set_value}
+use Rattle.std.specs.Cmp.Lexicographic.{pointwise}
+use Rattle.dns_name.specs.Labels.{octets_of}
+use Rattle.dns_text.specs.declared.record.Record.{Record}
+use Rattle.local_zone.specs.declared.record.LocalRecord.{LocalRecord}
+use Rattle.local_zone.specs.Index.{under, IsIndexed}
+use Rattle.local_zone.proofs.IndexLaws.{index-front, index-some}
+use Rattle.local_zone.proofs.record_list.pop_under.Goals as goal
+
+abbrev octets : Vec ℕ Global → List ℕ
+octets k = k.items
+
+abbrev items : Vec LocalRecord Global → List Record
+items g = g.items
+
+pub returns-in-Some-clause-front : goal.returns-in-Some-clause-front
+returns-in-Some-clause-front c front last same h =
+    let es = c.args.owners.now.entries in
+    let name : c.octets.result.now ≡ octets_of last.owner = c.octets.ensures.value ∙ ap octets_of (sym same) in
+    let g = c.in-Some.records.now in
+    let w = c.pop.new.self in
+    let found : under octets (octets_of last.owner) es ≡ Some g = ap (λ (s : List ℕ). under octets s es) (sym name) ∙ sym c.in-Some.ensures.value in
+    let entries : (c.get_mut.follows.lender w).entries ≡ set_value (λ k. pointwise nat_eq (octets_of last.owner) (octets k)) es w =
+    (c.get_mut.follows.holds w).0 ∙ ap (λ (s : List ℕ). set_value (λ k. pointwise nat_eq s (octets k)) es w) name in
+    let long : g.len ≡ length (items g) = omega (arith, g.ok.0) in
+    subst (λ x. IsIndexed octets items front x) (sym entries) (index-front octets items front last es g w g.len h found long c.pop.ensures.rest)
+
+pub returns-in-None-clause-front : goal.returns-in-None-clause-front
+returns-in-None-clause-front c front last same h =
+    let es = c.args.owners.now.entries in
+    let name : c.octets.result.now ≡ octets_of last.owner = c.octets.ensures.value ∙ ap octets_of (sym same) in
+    absurd (index-some octets items front last es h (ap (λ (s : List ℕ). under octets s es) (sym name) ∙ sym c.in-None.ensures.value))

@@ -1,0 +1,25 @@
+use Rattle.std.proofs.Common.{◌≡◌, ℕ, List, Some, ap, sym, subst, ◌∙◌, insert, slice_get}
+use Rattle.named_list.specs.declared.turn.Turn.{Turn}
+use Rattle.named_list.specs.declared.turn.Turn.TheVariants.{With, Without}
+use Rattle.local_zone.specs.declared.zone.Zone.{Zone}
+use Rattle.local_zone.specs.Tables.{Tables}
+use Rattle.named_list.specs.Turn.{other_of, with_at, Fits}
+use Rattle.local_zone.proofs.ImpliedLaws.{get-insert}
+use Rattle.local_zone.proofs.table.ZoneTable.turn_over.Goals as goal
+
+-- the zone that went in comes out again, and the way is the one that it was
+pub returns-in-Err-clause-err : goal.returns-in-Err-clause-err
+returns-in-Err-clause-err c =
+    let zones : List Zone = c.self.inside.zones in
+    let way = c.in_ok-put_in.ensures.without in
+    let place : ℕ = way.0 in
+    let zone : Zone = way.1.0 in
+    let was : c.args.saved.now.zones ≡ With place zone = way.1.1.0 in
+    let now : c.put_in.new.turn ≡ Without place = way.1.1.1 in
+    let there : Fits (λ (z : Zone). z.name) (With place zone) c.args.self.now.zones = subst (λ (t : Turn Zone). Fits (λ (z : Zone). z.name) t c.args.self.now.zones) was c.requires.1.fits in
+    let fits : Fits (λ (z : Zone). z.name) (With place zone) zones = subst (λ (t : Tables). Fits (λ (z : Zone). z.name) (With place zone) t.zones) (sym c.self.view_is) there in
+    let list : c.put_in.new.self ≡ insert zones place zone = c.in_ok-put_in.ensures.ok ∙ ap (λ (t : Turn Zone). other_of t zones) was in
+    let got : slice_get c.put_in.new.self place ≡ Some zone = ap (λ (zs : List Zone). slice_get zs place) list ∙ get-insert zones place zone fits in
+    let back : c.turn_out.new.turn ≡ c.args.saved.now.zones = c.turn_out.ensures.taken place now ∙ ap (with_at place) got ∙ sym was in
+    let same : c.turn_out.new.self ≡ zones = c.turn_out.ensures.list ∙ c.in_ok-put_in.ensures.again.1 in
+    ((λ i. record { zones = same i; records = c.in-Err.ensures.err.0 i }) ∙ c.self.view_is, λ i. record { zones = back i; records = c.in-Err.ensures.err.1 i })

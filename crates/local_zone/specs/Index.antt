@@ -1,0 +1,30 @@
+-- The records of an owner, and an index of them.
+use Rattle.std.specs.Prelude.{◌≡◌, ℕ, List, [], Option, None, Some, nat_eq}
+use Rattle.std.specs.List.{filter}
+use Rattle.std.specs.Map.{lookup}
+use Rattle.std.specs.Cmp.Lexicographic.{pointwise}
+use Rattle.dns_name.specs.Labels.{Labels, octets_of}
+use Rattle.dns_name.specs.Order.{name_eq}
+use Rattle.dns_text.specs.declared.record.Record.{Record}
+
+-- the records of an owner, in order
+abbrev pub of_owner : Labels → List Record → List Record
+of_owner owner records = filter (λ r. name_eq r.owner owner) records
+
+-- what a group holds, if there is one
+abbrev pub items_in : {G : Type 0} → (G → List Record) → Option G → List Record
+items_in items None = []
+items_in items (Some group) = items group
+
+-- the group under a run of octets
+abbrev pub under : {K G : Type 0} → (K → List ℕ) → List ℕ → List (K × G) → Option G
+under octets spelled groups = lookup (λ k. pointwise nat_eq spelled (octets k)) groups
+
+-- Under the octets of each name are the records of this owner.
+abbrev pub IsIndexed : {K G : Type 0} → (K → List ℕ) → (G → List Record) → List Record → List (K × G) → Type 0
+IsIndexed octets items records groups = (owner : Labels) → items_in items (under octets (octets_of owner) groups) ≡ of_owner owner records
+
+-- The same, and there is no group but of an owner that has records.
+abbrev pub IsGrouped : {K G : Type 0} → (K → List ℕ) → (G → List Record) → List Record → List (K × G) → Type 0
+IsGrouped octets items records groups =
+    IsIndexed octets items records groups × ((owner : Labels) → of_owner owner records ≡ [] → under octets (octets_of owner) groups ≡ None)

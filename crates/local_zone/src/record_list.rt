@@ -1,0 +1,243 @@
+//! Records in the order in which they came, with an index by owner.
+
+ghost use Rattle.std.specs.Prelude.{◌≡◌, ◌++◌, ◌∷◌, [], IfOk, OnErr, OnOk};
+ghost use Rattle.local_zone.specs.Gaps.{at_gaps, gaps_of, put_back, rest_of, AreApart, AreWithin};
+ghost use Rattle.std.specs.Prelude.{◌-◌, List, None, map, take, length, IsTrue, ◌&&◌, ◌==◌, not};
+ghost use Rattle.std.specs.List.{list_any};
+ghost use Rattle.local_zone.specs.Tables.{is_of_set};
+ghost use Rattle.local_zone.specs.Change.{retimed_by};
+ghost use Rattle.dns_name.specs.Labels.{octets_of};
+ghost use Rattle.dns_text.specs.declared.record.Record.{Record};
+ghost use Rattle.local_zone.specs.Index.{of_owner, items_in, under, IsIndexed};
+
+use crate::groups::{move_groups, put_groups};
+use crate::passes::{push_gaps, put_pass, take_pass};
+use crate::record::LocalRecord;
+use crate::removed::Removed;
+use crate::tag::tag_of;
+use dns_name::{Name, NoMemory};
+use dns_text::{Record, Ttl};
+use indexmap::IndexMap;
+use named_list::key_of;
+use std::alloc::Global;
+use std::marker::Model;
+use std::mem;
+
+/// Puts a record last in the group of its owner.
+fn index_last(
+    alloc: Global,
+    owners: &mut IndexMap<Vec<u8>, Vec<LocalRecord>>,
+    new: LocalRecord,
+) -> Result<(), NoMemory>
+    ensures ok { OnOk result ((records : List Record) → IsIndexed (λ k. k.items) (λ g. g.items) records owners.old.entries →
+        IsIndexed (λ k. k.items) (λ g. g.items) (records ++ new ∷ []) owners.new.entries) }
+    ensures err { OnErr result ((records : List Record) → IsIndexed (λ k. k.items) (λ g. g.items) records owners.old.entries →
+        IsIndexed (λ k. k.items) (λ g. g.items) records owners.new.entries) }
+{
+    match owners.get_mut(new.owner().octets()) {
+        Some(records) => Ok(records.push(new)?),
+        None => index_first(alloc, owners, new),
+    }
+}
+
+/// Makes the group of an owner with its first record.
+fn index_first(
+    alloc: Global,
+    owners: &mut IndexMap<Vec<u8>, Vec<LocalRecord>>,
+    new: LocalRecord,
+) -> Result<(), NoMemory>
+    requires { under (λ k. k.items) (octets_of new.owner) owners.old.entries ≡ None }
+    ensures ok { OnOk result ((records : List Record) → IsIndexed (λ k. k.items) (λ g. g.items) records owners.old.entries →
+        IsIndexed (λ k. k.items) (λ g. g.items) (records ++ new ∷ []) owners.new.entries) }
+    ensures err { OnErr result (owners.new.entries ≡ owners.old.entries) }
+{
+    let key = key_of(alloc, new.owner())?;
+    let mut records = Vec::new(alloc);
+    records.push(new)?;
+    owners.insert(key, records)?;
+    Ok(())
+}
+
+/// Whether a record of the set has another time to live.
+fn has_other_ttl(records: &[LocalRecord], set: &Record, ttl: Ttl) -> bool
+    ensures { result ≡ list_any (λ r. is_of_set r set.now && not (r.ttl == ttl)) records.now }
+{
+    // The times come first: they seldom differ, and are compared sooner than owners.
+    records
+        .iter()
+        .any(|r| r.ttl().seconds() != ttl.seconds() && r.is_of_set(set))
+}
+
+/// Gives the records of a set a time to live.
+fn retime_each(records: &mut [LocalRecord], set: &Record, ttl: Ttl)
+    ensures { records.new ≡ map (retimed_by (record set.now { ttl = ttl })) records.old }
+{
+    let tag = tag_of(&set.owner);
+    for i in 0..records.len() {
+        let r = &mut records[i];
+        if r.is_of_tagged_set(tag, set) {
+            r.set_ttl(ttl);
+        }
+    }
+}
+
+/// Gives the records of a set in the index a time to live.
+fn retime_index(owners: &mut IndexMap<Vec<u8>, Vec<LocalRecord>>, set: &Record, ttl: Ttl)
+    ensures { (records : List Record) → IsIndexed (λ k. k.items) (λ g. g.items) records owners.old.entries →
+        IsIndexed (λ k. k.items) (λ g. g.items) (map (retimed_by (record set.now { ttl = ttl })) records) owners.new.entries }
+{
+    if let Some(records) = owners.get_mut(set.owner.octets()) {
+        retime_each(records.as_mut_slice(), set, ttl);
+    }
+}
+
+/// Takes the last record of an owner out of the index, and its group if that is empty then.
+fn unindex_last(owners: &mut IndexMap<Vec<u8>, Vec<LocalRecord>>, owner: &Name)
+    ensures { (front : List Record) (last : Record) → last.owner ≡ owner.now →
+        IsIndexed (λ k. k.items) (λ g. g.items) (front ++ last ∷ []) owners.old.entries →
+        IsIndexed (λ k. k.items) (λ g. g.items) front owners.new.entries }
+{
+    if pop_under(owners, owner) {
+        owners.swap_remove(owner.octets());
+    }
+}
+
+/// Takes the last record out of the group of an owner, and returns whether none is left.
+fn pop_under(owners: &mut IndexMap<Vec<u8>, Vec<LocalRecord>>, owner: &Name) -> bool
+    ensures front { (front : List Record) (last : Record) → last.owner ≡ owner.now →
+        IsIndexed (λ k. k.items) (λ g. g.items) (front ++ last ∷ []) owners.old.entries →
+        IsIndexed (λ k. k.items) (λ g. g.items) front owners.new.entries }
+    ensures empty { IsTrue result → items_in (λ g. g.items) (under (λ k. k.items) (octets_of owner.now) owners.new.entries) ≡ [] }
+{
+    match owners.get_mut(owner.octets()) {
+        Some(records) => {
+            records.pop();
+            records.is_empty()
+        }
+        None => false,
+    }
+}
+
+/// Records in order. Contracts see the list alone; an index finds those of an owner in one look-up.
+#[derive(Drop)]
+pub(crate) struct RecordList {
+    list: Vec<LocalRecord>,
+    // A second share of each record, in the same order, by owner: under the octets of its name. Groups hold no places, so
+    // that a removal renumbers nothing.
+    owners: IndexMap<Vec<u8>, Vec<LocalRecord>>,
+}
+
+impl Model for RecordList {
+    ghost use Rattle.std.specs.Prelude.{List};
+    ghost use Rattle.dns_text.specs.declared.record.Record.{Record};
+    ghost use Rattle.local_zone.specs.Index.{IsIndexed};
+
+    ghost Value = { List Record };
+
+    ghost view = { λ r. r.list.items };
+
+    ghost invariant = { λ r. IsIndexed (λ k. k.items) (λ g. g.items) r.list.items r.owners.entries };
+}
+
+impl RecordList {
+    /// No records. It takes no memory.
+    pub(crate) fn new(alloc: Global) -> RecordList
+        ensures { result ≡ [] }
+    {
+        RecordList {
+            list: Vec::new(alloc),
+            owners: IndexMap::new(alloc),
+        }
+    }
+
+    /// The records in order.
+    pub(crate) fn as_slice(&self) -> &[LocalRecord]
+        ensures { result.now ≡ self.now }
+    {
+        &self.list
+    }
+
+    /// The records of an owner, in order. It takes no memory.
+    pub(crate) fn of(&self, owner: &Name) -> &[LocalRecord]
+        ensures { result.now ≡ of_owner owner.now self.now }
+    {
+        match self.owners.get(owner.octets()) {
+            Some(records) => records.as_slice(),
+            None => &[],
+        }
+    }
+
+    /// Puts a record last. Without memory nothing has changed.
+    pub(crate) fn push(&mut self, alloc: Global, new: LocalRecord) -> Result<(), NoMemory>
+        ensures ok { OnOk result (self.new ≡ self.old ++ new ∷ []) }
+        ensures err { OnErr result (self.new ≡ self.old) }
+    {
+        self.list.reserve(1)?;
+        let twin = new.share()?;
+        index_last(alloc, &mut self.owners, twin)?;
+        self.list.push_reserved(new);
+        Ok(())
+    }
+
+    /// Gives the records of a set a time to live. It takes no memory.
+    pub(crate) fn retime(&mut self, set: &Record, ttl: Ttl)
+        ensures { self.new ≡ map (retimed_by (record set.now { ttl = ttl })) self.old }
+    {
+        if has_other_ttl(self.of(&set.owner), set, ttl) {
+            retime_each(self.list.as_mut_slice(), set, ttl);
+            retime_index(&mut self.owners, set, ttl);
+        }
+    }
+
+    /// Takes the last record out; where there is none, nothing. It takes no memory.
+    pub(crate) fn pop(&mut self)
+        ensures { self.new ≡ take (length self.old - 1) self.old }
+    {
+        if let Some(last) = self.list.pop() {
+            unindex_last(&mut self.owners, last.owner());
+        }
+    }
+
+    /// Takes the records at the gaps out, in one pass. It takes all its memory first; without it nothing has changed.
+    pub(crate) fn take_out(&mut self, alloc: Global, gaps: &[usize]) -> Result<Removed, NoMemory>
+        requires within { AreWithin gaps.now self.old }
+        requires apart { AreApart (at_gaps gaps.now self.old) (rest_of gaps.now self.old) }
+        ensures ok { OnOk result (self.new ≡ rest_of gaps.now self.old) }
+        ensures removed { IfOk result (λ removed. removed ≡ at_gaps gaps.now self.old) }
+        ensures err { OnErr result (self.new ≡ self.old) }
+    {
+        let mut left = Vec::with_capacity(alloc, self.list.len())?;
+        let mut taken = Vec::with_capacity(alloc, gaps.len())?;
+        let mut groups = Vec::with_capacity(alloc, gaps.len())?;
+        let mut from = mem::replace(&mut self.list, Vec::new(alloc)).into_iter();
+        take_pass(&mut from, gaps, &mut left, &mut taken);
+        self.list = left;
+        move_groups(&mut self.owners, &mut groups, &taken);
+        Ok(Removed { taken, groups })
+    }
+
+    /// Puts records back in their places, in one pass, and gives the gaps. It takes all its memory first; without it nothing
+    /// has changed.
+    pub(crate) fn put_in(
+        &mut self,
+        alloc: Global,
+        removed: &mut Removed,
+    ) -> Result<Vec<usize>, NoMemory>
+        requires apart { AreApart removed.old self.old }
+        ensures ok { OnOk result (self.new ≡ put_back removed.old self.old) }
+        ensures gaps { IfOk result (λ gaps. gaps.items ≡ gaps_of removed.old) }
+        ensures err { OnErr result ((self.new ≡ self.old) × (removed.new ≡ removed.old)) }
+    {
+        let mut gaps = Vec::with_capacity(alloc, removed.taken.len())?;
+        let mut list = Vec::with_capacity(alloc, self.list.len() + removed.taken.len())?;
+        self.owners.reserve(removed.groups.len())?;
+        let taken = mem::replace(&mut removed.taken, Vec::new(alloc));
+        let groups = mem::replace(&mut removed.groups, Vec::new(alloc));
+        push_gaps(&taken, &mut gaps);
+        let mut from = mem::replace(&mut self.list, Vec::new(alloc)).into_iter();
+        put_pass(&mut from, taken, &mut list);
+        self.list = list;
+        put_groups(&mut self.owners, groups);
+        Ok(gaps)
+    }
+}

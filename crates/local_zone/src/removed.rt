@@ -1,0 +1,41 @@
+//! The records that a change took out.
+
+use crate::record::LocalRecord;
+use crate::taken::Taken;
+use std::alloc::Global;
+use std::marker::Model;
+
+/// Records that were taken out of the list, each with its gap. Contracts see these alone; the groups of the index came with them.
+#[derive(Drop)]
+pub(crate) struct Removed {
+    pub(crate) taken: Vec<Taken>,
+    // The groups of their owners, with their keys, as they were in the index.
+    pub(crate) groups: Vec<(Vec<u8>, Vec<LocalRecord>)>,
+}
+
+impl Model for Removed {
+    ghost use Rattle.std.specs.Prelude.{List};
+    ghost use Rattle.local_zone.specs.declared.taken.Taken.{Taken};
+    ghost use Rattle.local_zone.specs.Gaps.{records_of};
+    ghost use Rattle.local_zone.specs.Index.{IsGrouped};
+
+    ghost Value = { List Taken };
+
+    ghost view = { λ r. r.taken.items };
+
+    ghost invariant = { λ r. IsGrouped (λ k. k.items) (λ g. g.items) (records_of r.taken.items) r.groups.items };
+}
+
+impl Removed {
+    ghost use Rattle.std.specs.Prelude.{◌≡◌, []};
+
+    /// Nothing. It takes no memory.
+    pub(crate) fn new(alloc: Global) -> Removed
+        ensures { result ≡ [] }
+    {
+        Removed {
+            taken: Vec::new(alloc),
+            groups: Vec::new(alloc),
+        }
+    }
+}

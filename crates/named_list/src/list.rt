@@ -1,0 +1,132 @@
+//! The list, its questions and its changes.
+
+ghost use Rattle.std.specs.Prelude.{◌≡◌, ℕ, [], true, false, IfOk, OnErr, OnOk, slice_get};
+ghost use Rattle.std.specs.Option.{option_map};
+ghost use Rattle.named_list.specs.Closest.{closest_of};
+ghost use Rattle.named_list.specs.Named.{AreNamed, has_named, list_with, list_without};
+ghost use Rattle.named_list.specs.Turn.{other_of, puts_in, with_at, Fits, IsWayBack};
+ghost use Rattle.named_list.specs.declared.turn.Turn.TheVariants as Turn;
+
+use crate::closest::closest;
+use crate::entry::{has, put, take};
+use crate::named::Named;
+use crate::turn::Turn;
+use crate::turning::{put_in, turn_out};
+use dns_name::{Name, NoMemory};
+use dns_text::Shared;
+use indexmap::IndexMap;
+use std::alloc::Global;
+use std::marker::Model;
+
+/// Things in the order in which they came, no two of the same name. Contracts see the list alone.
+///
+/// An index finds the thing of a name in one look-up. To take one out, or to put it back in its place, moves the later ones.
+#[derive(Drop)]
+pub struct NamedList<T: Named> {
+    // Each under the octets of its name.
+    things: IndexMap<Vec<u8>, Shared<T>>,
+}
+
+impl<T: Named> Model for NamedList<T> {
+    ghost use Rattle.std.specs.Prelude.{List};
+    ghost use Rattle.indexmap.specs.IndexMap.{values};
+    ghost use Rattle.named_list.specs.Named.{AreNamed};
+    ghost use Rattle.named_list.specs.Keyed.{AreKeyed};
+
+    ghost Value = { List T };
+
+    ghost view = { λ l. values l.things };
+
+    ghost invariant = { λ l. AreNamed T.named (values l.things) × AreKeyed T.named (λ k. k.items) l.things.entries };
+}
+
+impl<T: Named> NamedList<T> {
+    /// An empty list. It takes no memory.
+    pub fn new(alloc: Global) -> NamedList<T>
+        ensures { result ≡ [] }
+    {
+        NamedList {
+            things: IndexMap::new(alloc),
+        }
+    }
+
+    /// The things in order.
+    pub fn as_slice(&self) -> &[Shared<T>]
+        ensures value { result.now ≡ self.now }
+        ensures sound { AreNamed T.named self.now }
+    {
+        self.things.values().as_slice()
+    }
+
+    /// The thing with the longest name at or above a name: one look-up for each label. It takes no memory.
+    pub fn closest(&self, name: &Name) -> Option<&Shared<T>>
+        ensures { option_map (λ x. x.now) result ≡ closest_of T.named self.now name.now }
+    {
+        closest(&self.things, name)
+    }
+
+    /// Whether a thing has this name.
+    pub fn has(&self, name: &Name) -> bool
+        ensures { result ≡ has_named T.named self.now name.now }
+    {
+        has(&self.things, name)
+    }
+
+    /// Puts a thing in the place of that of its name, or last.
+    pub fn put(&mut self, alloc: Global, new: Shared<T>) -> Result<Turn<T>, NoMemory>
+        ensures ok { OnOk result (self.new ≡ list_with T.named new self.old) }
+        ensures err { OnErr result (self.new ≡ self.old) }
+        ensures saved { IfOk result (λ turn. IsWayBack T.named turn self.new self.old) }
+    {
+        put(alloc, &mut self.things, new)
+    }
+
+    /// Takes the thing of a name out, if there is one. It takes no memory.
+    pub fn take(&mut self, name: &Name) -> Turn<T>
+        ensures list { self.new ≡ list_without T.named name.now self.old }
+        ensures saved { IsWayBack T.named result self.new self.old }
+    {
+        take(&mut self.things, name)
+    }
+
+    /// Goes to the other side of a change, and leaves in `turn` the way from there to here.
+    pub fn turn_over(&mut self, turn: &mut Turn<T>) -> Result<(), NoMemory>
+        requires fits { Fits T.named turn.old self.old }
+        requires sound { AreNamed T.named (other_of turn.old self.old) }
+        ensures ok { OnOk result (self.new ≡ other_of turn.old self.old) }
+        ensures again { OnOk result (IsWayBack T.named turn.new self.new self.old) }
+        ensures err { OnErr result ((self.new ≡ self.old) × (turn.new ≡ turn.old)) }
+    {
+        if turn.puts_in() {
+            return self.put_in(turn);
+        }
+        self.turn_out(turn);
+        Ok(())
+    }
+
+    /// Goes to the other side of a change that has one thing more.
+    pub fn put_in(&mut self, turn: &mut Turn<T>) -> Result<(), NoMemory>
+        requires fits { Fits T.named turn.old self.old }
+        requires sound { AreNamed T.named (other_of turn.old self.old) }
+        requires puts { puts_in turn.old ≡ true }
+        ensures ok { OnOk result (self.new ≡ other_of turn.old self.old) }
+        ensures again { OnOk result (IsWayBack T.named turn.new self.new self.old) }
+        ensures err { OnErr result ((self.new ≡ self.old) × (turn.new ≡ turn.old)) }
+        ensures without { OnOk result ((place : ℕ) × ((thing : T) ×
+            ((turn.old ≡ Turn.With place thing) × (turn.new ≡ Turn.Without place)))) }
+    {
+        put_in(&mut self.things, turn)
+    }
+
+    /// Goes to the other side of a change that has no thing more. It takes no memory.
+    pub fn turn_out(&mut self, turn: &mut Turn<T>)
+        requires fits { Fits T.named turn.old self.old }
+        requires sound { AreNamed T.named (other_of turn.old self.old) }
+        requires puts { puts_in turn.old ≡ false }
+        ensures list { self.new ≡ other_of turn.old self.old }
+        ensures again { IsWayBack T.named turn.new self.new self.old }
+        ensures taken { (place : ℕ) → turn.old ≡ Turn.Without place → turn.new ≡ with_at place (slice_get self.old place) }
+    {
+        turn_out(&mut self.things, turn)
+    }
+}
