@@ -1,0 +1,100 @@
+//! What a world with its journal is after all that happened to it: a replay, without the changes that are undone.
+#![tactic(auto)]
+
+ghost use Rattle.std.specs.Prelude.{◌≡◌, ℕ, ◌≤◌, ◌<◌, ◌^◌, Bool, not, List, [], ◌∷◌, ◌++◌, IfOk, OnOk};
+ghost use Rattle.change_law.specs.Face.{Face, IsSameAt};
+ghost use Rattle.course.specs.Course.{Deed, Came, Made, Stands, face_by, struck_with, struck_without};
+
+use change_law::{Change, ChangeFault, World, WorldFault};
+use dns_name::NoMemory;
+use ranked::{Fate, SharedFind};
+use undo_journal::Journal;
+
+/// Admits a find to the world.
+pub fn admit<C: Change>(
+    journal: &Journal<C>,
+    world: &mut C::World,
+    find: SharedFind,
+    moment: u64,
+) -> Result<Fate, WorldFault>
+    ensures { OnOk result ((start : Face C.World.Tables) (now : ℕ) (deeds : List (Deed C.World.Tables)) (struck : ℕ → Bool) →
+        now ≤ moment →
+        Stands C.World.has_cells C.World.table C.World.keeps C.World.face start world.old journal.now now deeds struck →
+        Stands C.World.has_cells C.World.table C.World.keeps C.World.face start world.new journal.now moment
+        (deeds ++ Came find moment ∷ []) struck) }
+{
+    let _ = journal;
+    let fate = world.admit(find, moment)?;
+    Ok(fate)
+}
+
+/// Drops what is dead at a moment. Nothing has happened by that.
+pub fn sweep<C: Change>(journal: &Journal<C>, world: &mut C::World, moment: u64)
+    ensures { (start : Face C.World.Tables) (now : ℕ) (deeds : List (Deed C.World.Tables)) (struck : ℕ → Bool) →
+        now ≤ moment →
+        Stands C.World.has_cells C.World.table C.World.keeps C.World.face start world.old journal.now now deeds struck →
+        Stands C.World.has_cells C.World.table C.World.keeps C.World.face start world.new journal.now moment deeds struck }
+{
+    let _ = journal;
+    world.sweep(moment);
+}
+
+/// Makes a change, under the journal's next ticket.
+pub fn make<C: Change>(
+    journal: &mut Journal<C>,
+    world: &mut C::World,
+    change: C,
+) -> Result<u64, ChangeFault>
+    requires keeps { C.World.keeps world.old journal.old.kept }
+    requires tickets { (C.World.newest world.old ≤ journal.old.tickets) × (journal.old.tickets < 2 ^ 62) }
+    ensures { IfOk result (λ ticket. (start : Face C.World.Tables) (now : ℕ) (deeds : List (Deed C.World.Tables))
+        (struck : ℕ → Bool) →
+        Stands C.World.has_cells C.World.table C.World.keeps C.World.face start world.old journal.old now deeds struck →
+        Stands C.World.has_cells C.World.table C.World.keeps C.World.face start world.new journal.new now
+        (deeds ++ Made ticket (C.after change) (C.empties change) ∷ []) struck) }
+{
+    let _undone = journal.undone();
+    let ticket = journal.apply(world, change)?;
+    Ok(ticket)
+}
+
+/// Undoes the newest change that is in effect, whose ticket is struck then.
+pub fn undo<C: Change>(
+    journal: &mut Journal<C>,
+    world: &mut C::World,
+) -> Result<Option<u64>, NoMemory>
+    requires { C.World.keeps world.old journal.old.kept }
+    ensures { IfOk result (λ ticket. (start : Face C.World.Tables) (now : ℕ) (deeds : List (Deed C.World.Tables))
+        (struck : ℕ → Bool) →
+        Stands C.World.has_cells C.World.table C.World.keeps C.World.face start world.old journal.old now deeds struck →
+        Stands C.World.has_cells C.World.table C.World.keeps C.World.face start world.new journal.new now deeds
+        (struck_with struck ticket)) }
+{
+    let ticket = journal.undo(world)?;
+    Ok(ticket)
+}
+
+/// Redoes the change that was undone last, whose ticket is not struck any more.
+pub fn redo<C: Change>(
+    journal: &mut Journal<C>,
+    world: &mut C::World,
+) -> Result<Option<u64>, NoMemory>
+    requires { C.World.keeps world.old journal.old.kept }
+    ensures { IfOk result (λ ticket. (start : Face C.World.Tables) (now : ℕ) (deeds : List (Deed C.World.Tables))
+        (struck : ℕ → Bool) →
+        Stands C.World.has_cells C.World.table C.World.keeps C.World.face start world.old journal.old now deeds struck →
+        Stands C.World.has_cells C.World.table C.World.keeps C.World.face start world.new journal.new now deeds
+        (struck_without struck ticket)) }
+{
+    let ticket = journal.redo(world)?;
+    Ok(ticket)
+}
+
+/// What the world shows is a replay of what happened, without what is struck. It answers how many changes are undone.
+pub fn shown<C: Change>(journal: &Journal<C>, world: &C::World) -> usize
+    ensures { (start : Face C.World.Tables) (now : ℕ) (deeds : List (Deed C.World.Tables)) (struck : ℕ → Bool) →
+        Stands C.World.has_cells C.World.table C.World.keeps C.World.face start world.now journal.now now deeds struck →
+        IsSameAt now (C.World.shown world.now) (face_by C.World.has_cells (λ t. not (struck t)) start deeds) }
+{
+    journal.undone()
+}
