@@ -1,0 +1,36 @@
+-- Loops that change each element of a list.
+use Rattle.std.proofs.Common.{◌≡◌, ℕ, ◌+◌, ◌<◌, Bool, true, false, List, [], ◌∷◌, ◌++◌, length, get_or, take, drop, map, refl, ap, ◌∙◌, arith, slice_set}
+use Rattle.std.specs.Prelude.{◌||◌}
+use Rattle.std.proofs.Common.{◌⊎◌, inl, inr}
+use Rattle.std.proofs.lemmas.Bool.{false≢true}
+use Rattle.std.specs.List.{list_any}
+use Rattle.std.proofs.lemmas.List.{get_or_default}
+use Rattle.std.proofs.lemmas.List.Edits.{map_over_more}
+
+-- one element more is changed
+pub each_more : {X : Type 0} (f : X → X) (xs ys : List X) (i : ℕ) (d y : X) → i < length xs → length ys ≡ length xs
+    → ys ≡ map f (take i xs) ++ drop i xs → y ≡ f (get_or ys i d) → slice_set ys i y ≡ map f (take (i + 1) xs) ++ drop (i + 1) xs
+each_more f xs ys i d y within same_length so_far is =
+    let x = get_or ys i d in
+    let below : i < length ys = omega arith in
+    let read : get_or ys i d ≡ get_or ys i (get_or ys i d) = get_or_default ys i d (get_or ys i d) below in
+    ap (λ v. slice_set ys i v) is ∙ map_over_more f xs ys i (get_or ys i d) within so_far read
+
+either : (a b : Bool) → (a || b) ≡ true → (a ≡ true) ⊎ (b ≡ true)
+either true b is = inl refl
+either false b is = inr is
+
+or_left : (a b : Bool) → a ≡ true → (a || b) ≡ true
+or_left a b is = rw is refl
+
+or_right : (a b : Bool) → b ≡ true → (a || b) ≡ true
+or_right true b is = refl
+or_right false b is = is
+
+-- a fact of each element, kept by the change
+pub any_map : {X Y : Type 0} (p : X → Bool) (q : Y → Bool) (f : X → Y) → ((x : X) → p x ≡ true → q (f x) ≡ true) → (xs : List X) → list_any p xs ≡ true → list_any q (map f xs) ≡ true
+any_map p q f step [] is = absurd (false≢true is)
+any_map p q f step (x ∷ xs) is = elim (either (p x) (list_any p xs) is) [
+  | inl here ↦ or_left (q (f x)) (list_any q (map f xs)) (step x here)
+  | inr later ↦ or_right (q (f x)) (list_any q (map f xs)) (any_map p q f step xs later)
+]

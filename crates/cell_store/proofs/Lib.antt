@@ -1,0 +1,15 @@
+mod Each
+mod SlotLaws
+mod Release
+mod ColumnLaws
+mod ForgetLaws
+mod MergeLaws
+mod FewLaws
+mod EntryLaws
+mod PruneLaws
+mod OwnerLaws
+mod SettleLaws
+mod CountLaws
+mod SweepLaws
+mod OwnerSweepLaws
+mod StoreLaws

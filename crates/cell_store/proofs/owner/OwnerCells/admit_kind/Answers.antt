@@ -1,0 +1,40 @@
+use Rattle.std.proofs.Common.{◌≤◌, refl, ap, sym, ◌∙◌, subst, arith}
+use Rattle.std.specs.Prelude.{◌==◌}
+use Rattle.ranked.specs.declared.find.Find.{Find}
+use Rattle.ranked.specs.Find.{admission_of}
+use Rattle.ranked.specs.Cell.{turns_away}
+use Rattle.cell_store.specs.declared.owner.KindColumn.{KindColumn}
+use Rattle.cell_store.specs.Owner.{whole_cell}
+use Rattle.cell_store.proofs.SettleLaws.{settles_put}
+use Rattle.cell_store.specs.Count.{one_if}
+use Rattle.std.specs.Prelude.{not}
+use Rattle.ranked.specs.declared.find.Scope.TheVariants.{One}
+use Rattle.cell_store.proofs.CountLaws.{count_admitted}
+use Rattle.cell_store.proofs.OwnerLaws.{admitted_cell, all_at, either_cell, outranked_low}
+use Rattle.cell_store.proofs.owner.OwnerCells.admit_kind.Goals as goal
+
+pub hold-requires : goal.hold-requires
+hold-requires c =
+    record {
+      upto = subst (λ (own : KindColumn). own.column.upto ≤ c.args.top) (sym c.index_mut.ensures.value)
+          (all_at (λ own. own.column.upto ≤ c.args.top) c.place_for.new.self.kinds.items c.in_ok-place.place c.index_mut.result.now c.place_for.ensures.upto.kinds c.in_ok-place.ensures.place.low);
+      lower = λ out. outranked_low c.place_for.new.self.whole c.args.find c.args.moment
+          (sym (c.turns_away-outranked.ensures ∙ ap (λ (f : Find). turns_away (whole_cell c.place_for.new.self.whole) (admission_of f f c.args.moment)) c.find-2.ensures) ∙ out);
+    }
+
+pub returns-clause-cells : goal.returns-clause-cells
+returns-clause-cells c = λ k v low.
+    admitted_cell c.place_for.new.self.whole c.place_for.new.self.kinds.items _ c.args.kind c.in_ok-place.place c.index_mut.result.now c.hold.new.self (admission_of c.args.find c.args.find c.args.moment) c.args.top c.turns_away-outranked.result
+    c.in_ok-place.ensures.place c.index_mut.ensures.value refl
+    (c.turns_away-outranked.ensures ∙ ap (λ (f : Find). turns_away (whole_cell c.place_for.new.self.whole) (admission_of f f c.args.moment)) c.find-2.ensures) c.hold.ensures.places k v low
+    ∙ either_cell (c.args.kind == k) (admission_of c.args.find c.args.find c.args.moment) (c.place_for.ensures.cells k v)
+
+pub returns-clause-settles : goal.returns-clause-settles
+returns-clause-settles c = λ n k settles.
+    settles_put c.place_for.new.self.whole c.place_for.new.self.kinds.items c.args.kind c.in_ok-place.place c.index_mut.result.now c.hold.new.self c.in_ok-place.ensures.place c.index_mut.ensures.value n k (c.place_for.ensures.settles n k settles)
+
+pub returns-clause-count : goal.returns-clause-count
+returns-clause-count c =
+    let more = count_admitted c.place_for.new.self.kinds.items c.args.kind c.in_ok-place.place c.index_mut.result.now c.hold.new.self c.in_ok-place.ensures.place c.index_mut.ensures.value in
+    let same = ap (λ b. one_if (not b)) (c.place_for.ensures.places (One c.args.kind)) in
+    omega (arith, more, same, c.place_for.ensures.count)

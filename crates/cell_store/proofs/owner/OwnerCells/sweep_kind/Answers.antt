@@ -1,0 +1,51 @@
+use Rattle.std.proofs.Common.{◌≤◌, List, refl, subst, sym, arith}
+use Rattle.cell_store.specs.declared.owner.KindColumn.{KindColumn}
+use Rattle.cell_store.specs.Owner.{IsPlaceOf}
+use Rattle.cell_store.proofs.OwnerLaws.{all_at}
+use Rattle.cell_store.proofs.CountLaws.{count_lost}
+use Rattle.cell_store.proofs.SettleLaws.{settles_put, left_put}
+use Rattle.cell_store.proofs.OwnerSweepLaws.{swept_kind_cell, swept_kind_others, swept_kind_seen, same_kinds}
+use Rattle.cell_store.proofs.owner.OwnerCells.sweep_kind.Goals as goal
+
+pub returns-in-Some-clause-cells : goal.returns-in-Some-clause-cells
+returns-in-Some-clause-cells c =
+    let self = c.args.self.now in
+    let is = subst (λ (l : List KindColumn). IsPlaceOf l c.args.kind c.in-Some.place) c.deref.ensures.value c.in-Some.ensures.some in
+    swept_kind_cell self.whole self.kinds.items c.args.kind c.in-Some.place c.index_mut.result.now c.sweep.new.self c.args.numbers.now c.args.moment is c.index_mut.ensures.value c.sweep.ensures.places
+
+pub returns-in-Some-clause-seen : goal.returns-in-Some-clause-seen
+returns-in-Some-clause-seen c =
+    let self = c.args.self.now in
+    let is = subst (λ (l : List KindColumn). IsPlaceOf l c.args.kind c.in-Some.place) c.deref.ensures.value c.in-Some.ensures.some in
+    swept_kind_seen self.whole self.kinds.items c.args.kind c.in-Some.place c.index_mut.result.now c.sweep.new.self c.args.numbers.now c.args.moment is c.index_mut.ensures.value c.sweep.ensures.places c.sweep.ensures.seen
+
+pub returns-in-Some-clause-others : goal.returns-in-Some-clause-others
+returns-in-Some-clause-others c =
+    let self = c.args.self.now in
+    let is = subst (λ (l : List KindColumn). IsPlaceOf l c.args.kind c.in-Some.place) c.deref.ensures.value c.in-Some.ensures.some in
+    swept_kind_others self.whole self.kinds.items c.args.kind c.in-Some.place c.index_mut.result.now c.sweep.new.self c.args.numbers.now c.args.moment is c.index_mut.ensures.value c.sweep.ensures.places
+
+pub returns-in-Some-clause-kinds : goal.returns-in-Some-clause-kinds
+returns-in-Some-clause-kinds c =
+    let self = c.args.self.now in
+    let is = subst (λ (l : List KindColumn). IsPlaceOf l c.args.kind c.in-Some.place) c.deref.ensures.value c.in-Some.ensures.some in
+    same_kinds self.kinds.items c.in-Some.place c.index_mut.result.now c.sweep.new.self is.low c.index_mut.ensures.value
+
+pub returns-in-Some-clause-upto : goal.returns-in-Some-clause-upto
+returns-in-Some-clause-upto c = λ top upto.
+    let self = c.args.self.now in
+    let is = subst (λ (l : List KindColumn). IsPlaceOf l c.args.kind c.in-Some.place) c.deref.ensures.value c.in-Some.ensures.some in
+    let low = subst (λ (own : KindColumn). own.column.upto ≤ top) (sym c.index_mut.ensures.value) (all_at (λ own. own.column.upto ≤ top) self.kinds.items c.in-Some.place c.index_mut.result.now upto.kinds is.low) in
+    left_put top self _ c.args.kind c.in-Some.place c.index_mut.result.now c.sweep.new.self refl refl is.low c.index_mut.ensures.value (omega (arith, c.sweep.ensures.upto, low)) c.sweep.ensures.left upto
+
+pub returns-in-Some-clause-settles : goal.returns-in-Some-clause-settles
+returns-in-Some-clause-settles c = λ n k settles.
+    let self = c.args.self.now in
+    let is = subst (λ (l : List KindColumn). IsPlaceOf l c.args.kind c.in-Some.place) c.deref.ensures.value c.in-Some.ensures.some in
+    settles_put self.whole self.kinds.items c.args.kind c.in-Some.place c.index_mut.result.now c.sweep.new.self is c.index_mut.ensures.value n k settles
+
+pub returns-in-Some-clause-count : goal.returns-in-Some-clause-count
+returns-in-Some-clause-count c =
+    let self = c.args.self.now in
+    let is = subst (λ (l : List KindColumn). IsPlaceOf l c.args.kind c.in-Some.place) c.deref.ensures.value c.in-Some.ensures.some in
+    omega (arith, count_lost self.kinds.items c.in-Some.place c.index_mut.result.now c.sweep.new.self is.low c.index_mut.ensures.value c.sweep.ensures.counted)

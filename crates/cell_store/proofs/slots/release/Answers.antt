@@ -1,0 +1,38 @@
+use Rattle.std.proofs.Common.{◌≡◌, ℕ, ◌+◌, ◌<◌, ◌≤◌, false, List, length, get_or, map, sym, ap, ◌∙◌, subst, arith}
+use Rattle.std.specs.List.{AllByRecursion, list_any}
+use Rattle.cell_store.specs.declared.version.Version.{Version}
+use Rattle.cell_store.specs.Slots.{names, renamed, version_of, IsWithin, AreNamed}
+use Rattle.cell_store.specs.Few.{AreRanked}
+use Rattle.cell_store.proofs.EntryLaws.{ranked_renamed}
+use Rattle.cell_store.proofs.SlotLaws.{IsWithout, same_each, within_each, still_named_each}
+use Rattle.cell_store.proofs.slots.release.Goals as goal
+
+pub loop-slot-preserved : goal.loop-slot-preserved
+loop-slot-preserved c =
+    let slot = c.loop-slot.slot in
+    let versions = c.loop-slot.versions.items in
+    let all = c.loop-slot.finds.items in
+    let rest = c.swap_remove.new.self.items in
+    let last = c.len-else-is_named.result in
+    let few : length all ≡ last + 1 = omega arith in
+    let fewer : length rest ≡ last = omega arith in
+    let in_all : slot < last + 1 = omega arith in
+    let is : IsWithout all rest slot last = record {
+      few = few;
+      fewer = fewer;
+      there = λ d low. c.swap_remove.ensures.by_index.0 d (omega arith) ∙ ap (λ k. get_or all k d) (omega arith);
+      other = λ k d away low. c.swap_remove.ensures.by_index.1 k d away (omega arith);
+    } in
+    let within : AllByRecursion (IsWithin (last + 1)) versions = subst (λ n. AllByRecursion (IsWithin n) versions) few c.loop-slot.invariant.within in
+    let none : list_any (names slot) versions ≡ false = ap (list_any (names slot)) (sym c.deref.ensures.value) ∙ (sym c.is_named.ensures ∙ c.if-is_named.false) in
+    let below : slot ≤ last = omega arith in
+    record {
+      few = omega arith;
+      same = ap (map (version_of rest)) c.rename.ensures.each ∙ (same_each all rest slot last c.swap_remove.result is in_all versions within none ∙ c.loop-slot.invariant.same);
+      within = subst (λ (l : List (Version ℕ)). AllByRecursion (IsWithin (length rest)) l) (sym c.rename.ensures.each)
+          (subst (λ n. AllByRecursion (IsWithin n) (map (renamed last slot) versions)) (sym fewer) (within_each all rest slot last c.swap_remove.result is in_all versions within none));
+      named = subst (λ (l : List (Version ℕ)). AreNamed l slot) (sym c.rename.ensures.each) (still_named_each slot last below versions c.loop-slot.invariant.named);
+      ranked = λ was. subst (λ (l : List (Version ℕ)). AreRanked l) (sym c.rename.ensures.each) (ranked_renamed last slot versions (c.loop-slot.invariant.ranked was));
+      capacity = c.rename.ensures.capacity ∙ c.loop-slot.invariant.capacity;
+      room = c.swap_remove.ensures.capacity ∙ c.loop-slot.invariant.room;
+    }

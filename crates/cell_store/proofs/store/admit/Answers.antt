@@ -1,0 +1,120 @@
+use Rattle.cell_store.specs.Owner.{CanSettle}
+use Rattle.std.specs.Prelude.{IfSome}
+use Rattle.std.proofs.Common.{◌≡◌, Option, Some, None, refl, ap, sym, subst, ◌∙◌, rules, arith}
+use Rattle.indexmap.specs.IndexMap.{IndexMap, get, insert_entry}
+use Rattle.std.specs.Map.{set_value}
+use Rattle.std.specs.Prelude.{not, false}
+use Rattle.std.specs.Option.{option_map_or}
+use Rattle.dns_name.specs.Labels.{Labels}
+use Rattle.cell_store.specs.Count.{count_entries, one_if, has_place, has_place_for}
+use Rattle.cell_store.proofs.CountLaws.{count_set, count_found, count_insert}
+use Rattle.std.proofs.lemmas.Grind.{common_steps}
+use Rattle.std.proofs.lemmas.Result.{on_ok_weaker, on_err_weaker}
+use Rattle.dns_name.specs.Order.{name_eq}
+use Rattle.ranked.specs.declared.find.Find.{Find}
+use Rattle.ranked.specs.Find.{admission_of, has_kind}
+use Rattle.cell_store.specs.declared.owner.OwnerCells.{OwnerCells}
+use Rattle.cell_store.specs.Store.{cell_by_owner}
+use Rattle.cell_store.proofs.StoreLaws.{cells_admitted, cells_kept, each_updated, by_held, by_none}
+use Rattle.cell_store.proofs.store.admit.Goals as goal
+
+pub returns-in-Some-clause-cells : goal.returns-in-Some-clause-cells
+returns-in-Some-clause-cells c =
+    let owners = c.args.owners.now in
+    let find = c.args.find in
+    let new = c.admit-result.new.self in
+    let updates = (c.get_mut.follows.holds new).3 (search rules) in
+    let held : Some c.in-Some.cells.now ≡ get name_eq owners find.owner = grind (arith, common_steps) in
+    on_ok_weaker c.admit-result.result
+    (λ cells. cells_admitted owners owners (c.get_mut.follows.lender new) find.owner c.find-2.result.now.owner new refl (ap (λ (f : Find). f.owner) c.find-2.ensures) updates find (admission_of find find c.args.moment) c.args.top refl
+    (λ k v low. cells k v low ∙ by_held (get name_eq owners find.owner) c.in-Some.cells.now (has_kind find.scope k) (admission_of find find c.args.moment) k v held))
+    c.admit-result.ensures.cells
+
+pub returns-in-Some-clause-err : goal.returns-in-Some-clause-err
+returns-in-Some-clause-err c =
+    let owners = c.args.owners.now in
+    let find = c.args.find in
+    let new = c.admit-result.new.self in
+    let updates = (c.get_mut.follows.holds new).3 (search rules) in
+    let held : Some c.in-Some.cells.now ≡ get name_eq owners find.owner = grind (arith, common_steps) in
+    on_err_weaker c.admit-result.result
+    (λ cells. cells_kept owners owners (c.get_mut.follows.lender new) find.owner c.find-2.result.now.owner new refl (ap (λ (f : Find). f.owner) c.find-2.ensures) updates
+    (λ k v. cells k v ∙ ap (λ (o : Option OwnerCells). cell_by_owner o k v) held))
+    c.admit-result.ensures.err
+
+pub admit-requires : goal.admit-requires
+admit-requires c = record { upto = c.new-cells.ensures.upto c.args.top }
+
+pub returns-clause-cells : goal.returns-clause-cells
+returns-clause-cells c =
+    let owners = c.args.owners.now in
+    let find = c.args.find in
+    let new = c.admit.new.self in
+    let absent : get name_eq owners find.owner ≡ None = grind (arith, common_steps) in
+    cells_admitted owners c.get_mut.follows.lender-at-none c.insert.new.self find.owner c.in_ok-owner.owner new c.get_mut.follows.holds-at-none (c.in_ok-owner.ensures ∙ ap (λ (f : Find). f.owner) c.find-3.ensures) c.in_ok-insert.ensures.updates
+    find (admission_of find find c.args.moment) c.args.top refl
+    (λ k v low. c.in_ok-admit.ensures.cells k v low ∙ by_none (get name_eq owners find.owner) c.new-cells.result (has_kind find.scope k) (admission_of find find c.args.moment) k v (c.new-cells.ensures.cells k v) absent)
+
+pub returns-in-Some-clause-settles : goal.returns-in-Some-clause-settles
+returns-in-Some-clause-settles c = λ n k name low settles.
+    let owners = c.args.owners.now in
+    let find = c.args.find in
+    let new = c.admit-result.new.self in
+    let updates = (c.get_mut.follows.holds new).3 (search rules) in
+    let held : Some c.in-Some.cells.now ≡ get name_eq owners find.owner = grind (arith, common_steps) in
+    each_updated owners owners (c.get_mut.follows.lender new) find.owner c.find-2.result.now.owner new refl (ap (λ (f : Find). f.owner) c.find-2.ensures) updates (CanSettle n k)
+    (λ was. c.admit-result.ensures.settles n k low (subst (λ (o : Option OwnerCells). IfSome o (CanSettle n k)) (sym held) was)) name settles
+
+pub returns-clause-settles : goal.returns-clause-settles
+returns-clause-settles c = λ n k name low settles.
+    let owners = c.args.owners.now in
+    let find = c.args.find in
+    each_updated owners c.get_mut.follows.lender-at-none c.insert.new.self find.owner c.in_ok-owner.owner c.admit.new.self c.get_mut.follows.holds-at-none (c.in_ok-owner.ensures ∙ ap (λ (f : Find). f.owner) c.find-3.ensures) c.in_ok-insert.ensures.updates (CanSettle n k)
+    (λ was. c.admit.ensures.settles n k low (c.new-cells.ensures.settles n k)) name settles
+
+pub overflow_sub-others : goal.overflow_sub-others
+overflow_sub-others c =
+    let owners = c.args.owners.now in
+    let held : get name_eq owners c.args.find.owner ≡ Some c.in-Some.cells.now = grind (arith, common_steps) in
+    omega (arith, count_found (name_eq c.args.find.owner) owners.entries c.in-Some.cells.now held, c.requires.counted, c.counted.ensures)
+
+pub returns-in-Some-clause-counted : goal.returns-in-Some-clause-counted
+returns-in-Some-clause-counted c =
+    let owners = c.args.owners.now in
+    let new = c.admit-result.new.self in
+    let held : get name_eq owners c.args.find.owner ≡ Some c.in-Some.cells.now = grind (arith, common_steps) in
+    let found = count_found (name_eq c.args.find.owner) owners.entries c.in-Some.cells.now held in
+    let set = count_set (name_eq c.args.find.owner) owners.entries c.in-Some.cells.now new held in
+    let put = ap count_entries (c.get_mut.follows.holds new).0 in
+    let same = ap (λ (f : Find). count_entries (set_value (name_eq f.owner) owners.entries new)) c.find-2.ensures in
+    omega (arith, found, set, put, same, c.requires.counted, c.counted.ensures, c.counted-in-Some.ensures)
+
+pub returns-in-Some-clause-bound : goal.returns-in-Some-clause-bound
+returns-in-Some-clause-bound c =
+    let owners = c.args.owners.now in
+    let find = c.args.find in
+    let held : get name_eq owners find.owner ≡ Some c.in-Some.cells.now = grind (arith, common_steps) in
+    let found = count_found (name_eq find.owner) owners.entries c.in-Some.cells.now held in
+    let has : one_if (not (has_place_for owners find)) ≡ one_if (not (has_place c.in-Some.cells.now find.scope)) = ap (λ (o : Option OwnerCells). one_if (not (option_map_or (λ cells. has_place cells find.scope) o false))) held in
+    omega (arith, found, has, c.requires.counted, c.admit-result.ensures.count, c.counted.ensures, c.counted-in-Some.ensures)
+
+pub returns-clause-counted : goal.returns-clause-counted
+returns-clause-counted c =
+    let owners = c.args.owners.now in
+    let find = c.args.find in
+    let absent : get name_eq owners find.owner ≡ None = grind (arith, common_steps) in
+    let name : c.in_ok-owner.owner ≡ find.owner = c.in_ok-owner.ensures ∙ ap (λ (f : Find). f.owner) c.find-3.ensures in
+    let more = count_insert owners.entries find.owner c.admit.new.self absent in
+    let put : count_entries c.insert.new.self.entries ≡ count_entries (insert_entry name_eq owners.entries find.owner c.admit.new.self) =
+    ap count_entries c.in_ok-insert.ensures.entries ∙ (ap (λ (n : Labels). count_entries (insert_entry name_eq c.get_mut.follows.lender-at-none.entries n c.admit.new.self)) name
+    ∙ ap (λ (m : IndexMap Labels OwnerCells _). count_entries (insert_entry name_eq m.entries find.owner c.admit.new.self)) c.get_mut.follows.holds-at-none) in
+    omega (arith, more, put, c.requires.counted, c.counted-counted.ensures)
+
+pub returns-in-Some-clause-same : goal.returns-in-Some-clause-same
+returns-in-Some-clause-same c =
+    let owners = c.args.owners.now in
+    let held : get name_eq owners c.args.find.owner ≡ Some c.in-Some.cells.now = grind (arith, common_steps) in
+    let found = count_found (name_eq c.args.find.owner) owners.entries c.in-Some.cells.now held in
+    on_err_weaker c.admit-result.result
+    (λ same. omega (arith, found, same, c.requires.counted, c.counted.ensures, c.counted-in-Some.ensures))
+    c.admit-result.ensures.same

@@ -1,0 +1,61 @@
+use Rattle.std.proofs.Common.{◌≡◌, max, cond, Option, Some, refl, sym, ap, ◌∙◌, subst, rules, arith}
+use Rattle.std.specs.Prelude.{◌==◌, IfSome}
+use Rattle.std.specs.List.{list_any}
+use Rattle.indexmap.specs.IndexMap.{get}
+use Rattle.std.proofs.lemmas.Grind.{common_steps}
+use Rattle.dns_name.specs.Order.{name_eq}
+use Rattle.cell_store.specs.declared.owner.OwnerCells.{OwnerCells}
+use Rattle.cell_store.specs.Owner.{IsUpTo}
+use Rattle.cell_store.specs.Store.{cell_by_owner}
+use Rattle.cell_store.specs.Count.{count_entries}
+use Rattle.cell_store.proofs.CountLaws.{count_set, count_found}
+use Rattle.cell_store.proofs.StoreLaws.{cells_settled, each_updated, settles_there}
+use Rattle.cell_store.proofs.store.settle_kinds.Goals as goal
+
+pub returns-in-Some-clause-cells : goal.returns-in-Some-clause-cells
+returns-in-Some-clause-cells c =
+    let owners = c.args.owners.now in
+    let owner = c.args.owner.now in
+    let new = c.settle_kinds.new.self in
+    let updates = (c.get_mut.follows.holds new).3 (search rules) in
+    let held : Some c.in-Some.cells.now ≡ get name_eq owners owner = grind (arith, common_steps) in
+    cells_settled owners owners (c.get_mut.follows.lender new) owner owner new refl refl updates c.args.kinds.now c.args.number
+    (λ k v. c.settle_kinds.ensures.cells k v ∙ ap (λ (o : Option OwnerCells). cell_by_owner o k (cond (list_any (λ kind. kind == k) c.args.kinds.now) (max c.args.number v) v)) held)
+
+pub returns-in-Some-clause-upto : goal.returns-in-Some-clause-upto
+returns-in-Some-clause-upto c = λ top is.
+    let owners = c.args.owners.now in
+    let owner = c.args.owner.now in
+    let new = c.settle_kinds.new.self in
+    let updates = (c.get_mut.follows.holds new).3 (search rules) in
+    let held : Some c.in-Some.cells.now ≡ get name_eq owners owner = grind (arith, common_steps) in
+    λ name. each_updated owners owners (c.get_mut.follows.lender new) owner owner new refl refl updates (IsUpTo top)
+    (λ was. c.settle_kinds.ensures.upto top (subst (λ (o : Option OwnerCells). IfSome o (IsUpTo top)) (sym held) was)) name (is name)
+
+pub overflow_sub-others : goal.overflow_sub-others
+overflow_sub-others c =
+    let owners = c.args.owners.now in
+    let held : get name_eq owners c.args.owner.now ≡ Some c.in-Some.cells.now = grind (arith, common_steps) in
+    omega (arith, count_found (name_eq c.args.owner.now) owners.entries c.in-Some.cells.now held, c.requires.counted, c.counted.ensures)
+
+pub returns-in-Some-clause-counted : goal.returns-in-Some-clause-counted
+returns-in-Some-clause-counted c =
+    let owners = c.args.owners.now in
+    let new = c.settle_kinds.new.self in
+    let held : get name_eq owners c.args.owner.now ≡ Some c.in-Some.cells.now = grind (arith, common_steps) in
+    let found = count_found (name_eq c.args.owner.now) owners.entries c.in-Some.cells.now held in
+    let set = count_set (name_eq c.args.owner.now) owners.entries c.in-Some.cells.now new held in
+    let put = ap count_entries (c.get_mut.follows.holds new).0 in
+    omega (arith, found, set, put, c.requires.counted, c.counted.ensures, c.counted-in-Some.ensures)
+
+pub returns-in-Some-clause-fewer : goal.returns-in-Some-clause-fewer
+returns-in-Some-clause-fewer c =
+    let owners = c.args.owners.now in
+    let held : get name_eq owners c.args.owner.now ≡ Some c.in-Some.cells.now = grind (arith, common_steps) in
+    let found = count_found (name_eq c.args.owner.now) owners.entries c.in-Some.cells.now held in
+    omega (arith, found, c.requires.counted, c.settle_kinds.ensures.count, c.counted.ensures, c.counted-in-Some.ensures)
+
+pub settle_kinds-requires : goal.settle_kinds-requires
+settle_kinds-requires c =
+    let held : get name_eq c.args.owners.now c.args.owner.now ≡ Some c.in-Some.cells.now = grind (arith, common_steps) in
+    record { settles = settles_there c.args.owners.now c.args.owner.now c.in-Some.cells.now c.args.number c.args.kinds.now held c.requires.settles }

@@ -1,0 +1,53 @@
+-- A column as its users see it.
+use Rattle.std.specs.Prelude.{ℕ, ◌≤◌, Bool, List, Option, Some, None, length, map, nat_lt, is_some, Vec, vec_capacity, if◌then◌else◌}
+use Rattle.std.specs.Global.{Global}
+use Rattle.std.specs.List.{AllByRecursion, list_any}
+use Rattle.std.specs.Option.{option_map}
+use Rattle.ranked.specs.declared.find.Find.{Find}
+use Rattle.ranked.specs.declared.cell.Shown.{Shown}
+use Rattle.ranked.specs.Cell.{shown_at, shown_map}
+use Rattle.cell_store.specs.declared.version.Place.{Place}
+use Rattle.cell_store.specs.declared.version.Version.{Version}
+use Rattle.cell_store.specs.declared.version.Sight.{Sight}
+use Rattle.cell_store.specs.declared.version.Sight.TheVariants.{Left, Own}
+use Rattle.cell_store.specs.Version.{nothing, place_at, IsFromStart}
+use Rattle.cell_store.specs.Few.{AreRanked}
+use Rattle.cell_store.specs.Slots.{version_of, IsWithin, AreNamed}
+
+-- the content from each version on, and the last version that an admission has reached
+pub record Cells : Type 0 where
+  pub versions : List (Version Find)
+  pub upto : ℕ
+
+-- The content in a version. Versions past the last that an admission has reached are empty.
+abbrev pub place_in : Cells → ℕ → Place Find
+place_in cells v = if nat_lt cells.upto v then nothing else place_at cells.versions v
+
+abbrev pub cells_of : Vec (Version ℕ) Global → Vec Find Global → ℕ → Cells
+cells_of versions finds upto = record { versions = map (version_of finds.items) versions.items; upto = upto }
+
+-- Each cell refers to a find of the column, and some cell refers to each find. The first entry starts at version 0. There are at most five entries, and room for one more and its find.
+pub record IsColumn (versions : Vec (Version ℕ) Global) (finds : Vec Find Global) : Type 0 where
+  pub within : AllByRecursion (IsWithin (length finds.items)) versions.items
+  pub named : AreNamed versions.items (length finds.items)
+  pub starts : IsFromStart (map (version_of finds.items) versions.items)
+  pub ranked : AreRanked versions.items
+  pub short : length versions.items ≤ 5
+  pub room : 6 ≤ vec_capacity versions
+  pub slots : 6 ≤ vec_capacity finds
+
+-- the answer of a place at a moment, or none if the answer is that of the whole name
+abbrev pub sight_at : Place Find → ℕ → Option (Option (Shown Find))
+sight_at place moment = if place.left then None else Some (shown_at place.cell.held moment)
+
+abbrev pub sight_now : Sight → Option (Option (Shown Find))
+sight_now Left = None
+sight_now (Own shown) = Some (option_map (shown_map (λ find. find.now)) shown)
+
+-- whether an entry has a find
+abbrev pub has_find : {B : Type 0} → Version B → Bool
+has_find version = is_some version.place.cell.held
+
+-- whether a column has a find in some version
+abbrev pub is_counted : Cells → Bool
+is_counted cells = list_any has_find cells.versions

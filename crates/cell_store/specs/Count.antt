@@ -1,0 +1,42 @@
+-- The places that count against the limit: a find of a whole name, and a column that has a find in some version.
+use Rattle.std.specs.Prelude.{ℕ, ◌+◌, Bool, false, List, [], ◌∷◌, is_some, if◌then◌else◌}
+use Rattle.std.specs.Option.{option_map_or}
+use Rattle.indexmap.specs.IndexMap.{IndexMap, get}
+use Rattle.dns_name.specs.Labels.{Labels}
+use Rattle.dns_name.specs.Order.{name_eq}
+use Rattle.ranked.specs.declared.find.Find.{Find}
+use Rattle.ranked.specs.declared.find.Scope.{Scope}
+use Rattle.ranked.specs.declared.find.Scope.TheVariants.{One, Whole}
+use Rattle.cell_store.specs.declared.owner.KindColumn.{KindColumn}
+use Rattle.cell_store.specs.declared.owner.OwnerCells.{OwnerCells}
+pub use Rattle.cell_store.specs.Column.{has_find, is_counted}
+use Rattle.cell_store.specs.Owner.{column_of}
+
+abbrev pub one_if : Bool → ℕ
+one_if b = if b then 1 else 0
+
+-- the number of columns that count
+abbrev pub count_kinds : List KindColumn → ℕ
+count_kinds [] = 0
+count_kinds (own ∷ kinds) = one_if (is_counted own.column) + count_kinds kinds
+
+-- the number of places of a name that count
+abbrev pub count_of : OwnerCells → ℕ
+count_of cells = one_if (is_some cells.whole) + count_kinds cells.kinds.items
+
+abbrev pub count_entries : List (Labels × OwnerCells) → ℕ
+count_entries [] = 0
+count_entries (entry ∷ entries) = count_of entry.1 + count_entries entries
+
+-- the number of places that count
+abbrev pub stored_in : {S : Type 0} → IndexMap Labels OwnerCells S → ℕ
+stored_in owners = count_entries owners.entries
+
+-- whether the place of a find of this scope counts
+abbrev pub has_place : OwnerCells → Scope → Bool
+has_place cells (One kind) = option_map_or is_counted (column_of cells.kinds.items kind) false
+has_place cells Whole = is_some cells.whole
+
+-- whether the place of a find counts: that of its owner, and of its type or of the whole name
+abbrev pub has_place_for : {S : Type 0} → IndexMap Labels OwnerCells S → Find → Bool
+has_place_for owners find = option_map_or (λ cells. has_place cells find.scope) (get name_eq owners find.owner) false

@@ -1,0 +1,14 @@
+pub mod Version
+pub mod Slots
+pub mod Column
+pub mod Owner
+pub mod Store
+pub mod Merge
+pub mod Few
+pub mod Prune
+pub mod Walk
+pub mod WalkLaws
+pub mod Count
+pub mod Sweep
+pub mod StoredLaws
+pub mod Seed

@@ -1,0 +1,96 @@
+-- The cells of one name: a find of the whole name, and columns by type.
+use Rattle.std.specs.Prelude.{◌≡◌, ℕ, ◌<◌, ◌≤◌, ◌==◌, max, Bool, true, false, List, [], ◌∷◌, Option, Some, None, length, nat_lt, slice_index_or, if◌then◌else◌}
+use Rattle.std.specs.List.{AllByRecursion}
+use Rattle.std.specs.Option.{option_map}
+use Rattle.std.specs.Borrow.{Bor}
+use Rattle.ranked.specs.declared.cell.Shown.{Shown}
+use Rattle.ranked.specs.Cell.{shown_map}
+use Rattle.ranked.specs.declared.find.Find.{Find}
+use Rattle.ranked.specs.declared.cell.Admitted.{Admitted}
+use Rattle.ranked.specs.Cell.{after_admission}
+use Rattle.ranked.specs.Find.{admission_of}
+use Rattle.cell_store.specs.declared.version.Place.{Place}
+use Rattle.cell_store.specs.declared.owner.KindColumn.{KindColumn}
+use Rattle.cell_store.specs.declared.owner.WholeFind.{WholeFind}
+use Rattle.cell_store.specs.declared.owner.OwnerCells.{OwnerCells}
+use Rattle.cell_store.specs.Column.{Cells, place_in, is_counted}
+
+-- the column of a type
+abbrev pub column_of : List KindColumn → ℕ → Option Cells
+column_of [] kind = None
+column_of (own ∷ kinds) kind = if own.kind == kind then Some own.column else column_of kinds kind
+
+-- the find of the whole name, as a cell
+abbrev pub whole_cell : Option WholeFind → Option (Admitted Find)
+whole_cell None = None
+whole_cell (Some whole) = Some (admission_of whole.find whole.find whole.since)
+
+-- The same in a version. Versions opened after its admission do not have it.
+abbrev pub whole_held : Option WholeFind → ℕ → Option (Admitted Find)
+whole_held None v = None
+whole_held (Some whole) v = if nat_lt whole.upto v then None else Some (admission_of whole.find whole.find whole.since)
+
+abbrev pub place_held : Option (Admitted Find) → Place Find → Option (Admitted Find)
+place_held whole place = if place.left then whole else place.cell.held
+
+abbrev pub column_held : Option WholeFind → Option Cells → ℕ → Option (Admitted Find)
+column_held whole None v = whole_held whole v
+column_held whole (Some cells) v = place_held (whole_cell whole) (place_in cells v)
+
+-- the cell of a type in a version
+abbrev pub cell_in : OwnerCells → ℕ → ℕ → Option (Admitted Find)
+cell_in cells kind v = column_held cells.whole (column_of cells.kinds.items kind) v
+
+-- no admission has reached a version past this one
+abbrev pub IsWholeUpTo : ℕ → Option WholeFind → Type 0
+IsWholeUpTo top None = Unit {0}
+IsWholeUpTo top (Some whole) = whole.upto ≤ top
+
+-- a version has the find of the whole name, if there is one
+abbrev pub IsWholeIn : Option WholeFind → ℕ → Type 0
+IsWholeIn None v = Unit {0}
+IsWholeIn (Some whole) v = v ≤ whole.upto
+
+-- A place refers to the whole name only in versions that have its find. If there is none, such a place is empty.
+abbrev pub IsLeftWithin : Option WholeFind → Cells → Type 0
+IsLeftWithin whole cells = (v : ℕ) → (place_in cells v).left ≡ true → IsWholeIn whole v
+
+pub record IsUpTo (top : ℕ) (cells : OwnerCells) : Type 0 where
+  pub whole : IsWholeUpTo top cells.whole
+  pub kinds : AllByRecursion (λ own. own.column.upto ≤ top) cells.kinds.items
+  pub left : AllByRecursion (λ own. IsLeftWithin cells.whole own.column) cells.kinds.items
+
+-- the first place of a column of this type
+pub record IsPlaceOf (kinds : List KindColumn) (kind place : ℕ) : Type 0 where
+  pub low : place < length kinds
+  pub here : (d : KindColumn) → (slice_index_or kinds place d).kind ≡ kind
+  pub before : (i : ℕ) (d : KindColumn) → i < place → ((slice_index_or kinds i d).kind == kind) ≡ false
+
+-- the lent answer, with the find itself
+abbrev pub held_now : Option (Shown (Bor Find)) → Option (Shown Find)
+held_now held = option_map (shown_map (λ find. find.now)) held
+
+-- A flush of a type can become permanent with no memory: the type has a column, or no find of the whole name is older than the flush.
+abbrev pub CanSettleColumn : ℕ → Option WholeFind → Option Cells → Type 0
+CanSettleColumn number (Some whole) None = number ≤ whole.upto
+CanSettleColumn number _ _ = Unit {0}
+
+abbrev pub CanSettle : ℕ → ℕ → OwnerCells → Type 0
+CanSettle number kind cells = CanSettleColumn number cells.whole (column_of cells.kinds.items kind)
+
+-- the column of a type, once a flush is permanent
+abbrev pub IsSettled : ℕ → KindColumn → KindColumn → Type 0
+IsSettled number old new = (new.kind ≡ old.kind) × (new.column.upto ≡ old.column.upto) × ((v : ℕ) → place_in new.column v ≡ place_in old.column (max number v)) × (is_counted new.column ≡ true → is_counted old.column ≡ true)
+
+-- the find of the whole name, once a flush is permanent
+abbrev pub whole_settled : ℕ → Option WholeFind → Option WholeFind
+whole_settled number None = None
+whole_settled number (Some whole) = if nat_lt whole.upto number then None else Some whole
+
+-- the cell after an admission, if the find is about its question
+abbrev pub after_touch : {B : Type 0} → Bool → Option (Admitted B) → Admitted B → Option (Admitted B)
+after_touch touched cell new = if touched then after_admission cell new else cell
+
+-- The old version whose content a version has once a flush is permanent: no version before the flush is left.
+abbrev pub after_settle : Bool → ℕ → ℕ → ℕ
+after_settle covered number v = if covered then max number v else v

@@ -1,0 +1,27 @@
+-- The cells of all names.
+use Rattle.std.specs.Prelude.{ℕ, Option, None, IfSome}
+use Rattle.indexmap.specs.IndexMap.{IndexMap, get}
+use Rattle.std.specs.Option.{option_map_or}
+use Rattle.dns_name.specs.Labels.{Labels}
+use Rattle.dns_name.specs.Order.{name_eq}
+use Rattle.dns_text.specs.declared.record.Question.{Question}
+use Rattle.ranked.specs.declared.find.Find.{Find}
+use Rattle.ranked.specs.declared.cell.Admitted.{Admitted}
+use Rattle.cell_store.specs.declared.owner.OwnerCells.{OwnerCells}
+use Rattle.cell_store.specs.Owner.{cell_in, IsUpTo, CanSettle}
+
+-- the cell of a type in a version, by the cells of its name
+abbrev pub cell_by_owner : Option OwnerCells → ℕ → ℕ → Option (Admitted Find)
+cell_by_owner cells kind v = option_map_or (λ own. cell_in own kind v) cells None
+
+-- the cell of a question in a version
+abbrev pub cell_of : {S : Type 0} → IndexMap Labels OwnerCells S → Question → ℕ → Option (Admitted Find)
+cell_of owners question v = cell_by_owner (get name_eq owners question.owner) question.kind v
+
+-- no admission has reached a version past this one
+abbrev pub AreUpTo : {S : Type 0} → ℕ → IndexMap Labels OwnerCells S → Type 0
+AreUpTo top owners = (name : Labels) → IfSome (get name_eq owners name) (IsUpTo top)
+
+-- A flush of a type of a name can become permanent with no memory.
+abbrev pub CanSettleAt : {S : Type 0} → ℕ → ℕ → Labels → IndexMap Labels OwnerCells S → Type 0
+CanSettleAt number kind name owners = IfSome (get name_eq owners name) (CanSettle number kind)

@@ -1,0 +1,210 @@
+//! The cells of one name and type.
+
+ghost use Rattle.std.specs.Prelude.{◌≡◌, ◌<◌, ◌≤◌, ◌+◌, ℕ, max, true, false, IfOk, OnOk, OnErr, IsOk, nat_lt, if◌then◌else◌};
+ghost use Rattle.ranked.specs.Find.{admission_of};
+ghost use Rattle.ranked.specs.Rank.{level_of};
+ghost use Rattle.cell_store.specs.Version.{nothing, whole, after_find};
+ghost use Rattle.cell_store.specs.Column.{place_in, sight_at, sight_now};
+ghost use Rattle.cell_store.specs.Prune.{is_asked};
+ghost use Rattle.cell_store.specs.Sweep.{swept, IsSeenAt};
+ghost use Rattle.cell_store.specs.Count.{has_find, is_counted};
+
+use crate::merge::merge;
+use crate::prune::prune;
+use crate::slots::{has_find, release};
+use crate::version::{Place, Sight, Version};
+use crate::versions::{admit_each, forget_before, place_at, reach, sweep_each};
+use dns_name::NoMemory;
+use ranked::{Cell, SharedFind, Shown};
+use std::alloc::Global;
+use std::marker::Model;
+
+/// The room of a column: five entries, and one more while a find is admitted. Two finds of one column have different ranks,
+/// since the newer one left only what outranks it. So no admission takes more, however many flushes can be undone.
+const ENTRIES: usize = 6;
+
+/// The cells of one name and type, one for each version. A find is kept once, however many versions have it.
+#[derive(Drop)]
+pub struct Column {
+    versions: Vec<Version<usize>>,
+    finds: Vec<SharedFind>,
+    // The last version that an admission has reached. Later ones are empty.
+    upto: u64,
+}
+
+impl Model for Column {
+    ghost use Rattle.std.specs.Coded.{codes};
+    ghost use Rattle.ranked.specs.contracts.find.Find as find_type;
+    ghost use Rattle.cell_store.specs.Column.{Cells, cells_of, IsColumn};
+
+    ghost Value = { Cells };
+
+    ghost coded = { Prim.hlevel (codes, find_type.the_row.coded) };
+
+    ghost view = { λ c. cells_of c.versions c.finds c.upto };
+
+    ghost invariant = { λ c. IsColumn c.versions c.finds };
+}
+
+impl Column {
+    /// An empty column.
+    pub fn new(alloc: Global, upto: u64) -> Result<Column, NoMemory>
+        ensures places { IfOk result (λ column. (v : ℕ) → place_in column v ≡ nothing) }
+        ensures upto { IfOk result (λ column. column.upto ≡ upto) }
+        ensures counted { IfOk result (λ column. is_counted column ≡ false) }
+    {
+        let mut versions = Vec::with_capacity(alloc, ENTRIES)?;
+        let finds = Vec::with_capacity(alloc, ENTRIES)?;
+        versions.push_reserved(Version {
+            from: 0,
+            place: Place {
+                left: false,
+                cell: Cell::empty(),
+            },
+        });
+        Ok(Column {
+            versions,
+            finds,
+            upto,
+        })
+    }
+
+    /// A column that refers to the find of the whole name, in the versions up to one.
+    pub fn left(alloc: Global, upto: u64) -> Result<Column, NoMemory>
+        ensures places { IfOk result (λ column. (v : ℕ) → place_in column v ≡ (if nat_lt upto v then nothing else whole)) }
+        ensures upto { IfOk result (λ column. column.upto ≡ upto) }
+        ensures counted { IfOk result (λ column. is_counted column ≡ false) }
+    {
+        let mut versions = Vec::with_capacity(alloc, ENTRIES)?;
+        let finds = Vec::with_capacity(alloc, ENTRIES)?;
+        versions.push_reserved(Version {
+            from: 0,
+            place: Place {
+                left: true,
+                cell: Cell::empty(),
+            },
+        });
+        Ok(Column {
+            versions,
+            finds,
+            upto,
+        })
+    }
+
+    /// The last version that an admission has reached. Later ones are empty.
+    pub fn upto(&self) -> u64
+        ensures { result ≡ self.now.upto }
+    {
+        self.upto
+    }
+
+    /// Whether some version has a find.
+    pub fn is_counted(&self) -> bool
+        ensures { result ≡ is_counted self.now }
+    {
+        has_find(&self.versions)
+    }
+
+    /// The answer in a version, at a moment in seconds.
+    pub fn at(&self, version: u64, moment: u64) -> Sight<'_>
+        ensures { sight_now result ≡ sight_at (place_in self.now version) moment }
+    {
+        if self.upto < version {
+            return Sight::Own(None);
+        }
+        let place = place_at(&self.versions, version);
+        if place.left {
+            return Sight::Left;
+        }
+        match place.cell.at(moment) {
+            Some(shown) => Sight::Own(Some(Shown {
+                rank: shown.rank,
+                left: shown.left,
+                body: &self.finds[shown.body],
+            })),
+            None => Sight::Own(None),
+        }
+    }
+
+    /// Caches a find in each version up to `top`, unless what is cached there is alive at the moment and of higher rank.
+    /// `outranked` says whether the find of the whole name outranks it. It takes no memory.
+    pub fn hold(&mut self, find: SharedFind, moment: u64, outranked: bool, top: u64)
+        requires upto { self.old.upto ≤ top }
+        requires lower { outranked ≡ true → level_of find.rank < 4 }
+        ensures places { (v : ℕ) → v ≤ top →
+            place_in self.new v ≡ after_find (admission_of find find moment) outranked (place_in self.old v) }
+        ensures upto { self.new.upto ≡ top }
+        ensures left { (v : ℕ) → (place_in self.new v).left ≡ true → (place_in self.old v).left ≡ true }
+    {
+        reach(&mut self.versions, self.upto, top);
+        self.upto = top;
+        let slot = self.finds.len();
+        self.finds.push_reserved(find);
+        admit_each(
+            &mut self.versions,
+            self.finds[slot].find(),
+            slot,
+            moment,
+            outranked,
+        );
+        merge(&mut self.versions);
+        release(&mut self.versions, &mut self.finds);
+    }
+
+    /// Makes a flush permanent: the versions before it get the content of its own version. It takes no memory.
+    pub fn forget_before(&mut self, number: u64)
+        requires upto { number ≤ self.old.upto }
+        ensures places { (v : ℕ) → place_in self.new v ≡ place_in self.old (max number v) }
+        ensures upto { self.new.upto ≡ self.old.upto }
+        ensures counted { is_counted self.new ≡ true → is_counted self.old ≡ true }
+    {
+        forget_before(&mut self.versions, number);
+        release(&mut self.versions, &mut self.finds);
+    }
+
+    /// The same for any flush. If no admission has come since, the column becomes empty.
+    pub fn settle(&mut self, number: u64)
+        ensures places { (v : ℕ) → place_in self.new v ≡ place_in self.old (max number v) }
+        ensures upto { self.new.upto ≡ self.old.upto }
+        ensures counted { is_counted self.new ≡ true → is_counted self.old ≡ true }
+    {
+        if self.upto < number {
+            self.clear();
+        } else {
+            self.forget_before(number);
+        }
+    }
+
+    /// Empties every version.
+    fn clear(&mut self)
+        ensures places { (v : ℕ) → place_in self.new v ≡ nothing }
+        ensures upto { self.new.upto ≡ self.old.upto }
+        ensures counted { is_counted self.new ≡ false }
+    {
+        self.versions.truncate(1);
+        self.versions[0] = Version {
+            from: 0,
+            place: Place {
+                left: false,
+                cell: Cell::empty(),
+            },
+        };
+        self.finds.clear();
+    }
+
+    /// Drops what is dead at a moment, and what only versions have that nobody asks for. Version 0 is asked for, and those of some numbers.
+    /// What refers to the whole name stays. It takes no memory.
+    pub fn sweep(&mut self, numbers: &[u64], moment: u64)
+        ensures places { (v : ℕ) → is_asked numbers.now v ≡ true → place_in self.new v ≡ swept moment (place_in self.old v) }
+        ensures left { (v : ℕ) → (place_in self.new v).left ≡ true → (place_in self.old v).left ≡ true }
+        ensures upto { self.new.upto ≡ self.old.upto }
+        ensures seen { is_counted self.new ≡ true → IsSeenAt numbers.now self.new }
+        ensures counted { is_counted self.new ≡ true → is_counted self.old ≡ true }
+    {
+        sweep_each(&mut self.versions, moment);
+        merge(&mut self.versions);
+        prune(&mut self.versions, numbers, self.upto);
+        merge(&mut self.versions);
+        release(&mut self.versions, &mut self.finds);
+    }
+}

@@ -1,0 +1,32 @@
+//! The cells of the cache, by version, so that a flush can be undone and redone without a history.
+//!
+//! Each flush that can still be undone has a number. Version 0 of a cell is its content if none of these flushes is in force.
+//! Version `n` is its content if the flush of number `n` is the last in force that covers it.
+//! A column is the versions of one name and type. It says nothing of the versions opened after its last admission: those are empty.
+//! So a flush needs to visit no column.
+#![tactic(auto)]
+
+// The content of a cell, from one version on.
+mod version;
+// The finds of a column, each kept once.
+mod slots;
+// Equal neighbours, kept once.
+mod merge;
+// Versions that no flush needs any more.
+mod prune;
+// One change made in each version of a column.
+mod versions;
+// The cells of one name and type.
+mod column;
+// The cells of one name.
+mod owner;
+// The hasher of the index.
+mod seed;
+// The cells of all names.
+mod store;
+
+pub use column::Column;
+pub use owner::{KindColumn, OwnerCells, WholeFind};
+pub use seed::NameSeed;
+pub use store::{Owners, admit, at, forget, has_place, open_kinds, settle_below, settle_kinds};
+pub use version::{Place, Sight, Version};

@@ -1,0 +1,74 @@
+//! Equal neighbours among the versions of a column. Later admissions treat them alike, so they stay equal, and one entry serves for both.
+
+ghost use Rattle.std.specs.Prelude.{◌≡◌, ◌≤◌, ℕ, true, length, vec_capacity};
+ghost use Rattle.std.specs.List.{AllByRecursion, list_any};
+ghost use Rattle.cell_store.specs.Column.{has_find};
+ghost use Rattle.cell_store.specs.Version.{place_at, IsFromStart};
+ghost use Rattle.cell_store.specs.Few.{contents, AreRanked, DoDiffer};
+ghost use Rattle.cell_store.specs.Merge.{holds_same, same_held, started};
+ghost use Rattle.cell_store.specs.Slots.{IsWithin};
+
+use crate::version::Version;
+use ranked::Admitted;
+
+impl Version<usize> {
+    /// Whether another entry has the same content.
+    fn holds_same(&self, other: &Version<usize>) -> bool
+        ensures { result ≡ holds_same self.now other.now }
+    {
+        self.place.left == other.place.left
+            && same_held(&self.place.cell.held, &other.place.cell.held)
+    }
+
+    /// Starts at a version, if it started later.
+    fn start_by(&mut self, number: u64)
+        ensures { self.new ≡ started number self.old }
+    {
+        if number < self.from {
+            self.from = number;
+        }
+    }
+}
+
+fn same_held(a: &Option<Admitted<usize>>, b: &Option<Admitted<usize>>) -> bool
+    ensures { result ≡ same_held a.now b.now }
+{
+    match a {
+        None => match b {
+            None => true,
+            Some(_) => false,
+        },
+        Some(x) => match b {
+            None => false,
+            Some(y) => {
+                x.rank.level() == y.rank.level()
+                    && x.ttl == y.ttl
+                    && x.since == y.since
+                    && x.body == y.body
+            }
+        },
+    }
+}
+
+/// Removes each entry whose content is that of the entry before it. If that one started later, it starts as early.
+pub(crate) fn merge(versions: &mut Vec<Version<usize>>)
+    ensures places { (v : ℕ) → place_at versions.new.items v ≡ place_at versions.old.items v }
+    ensures within { (slots : ℕ) →
+        AllByRecursion (IsWithin slots) versions.old.items → AllByRecursion (IsWithin slots) versions.new.items }
+    ensures starts { IsFromStart versions.old.items → IsFromStart versions.new.items }
+    ensures fewer { length versions.new.items ≤ length versions.old.items }
+    ensures finds { list_any has_find versions.new.items ≡ true → list_any has_find versions.old.items ≡ true }
+    ensures ranked { AreRanked versions.old.items → AreRanked versions.new.items }
+    ensures differ { AreRanked versions.old.items → DoDiffer (contents versions.new.items) }
+    ensures capacity { vec_capacity versions.new ≡ vec_capacity versions.old }
+{
+    let mut place = 1;
+    while place < versions.len() {
+        if versions[place - 1].holds_same(&versions[place]) {
+            let later = versions.remove(place);
+            versions[place - 1].start_by(later.from);
+        } else {
+            place += 1;
+        }
+    }
+}

@@ -1,0 +1,470 @@
+//! The cells of one name.
+
+ghost use Rattle.std.specs.Prelude.{◌≡◌, ◌<◌, ◌≤◌, ◌==◌, ◌+◌, ◌-◌, ◌^◌, ℕ, [], ◌∷◌, Some, None, true, false, not, max, map, length, vec_len, is_some};
+ghost use Rattle.std.specs.Prelude.{IfOk, IsOk, OnOk, OnErr, IfSome, IfNone, if◌then◌else◌};
+ghost use Rattle.std.specs.List.{AllByRecursion, list_any};
+ghost use Rattle.ranked.specs.declared.find.Scope.{Scope};
+ghost use Rattle.ranked.specs.declared.find.Scope.TheVariants.{One};
+ghost use Rattle.ranked.specs.Find.{admission_of, has_kind};
+ghost use Rattle.ranked.specs.Cell.{shown_at, turns_away};
+ghost use Rattle.cell_store.specs.Column.{place_in};
+ghost use Rattle.cell_store.specs.Owner.{after_settle, after_touch, column_of, held_now, place_held, whole_held};
+ghost use Rattle.cell_store.specs.Owner.{IsLeftWithin, IsPlaceOf, IsSettled, IsWholeUpTo};
+ghost use Rattle.cell_store.specs.Walk.{IsEach};
+ghost use Rattle.cell_store.specs.Count.{count_kinds, is_counted, one_if};
+ghost use Rattle.cell_store.specs.Prune.{is_asked};
+ghost use Rattle.cell_store.specs.Sweep.{alive_at, is_dead, whole_swept};
+
+use crate::column::Column;
+use crate::version::Sight;
+use dns_name::NoMemory;
+use ranked::{Admitted, Cell, Find, Held, Scope, SharedFind, negative_law};
+use std::alloc::Global;
+
+/// The column of one type.
+#[derive(Drop)]
+pub struct KindColumn {
+    pub kind: u16,
+    pub column: Column,
+}
+
+/// A find about every type of a name. Nothing outranks it, so its admission reaches every version that there is.
+#[derive(Drop)]
+pub struct WholeFind {
+    pub find: SharedFind,
+    /// The moment at which it was admitted, in seconds.
+    pub since: u64,
+    /// The last version that there was then. Later ones don't have it.
+    pub upto: u64,
+}
+
+/// The cells of one name: the find of the whole name, and a column for each type that needs one.
+#[derive(Drop)]
+pub struct OwnerCells {
+    pub alloc: Global,
+    pub whole: Option<WholeFind>,
+    pub kinds: Vec<KindColumn>,
+}
+
+/// The place of the column of a type.
+fn place_of(kinds: &[KindColumn], kind: u16) -> Option<usize>
+    ensures some { IfSome result (IsPlaceOf kinds.now kind) }
+    ensures none { IfNone result (column_of kinds.now kind ≡ None) }
+{
+    for (place, own) in kinds.iter().enumerate() {
+        if own.kind == kind {
+            return Some(place);
+        }
+    }
+    None
+}
+
+fn whole_count(whole: &Option<WholeFind>) -> u64
+    ensures { result ≡ one_if (is_some whole.now) }
+{
+    match whole {
+        Some(_) => 1,
+        None => 0,
+    }
+}
+
+/// The number of columns that have a find in some version.
+fn count_kinds(kinds: &[KindColumn]) -> u64
+    ensures count { result ≡ count_kinds kinds.now }
+    ensures few { result < 2 ^ 63 }
+{
+    let mut count = 0;
+    let mut place = 0;
+    while place < kinds.len() {
+        count += one_if(kinds[place].column.is_counted());
+        place += 1;
+    }
+    count
+}
+
+fn one_if(counted: bool) -> u64
+    ensures { result ≡ one_if counted }
+{
+    if counted { 1 } else { 0 }
+}
+
+/// Makes a flush of every type permanent, in each column.
+fn settle_each(kinds: &mut Vec<KindColumn>, number: u64)
+    ensures { IsEach (IsSettled number) kinds.old.items kinds.new.items }
+{
+    let mut place = 0;
+    while place < kinds.len() {
+        kinds[place].column.settle(number);
+        place += 1;
+    }
+}
+
+impl OwnerCells {
+    ghost use Rattle.cell_store.specs.Owner.{cell_in, CanSettle, IsUpTo, whole_cell, whole_settled};
+    ghost use Rattle.cell_store.specs.Count.{count_of, has_place};
+
+    /// No cells.
+    pub fn new(alloc: Global) -> OwnerCells
+        ensures cells { (kind v : ℕ) → cell_in result kind v ≡ None }
+        ensures upto { (top : ℕ) → IsUpTo top result }
+        ensures settles { (n k : ℕ) → CanSettle n k result }
+        ensures count { count_of result ≡ 0 }
+        ensures places { (scope : Scope) → has_place result scope ≡ false }
+    {
+        OwnerCells {
+            alloc,
+            whole: None,
+            kinds: Vec::new(alloc),
+        }
+    }
+
+    /// Caches a find of the whole name in each version, in place of all columns. It takes no memory.
+    pub fn admit_whole(&mut self, find: SharedFind, moment: u64, top: u64)
+        ensures cells { (kind v : ℕ) → v ≤ top → cell_in self.new kind v ≡ Some (admission_of find find moment) }
+        ensures upto { IsUpTo top self.new }
+        ensures settles { (n k : ℕ) → n ≤ top → CanSettle n k self.new }
+        ensures count { count_of self.new ≡ 1 }
+    {
+        self.kinds.clear();
+        self.whole = Some(WholeFind {
+            find,
+            since: moment,
+            upto: top,
+        });
+    }
+
+    /// A column for a type that has none, with the content that the type has.
+    fn derived(&self, top: u64) -> Result<Column, NoMemory>
+        requires upto { IsWholeUpTo top self.now.whole }
+        ensures cells { IfOk result (λ column. (v : ℕ) →
+            place_held (whole_cell self.now.whole) (place_in column v) ≡ whole_held self.now.whole v) }
+        ensures upto { IfOk result (λ column. column.upto ≤ top) }
+        ensures left { IfOk result (IsLeftWithin self.now.whole) }
+        ensures counted { IfOk result (λ column. is_counted column ≡ false) }
+    {
+        match &self.whole {
+            Some(whole) => Column::left(self.alloc, whole.upto),
+            None => Column::new(self.alloc, top),
+        }
+    }
+
+    /// Adds a column for a type that has none. No cell changes.
+    fn open_kind(&mut self, kind: u16, top: u64) -> Result<(), NoMemory>
+        requires upto { IsUpTo top self.old }
+        requires fresh { column_of self.old.kinds.items kind ≡ None }
+        ensures cells { (k v : ℕ) → cell_in self.new k v ≡ cell_in self.old k v }
+        ensures whole { self.new.whole ≡ self.old.whole }
+        ensures upto { IsUpTo top self.new }
+        ensures settles { (n k : ℕ) → CanSettle n k self.old → CanSettle n k self.new }
+        ensures count { count_of self.new ≡ count_of self.old }
+        ensures places { (scope : Scope) → has_place self.new scope ≡ has_place self.old scope }
+        ensures opened { OnOk result (IsPlaceOf self.new.kinds.items kind (vec_len self.new.kinds - 1)) }
+        ensures some { OnOk result (1 ≤ vec_len self.new.kinds) }
+    {
+        let column = self.derived(top)?;
+        self.kinds.reserve_exact(1)?;
+        self.kinds.push_reserved(KindColumn { kind, column });
+        Ok(())
+    }
+
+    /// Adds a column for a type, if only the find of the whole name is cached. So `settle_kind` needs no memory later. No cell changes.
+    pub fn open(&mut self, kind: u16, top: u64) -> Result<(), NoMemory>
+        requires upto { IsUpTo top self.old }
+        ensures cells { (k v : ℕ) → cell_in self.new k v ≡ cell_in self.old k v }
+        ensures upto { IsUpTo top self.new }
+        ensures settles { (n k : ℕ) → CanSettle n k self.old → CanSettle n k self.new }
+        ensures count { count_of self.new ≡ count_of self.old }
+        ensures opened { OnOk result ((n : ℕ) → CanSettle n kind self.new) }
+    {
+        if self.whole.is_none() {
+            return Ok(());
+        }
+        self.place_for(kind, top)?;
+        Ok(())
+    }
+
+    /// The same for some types. If memory runs out, some of them may have a column.
+    pub fn open_each(&mut self, kinds: &[u16], top: u64) -> Result<(), NoMemory>
+        requires upto { IsUpTo top self.old }
+        ensures cells { (k v : ℕ) → cell_in self.new k v ≡ cell_in self.old k v }
+        ensures upto { IsUpTo top self.new }
+        ensures settles { (n k : ℕ) → CanSettle n k self.old → CanSettle n k self.new }
+        ensures count { count_of self.new ≡ count_of self.old }
+        ensures opened { OnOk result (AllByRecursion (λ kind. (n : ℕ) → CanSettle n kind self.new) kinds.now) }
+    {
+        for kind in kinds {
+            self.open(*kind, top)?;
+        }
+        Ok(())
+    }
+
+    /// The place of the column of a type. It is added if there is none.
+    fn place_for(&mut self, kind: u16, top: u64) -> Result<usize, NoMemory>
+        requires upto { IsUpTo top self.old }
+        ensures cells { (k v : ℕ) → cell_in self.new k v ≡ cell_in self.old k v }
+        ensures whole { self.new.whole ≡ self.old.whole }
+        ensures upto { IsUpTo top self.new }
+        ensures settles { (n k : ℕ) → CanSettle n k self.old → CanSettle n k self.new }
+        ensures count { count_of self.new ≡ count_of self.old }
+        ensures places { (scope : Scope) → has_place self.new scope ≡ has_place self.old scope }
+        ensures place { IfOk result (IsPlaceOf self.new.kinds.items kind) }
+        ensures free { has_place self.old (One kind) ≡ true → IsOk result }
+    {
+        if let Some(place) = place_of(&self.kinds, kind) {
+            return Ok(place);
+        }
+        self.open_kind(kind, top)?;
+        Ok(self.kinds.len() - 1)
+    }
+
+    /// Whether the find of the whole name is alive at a moment and outranks a find.
+    fn turns_away(&self, find: &Find, moment: u64) -> bool
+        ensures { result ≡ turns_away (whole_cell self.now.whole) (admission_of find.now find.now moment) }
+    {
+        match &self.whole {
+            Some(whole) => {
+                let held = whole.find.find();
+                moment.saturating_sub(whole.since) < u64::from(held.ttl)
+                    && find.rank.level() < held.rank.level()
+            }
+            None => false,
+        }
+    }
+
+    /// Caches a find of a type in each version, unless what is cached there is alive at the moment and of higher rank.
+    pub fn admit_kind(
+        &mut self,
+        find: SharedFind,
+        kind: u16,
+        moment: u64,
+        top: u64,
+    ) -> Result<(), NoMemory>
+        requires upto { IsUpTo top self.old }
+        ensures cells { OnOk result ((k v : ℕ) → v ≤ top →
+            cell_in self.new k v ≡ after_touch (kind == k) (cell_in self.old k v) (admission_of find find moment)) }
+        ensures err { OnErr result ((k v : ℕ) → cell_in self.new k v ≡ cell_in self.old k v) }
+        ensures upto { IsUpTo top self.new }
+        ensures settles { (n k : ℕ) → CanSettle n k self.old → CanSettle n k self.new }
+        ensures count { count_of self.new ≤ count_of self.old + one_if (not (has_place self.old (One kind))) }
+        ensures same { OnErr result (count_of self.new ≡ count_of self.old) }
+        ensures free { has_place self.old (One kind) ≡ true → IsOk result }
+    {
+        let place = self.place_for(kind, top)?;
+        let outranked = self.turns_away(find.find(), moment);
+        self.kinds[place].column.hold(find, moment, outranked, top);
+        Ok(())
+    }
+
+    /// The same for each type that the find is about.
+    pub fn admit(&mut self, find: SharedFind, moment: u64, top: u64) -> Result<(), NoMemory>
+        requires upto { IsUpTo top self.old }
+        ensures cells { OnOk result ((k v : ℕ) → v ≤ top →
+            cell_in self.new k v ≡ after_touch (has_kind find.scope k) (cell_in self.old k v) (admission_of find find moment)) }
+        ensures err { OnErr result ((k v : ℕ) → cell_in self.new k v ≡ cell_in self.old k v) }
+        ensures upto { IsUpTo top self.new }
+        ensures settles { (n k : ℕ) → n ≤ top → CanSettle n k self.old → CanSettle n k self.new }
+        ensures count { count_of self.new ≤ count_of self.old + one_if (not (has_place self.old find.scope)) }
+        ensures same { OnErr result (count_of self.new ≡ count_of self.old) }
+        ensures free { has_place self.old find.scope ≡ true → IsOk result }
+    {
+        match find.find().scope {
+            Scope::One(kind) => self.admit_kind(find, kind, moment, top),
+            Scope::Whole => {
+                negative_law();
+                self.admit_whole(find, moment, top);
+                Ok(())
+            }
+        }
+    }
+
+    /// The find of the whole name, if it is alive at a moment.
+    fn whole_at(&self, moment: u64) -> Option<Held<'_>>
+        ensures { held_now result ≡ shown_at (whole_cell self.now.whole) moment }
+    {
+        match &self.whole {
+            Some(whole) => {
+                let found = whole.find.find();
+                let cell = Cell {
+                    held: Some(Admitted {
+                        rank: found.rank,
+                        ttl: found.ttl,
+                        since: whole.since,
+                        body: &whole.find,
+                    }),
+                };
+                cell.at(moment)
+            }
+            None => None,
+        }
+    }
+
+    /// The cached data of a type in a version, if they are alive at a moment.
+    pub fn at(&self, kind: u16, version: u64, moment: u64) -> Option<Held<'_>>
+        ensures { held_now result ≡ shown_at (cell_in self.now kind version) moment }
+    {
+        match place_of(&self.kinds, kind) {
+            Some(place) => match self.kinds[place].column.at(version, moment) {
+                Sight::Left => self.whole_at(moment),
+                Sight::Own(shown) => shown,
+            },
+            None => self.unopened_at(version, moment),
+        }
+    }
+
+    /// The same of a type that has no column.
+    fn unopened_at(&self, version: u64, moment: u64) -> Option<Held<'_>>
+        ensures { held_now result ≡ shown_at (whole_held self.now.whole version) moment }
+    {
+        match &self.whole {
+            Some(whole) => {
+                if whole.upto < version {
+                    None
+                } else {
+                    self.whole_at(moment)
+                }
+            }
+            None => None,
+        }
+    }
+
+    /// The number of its places that count against the limit: that of the whole name, and each column that has a find in some version.
+    pub fn counted(&self) -> u64
+        ensures { result ≡ count_of self.now }
+    {
+        whole_count(&self.whole) + count_kinds(&self.kinds)
+    }
+
+    /// Whether the place of a find is counted already.
+    pub fn has_place(&self, scope: Scope) -> bool
+        ensures { result ≡ has_place self.now scope }
+    {
+        match scope {
+            Scope::One(kind) => self.has_kind(kind),
+            Scope::Whole => self.whole.is_some(),
+        }
+    }
+
+    fn has_kind(&self, kind: u16) -> bool
+        ensures { result ≡ has_place self.now (One kind) }
+    {
+        match place_of(&self.kinds, kind) {
+            Some(place) => self.kinds[place].column.is_counted(),
+            None => false,
+        }
+    }
+
+    /// Makes a flush of a type permanent. It takes no memory.
+    pub fn settle_kind(&mut self, kind: u16, number: u64)
+        requires settles { CanSettle number kind self.old }
+        ensures cells { (k v : ℕ) → cell_in self.new k v ≡ cell_in self.old k (after_settle (kind == k) number v) }
+        ensures upto { (top : ℕ) → IsUpTo top self.old → IsUpTo top self.new }
+        ensures settles { (n k : ℕ) → CanSettle n k self.old → CanSettle n k self.new }
+        ensures count { count_of self.new ≤ count_of self.old }
+    {
+        if let Some(place) = place_of(&self.kinds, kind) {
+            self.kinds[place].column.settle(number);
+        }
+    }
+
+    /// The same for some types.
+    pub fn settle_kinds(&mut self, kinds: &[u16], number: u64)
+        requires settles { AllByRecursion (λ kind. CanSettle number kind self.old) kinds.now }
+        ensures cells { (k v : ℕ) →
+            cell_in self.new k v ≡ cell_in self.old k (after_settle (list_any (λ kind. kind == k) kinds.now) number v) }
+        ensures upto { (top : ℕ) → IsUpTo top self.old → IsUpTo top self.new }
+        ensures settles { (n k : ℕ) → CanSettle n k self.old → CanSettle n k self.new }
+        ensures count { count_of self.new ≤ count_of self.old }
+    {
+        for kind in kinds {
+            self.settle_kind(*kind, number);
+        }
+    }
+
+    /// The same for every type.
+    pub fn settle_all(&mut self, number: u64)
+        ensures cells { (top : ℕ) → IsUpTo top self.old → (k v : ℕ) → cell_in self.new k v ≡ cell_in self.old k (max number v) }
+        ensures upto { (top : ℕ) → IsUpTo top self.old → IsUpTo top self.new }
+        ensures settles { (n k : ℕ) → CanSettle n k self.old → CanSettle n k self.new }
+        ensures count { count_of self.new ≤ count_of self.old }
+    {
+        settle_each(&mut self.kinds, number);
+        self.settle_whole(number);
+    }
+
+    /// The same, if the flush covers the name.
+    pub(crate) fn settle_where(&mut self, covered: bool, number: u64)
+        ensures cells { (top : ℕ) → IsUpTo top self.old → (k v : ℕ) →
+            cell_in self.new k v ≡ cell_in self.old k (after_settle covered number v) }
+        ensures upto { (top : ℕ) → IsUpTo top self.old → IsUpTo top self.new }
+        ensures settles { (n k : ℕ) → CanSettle n k self.old → CanSettle n k self.new }
+        ensures count { count_of self.new ≤ count_of self.old }
+    {
+        if covered {
+            self.settle_all(number);
+        }
+    }
+
+    /// Drops the find of the whole name, if it is older than a flush.
+    fn settle_whole(&mut self, number: u64)
+        ensures whole { self.new.whole ≡ whole_settled number self.old.whole }
+        ensures kinds { self.new.kinds.items ≡ self.old.kinds.items }
+    {
+        let past = match &self.whole {
+            Some(whole) => whole.upto < number,
+            None => false,
+        };
+        if past {
+            self.whole = None;
+        }
+    }
+
+    /// Drops the find of the whole name, if it is dead at a moment. It takes no memory.
+    pub fn sweep_whole(&mut self, moment: u64)
+        ensures cells { (k v : ℕ) → alive_at moment (cell_in self.new k v) ≡ alive_at moment (cell_in self.old k v) }
+        ensures upto { (top : ℕ) → IsUpTo top self.old → IsUpTo top self.new }
+        ensures settles { (n k : ℕ) → CanSettle n k self.old → CanSettle n k self.new }
+        ensures kinds { self.new.kinds.items ≡ self.old.kinds.items }
+        ensures whole { self.new.whole ≡ whole_swept moment self.old.whole }
+        ensures count { count_of self.new ≤ count_of self.old }
+    {
+        self.drop_dead(moment);
+    }
+
+    fn drop_dead(&mut self, moment: u64)
+        ensures whole { self.new.whole ≡ whole_swept moment self.old.whole }
+        ensures kinds { self.new.kinds.items ≡ self.old.kinds.items }
+    {
+        if is_dead(&self.whole, moment) {
+            self.whole = None;
+        }
+    }
+
+    /// Drops what is dead of a type at a moment, and what only versions have that nobody asks for. Version 0 is asked for, and those of some numbers.
+    /// It takes no memory.
+    pub fn sweep_kind(&mut self, kind: u16, numbers: &[u64], moment: u64)
+        ensures cells { (k v : ℕ) → ((kind == k) ≡ true → is_asked numbers.now v ≡ true) →
+            alive_at moment (cell_in self.new k v) ≡ alive_at moment (cell_in self.old k v) }
+        ensures seen { has_place self.new (One kind) ≡ true →
+            (v : ℕ) × ((is_asked numbers.now v ≡ true) × (is_some (alive_at moment (cell_in self.new kind v)) ≡ true)) }
+        ensures others { (k : ℕ) → (kind == k) ≡ false → column_of self.new.kinds.items k ≡ column_of self.old.kinds.items k }
+        ensures kinds { map (λ own. own.kind) self.new.kinds.items ≡ map (λ own. own.kind) self.old.kinds.items }
+        ensures whole { self.new.whole ≡ self.old.whole }
+        ensures upto { (top : ℕ) → IsUpTo top self.old → IsUpTo top self.new }
+        ensures settles { (n k : ℕ) → CanSettle n k self.old → CanSettle n k self.new }
+        ensures count { count_of self.new ≤ count_of self.old }
+    {
+        if let Some(place) = place_of(&self.kinds, kind) {
+            self.kinds[place].column.sweep(numbers, moment);
+        }
+    }
+}
+
+/// Whether the find of the whole name is dead at a moment.
+fn is_dead(whole: &Option<WholeFind>, moment: u64) -> bool
+    ensures { result ≡ is_dead moment whole.now }
+{
+    match whole {
+        Some(whole) => moment.saturating_sub(whole.since) >= u64::from(whole.find.find().ttl),
+        None => false,
+    }
+}

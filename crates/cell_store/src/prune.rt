@@ -1,0 +1,83 @@
+//! Versions that no flush needs any more: nobody asks for the version of a flush that can no longer be undone.
+
+ghost use Rattle.std.specs.Prelude.{◌≡◌, ◌<◌, ◌+◌, ℕ, length, drop, slice_index_or, vec_capacity};
+ghost use Rattle.std.specs.List.{list_any};
+ghost use Rattle.cell_store.specs.Prune.{is_from, is_held_at, is_seen, kept_entry, pruned};
+
+use crate::version::{Place, Version};
+use ranked::Cell;
+
+impl Version<usize> {
+    /// Whether it starts at a version or before.
+    fn is_from(&self, number: u64) -> bool
+        ensures { result ≡ is_from number self.now }
+    {
+        self.from <= number
+    }
+}
+
+/// Whether a version has the content of an entry: the entry starts there or before, and no later one does.
+fn is_held_at(versions: &[Version<usize>], place: usize, number: u64) -> bool
+    requires { place < length versions.now }
+    ensures { (d : Version ℕ) → result ≡ is_held_at number (slice_index_or versions.now place d) (drop (place + 1) versions.now) }
+{
+    versions[place].is_from(number) && !any_from(&versions[place + 1..], number)
+}
+
+fn any_from(versions: &[Version<usize>], number: u64) -> bool
+    ensures { result ≡ list_any (is_from number) versions.now }
+{
+    versions.iter().any(|version| version.is_from(number))
+}
+
+/// Whether a version that is asked for has the content of an entry.
+fn is_seen(versions: &[Version<usize>], place: usize, numbers: &[u64], upto: u64) -> bool
+    requires { place < length versions.now }
+    ensures { (d : Version ℕ) →
+        result ≡ is_seen numbers.now upto (slice_index_or versions.now place d) (drop (place + 1) versions.now) }
+{
+    let mut seen = is_held_at(versions, place, 0);
+    for number in numbers {
+        if *number <= upto && is_held_at(versions, place, *number) {
+            seen = true;
+        }
+    }
+    seen
+}
+
+/// The entry, emptied if no version that is asked for has its content.
+fn kept_entry(
+    versions: &[Version<usize>],
+    place: usize,
+    numbers: &[u64],
+    upto: u64,
+) -> Version<usize>
+    requires { place < length versions.now }
+    ensures { (d : Version ℕ) →
+        result ≡ kept_entry numbers.now upto (slice_index_or versions.now place d) (drop (place + 1) versions.now) }
+{
+    let version = versions[place];
+    if is_seen(versions, place, numbers, upto) {
+        return version;
+    }
+    Version {
+        from: version.from,
+        place: Place {
+            left: false,
+            cell: Cell::empty(),
+        },
+    }
+}
+
+/// Empties the entries that no version that is asked for has. Version 0 is asked for, and those of some numbers.
+pub(crate) fn prune(versions: &mut Vec<Version<usize>>, numbers: &[u64], upto: u64)
+    ensures each { versions.new.items ≡ pruned numbers.now upto versions.old.items }
+    ensures capacity { vec_capacity versions.new ≡ vec_capacity versions.old }
+{
+    let mut place = 0;
+    while place < versions.len() {
+        let entry = kept_entry(versions, place, numbers, upto);
+        versions[place] = entry;
+        place += 1;
+    }
+}

@@ -1,0 +1,85 @@
+//! The finds of a column. Each is kept once, and the cells of all versions refer to it by its slot.
+
+ghost use Rattle.std.specs.Prelude.{◌≡◌, ◌==◌, ℕ, map, length, vec_capacity};
+ghost use Rattle.std.specs.List.{AllByRecursion, list_any};
+ghost use Rattle.cell_store.specs.Slots.{names, renamed, version_of, IsWithin, AreNamed};
+ghost use Rattle.cell_store.specs.Count.{has_find};
+ghost use Rattle.cell_store.specs.Few.{AreRanked};
+
+use crate::version::Version;
+use ranked::SharedFind;
+
+impl Version<usize> {
+    fn has_find(&self) -> bool
+        ensures { result ≡ has_find self.now }
+    {
+        self.place.cell.held.is_some()
+    }
+
+    /// Whether its cell refers to a slot.
+    fn names(&self, slot: usize) -> bool
+        ensures { result ≡ names slot self.now }
+    {
+        match self.place.cell.held {
+            Some(held) => held.body == slot,
+            None => false,
+        }
+    }
+
+    /// Refers to another slot, if it referred to the old one.
+    fn rename(&mut self, old: usize, new: usize)
+        ensures { self.new ≡ renamed old new self.old }
+    {
+        if let Some(mut held) = self.place.cell.held {
+            if held.body == old {
+                held.body = new;
+                self.place.cell.held = Some(held);
+            }
+        }
+    }
+}
+
+/// Whether some version has a find.
+pub(crate) fn has_find(versions: &[Version<usize>]) -> bool
+    ensures { result ≡ list_any has_find versions.now }
+{
+    versions.iter().any(|version| version.has_find())
+}
+
+/// Whether some cell refers to a slot.
+fn is_named(versions: &[Version<usize>], slot: usize) -> bool
+    ensures { result ≡ list_any (names slot) versions.now }
+{
+    versions.iter().any(|version| version.names(slot))
+}
+
+/// Lets each cell that refers to the old slot refer to the new one.
+fn rename(versions: &mut Vec<Version<usize>>, old: usize, new: usize)
+    ensures each { versions.new.items ≡ map (renamed old new) versions.old.items }
+    ensures capacity { vec_capacity versions.new ≡ vec_capacity versions.old }
+{
+    for version in versions.iter_mut() {
+        version.rename(old, new);
+    }
+}
+
+/// Drops the finds to which no cell refers. The last find moves into the gap.
+pub(crate) fn release(versions: &mut Vec<Version<usize>>, finds: &mut Vec<SharedFind>)
+    requires within { AllByRecursion (IsWithin (length finds.old.items)) versions.old.items }
+    ensures same { map (version_of finds.new.items) versions.new.items ≡ map (version_of finds.old.items) versions.old.items }
+    ensures within { AllByRecursion (IsWithin (length finds.new.items)) versions.new.items }
+    ensures ranked { AreRanked versions.old.items → AreRanked versions.new.items }
+    ensures named { AreNamed versions.new.items (length finds.new.items) }
+    ensures capacity { vec_capacity versions.new ≡ vec_capacity versions.old }
+    ensures room { vec_capacity finds.new ≡ vec_capacity finds.old }
+{
+    let mut slot = 0;
+    while slot < finds.len() {
+        if is_named(versions, slot) {
+            slot += 1;
+        } else {
+            finds.swap_remove(slot);
+            rename(versions, finds.len(), slot);
+        }
+    }
+}

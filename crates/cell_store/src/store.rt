@@ -1,0 +1,162 @@
+//! The cells of all names, in an index whose hasher is seeded.
+
+ghost use Rattle.std.specs.Prelude.{◌≡◌, ◌<◌, ◌≤◌, ◌==◌, ◌&&◌, ◌+◌, ◌^◌, ℕ, None, not, true, IsOk, OnOk, OnErr, if◌then◌else◌};
+ghost use Rattle.std.specs.List.{AllByRecursion, list_any};
+ghost use Rattle.dns_name.specs.Labels.{Labels};
+ghost use Rattle.dns_name.specs.Order.{name_eq};
+ghost use Rattle.dns_name.specs.Below.{is_at_or_below};
+ghost use Rattle.dns_text.specs.declared.record.Question.{Question};
+ghost use Rattle.ranked.specs.Find.{admission_of, touches};
+ghost use Rattle.ranked.specs.Cell.{shown_at};
+ghost use Rattle.cell_store.specs.Owner.{after_settle, after_touch, held_now};
+ghost use Rattle.cell_store.specs.Count.{has_place_for, one_if, stored_in};
+ghost use Rattle.cell_store.specs.Store.{cell_of, AreUpTo, CanSettleAt};
+
+use crate::owner::OwnerCells;
+use crate::seed::NameSeed;
+use dns_name::{Name, NoMemory};
+use indexmap::IndexMap;
+use ranked::{Find, Held, SharedFind};
+use std::alloc::Global;
+
+/// The cells of each name. The order of names means nothing: a removal moves the last name into the gap.
+pub type Owners = IndexMap<Name, OwnerCells, NameSeed>;
+
+/// Caches a find in each version, for each question that it is about, unless what is cached there is alive and of higher rank.
+/// It takes no memory if the place of the find is counted already. `stored` counts the places that `stored_in` counts.
+pub fn admit(
+    alloc: Global,
+    owners: &mut Owners,
+    stored: &mut u64,
+    find: SharedFind,
+    moment: u64,
+    top: u64,
+) -> Result<(), NoMemory>
+    requires upto { AreUpTo top owners.old }
+    requires counted { stored.old ≡ stored_in owners.old }
+    requires few { stored.old < 2 ^ 63 }
+    ensures cells { OnOk result ((q : Question) (v : ℕ) → v ≤ top →
+        cell_of owners.new q v ≡ after_touch (touches find q) (cell_of owners.old q v) (admission_of find find moment)) }
+    ensures err { OnErr result ((q : Question) (v : ℕ) → cell_of owners.new q v ≡ cell_of owners.old q v) }
+    ensures upto { AreUpTo top owners.new }
+    ensures settles { (n k : ℕ) (name : Labels) → n ≤ top → CanSettleAt n k name owners.old → CanSettleAt n k name owners.new }
+    ensures counted { stored.new ≡ stored_in owners.new }
+    ensures bound { stored.new ≤ stored.old + one_if (not (has_place_for owners.old find)) }
+    ensures same { OnErr result (stored.new ≡ stored.old) }
+    ensures free { has_place_for owners.old find ≡ true → IsOk result }
+{
+    if let Some(cells) = owners.get_mut(&find.find().owner) {
+        let others = *stored - cells.counted();
+        let result = cells.admit(find, moment, top);
+        *stored = others + cells.counted();
+        return result;
+    }
+    let owner = find.find().owner.clone()?;
+    let mut cells = OwnerCells::new(alloc);
+    cells.admit(find, moment, top)?;
+    let counted = cells.counted();
+    owners.insert(owner, cells)?;
+    *stored += counted;
+    Ok(())
+}
+
+/// The cached data of a question in a version, if it is alive at the moment. It looks the name up once, and takes no memory.
+pub fn at<'a>(
+    owners: &'a Owners,
+    owner: &Name,
+    kind: u16,
+    version: u64,
+    moment: u64,
+) -> Option<Held<'a>>
+    ensures { held_now result ≡ shown_at (cell_of owners.now (record { owner = owner.now; kind = kind }) version) moment }
+{
+    match owners.get(owner) {
+        Some(cells) => cells.at(kind, version, moment),
+        None => None,
+    }
+}
+
+/// Makes room for a flush of some types of a name, so that `settle_kinds` needs no memory later. Every cell stays as it is, even if memory runs out.
+pub fn open_kinds(
+    owners: &mut Owners,
+    owner: &Name,
+    kinds: &[u16],
+    top: u64,
+) -> Result<(), NoMemory>
+    requires upto { AreUpTo top owners.old }
+    ensures cells { (q : Question) (v : ℕ) → cell_of owners.new q v ≡ cell_of owners.old q v }
+    ensures upto { AreUpTo top owners.new }
+    ensures settles { (n k : ℕ) (name : Labels) → CanSettleAt n k name owners.old → CanSettleAt n k name owners.new }
+    ensures opened { OnOk result (AllByRecursion (λ kind. (n : ℕ) → CanSettleAt n kind owner.now owners.new) kinds.now) }
+    ensures counted { stored_in owners.new ≡ stored_in owners.old }
+{
+    if let Some(cells) = owners.get_mut(owner) {
+        return cells.open_each(kinds, top);
+    }
+    Ok(())
+}
+
+/// Makes a flush of some types of a name permanent: no version before it is kept. It takes no memory.
+pub fn settle_kinds(owners: &mut Owners, stored: &mut u64, owner: &Name, kinds: &[u16], number: u64)
+    requires settles { AllByRecursion (λ kind. CanSettleAt number kind owner.now owners.old) kinds.now }
+    requires counted { stored.old ≡ stored_in owners.old }
+    ensures cells { (q : Question) (v : ℕ) →
+        cell_of owners.new q v ≡
+        cell_of owners.old q (after_settle (name_eq owner.now q.owner && list_any (λ kind. kind == q.kind) kinds.now) number v) }
+    ensures upto { (top : ℕ) → AreUpTo top owners.old → AreUpTo top owners.new }
+    ensures settles { (n k : ℕ) (name : Labels) → CanSettleAt n k name owners.old → CanSettleAt n k name owners.new }
+    ensures counted { stored.new ≡ stored_in owners.new }
+    ensures fewer { stored.new ≤ stored.old }
+{
+    if let Some(cells) = owners.get_mut(owner) {
+        let others = *stored - cells.counted();
+        cells.settle_kinds(kinds, number);
+        *stored = others + cells.counted();
+    }
+}
+
+/// Makes a flush of every type at or below a name permanent. It takes no memory, and visits every name.
+pub fn settle_below(owners: &mut Owners, stored: &mut u64, zone: &Name, number: u64)
+    requires counted { stored.old ≡ stored_in owners.old }
+    ensures cells { (top : ℕ) → AreUpTo top owners.old → (q : Question) (v : ℕ) →
+        cell_of owners.new q v ≡ cell_of owners.old q (after_settle (is_at_or_below q.owner zone.now) number v) }
+    ensures upto { (top : ℕ) → AreUpTo top owners.old → AreUpTo top owners.new }
+    ensures settles { (n k : ℕ) (name : Labels) → CanSettleAt n k name owners.old → CanSettleAt n k name owners.new }
+    ensures counted { stored.new ≡ stored_in owners.new }
+    ensures fewer { stored.new ≤ stored.old }
+{
+    let mut place = 0;
+    while place < owners.len() {
+        let (name, cells) = owners.pair_mut(place);
+        let covered = name.at_or_below(zone);
+        let others = *stored - cells.counted();
+        cells.settle_where(covered, number);
+        *stored = others + cells.counted();
+        place += 1;
+    }
+}
+
+/// Whether the place of a find is counted already: that of its owner, and of its type or of the whole name.
+pub fn has_place(owners: &Owners, find: &Find) -> bool
+    ensures { result ≡ has_place_for owners.now find.now }
+{
+    match owners.get(&find.owner) {
+        Some(cells) => cells.has_place(find.scope),
+        None => false,
+    }
+}
+
+/// Removes a name, from every version. It takes no memory.
+pub fn forget(owners: &mut Owners, stored: &mut u64, owner: &Name)
+    requires counted { stored.old ≡ stored_in owners.old }
+    ensures cells { (q : Question) (v : ℕ) →
+        cell_of owners.new q v ≡ (if name_eq owner.now q.owner then None else cell_of owners.old q v) }
+    ensures upto { (top : ℕ) → AreUpTo top owners.old → AreUpTo top owners.new }
+    ensures settles { (n k : ℕ) (name : Labels) → CanSettleAt n k name owners.old → CanSettleAt n k name owners.new }
+    ensures counted { stored.new ≡ stored_in owners.new }
+    ensures fewer { stored.new ≤ stored.old }
+{
+    if let Some(cells) = owners.swap_remove(owner) {
+        *stored -= cells.counted();
+    }
+}

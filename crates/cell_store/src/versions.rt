@@ -1,0 +1,167 @@
+//! One change made in each version of a column.
+
+ghost use Rattle.std.specs.Prelude.{◌≡◌, ◌<◌, ◌≤◌, ℕ, true, max, map, length, drop, slice_index_or, vec_capacity};
+ghost use Rattle.std.specs.List.{AllByRecursion, list_any};
+ghost use Rattle.cell_store.specs.Count.{has_find};
+ghost use Rattle.ranked.specs.Find.{admission_of};
+ghost use Rattle.cell_store.specs.Few.{AreRanked};
+ghost use Rattle.cell_store.specs.Slots.{IsWithin};
+ghost use Rattle.cell_store.specs.Sweep.{swept, version_swept};
+ghost use Rattle.cell_store.specs.Version.{lowered, reached, version_after, place_at, IsFromStart};
+
+use crate::version::{Place, Version};
+use ranked::{Cell, Find};
+
+impl<B: Copy> Version<B> {
+    /// Caches a find, as its place does.
+    fn admit(&mut self, find: &Find, body: B, moment: u64, outranked: bool)
+        ensures { self.new ≡ version_after (admission_of find.now body moment) outranked self.old }
+    {
+        self.place.admit(find, body, moment, outranked);
+    }
+}
+
+impl<B: Copy> Version<B> {
+    /// Starts at version 0, if it starts at a number or before.
+    fn lower(&mut self, number: u64)
+        ensures { self.new ≡ lowered number self.old }
+    {
+        if self.from <= number {
+            self.from = 0;
+        }
+    }
+}
+
+fn lower_each(versions: &mut Vec<Version<usize>>, number: u64)
+    ensures each { versions.new.items ≡ map (lowered number) versions.old.items }
+    ensures capacity { vec_capacity versions.new ≡ vec_capacity versions.old }
+{
+    for version in versions.iter_mut() {
+        version.lower(number);
+    }
+}
+
+/// The place of the last entry that starts at version 0.
+fn last_start(versions: &[Version<usize>]) -> usize
+    requires starts { IsFromStart versions.now }
+    ensures within { result < length versions.now }
+    ensures start { (d : Version ℕ) → (slice_index_or versions.now result d).from ≡ 0 }
+{
+    let mut last = 0;
+    for (place, version) in versions.iter().enumerate() {
+        if version.from == 0 {
+            last = place;
+        }
+    }
+    last
+}
+
+fn drop_front(versions: &mut Vec<Version<usize>>, count: usize)
+    requires { count ≤ length versions.old.items }
+    ensures items { versions.new.items ≡ drop count versions.old.items }
+    ensures capacity { vec_capacity versions.new ≡ vec_capacity versions.old }
+{
+    versions.drain(..count);
+}
+
+/// Gives every version before one the content of that one.
+pub(crate) fn forget_before(versions: &mut Vec<Version<usize>>, number: u64)
+    requires starts { IsFromStart versions.old.items }
+    ensures places { (v : ℕ) → place_at versions.new.items v ≡ place_at versions.old.items (max number v) }
+    ensures within { (slots : ℕ) →
+        AllByRecursion (IsWithin slots) versions.old.items → AllByRecursion (IsWithin slots) versions.new.items }
+    ensures fewer { length versions.new.items ≤ length versions.old.items }
+    ensures starts { IsFromStart versions.new.items }
+    ensures finds { list_any has_find versions.new.items ≡ true → list_any has_find versions.old.items ≡ true }
+    ensures ranked { AreRanked versions.old.items → AreRanked versions.new.items }
+    ensures capacity { vec_capacity versions.new ≡ vec_capacity versions.old }
+{
+    lower_each(versions, number);
+    let before = last_start(versions);
+    drop_front(versions, before);
+}
+
+/// Caches a find in each version.
+pub(crate) fn admit_each(
+    versions: &mut Vec<Version<usize>>,
+    find: &Find,
+    slot: usize,
+    moment: u64,
+    outranked: bool,
+)
+    ensures each { versions.new.items ≡ map (version_after (admission_of find.now slot moment) outranked) versions.old.items }
+    ensures capacity { vec_capacity versions.new ≡ vec_capacity versions.old }
+{
+    for version in versions.iter_mut() {
+        version.admit(find, slot, moment, outranked);
+    }
+}
+
+/// The content in a version.
+pub(crate) fn place_at(versions: &[Version<usize>], number: u64) -> Place<usize>
+    ensures { result ≡ place_at versions.now number }
+{
+    let mut place = Place {
+        left: false,
+        cell: Cell::empty(),
+    };
+    for version in versions {
+        if version.from <= number {
+            place = version.place;
+        }
+    }
+    place
+}
+
+impl<B: Copy> Place<B> {
+    /// Drops the find, if it is dead at a moment.
+    fn sweep(&mut self, moment: u64)
+        ensures { self.new ≡ swept moment self.old }
+    {
+        if self.left {
+            self.cell = Cell::empty();
+            return;
+        }
+        if let Some(held) = self.cell.held {
+            if held.is_alive(moment) {
+                return;
+            }
+            self.cell = Cell::empty();
+        }
+    }
+}
+
+impl<B: Copy> Version<B> {
+    fn sweep(&mut self, moment: u64)
+        ensures { self.new ≡ version_swept moment self.old }
+    {
+        self.place.sweep(moment);
+    }
+}
+
+/// Makes the emptiness of the versions up to a number explicit, as an entry that an admission can change.
+pub(crate) fn reach(versions: &mut Vec<Version<usize>>, upto: u64, top: u64)
+    requires { length versions.old.items < vec_capacity versions.old }
+    ensures items { versions.new.items ≡ reached upto top versions.old.items }
+    ensures capacity { vec_capacity versions.new ≡ vec_capacity versions.old }
+{
+    if upto < top {
+        versions.push_reserved(Version {
+            from: upto + 1,
+            place: Place {
+                left: false,
+                cell: Cell::empty(),
+            },
+        });
+    }
+}
+
+/// Drops the finds that are dead at a moment, from each version.
+pub(crate) fn sweep_each(versions: &mut Vec<Version<usize>>, moment: u64)
+    ensures each { versions.new.items ≡ map (version_swept moment) versions.old.items }
+    ensures capacity { vec_capacity versions.new ≡ vec_capacity versions.old }
+{
+    for version in versions.iter_mut() {
+        version.sweep(moment);
+    }
+}

@@ -1,0 +1,209 @@
+-- The cells of a name after a sweep, type after type.
+use Rattle.std.proofs.Common.{◌≡◌, ℕ, zero, suc, ◌+◌, ◌<◌, ◌≤◌, Bool, true, false, cond, Option, Some, None, List, [], ◌∷◌, ◌++◌, length, get_or, map, refl, sym, ap, ◌∙◌, subst, arith, ◌⊎◌, inl, inr}
+use Rattle.std.specs.Prelude.{fold, ◌==◌, ◌&&◌, ◌||◌, is_some, IfSome}
+use Rattle.std.specs.List.{list_any}
+use Rattle.std.specs.Option.{option_map_or}
+use Rattle.std.proofs.lemmas.Bool.{cases_Bool, eq-eqb, eqb-true, false≢true}
+use Rattle.std.proofs.lemmas.List.Folds.{list_any-append}
+use Rattle.std.proofs.Math.Bool.{or-false}
+use Rattle.indexmap.specs.IndexMap.{IndexMap, get}
+use Rattle.dns_name.specs.Labels.{Labels}
+use Rattle.dns_name.specs.Order.{name_eq, name_eq_exact}
+use Rattle.dns_text.specs.declared.record.Question.{Question}
+use Rattle.ranked.specs.declared.find.Scope.TheVariants.{One}
+use Rattle.cell_store.specs.declared.owner.KindColumn.{KindColumn}
+use Rattle.cell_store.specs.declared.owner.WholeFind.{WholeFind}
+use Rattle.cell_store.specs.declared.owner.OwnerCells.{OwnerCells}
+use Rattle.cell_store.specs.Column.{Cells, is_counted}
+use Rattle.cell_store.specs.Owner.{cell_in, column_of, column_held, IsUpTo, CanSettle}
+use Rattle.cell_store.specs.Store.{cell_of, cell_by_owner, AreUpTo, CanSettleAt}
+use Rattle.cell_store.specs.Count.{count_of, has_place}
+use Rattle.cell_store.specs.Prune.{is_asked}
+use Rattle.cell_store.specs.Sweep.{alive_at, is_dead, whole_swept}
+use Rattle.cell_store.specs.Walk.{IsEach, IsEntry, IsFound}
+use Rattle.cell_store.specs.WalkLaws.{found_each}
+use Rattle.shelf.specs.declared.shelf.KeptFlush.{KeptFlush}
+use Rattle.ranked.specs.Flush.{covers}
+use Rattle.shelf.specs.Told.{is_kept, is_version, chosen_version}
+use Rattle.shelf.specs.Sweep.{number_more, numbers_of, IsAlive, IsSwept}
+use Rattle.shelf.proofs.RoomLaws.{chosen_is_version}
+
+-- ---- the versions that are asked for are those of the question
+
+and_true : (a : Bool) → (a && true) ≡ a
+and_true true = refl
+and_true false = refl
+
+and_false : (a : Bool) → (a && false) ≡ false
+and_false true = refl
+and_false false = refl
+
+or_assoc : (a b c : Bool) → ((a || b) || c) ≡ (a || (b || c))
+or_assoc true b c = refl
+or_assoc false b c = refl
+
+any_numbers : (q : Question) (v : ℕ) (kept : List KeptFlush) (done : List ℕ) → list_any (λ n. n == v) (fold (number_more q) done kept) ≡ (list_any (λ n. n == v) done || is_kept kept q v)
+any_numbers q v [] done = sym (or-false (list_any (λ n. n == v) done))
+any_numbers q v (x ∷ kept) done = any_numbers q v kept (number_more q done x) ∙ split (covers x.flush q) refl
+  where
+    split : (b : Bool) → covers x.flush q ≡ b → (list_any (λ n. n == v) (cond (covers x.flush q) (done ++ x.number ∷ []) done) || is_kept kept q v) ≡ (list_any (λ n. n == v) done || ((x.number == v && covers x.flush q) || is_kept kept q v))
+    split true is =
+        ap (λ b. list_any (λ n. n == v) (cond b (done ++ x.number ∷ []) done) || is_kept kept q v) is
+        ∙ (ap (λ b. b || is_kept kept q v) (list_any-append (λ n. n == v) done (x.number ∷ []) ∙ ap (λ b. list_any (λ n. n == v) done || b) (or-false (x.number == v)))
+        ∙ (or_assoc (list_any (λ n. n == v) done) (x.number == v) (is_kept kept q v)
+        ∙ sym (ap (λ b. list_any (λ n. n == v) done || (b || is_kept kept q v)) (ap (λ b. x.number == v && b) is ∙ and_true (x.number == v)))))
+    split false is =
+        ap (λ b. list_any (λ n. n == v) (cond b (done ++ x.number ∷ []) done) || is_kept kept q v) is
+        ∙ sym (ap (λ b. list_any (λ n. n == v) done || (b || is_kept kept q v)) (ap (λ b. x.number == v && b) is ∙ and_false (x.number == v)))
+
+pub asked_version : (kept : List KeptFlush) (q : Question) (v : ℕ) → is_asked (numbers_of kept q) v ≡ is_version kept q v
+asked_version kept q v = ap (λ b. v == 0 || b) (any_numbers q v kept [])
+
+-- ---- type after type
+
+pub record IsSweptTo (kept : List KeptFlush) (t : ℕ) (name : Labels) (place : ℕ) (old new : OwnerCells) : Type 0 where
+  pub cells : (k v : ℕ) → is_version kept (record { owner = name; kind = k }) v ≡ true → alive_at t (cell_in new k v) ≡ alive_at t (cell_in old k v)
+  pub alive : (i : ℕ) (d : KindColumn) → i < place → i < length new.kinds.items → has_place new (One (get_or new.kinds.items i d).kind) ≡ true → IsAlive kept name t new (get_or new.kinds.items i d).kind
+  pub whole : new.whole ≡ whole_swept t old.whole
+  pub upto : (top : ℕ) → IsUpTo top old → IsUpTo top new
+  pub settles : (n k : ℕ) → CanSettle n k old → CanSettle n k new
+  pub count : count_of new ≤ count_of old
+
+kind_of : KindColumn → ℕ
+kind_of own = own.kind
+
+same_size : (xs ys : List KindColumn) → map (λ (own : KindColumn). own.kind) xs ≡ map (λ (own : KindColumn). own.kind) ys → length xs ≡ length ys
+same_size xs ys is = sym (size xs) ∙ (ap length is ∙ size ys)
+  where
+    size : (l : List KindColumn) → length (map (λ (own : KindColumn). own.kind) l) ≡ length l
+    size [] = refl
+    size (x ∷ l) = ap suc (size l)
+
+read_kind : (xs : List KindColumn) (i : ℕ) (d : KindColumn) → get_or (map (λ (own : KindColumn). own.kind) xs) i d.kind ≡ (get_or xs i d).kind
+read_kind [] i d = refl
+read_kind (x ∷ xs) zero d = refl
+read_kind (x ∷ xs) (suc i) d = read_kind xs i d
+
+same_kind : (xs ys : List KindColumn) (i : ℕ) (d : KindColumn) → map (λ (own : KindColumn). own.kind) xs ≡ map (λ (own : KindColumn). own.kind) ys → (get_or xs i d).kind ≡ (get_or ys i d).kind
+same_kind xs ys i d is = sym (read_kind xs i d) ∙ (ap (λ (l : List ℕ). get_or l i d.kind) is ∙ read_kind ys i d)
+
+pub swept_more : (kept : List KeptFlush) (t : ℕ) (name : Labels) (place : ℕ) (old cur new : OwnerCells) (kind : ℕ) (numbers : List ℕ) → IsSweptTo kept t name place old cur
+    → ((d : KindColumn) → kind ≡ (get_or cur.kinds.items place d).kind) → numbers ≡ numbers_of kept (record { owner = name; kind = kind })
+    → ((k v : ℕ) → ((kind == k) ≡ true → is_asked numbers v ≡ true) → alive_at t (cell_in new k v) ≡ alive_at t (cell_in cur k v))
+    → (has_place new (One kind) ≡ true → (v : ℕ) × ((is_asked numbers v ≡ true) × (is_some (alive_at t (cell_in new kind v)) ≡ true)))
+    → ((k : ℕ) → (kind == k) ≡ false → column_of new.kinds.items k ≡ column_of cur.kinds.items k)
+    → map (λ (own : KindColumn). own.kind) new.kinds.items ≡ map (λ (own : KindColumn). own.kind) cur.kinds.items → new.whole ≡ cur.whole
+    → ((top : ℕ) → IsUpTo top cur → IsUpTo top new) → ((n k : ℕ) → CanSettle n k cur → CanSettle n k new) → count_of new ≤ count_of cur
+    → IsSweptTo kept t name (place + 1) old new
+swept_more kept t name place old cur new kind numbers is here asked cells seen others kinds whole upto told count = record {
+  cells = λ k v there. cells k v (λ same. version k v same there) ∙ is.cells k v there;
+  alive = λ i d low few has. one i d low few (get_or new.kinds.items i d).kind refl has;
+  whole = whole ∙ is.whole;
+  upto = λ top u. upto top (is.upto top u);
+  settles = λ n k u. told n k (is.settles n k u);
+  count = omega (arith, count, is.count);
+}
+  where
+    version : (k v : ℕ) → (kind == k) ≡ true → is_version kept (record { owner = name; kind = k }) v ≡ true → is_asked numbers v ≡ true
+    version k v same there =
+        ap (λ (l : List ℕ). is_asked l v) asked ∙ (asked_version kept (record { owner = name; kind = kind }) v ∙ (ap (λ n. is_version kept (record { owner = name; kind = n }) v) (eqb-true kind k same) ∙ there))
+
+    one : (i : ℕ) (d : KindColumn) → i < place + 1 → i < length new.kinds.items → (k : ℕ) → (get_or new.kinds.items i d).kind ≡ k → has_place new (One k) ≡ true → IsAlive kept name t new k
+    one i d low few k at has = elim (cases_Bool (kind == k)) [
+      | inl same ↦
+          let e : kind ≡ k = eqb-true kind k same in
+          let there = seen (ap (λ n. has_place new (One n)) e ∙ has) in
+          subst (λ n. IsAlive kept name t new n) e (there.0, (sym (asked_version kept (record { owner = name; kind = kind }) there.0) ∙ (ap (λ (l : List ℕ). is_asked l there.0) (sym asked) ∙ there.1.0), there.1.1))
+      | inr apart ↦
+          let was : (get_or cur.kinds.items i d).kind ≡ k = sym (same_kind new.kinds.items cur.kinds.items i d kinds) ∙ at in
+          let column = others k apart in
+          let size : length new.kinds.items ≡ length cur.kinds.items = same_size new.kinds.items cur.kinds.items kinds in
+          let had : has_place cur (One k) ≡ true = ap (λ (o : Option Cells). option_map_or is_counted o false) (sym column) ∙ has in
+          let before : i < place = elim (under i place low) [ inl less ↦ less | inr last ↦ absurd (false≢true (sym apart ∙ eq-eqb kind k (here d ∙ (ap (λ n. (get_or cur.kinds.items n d).kind) (sym last) ∙ was)))) ] in
+          let rest : IsAlive kept name t cur k = subst (λ n. has_place cur (One n) ≡ true → IsAlive kept name t cur n) was (is.alive i d before (omega (arith, size, few))) had in
+          (rest.0, (rest.1.0, ap (λ (w : Option WholeFind). is_some (alive_at t (column_held w (column_of new.kinds.items k) rest.0))) whole ∙ (ap (λ (o : Option Cells). is_some (alive_at t (column_held cur.whole o rest.0))) column ∙ rest.1.1)))
+    ]
+      where
+        under : (a b : ℕ) → a < b + 1 → (a < b) ⊎ (a ≡ b)
+        under a b less = grind arith
+
+kind_found : (kinds : List KindColumn) (k : ℕ) → option_map_or is_counted (column_of kinds k) false ≡ true → (i : ℕ) × ((i < length kinds) × ((d : KindColumn) → (get_or kinds i d).kind ≡ k))
+kind_found [] k has = absurd (false≢true has)
+kind_found (x ∷ kinds) k has = elim (cases_Bool (x.kind == k)) [
+  | inl here ↦ (0, (omega arith, λ d. eqb-true x.kind k here))
+  | inr gone ↦
+      let rest = kind_found kinds k (ap (λ b. option_map_or is_counted (cond b (Some x.column) (column_of kinds k)) false) (sym gone) ∙ has) in
+      (suc rest.0, (omega (arith, rest.1.0), λ d. rest.1.1 d))
+]
+
+pub swept_all : (kept : List KeptFlush) (t : ℕ) (name : Labels) (place : ℕ) (old new : OwnerCells) (d : KindColumn) → IsSweptTo kept t name place old new → length new.kinds.items ≤ place → IsSwept kept t name old new
+swept_all kept t name place old new d is high = record {
+  cells = is.cells;
+  alive = λ k has.
+      let at = kind_found new.kinds.items k has in
+      subst (λ n. has_place new (One n) ≡ true → IsAlive kept name t new n) (at.1.1 d) (is.alive at.0 d (omega (arith, at.1.0, high)) at.1.0) has;
+  whole = is.whole;
+  upto = is.upto;
+  settles = is.settles;
+  count = is.count;
+}
+
+not_dead : (t : ℕ) (whole : Option WholeFind) → is_dead t (whole_swept t whole) ≡ false
+not_dead t whole = elim (cases_Bool (is_dead t whole)) [
+  | inl dead ↦ ap (λ b. is_dead t (cond b None whole)) dead
+  | inr lives ↦ ap (λ b. is_dead t (cond b None whole)) lives ∙ lives
+]
+
+-- ---- all names
+
+module _ {S : Type 0} (kept : List KeptFlush) (t : ℕ) (old new : IndexMap Labels OwnerCells S) (each : IsEach (IsEntry (IsSwept kept t)) old.entries new.entries) where
+  found : (name : Labels) → IsFound (name_eq name) (IsSwept kept t) (get name_eq old name) (get name_eq new name)
+  found name = found_each (IsSwept kept t) (name_eq name) old.entries new.entries each
+
+  swept_cells : (q : Question) (v : ℕ) → is_version kept q v ≡ true → (o n : Option OwnerCells) → IsFound (name_eq q.owner) (IsSwept kept t) o n → alive_at t (cell_by_owner n q.kind v) ≡ alive_at t (cell_by_owner o q.kind v)
+  swept_cells q v there None None is = refl
+  swept_cells q v there None (Some n) is = absurd is
+  swept_cells q v there (Some o) None is = absurd is
+  swept_cells q v there (Some o) (Some n) is =
+      let name : q.owner ≡ is.0 = name_eq_exact q.owner is.0 is.1.0 in
+      is.1.1.cells q.kind v (ap (λ (m : Labels). is_version kept (record { owner = m; kind = q.kind }) v) (sym name) ∙ there)
+
+  pub swept_cell : (q : Question) (v : ℕ) → is_version kept q v ≡ true → alive_at t (cell_of new q v) ≡ alive_at t (cell_of old q v)
+  swept_cell q v there = swept_cells q v there (get name_eq old q.owner) (get name_eq new q.owner) (found q.owner)
+
+  pub swept_face : (chosen : ℕ → Bool) (q : Question) → alive_at t (cell_of new q (chosen_version kept q chosen)) ≡ alive_at t (cell_of old q (chosen_version kept q chosen))
+  swept_face chosen q = swept_cell q (chosen_version kept q chosen) (chosen_is_version kept q chosen)
+
+  each_of : (P : OwnerCells → Type 0) (name : Labels) → ((o n : OwnerCells) → IsSwept kept t name o n → P o → P n) → (o n : Option OwnerCells) → IsFound (name_eq name) (IsSwept kept t) o n → IfSome o P → IfSome n P
+  each_of P name step None None is was = tt
+  each_of P name step None (Some n) is was = absurd is
+  each_of P name step (Some o) None is was = absurd is
+  each_of P name step (Some o) (Some n) is was = step o n (subst (λ (m : Labels). IsSwept kept t m o n) (sym (name_eq_exact name is.0 is.1.0)) is.1.1) was
+
+  pub swept_upto : (top : ℕ) → AreUpTo top old → AreUpTo top new
+  swept_upto top upto name = each_of (IsUpTo top) name (λ o n is was. is.upto top was) (get name_eq old name) (get name_eq new name) (found name) (upto name)
+
+  pub swept_settles : (n k : ℕ) (name : Labels) → CanSettleAt n k name old → CanSettleAt n k name new
+  swept_settles n k name told = each_of (CanSettle n k) name (λ o m is was. is.settles n k was) (get name_eq old name) (get name_eq new name) (found name) told
+
+  always : (o : Option OwnerCells) → IfSome o (λ cells. Unit {0})
+  always None = tt
+  always (Some o) = tt
+
+  alive_of : (name : Labels) (o n : Option OwnerCells) → IsFound (name_eq name) (IsSwept kept t) o n → IfSome n (λ cells. (k : ℕ) → has_place cells (One k) ≡ true → IsAlive kept name t cells k)
+  alive_of name None None is = tt
+  alive_of name None (Some n) is = absurd is
+  alive_of name (Some o) None is = absurd is
+  alive_of name (Some o) (Some n) is = (subst (λ (m : Labels). IsSwept kept t m o n) (sym (name_eq_exact name is.0 is.1.0)) is.1.1).alive
+
+  pub swept_alive : (name : Labels) → IfSome (get name_eq new name) (λ cells. (k : ℕ) → has_place cells (One k) ≡ true → IsAlive kept name t cells k)
+  swept_alive name = alive_of name (get name_eq old name) (get name_eq new name) (found name)
+
+  whole_of : (name : Labels) (o n : Option OwnerCells) → IsFound (name_eq name) (IsSwept kept t) o n → IfSome n (λ cells. is_dead t cells.whole ≡ false)
+  whole_of name None None is = tt
+  whole_of name None (Some n) is = absurd is
+  whole_of name (Some o) None is = absurd is
+  whole_of name (Some o) (Some n) is = ap (is_dead t) is.1.1.whole ∙ not_dead t o.whole
+
+  pub swept_whole_alive : (name : Labels) → IfSome (get name_eq new name) (λ cells. is_dead t cells.whole ≡ false)
+  swept_whole_alive name = whole_of name (get name_eq old name) (get name_eq new name) (found name)

@@ -1,0 +1,25 @@
+use Rattle.std.proofs.Common.{arith}
+use Rattle.shelf.specs.Told.{chosen_version}
+use Rattle.shelf.proofs.FaceLaws.{settles_each}
+use Rattle.shelf.proofs.shelf.Shelf.forget.Goals as goal
+
+pub forget-requires : goal.forget-requires
+forget-requires c = record { counted = c.requires.whole.counted }
+
+pub returns-clause-faces : goal.returns-clause-faces
+returns-clause-faces c = λ chosen q. c.forget.ensures.cells q (chosen_version c.args.self.now.kept.items q chosen)
+
+pub returns-clause-whole : goal.returns-clause-whole
+returns-clause-whole c =
+    let self = c.args.self.now in
+    let whole = c.requires.whole in
+    record {
+      upto = c.forget.ensures.upto self.top whole.upto;
+      numbers = whole.numbers;
+      ascending = whole.ascending;
+      settles = settles_each self.owners c.forget.new.owners self.kept.items c.forget.ensures.settles whole.settles;
+      counted = c.forget.ensures.counted;
+      few = omega (arith, c.forget.ensures.fewer, whole.few);
+      small = whole.small;
+      room = whole.room;
+    }

@@ -1,0 +1,57 @@
+use Rattle.std.proofs.Common.{◌≤◌, List, length, true, sym, ap, ◌∙◌, subst, arith}
+use Rattle.std.specs.List.{AllByRecursion}
+use Rattle.shelf.specs.declared.shelf.KeptFlush.{KeptFlush}
+use Rattle.shelf.specs.Told.{is_version, IsAscending, CanSettleFlush}
+use Rattle.shelf.proofs.ShelfLaws.{flush_told}
+use Rattle.shelf.proofs.FaceLaws.{flush_face, all_more, ascending_more, upto_greater}
+use Rattle.shelf.proofs.shelf.Shelf.open_flush.Goals as goal
+
+pub open_flush-requires : goal.open_flush-requires
+open_flush-requires c = record { upto = c.requires.whole.upto }
+
+pub returns-clause-cells : goal.returns-clause-cells
+returns-clause-cells c = λ told is question version there.
+    let self = c.args.self.now in
+    c.open_flush.ensures.cells question version
+    ∙ flush_told self.owners self.kept.items self.top told c.args.flush c.args.number c.requires.whole.upto c.requires.whole.numbers c.requires.newest is question version
+    (ap (λ (l : List KeptFlush). is_version l question version) (sym c.in_ok-push.ensures.items) ∙ there)
+
+pub returns-clause-faces : goal.returns-clause-faces
+returns-clause-faces c =
+    let self = c.args.self.now in
+    flush_face self.owners c.open_flush.new.owners self.kept.items c.push.new.self.items self.top (record { flush = c.args.flush; number = c.args.number; shown = true }) c.requires.whole.upto c.requires.newest c.open_flush.ensures.cells c.in_ok-push.ensures.items
+
+pub returns-clause-whole : goal.returns-clause-whole
+returns-clause-whole c =
+    let self = c.args.self.now in
+    let own : KeptFlush = record { flush = c.args.flush; number = c.args.number; shown = true } in
+    let owners = c.open_flush.new.owners in
+    record {
+      upto = upto_greater owners self.top c.args.number (omega (arith, c.requires.newest)) c.open_flush.ensures.upto;
+      numbers = subst (λ (l : List KeptFlush). AllByRecursion (λ k. k.number ≤ c.args.number) l) (sym c.in_ok-push.ensures.items)
+          (all_more (λ k. k.number ≤ self.top) (λ k. k.number ≤ c.args.number) self.kept.items own (λ k low. omega (arith, low, c.requires.newest)) c.requires.whole.numbers (omega arith));
+      ascending = subst (λ (l : List KeptFlush). IsAscending l) (sym c.in_ok-push.ensures.items) (ascending_more self.top self.kept.items own c.requires.whole.numbers c.requires.newest c.requires.whole.ascending);
+      settles = subst (λ (l : List KeptFlush). AllByRecursion (λ k. CanSettleFlush owners k.number k.flush) l) (sym c.in_ok-push.ensures.items)
+          (all_more (λ k. CanSettleFlush owners k.number k.flush) (λ k. CanSettleFlush owners k.number k.flush) self.kept.items own (λ k told. told) (c.open_flush.ensures.settles self.kept.items c.requires.whole.settles) (c.in_ok-open_flush.ensures.opened c.args.number));
+      counted = c.requires.whole.counted ∙ sym c.open_flush.ensures.counted;
+      few = c.requires.whole.few;
+      small = c.requires.whole.small;
+      room = omega (arith, c.in_ok-reserve.ensures.room, c.in_ok-push.ensures.len, c.len.ensures);
+    }
+
+pub returns-in_err-push-clause-whole : goal.returns-in_err-push-clause-whole
+returns-in_err-push-clause-whole c =
+    let self = c.args.self.now in
+    let whole = c.requires.whole in
+    let owners = c.open_flush.new.owners in
+    let items = c.in_err-push.ensures.items in
+    record {
+      upto = c.open_flush.ensures.upto;
+      numbers = subst (λ (l : List KeptFlush). AllByRecursion (λ k. k.number ≤ self.top) l) (sym items) whole.numbers;
+      ascending = subst (λ (l : List KeptFlush). IsAscending l) (sym items) whole.ascending;
+      settles = subst (λ (l : List KeptFlush). AllByRecursion (λ k. CanSettleFlush owners k.number k.flush) l) (sym items) (c.open_flush.ensures.settles self.kept.items whole.settles);
+      counted = whole.counted ∙ sym c.open_flush.ensures.counted;
+      few = whole.few;
+      small = whole.small;
+      room = omega (arith, ap length items, c.reserve.ensures.more, whole.room);
+    }

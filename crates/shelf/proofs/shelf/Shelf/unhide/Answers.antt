@@ -1,0 +1,33 @@
+use Rattle.std.proofs.Common.{◌≤◌, List, true, sym, ap, ◌∙◌, subst, length, arith}
+use Rattle.std.specs.List.{AllByRecursion}
+use Rattle.cell_store.specs.Store.{cell_of}
+use Rattle.shelf.specs.declared.shelf.KeptFlush.{KeptFlush}
+use Rattle.shelf.specs.Told.{is_version, chosen_version, IsAscending, CanSettleFlush}
+use Rattle.shelf.proofs.ShelfLaws.{same_version, same_numbers}
+use Rattle.shelf.proofs.FaceLaws.{length_shown, same_all, same_ascending, same_chosen}
+use Rattle.shelf.proofs.shelf.Shelf.unhide.Goals as goal
+
+pub returns-clause-cells : goal.returns-clause-cells
+returns-clause-cells c = λ told is question version there.
+    let kept = c.args.self.now.kept.items in
+    is question version (sym (ap (λ (l : List KeptFlush). is_version l question version) c.set_shown.ensures ∙ same_version c.args.number true kept question version) ∙ there)
+
+pub returns-clause-faces : goal.returns-clause-faces
+returns-clause-faces c = λ chosen q.
+    ap (λ (l : List KeptFlush). cell_of c.args.self.now.owners q (chosen_version l q chosen)) c.set_shown.ensures
+    ∙ ap (cell_of c.args.self.now.owners q) (same_chosen c.args.number true c.args.self.now.kept.items q chosen)
+
+pub returns-clause-whole : goal.returns-clause-whole
+returns-clause-whole c = λ is.
+    let kept = c.args.self.now.kept.items in
+    record {
+      upto = is.upto;
+      numbers = subst (λ (l : List KeptFlush). AllByRecursion (λ own. own.number ≤ c.args.self.now.top) l) (sym c.set_shown.ensures) (same_numbers c.args.number true kept c.args.self.now.top is.numbers);
+      ascending = subst (λ (l : List KeptFlush). IsAscending l) (sym c.set_shown.ensures) (same_ascending c.args.number true kept is.ascending);
+      settles = subst (λ (l : List KeptFlush). AllByRecursion (λ own. CanSettleFlush c.args.self.now.owners own.number own.flush) l) (sym c.set_shown.ensures)
+          (same_all (λ own. CanSettleFlush c.args.self.now.owners own.number own.flush) c.args.number true (λ own told. told) kept is.settles);
+      counted = is.counted;
+      few = is.few;
+      small = is.small;
+      room = omega (arith, ap length c.set_shown.ensures, length_shown c.args.number true kept, is.room);
+    }

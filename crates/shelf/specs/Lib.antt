@@ -1,0 +1,4 @@
+pub mod Kept
+pub mod Told
+pub mod Room
+pub mod Sweep

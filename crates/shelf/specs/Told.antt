@@ -1,0 +1,120 @@
+-- The admissions and flushes that a shelf was given, and the cells by a replay of them.
+use Rattle.std.specs.Prelude.{ℕ, Bool, true, ◌==◌, ◌&&◌, ◌||◌, ◌≡◌, ◌≤◌, ◌<◌, ◌^◌, length, vec_capacity, List, [], ◌∷◌, Option, None, fold, if◌then◌else◌}
+use Rattle.std.specs.List.{AllByRecursion, list_any}
+use Rattle.dns_name.specs.Labels.{Labels}
+use Rattle.dns_text.specs.declared.record.Question.{Question}
+use Rattle.ranked.specs.declared.find.Find.{Find}
+use Rattle.ranked.specs.declared.cell.Admitted.{Admitted}
+use Rattle.ranked.specs.Cell.{after_admission}
+use Rattle.ranked.specs.Find.{touches, admission_of}
+use Rattle.indexmap.specs.IndexMap.{IndexMap}
+use Rattle.cell_store.specs.declared.owner.OwnerCells.{OwnerCells}
+use Rattle.cell_store.specs.Store.{cell_of, AreUpTo, CanSettleAt}
+use Rattle.cell_store.specs.Count.{stored_in}
+use Rattle.ranked.specs.declared.flush.Flush.{Flush}
+use Rattle.ranked.specs.declared.flush.Reach.{Reach}
+use Rattle.ranked.specs.declared.flush.Reach.TheVariants.{OneType, Name, Zone}
+use Rattle.shelf.specs.declared.shelf.KeptFlush.{KeptFlush}
+use Rattle.shelf.specs.declared.shelf.Shelf.{Shelf}
+use Rattle.ranked.specs.Flush.{covers, flushed_types}
+
+-- an admission of a find at a moment, or a flush with its number
+pub data Told : Type 0 where
+  admitted : Find → ℕ → Told
+  flushed : Flush → ℕ → Told
+
+-- A find about the question is cached unless it is outranked. A flush that covers the question, and is chosen, empties its cell.
+abbrev pub told_after : Question → (ℕ → Bool) → Option (Admitted Find) → Told → Option (Admitted Find)
+told_after question chosen cell (admitted find moment) = if touches find question then after_admission cell (admission_of find find moment) else cell
+told_after question chosen cell (flushed flush number) = if covers flush question && chosen number then None else cell
+
+-- the cell of a question, from nothing
+abbrev pub cell_by : Question → (ℕ → Bool) → List Told → Option (Admitted Find)
+cell_by question chosen told = fold (told_after question chosen) None told
+
+-- the choice of one flush. Number 0 is that of no flush.
+abbrev pub only : ℕ → ℕ → Bool
+only version number = version == number
+
+-- The versions of a question: 0, and the numbers of the kept flushes that cover it.
+abbrev pub is_kept : List KeptFlush → Question → ℕ → Bool
+is_kept kept question version = list_any (λ own. own.number == version && covers own.flush question) kept
+
+abbrev pub is_version : List KeptFlush → Question → ℕ → Bool
+is_version kept question version = version == 0 || is_kept kept question version
+
+-- the number of the last flush in force that covers the question, or 0
+abbrev pub later_shown : Question → ℕ → KeptFlush → ℕ
+later_shown question version own = if own.shown && covers own.flush question then own.number else version
+
+abbrev pub shown_version : List KeptFlush → Question → ℕ
+shown_version kept question = fold (later_shown question) 0 kept
+
+-- the cell of a question by the flushes in force
+abbrev pub shown_cell : Shelf → Question → Option (Admitted Find)
+shown_cell shelf question = cell_of shelf.owners question (shown_version shelf.kept.items question)
+
+-- the same by a replay
+abbrev pub replayed_cell : List KeptFlush → Question → List Told → Option (Admitted Find)
+replayed_cell kept question told = cell_by question (only (shown_version kept question)) told
+
+-- Numbers ascend.
+abbrev pub IsAscending : List KeptFlush → Type 0
+IsAscending [] = Unit {0}
+IsAscending (own ∷ later) = AllByRecursion (λ other. own.number < other.number) later × IsAscending later
+
+-- the types of the cells that a flush of one name empties
+abbrev pub types_of : Reach → List ℕ
+types_of (OneType kind) = kind ∷ []
+types_of Name = flushed_types
+types_of Zone = []
+
+-- A flush can become permanent with no memory.
+abbrev pub CanSettleFlush : {S : Type 0} → IndexMap Labels OwnerCells S → ℕ → Flush → Type 0
+CanSettleFlush owners number flush = AllByRecursion (λ kind. CanSettleAt number kind flush.name owners) (types_of flush.reach)
+
+abbrev pub CanSettleKept : {S : Type 0} → IndexMap Labels OwnerCells S → KeptFlush → Type 0
+CanSettleKept owners own = CanSettleFlush owners own.number own.flush
+
+-- No admission has reached a version past the greatest number. Each kept flush can become permanent with no memory. The places that count are counted, and are at most the limit.
+pub record IsShelf (shelf : Shelf) : Type 0 where
+  pub upto : AreUpTo shelf.top shelf.owners
+  pub numbers : AllByRecursion (λ own. own.number ≤ shelf.top) shelf.kept.items
+  pub ascending : IsAscending shelf.kept.items
+  pub settles : AllByRecursion (λ own. CanSettleFlush shelf.owners own.number own.flush) shelf.kept.items
+  pub counted : shelf.stored ≡ stored_in shelf.owners
+  pub few : shelf.stored ≤ shelf.limit
+  pub small : shelf.limit ≤ 2 ^ 32
+  pub room : length shelf.kept.items ≤ vec_capacity shelf.numbers
+
+-- the number of the last chosen flush that covers the question, or 0
+abbrev pub later_chosen : Question → (ℕ → Bool) → ℕ → KeptFlush → ℕ
+later_chosen question chosen version own = if chosen own.number && covers own.flush question then own.number else version
+
+abbrev pub chosen_version : List KeptFlush → Question → (ℕ → Bool) → ℕ
+chosen_version kept question chosen = fold (later_chosen question chosen) 0 kept
+
+-- the cell of a question, if just the chosen ones of the kept flushes were in force
+abbrev pub face_of : Shelf → (ℕ → Bool) → Question → Option (Admitted Find)
+face_of shelf chosen question = cell_of shelf.owners question (chosen_version shelf.kept.items question chosen)
+
+-- the kept flushes without that of a number
+abbrev pub without : ℕ → List KeptFlush → List KeptFlush
+without number [] = []
+without number (own ∷ later) = if own.number == number then later else own ∷ without number later
+
+-- Each version of each question is that of the replay in which the version's flush alone is in force.
+abbrev pub IsShelfOf : Shelf → List Told → Type 0
+IsShelfOf shelf told = (question : Question) (version : ℕ) → is_version shelf.kept.items question version ≡ true → cell_of shelf.owners question version ≡ cell_by question (only version) told
+
+-- A shelf replies to every question as another does, whatever choice of the kept flushes is in force.
+pub record IsSame (old new : Shelf) : Type 0 where
+  pub cells : (told : List Told) → IsShelfOf old told → IsShelfOf new told
+  pub faces : (chosen : ℕ → Bool) (question : Question) → face_of new chosen question ≡ face_of old chosen question
+  pub kept : new.kept.items ≡ old.kept.items
+  pub top : new.top ≡ old.top
+  pub stored : new.stored ≡ old.stored
+
+-- The same flushes can be undone or redone, under the same limit.
+abbrev pub KeepsFlushes : Shelf → Shelf → Type 0
+KeepsFlushes old new = (new.kept.items ≡ old.kept.items) × (new.top ≡ old.top) × (new.limit ≡ old.limit)

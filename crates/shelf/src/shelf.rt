@@ -1,0 +1,500 @@
+//! The cached cells, and the flushes that can be undone or redone.
+
+ghost use Rattle.std.specs.Prelude.{◌≡◌, ◌<◌, ◌≤◌, ◌+◌, ◌^◌, ◌++◌, ◌∷◌, ◌&&◌, [], ℕ, Bool, List, None, true, false, not, map, vec_capacity};
+ghost use Rattle.std.specs.Prelude.{IfSome, IfErr, IsErr, IsOk, OnOk, OnErr, if◌then◌else◌};
+ghost use Rattle.std.specs.List.{AllByRecursion};
+ghost use Rattle.indexmap.specs.IndexMap.{get, hasher_of};
+ghost use Rattle.dns_name.specs.Labels.{Labels};
+ghost use Rattle.dns_name.specs.Order.{name_eq};
+ghost use Rattle.dns_text.specs.declared.record.Question.{Question};
+ghost use Rattle.ranked.specs.declared.find.Scope.TheVariants.{One};
+ghost use Rattle.ranked.specs.Cell.{shown_at, turns_away};
+ghost use Rattle.ranked.specs.Find.{admission_of, touches};
+ghost use Rattle.ranked.specs.Flush.{covers, flushed_types};
+ghost use Rattle.cell_store.specs.Count.{has_place, has_place_for, one_if, stored_in};
+ghost use Rattle.cell_store.specs.Owner.{after_settle, after_touch, held_now};
+ghost use Rattle.cell_store.specs.Store.{cell_of, AreUpTo};
+ghost use Rattle.cell_store.specs.Sweep.{alive_at, is_dead};
+ghost use Rattle.shelf.specs.declared.shelf.KeptFlush.{KeptFlush};
+ghost use Rattle.shelf.specs.Kept.{with_shown, stands_first};
+ghost use Rattle.shelf.specs.Room.{fate_of, kind_fate, is_taken, is_wanted, needs_place, room_for, IsFault};
+ghost use Rattle.shelf.specs.Sweep.{IsAlive};
+ghost use Rattle.shelf.specs.Told.{without, CanSettleFlush, CanSettleKept};
+
+use crate::fault::StoreFault;
+use crate::room::Room;
+use crate::sweep::sweep_all;
+use cell_store::{
+    NameSeed, Owners, admit, at, forget, has_place, open_kinds, settle_below, settle_kinds,
+};
+use dns_name::{Name, NoMemory};
+use dns_text::types;
+use indexmap::IndexMap;
+use ranked::{Fate, Find, Flush, Held, Reach, Scope, SharedFind};
+use std::alloc::Global;
+
+/// A flush that can be undone or redone.
+#[derive(Drop)]
+pub struct KeptFlush {
+    pub flush: Flush,
+    pub number: u64,
+    /// Whether it is in force: an undone flush is not.
+    pub shown: bool,
+}
+
+/// The cache without a history. Of each cell it keeps the content without the flushes that can be undone,
+/// and the content since each of these flushes that covers it.
+#[derive(Drop)]
+pub struct Shelf {
+    pub alloc: Global,
+    pub owners: Owners,
+    /// The flushes that can be undone or redone, in the order of their numbers.
+    pub kept: Vec<KeptFlush>,
+    /// The greatest number of a flush so far.
+    pub top: u64,
+    /// The number of places that are counted.
+    pub stored: u64,
+    /// The most that may be.
+    pub limit: u64,
+    /// Room for the numbers of the kept flushes, so that a sweep takes no memory.
+    pub numbers: Vec<u64>,
+}
+
+impl KeptFlush {
+    fn set_shown(&mut self, number: u64, shown: bool)
+        ensures { self.new ≡ with_shown number shown self.old }
+    {
+        if self.number == number {
+            self.shown = shown;
+        }
+    }
+}
+
+fn set_shown(kept: &mut Vec<KeptFlush>, number: u64, shown: bool)
+    ensures { kept.new.items ≡ map (with_shown number shown) kept.old.items }
+{
+    for own in kept.iter_mut() {
+        own.set_shown(number, shown);
+    }
+}
+
+impl Shelf {
+    ghost use Rattle.shelf.specs.Told.{Told, IsShelf, IsShelfOf, IsSame, KeepsFlushes, shown_version, shown_cell, replayed_cell, face_of};
+    ghost use Rattle.shelf.specs.Told.Told.{admitted, flushed};
+
+    /// An empty cache of at most so many places, whose index hashes with the fixed seed. It is for scripts and tests.
+    pub fn new(alloc: Global, limit: u64) -> Shelf
+        requires { limit ≤ 2 ^ 32 }
+        ensures cells { IsShelfOf result [] }
+        ensures whole { IsShelf result }
+        ensures kept { result.kept.items ≡ [] }
+        ensures top { result.top ≡ 0 }
+        ensures stored { result.stored ≡ 0 }
+        ensures limit { result.limit ≡ limit }
+    {
+        Shelf::seeded(alloc, limit, NameSeed::fixed())
+    }
+
+    /// The same, whose index hashes with a seed that the program drew, since strangers choose the names.
+    pub fn seeded(alloc: Global, limit: u64, seed: NameSeed) -> Shelf
+        requires { limit ≤ 2 ^ 32 }
+        ensures cells { IsShelfOf result [] }
+        ensures whole { IsShelf result }
+        ensures kept { result.kept.items ≡ [] }
+        ensures top { result.top ≡ 0 }
+        ensures stored { result.stored ≡ 0 }
+        ensures limit { result.limit ≡ limit }
+        ensures seed { hasher_of result.owners ≡ seed }
+    {
+        Shelf {
+            alloc,
+            owners: IndexMap::with_hasher(alloc, seed),
+            kept: Vec::new(alloc),
+            top: 0,
+            stored: 0,
+            limit,
+            numbers: Vec::new(alloc),
+        }
+    }
+
+    /// The version of a question that is in force.
+    fn version(&self, owner: &Name, kind: u16) -> u64
+        ensures { result ≡ shown_version self.now.kept.items (record { owner = owner.now; kind = kind }) }
+    {
+        let mut version = 0;
+        for own in &self.kept {
+            if own.shown && own.flush.covers(owner, kind) {
+                version = own.number;
+            }
+        }
+        version
+    }
+
+    /// The number of places that are counted.
+    pub fn stored(&self) -> u64
+        ensures { result ≡ self.now.stored }
+    {
+        self.stored
+    }
+
+    /// Whether a version has data of a type that are alive at the moment and outrank a find.
+    fn turns_away(&self, find: &Find, kind: u16, version: u64, moment: u64) -> bool
+        ensures { result ≡ turns_away
+            (cell_of self.now.owners (record { owner = find.now.owner; kind = kind }) version) (admission_of find.now find.now moment) }
+    {
+        match at(&self.owners, &find.owner, kind, version, moment) {
+            Some(shown) => find.rank.level() < shown.rank.level(),
+            None => false,
+        }
+    }
+
+    /// Whether some version would cache a find of a type.
+    fn is_taken(&self, find: &Find, kind: u16, moment: u64) -> bool
+        ensures { result ≡ is_taken self.now.owners self.now.kept.items find.now moment (record { owner = find.now.owner; kind = kind }) }
+    {
+        let mut taken = !self.turns_away(find, kind, 0, moment);
+        for own in &self.kept {
+            if own.flush.covers(&find.owner, kind)
+                && !self.turns_away(find, kind, own.number, moment)
+            {
+                taken = true;
+            }
+        }
+        taken
+    }
+
+    /// Whether some version would cache a find.
+    fn is_wanted(&self, find: &Find, moment: u64) -> bool
+        ensures { result ≡ is_wanted self.now find.now moment find.now.scope }
+    {
+        match find.scope {
+            Scope::One(kind) => self.is_taken(find, kind, moment),
+            Scope::Whole => true,
+        }
+    }
+
+    /// Whether there is room for a find.
+    fn room_for(&self, find: &Find, moment: u64) -> Room
+        ensures { result ≡ room_for self.now find.now moment }
+    {
+        if has_place(&self.owners, find) {
+            return Room::Free;
+        }
+        if !self.is_wanted(find, moment) {
+            return Room::Unwanted;
+        }
+        if self.stored == self.limit {
+            return Room::Full;
+        }
+        Room::Free
+    }
+
+    /// Whether the version in force would cache a find, or has data that are alive at the moment and outrank it.
+    pub fn fate(&self, find: &Find, moment: u64) -> Fate
+        ensures { result ≡ fate_of self.now find.now moment find.now.scope }
+    {
+        match find.scope {
+            Scope::One(kind) => self.kind_fate(find, kind, moment),
+            Scope::Whole => Fate::Taken,
+        }
+    }
+
+    fn kind_fate(&self, find: &Find, kind: u16, moment: u64) -> Fate
+        ensures { result ≡ kind_fate self.now find.now moment kind }
+    {
+        let version = self.version(&find.owner, kind);
+        if self.turns_away(find, kind, version, moment) {
+            Fate::Outranked
+        } else {
+            Fate::Taken
+        }
+    }
+
+    /// Caches a find in each version, unless what is cached there is alive at the moment and outranks it.
+    /// It is `Full` only if the find needs a new place, and as many are counted as may be.
+    /// If its place is counted already, it takes no memory.
+    pub fn admit(&mut self, find: SharedFind, moment: u64) -> Result<(), StoreFault>
+        requires whole { IsShelf self.old }
+        ensures whole { IsShelf self.new }
+        ensures cells { (told : List Told) → IsShelfOf self.old told →
+            OnOk result (IsShelfOf self.new (told ++ admitted find moment ∷ [])) }
+        ensures faces { OnOk result ((chosen : ℕ → Bool) (q : Question) →
+            face_of self.new chosen q ≡ after_touch (touches find q) (face_of self.old chosen q) (admission_of find find moment)) }
+        ensures full { IfErr result (λ fault. IsFault self.old find moment fault) }
+        ensures room { (self.old.stored ≡ self.old.limit) × (needs_place self.old find moment ≡ true) → IsErr result }
+        ensures same { OnErr result (IsSame self.old self.new) }
+        ensures flushes { KeepsFlushes self.old self.new }
+        ensures stored { self.new.stored ≤ self.old.stored + 1 }
+    {
+        match self.room_for(find.find(), moment) {
+            Room::Unwanted => Ok(()),
+            Room::Full => Err(StoreFault::Full {
+                stored: self.stored,
+            }),
+            Room::Free => self.hold(find, moment),
+        }
+    }
+
+    /// The same, if there is room for its place.
+    fn hold(&mut self, find: SharedFind, moment: u64) -> Result<(), StoreFault>
+        requires whole { IsShelf self.old }
+        requires room { self.old.stored + one_if (not (has_place_for self.old.owners find)) ≤ self.old.limit }
+        ensures whole { IsShelf self.new }
+        ensures cells { (told : List Told) → IsShelfOf self.old told →
+            OnOk result (IsShelfOf self.new (told ++ admitted find moment ∷ [])) }
+        ensures faces { OnOk result ((chosen : ℕ → Bool) (q : Question) →
+            face_of self.new chosen q ≡ after_touch (touches find q) (face_of self.old chosen q) (admission_of find find moment)) }
+        ensures fault { IfErr result (λ fault. fault ≡ StoreFault.NoMemory) }
+        ensures free { has_place_for self.old.owners find ≡ true → IsOk result }
+        ensures same { OnErr result (IsSame self.old self.new) }
+        ensures flushes { KeepsFlushes self.old self.new }
+        ensures stored { self.new.stored ≤ self.old.stored + 1 }
+    {
+        admit(
+            self.alloc,
+            &mut self.owners,
+            &mut self.stored,
+            find,
+            moment,
+            self.top,
+        )?;
+        Ok(())
+    }
+
+    /// The cached data of a question, by the flushes in force, if they are alive at the moment. It takes no memory.
+    pub fn show(&self, owner: &Name, kind: u16, moment: u64) -> Option<Held<'_>>
+        ensures cell { held_now result ≡ shown_at (shown_cell self.now (record { owner = owner.now; kind = kind })) moment }
+        ensures cells { (told : List Told) → IsShelfOf self.now told →
+            held_now result ≡ shown_at (replayed_cell self.now.kept.items (record { owner = owner.now; kind = kind }) told) moment }
+    {
+        at(&self.owners, owner, kind, self.version(owner, kind), moment)
+    }
+
+    /// Undoes a flush. It changes one flag, however much the flush covers.
+    pub fn hide(&mut self, number: u64)
+        ensures cells { (told : List Told) → IsShelfOf self.old told → IsShelfOf self.new told }
+        ensures faces { (chosen : ℕ → Bool) (q : Question) → face_of self.new chosen q ≡ face_of self.old chosen q }
+        ensures kept { self.new.kept.items ≡ map (with_shown number false) self.old.kept.items }
+        ensures top { self.new.top ≡ self.old.top }
+        ensures limit { self.new.limit ≡ self.old.limit }
+        ensures stored { self.new.stored ≡ self.old.stored }
+        ensures whole { IsShelf self.old → IsShelf self.new }
+    {
+        set_shown(&mut self.kept, number, false);
+    }
+
+    /// Redoes a flush, in its place among the others. It changes one flag.
+    pub fn unhide(&mut self, number: u64)
+        ensures cells { (told : List Told) → IsShelfOf self.old told → IsShelfOf self.new told }
+        ensures faces { (chosen : ℕ → Bool) (q : Question) → face_of self.new chosen q ≡ face_of self.old chosen q }
+        ensures kept { self.new.kept.items ≡ map (with_shown number true) self.old.kept.items }
+        ensures top { self.new.top ≡ self.old.top }
+        ensures limit { self.new.limit ≡ self.old.limit }
+        ensures stored { self.new.stored ≡ self.old.stored }
+        ensures whole { IsShelf self.old → IsShelf self.new }
+    {
+        set_shown(&mut self.kept, number, true);
+    }
+
+    /// Makes a flush that can be undone or redone. It visits no cell: the versions from its number on are empty by themselves.
+    /// It takes memory for its entry, and for columns of the name if a denial of the whole name is cached.
+    pub fn open_flush(&mut self, flush: Flush, number: u64) -> Result<(), NoMemory>
+        requires newest { self.old.top < number }
+        requires whole { IsShelf self.old }
+        ensures whole { IsShelf self.new }
+        ensures cells { (told : List Told) → IsShelfOf self.old told →
+            OnOk result (IsShelfOf self.new (told ++ flushed flush number ∷ [])) }
+        ensures kept { OnOk result
+            (self.new.kept.items ≡ self.old.kept.items ++ record { flush = flush; number = number; shown = true } ∷ []) }
+        ensures faces { OnOk result ((chosen : ℕ → Bool) (q : Question) →
+            face_of self.new chosen q ≡ (if chosen number && covers flush q then None else face_of self.old chosen q)) }
+        ensures same { OnErr result (IsSame self.old self.new) }
+        ensures top { OnOk result (self.new.top ≡ number) }
+        ensures limit { self.new.limit ≡ self.old.limit }
+        ensures stored { self.new.stored ≡ self.old.stored }
+    {
+        reserve(&mut self.numbers, self.kept.len())?;
+        open_flush(&mut self.owners, &flush, self.top)?;
+        self.kept.push(KeptFlush {
+            flush,
+            number,
+            shown: true,
+        })?;
+        self.top = number;
+        Ok(())
+    }
+
+    /// Drops the finds that are dead at a moment, and the versions that no choice of the kept flushes needs. It takes no memory.
+    pub fn sweep(&mut self, moment: u64)
+        requires whole { IsShelf self.old }
+        ensures whole { IsShelf self.new }
+        ensures faces { (chosen : ℕ → Bool) (q : Question) →
+            alive_at moment (face_of self.new chosen q) ≡ alive_at moment (face_of self.old chosen q) }
+        ensures alive { (name : Labels) → IfSome (get name_eq self.new.owners name)
+            (λ cells. (k : ℕ) → has_place cells (One k) ≡ true → IsAlive self.old.kept.items name moment cells k) }
+        ensures whole_alive { (name : Labels) →
+            IfSome (get name_eq self.new.owners name) (λ cells. is_dead moment cells.whole ≡ false) }
+        ensures flushes { KeepsFlushes self.old self.new }
+        ensures stored { self.new.stored ≤ self.old.stored }
+    {
+        sweep_all(
+            &mut self.owners,
+            &mut self.stored,
+            &self.kept,
+            &mut self.numbers,
+            moment,
+        );
+    }
+
+    /// Removes a name, from every version. It takes no memory.
+    pub fn forget(&mut self, owner: &Name)
+        requires whole { IsShelf self.old }
+        ensures whole { IsShelf self.new }
+        ensures faces { (chosen : ℕ → Bool) (q : Question) →
+            face_of self.new chosen q ≡ (if name_eq owner.now q.owner then None else face_of self.old chosen q) }
+        ensures flushes { KeepsFlushes self.old self.new }
+        ensures stored { self.new.stored ≤ self.old.stored }
+    {
+        forget(&mut self.owners, &mut self.stored, owner);
+    }
+
+    /// Makes a flush permanent if it is the oldest and in force, or else drops it for good. It takes no memory.
+    pub fn settle(&mut self, number: u64)
+        requires whole { IsShelf self.old }
+        ensures whole { IsShelf self.new }
+        ensures faces { (chosen : ℕ → Bool) → chosen number ≡ stands_first number self.old.kept.items →
+            (q : Question) → face_of self.new chosen q ≡ face_of self.old chosen q }
+        ensures kept { self.new.kept.items ≡ without number self.old.kept.items }
+        ensures top { self.new.top ≡ self.old.top }
+        ensures limit { self.new.limit ≡ self.old.limit }
+        ensures stored { self.new.stored ≤ self.old.stored }
+    {
+        if stands_first(&self.kept, number) {
+            self.settle_oldest();
+            return;
+        }
+        self.settle_cleared(number);
+    }
+
+    /// Makes the oldest flush permanent: it can no longer be undone, and the versions before it go. It takes no memory.
+    pub fn settle_oldest(&mut self)
+        requires whole { IsShelf self.old }
+        ensures whole { IsShelf self.new }
+        ensures faces { (own : KeptFlush) (later : List KeptFlush) (chosen : ℕ → Bool) →
+            self.old.kept.items ≡ own ∷ later → chosen own.number ≡ true →
+            (q : Question) → face_of self.new chosen q ≡ face_of self.old chosen q }
+        ensures kept { (own : KeptFlush) (later : List KeptFlush) →
+            self.old.kept.items ≡ own ∷ later → self.new.kept.items ≡ later }
+        ensures top { self.new.top ≡ self.old.top }
+        ensures limit { self.new.limit ≡ self.old.limit }
+        ensures stored { self.new.stored ≤ self.old.stored }
+    {
+        if self.kept.is_empty() {
+            return;
+        }
+        let own = self.kept.remove(0);
+        settle_flush(&mut self.owners, &mut self.stored, &own.flush, own.number);
+    }
+
+    /// Drops an undone flush for good: it can no longer be redone. Its versions go at the next sweep. It takes no memory.
+    pub fn settle_cleared(&mut self, number: u64)
+        ensures whole { IsShelf self.old → IsShelf self.new }
+        ensures faces { (chosen : ℕ → Bool) → chosen number ≡ false →
+            (q : Question) → face_of self.new chosen q ≡ face_of self.old chosen q }
+        ensures kept { self.new.kept.items ≡ without number self.old.kept.items }
+        ensures top { self.new.top ≡ self.old.top }
+        ensures limit { self.new.limit ≡ self.old.limit }
+        ensures stored { self.new.stored ≡ self.old.stored }
+    {
+        remove_number(&mut self.kept, number);
+    }
+}
+
+/// Whether the oldest flush has a number and is in force.
+fn stands_first(kept: &[KeptFlush], number: u64) -> bool
+    ensures { result ≡ stands_first number kept.now }
+{
+    match kept.first() {
+        Some(own) => own.number == number && own.shown,
+        None => false,
+    }
+}
+
+/// Makes room for one number more than `count`.
+fn reserve(numbers: &mut Vec<u64>, count: usize) -> Result<(), NoMemory>
+    requires few { count < 2 ^ 63 }
+    ensures room { OnOk result (count + 1 ≤ vec_capacity numbers.new) }
+    ensures more { vec_capacity numbers.old ≤ vec_capacity numbers.new }
+{
+    numbers.clear();
+    numbers.reserve(count + 1)?;
+    Ok(())
+}
+
+/// The types of the cells that `flush` of a name empties.
+fn flushed_types() -> [u16; 10]
+    ensures { result ≡ flushed_types }
+{
+    [
+        types::A,
+        types::NS,
+        types::SOA,
+        types::CNAME,
+        types::PTR,
+        types::MX,
+        types::AAAA,
+        types::SRV,
+        types::NAPTR,
+        types::DNAME,
+    ]
+}
+
+/// Makes room for a flush, so that `settle_flush` needs no memory later. No cell changes.
+fn open_flush(owners: &mut Owners, flush: &Flush, top: u64) -> Result<(), NoMemory>
+    requires upto { AreUpTo top owners.old }
+    ensures cells { (q : Question) (v : ℕ) → cell_of owners.new q v ≡ cell_of owners.old q v }
+    ensures upto { AreUpTo top owners.new }
+    ensures settles { (kept : List KeptFlush) →
+        AllByRecursion (CanSettleKept owners.old) kept → AllByRecursion (CanSettleKept owners.new) kept }
+    ensures opened { OnOk result ((n : ℕ) → CanSettleFlush owners.new n flush.now) }
+    ensures counted { stored_in owners.new ≡ stored_in owners.old }
+{
+    match flush.reach {
+        Reach::OneType(kind) => open_kinds(owners, &flush.name, &[kind], top),
+        Reach::Name => open_kinds(owners, &flush.name, &flushed_types(), top),
+        Reach::Zone => Ok(()),
+    }
+}
+
+/// Makes a flush permanent.
+fn settle_flush(owners: &mut Owners, stored: &mut u64, flush: &Flush, number: u64)
+    requires counted { stored.old ≡ stored_in owners.old }
+    requires settles { CanSettleFlush owners.old number flush.now }
+    ensures cells { (top : ℕ) → AreUpTo top owners.old → (q : Question) (v : ℕ) →
+        cell_of owners.new q v ≡ cell_of owners.old q (after_settle (covers flush.now q) number v) }
+    ensures upto { (top : ℕ) → AreUpTo top owners.old → AreUpTo top owners.new }
+    ensures settles { (kept : List KeptFlush) →
+        AllByRecursion (CanSettleKept owners.old) kept → AllByRecursion (CanSettleKept owners.new) kept }
+    ensures counted { stored.new ≡ stored_in owners.new }
+    ensures fewer { stored.new ≤ stored.old }
+{
+    match flush.reach {
+        Reach::OneType(kind) => settle_kinds(owners, stored, &flush.name, &[kind], number),
+        Reach::Name => settle_kinds(owners, stored, &flush.name, &flushed_types(), number),
+        Reach::Zone => settle_below(owners, stored, &flush.name, number),
+    }
+}
+
+/// Removes the flush of a number.
+fn remove_number(kept: &mut Vec<KeptFlush>, number: u64)
+    ensures { kept.new.items ≡ without number kept.old.items }
+{
+    let mut place = 0;
+    while place < kept.len() {
+        if kept[place].number == number {
+            kept.remove(place);
+            return;
+        }
+        place += 1;
+    }
+}
