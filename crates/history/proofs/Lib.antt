@@ -1,0 +1,8 @@
+mod FlushLaw
+mod JournalLaw
+mod OrderLaw
+mod RedoLaw
+mod Replying
+mod ServersLaws
+mod Taken
+mod UndoLaw

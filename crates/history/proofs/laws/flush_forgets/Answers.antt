@@ -1,0 +1,5 @@
+use Rattle.history.proofs.FlushLaw.{last_decides}
+use Rattle.history.proofs.laws.flush_forgets.Goals as goal
+
+pub returns-clause-last : goal.returns-clause-last
+returns-clause-last c = last_decides

@@ -1,0 +1,86 @@
+-- What a list of events comes to: its greatest moment, its marks, and what stands of it.
+use Rattle.std.specs.Prelude.{ℕ, ◌+◌, max, Bool, true, false, not, Option, Some, None, List, [], ◌∷◌, ◌++◌, fold, filter}
+use Rattle.history.specs.declared.event.Event.{Event}
+use Rattle.history.specs.declared.event.Event.TheVariants.{Admit, Do, Undo, Redo}
+use Rattle.history.specs.declared.event.Command.{Command}
+use Rattle.history.specs.declared.event.Reason.{Reason}
+use Rattle.history.specs.declared.event.Entry.{Entry}
+use Rattle.stub_table.specs.Stubs.{Stubs}
+use Rattle.history.specs.declared.made.Tables.{Tables}
+use Rattle.history.specs.Event.{moment_of}
+use Rattle.history.specs.Changes.{tables_by, reason_on}
+use Rattle.history.specs.Marks.{Marks, no_marks, is_struck, after_command, after_undo, after_redo}
+
+-- the events so far
+pub record Past : Type 0 where
+  pub now : ℕ  -- the greatest moment given, by struck commands too
+  pub marks : Marks
+  pub log : List Entry  -- each event, with the moment at which it counts and the ticket that it took
+
+-- before any event
+abbrev pub nothing : Past
+nothing = record { now = 0; marks = no_marks; log = [] }
+
+-- Admissions stand, and so do the accepted commands that are chosen, by their tickets.
+abbrev pub stands_by : (ℕ → Bool) → Event → Option ℕ → Bool
+stands_by chosen (Admit moment find) ticket = true
+stands_by chosen (Do moment command) (Some ticket) = chosen ticket
+stands_by chosen event ticket = false
+
+abbrev pub standing_with : (ℕ → Bool) → List Entry → List Entry
+standing_with chosen log = filter (λ entry. stands_by chosen entry.event entry.ticket) log
+
+-- what is not struck
+abbrev pub is_unstruck : Marks → ℕ → Bool
+is_unstruck marks ticket = not (is_struck marks ticket)
+
+-- whether an entry stands
+abbrev pub stands : Marks → Entry → Bool
+stands marks entry = stands_by (is_unstruck marks) entry.event entry.ticket
+
+-- what stands: the list with the undone commands struck out
+abbrev pub standing_of : Past → List Entry
+standing_of past = standing_with (is_unstruck past.marks) past.log
+
+-- local zones, records and stubs, by what stands
+abbrev pub tables_of : Past → Tables
+tables_of past = tables_by (standing_of past)
+
+abbrev pub stubs_of : Past → Stubs
+stubs_of past = (tables_of past).stubs
+
+-- why a command is refused, by what stands
+abbrev pub reason_of : Past → Command → Option Reason
+reason_of past command = reason_on (tables_of past) command
+
+-- An accepted command takes the next ticket.
+abbrev pub ticket_unless : Marks → Option Reason → Option ℕ
+ticket_unless marks None = Some (marks.tickets + 1)
+ticket_unless marks (Some reason) = None
+
+abbrev pub ticket_for : Past → Event → Option ℕ
+ticket_for past (Do moment command) = ticket_unless past.marks (reason_of past command)
+ticket_for past event = None
+
+-- the marks after an event, which may be a command that took this ticket
+abbrev pub marks_after : ℕ → Marks → Event → Option ℕ → Marks
+marks_after bound marks (Do moment command) (Some ticket) = after_command bound marks
+marks_after bound marks (Do moment command) None = marks
+marks_after bound marks (Undo moment) ticket = after_undo marks
+marks_after bound marks (Redo moment) ticket = after_redo marks
+marks_after bound marks event ticket = marks
+
+-- one event more, where the newest `bound` commands can be undone
+abbrev pub followed_by : ℕ → Past → Event → Past
+followed_by bound past event =
+    let now = max past.now (moment_of event) in
+    let ticket = ticket_for past event in
+    record {
+      now = now;
+      marks = marks_after bound past.marks event ticket;
+      log = past.log ++ record { event = event; moment = now; ticket = ticket } ∷ [];
+    }
+
+-- what a history comes to
+abbrev pub past_of : ℕ → List Event → Past
+past_of bound history = fold (followed_by bound) nothing history

@@ -1,0 +1,96 @@
+-- What is replied to an event, by the events before it.
+use Rattle.std.specs.Prelude.{ℕ, ◌+◌, max, nat_lt, Bool, true, false, Option, Some, None, List, [], ◌∷◌, ◌++◌, if◌then◌else◌}
+use Rattle.ranked.specs.declared.find.Find.{Find}
+use Rattle.ranked.specs.declared.find.Scope.{Scope}
+use Rattle.ranked.specs.declared.find.Scope.TheVariants.{One, Whole}
+use Rattle.ranked.specs.declared.cell.Shown.{Shown}
+use Rattle.ranked.specs.Rank.{level_of}
+use Rattle.ranked.specs.Cell.{turns_away, shown_map}
+use Rattle.ranked.specs.Find.{admission_of}
+use Rattle.dns_text.specs.declared.record.Record.{Record}
+use Rattle.local_zone.specs.declared.local.Local.{Local}
+use Rattle.local_zone.specs.declared.local.Local.TheVariants as local
+use Rattle.local_zone.specs.Answer.{local_of, local_now}
+use Rattle.history.specs.declared.event.Event.{Event}
+use Rattle.history.specs.declared.event.Event.TheVariants.{Admit, Look as LookEvent, Sweep, Do, Undo, Redo}
+use Rattle.history.specs.declared.event.Reason.{Reason}
+use Rattle.history.specs.declared.event.Settings.{Settings}
+use Rattle.history.specs.declared.event.Ask.{Ask}
+use Rattle.history.specs.declared.event.Ask.TheVariants.{Answer, Zones as ZonesAsked, Records as RecordsAsked, Stubs as StubsAsked, Commands as CommandsAsked, Servers as ServersAsked}
+use Rattle.history.specs.declared.event.Seen.{Seen as SeenValue}
+use Rattle.history.specs.declared.event.Seen.TheVariants.{Unknown, Held, Local as LocalSeen, Zones, Records, Stubs, Commands, Servers}
+use Rattle.history.specs.declared.event.Look.{Look}
+use Rattle.history.specs.declared.event.Look.TheVariants.{Unknown as NothingLent, Held as HeldLent, Local as LocalLent}
+use Rattle.history.specs.declared.event.Reply.{Reply}
+use Rattle.history.specs.declared.event.Reply.TheVariants.{Taken, Outranked, Seen, Swept, Done, Refused, Undone, Redone, NothingToUndo, NothingToRedo}
+use Rattle.history.specs.Marks.{Marks, last_of}
+use Rattle.history.specs.History.{Past, past_of, tables_of, stubs_of, reason_of}
+use Rattle.history.specs.Cells.{cell_of, shows}
+use Rattle.history.specs.Journal.{commands_of}
+use Rattle.history.specs.Servers.{servers_of}
+
+-- Data of the lowest rank is held and never seen.
+abbrev pub seen_by : Option (Shown Find) → SeenValue
+seen_by None = Unknown
+seen_by (Some shown) = if nat_lt (level_of shown.rank) 2 then Unknown else Held shown
+
+-- whether local zones leave a question to what is held
+abbrev pub passes_on : Local (List Record) Record → Bool
+passes_on local.Pass = true
+passes_on answer = false
+
+-- What local zones answer comes first, and what is held where they say nothing.
+abbrev pub seen_first : Local (List Record) Record → SeenValue → SeenValue
+seen_first answer held = if passes_on answer then held else LocalSeen answer
+
+-- what a look sees
+abbrev pub seen_of : Settings → Past → Ask → ℕ → SeenValue
+seen_of settings past (Answer question) moment = seen_first (local_of (tables_of past).local question) (seen_by (shows past question moment))
+seen_of settings past ZonesAsked moment = Zones (tables_of past).local.zones
+seen_of settings past RecordsAsked moment = Records (tables_of past).local.records
+seen_of settings past StubsAsked moment = Stubs (stubs_of past)
+seen_of settings past CommandsAsked moment = Commands (commands_of past)
+seen_of settings past (ServersAsked name) moment = Servers (servers_of settings past name moment)
+
+-- what is lent, as what is seen
+abbrev pub look_seen : Look → SeenValue
+look_seen NothingLent = Unknown
+look_seen (HeldLent shown) = Held (shown_map (λ find. find.now) shown)
+look_seen (LocalLent answer) = LocalSeen (local_now answer)
+
+-- A find of one type is outranked by what its cell holds then, if that is alive and of higher rank. No cell outranks one of every type, whose rank is the highest.
+abbrev pub reply_to_admission : Past → Find → ℕ → Scope → Reply
+reply_to_admission past find moment (One kind) =
+    if turns_away (cell_of past (record { owner = find.owner; kind = kind })) (admission_of find find (max past.now moment)) then Outranked else Taken
+reply_to_admission past find moment Whole = Taken
+
+abbrev pub reply_to_command : Marks → Option Reason → Reply
+reply_to_command marks None = Done (marks.tickets + 1)
+reply_to_command marks (Some reason) = Refused reason
+
+abbrev pub reply_to_undo : Option ℕ → Reply
+reply_to_undo None = NothingToUndo
+reply_to_undo (Some ticket) = Undone ticket
+
+abbrev pub reply_to_redo : Option ℕ → Reply
+reply_to_redo None = NothingToRedo
+reply_to_redo (Some ticket) = Redone ticket
+
+-- the reply to an event
+abbrev pub reply_of : Settings → Past → Event → Reply
+reply_of settings past (Admit moment find) = reply_to_admission past find moment find.scope
+reply_of settings past (LookEvent moment ask) = Seen (seen_of settings past ask moment)
+reply_of settings past (Sweep moment) = Swept
+reply_of settings past (Do moment command) = reply_to_command past.marks (reason_of past command)
+reply_of settings past (Undo moment) = reply_to_undo (last_of past.marks.done)
+reply_of settings past (Redo moment) = reply_to_redo (last_of past.marks.undone)
+
+-- the ticket that a command took, by its reply
+abbrev pub ticket_taken : Reply → Option ℕ
+ticket_taken (Done ticket) = Some ticket
+ticket_taken _ = None
+
+-- the replies to a list of events that follow a history, each by those before it
+abbrev pub replies_of : Settings → List Event → List Event → List Reply
+replies_of settings history [] = []
+replies_of settings history (event ∷ events) = reply_of settings (past_of settings.journal history) event ∷ replies_of settings (history ++ event ∷ []) events

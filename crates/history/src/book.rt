@@ -1,0 +1,117 @@
+//! The promise that every book keeps, however it keeps it.
+
+ghost use Rattle.std.specs.Prelude.{◌≡◌, ◌≤◌, ℕ, List, length, count_by, IfOk, OnErr, IsErrOf};
+ghost use Rattle.history.specs.declared.event.Event.{Event};
+ghost use Rattle.history.specs.declared.event.Settings.{Settings};
+ghost use Rattle.history.specs.Event.{is_admission};
+ghost use Rattle.history.specs.History.{past_of, stubs_of, tables_of};
+ghost use Rattle.history.specs.Reply.{seen_of, look_seen};
+ghost use Rattle.history.specs.Servers.{servers_of};
+ghost use Rattle.history.specs.Answers.{Answers, history_after};
+
+use crate::event::{Ask, Event, Look, Reply, Seen, Settings};
+use crate::servers::Servers;
+use dns_name::{Name, NoMemory};
+use dns_text::Question;
+use local_zone::ZoneTable;
+use std::alloc::{AllocError, AllocFailed};
+use stub_table::StubTable;
+use thiserror::Error;
+
+/// Why an event is not taken. Then nothing has changed, the greatest moment included.
+#[derive(Clone, Copy, Debug, PartialEq, Eq, Error)]
+pub enum StepFault {
+    /// The moment is `MOMENT_END` or later.
+    #[error("the moment is too late")]
+    BadMoment,
+    /// `MOST_EVENTS` events were taken.
+    #[error("no more events are counted")]
+    CountEnded,
+    /// As many cells are stored as there may be. It comes to an admission alone.
+    #[error("{stored} cells are stored")]
+    Full { stored: usize },
+    /// Memory was refused.
+    #[error("out of memory")]
+    NoMemory,
+}
+
+impl From<AllocError> for StepFault {
+    ghost use Rattle.history.specs.declared.book.StepFault.TheVariants.{NoMemory};
+
+    ghost from_gives = { λ _ e. e ≡ NoMemory };
+
+    fn from(_e: AllocError) -> StepFault {
+        StepFault::NoMemory
+    }
+}
+
+impl<T: Drop> From<AllocFailed<T>> for StepFault {
+    ghost use Rattle.history.specs.declared.book.StepFault.TheVariants.{NoMemory};
+
+    ghost from_gives = { λ _ e. e ≡ NoMemory };
+
+    fn from(_e: AllocFailed<T>) -> StepFault {
+        StepFault::NoMemory
+    }
+}
+
+/// A book of what was found. What it replies is what a replay of its history from nothing gives, with the undone commands struck out.
+pub trait Book: Drop {
+    /// The book is what this history comes to.
+    ghost stands_for: { Self → List Event → Type 0 };
+
+    /// What the book was made with.
+    ghost settings: { Self → Settings };
+
+    /// How many cells are stored.
+    ghost stored: { Self → ℕ };
+
+    /// Takes an event.
+    fn step(&mut self, event: Event) -> Result<Reply, StepFault>
+        // The reply is that of the replay; a fault comes only for its reason.
+        ensures answers { (h : List Event) → stands_for self.old h → Answers (settings self.old) h event result }
+
+        // The book stands for the history with the event, and after a fault for the history as it was.
+        ensures stands { (h : List Event) → stands_for self.old h → stands_for self.new (history_after h event result) }
+
+        // It is full only where as many cells are stored as there may be.
+        ensures full { (n : ℕ) → IsErrOf result (StepFault.Full n) → stored self.old ≡ n }
+        ensures same_store { OnErr result (stored self.new ≡ stored self.old) }
+        ensures settings { settings self.new ≡ settings self.old };
+
+    /// What a look that gives this moment would see. It moves no clock, and no moment is too late for it.
+    fn seen(&self, ask: &Ask, moment: u64) -> Result<Seen, NoMemory>
+        ensures { (h : List Event) → stands_for self.now h →
+            IfOk result (λ s. s ≡ seen_of (settings self.now) (past_of (settings self.now).journal h) ask.now moment) };
+
+    /// What a look at a question would see, with no memory taken.
+    fn look<'a>(&'a self, question: &'a Question, moment: u64) -> Look<'a>
+        ensures { (h : List Event) → stands_for self.now h →
+            look_seen result ≡ seen_of (settings self.now) (past_of (settings self.now).journal h) (Ask.Answer question.now) moment };
+
+    /// The local zones and records.
+    fn zones(&self) -> &ZoneTable
+        ensures { (h : List Event) → stands_for self.now h → result.now ≡ (tables_of (past_of (settings self.now).journal h)).local };
+
+    /// The stubs.
+    fn stubs(&self) -> &StubTable
+        ensures { (h : List Event) → stands_for self.now h → result.now ≡ stubs_of (past_of (settings self.now).journal h) };
+
+    /// The servers to ask about a name at a moment.
+    fn servers(&self, name: &Name, moment: u64) -> Result<Servers, NoMemory>
+        ensures { (h : List Event) → stands_for self.now h →
+            IfOk result (λ s. s ≡ servers_of (settings self.now) (past_of (settings self.now).journal h) name.now moment) };
+
+    /// How many cells are stored.
+    fn stored(&self) -> usize
+        ensures { result ≡ stored self.now };
+
+    /// The journal has room for a command.
+    ghost has_journal: { (book : Self) (h : List Event) → stands_for book h → 1 ≤ (settings book).journal };
+
+    /// No more is stored than was admitted.
+    ghost stores_few: { (book : Self) (h : List Event) → stands_for book h → stored book ≤ count_by is_admission h };
+
+    /// The histories that it stands for have as many events.
+    ghost one_count: { (book : Self) (h k : List Event) → stands_for book h → stands_for book k → length h ≡ length k };
+}

@@ -1,0 +1,130 @@
+//! What a command makes of local zones, records and stubs.
+
+ghost use Rattle.std.specs.Prelude.{◌≡◌, IfOk, OnErr, OnOk, None, Some};
+ghost use Rattle.history.specs.Changes.{after_command_on, reason_on, reason_told, stub_reason_told, unless_refused};
+
+use crate::event::{Command, Reason};
+use crate::made::Tables;
+use dns_name::{Name, NoMemory};
+use dns_text::{Record, Shared};
+use local_zone::{TableFault, ZoneType};
+use std::alloc::AllocError;
+use stub_table::{Stub, StubFault};
+
+impl Tables {
+    /// Makes the change of a command, or returns why it is refused. Then, and where memory is refused, nothing has changed.
+    pub fn change(&mut self, command: &Command) -> Result<Option<Reason>, NoMemory>
+        ensures told { IfOk result (λ o. o ≡ reason_on self.old command.now) }
+        ensures changed { IfOk result (λ o. self.new ≡ unless_refused o command.now self.old) }
+        ensures same { OnErr result (self.new ≡ self.old) }
+    {
+        match command {
+            Command::FlushType(_) | Command::Flush { .. } | Command::FlushZone { .. } => Ok(None),
+            Command::SetZone { name, kind } => set_zone(self, name, *kind),
+            Command::DropZone { name } => drop_zone(self, name),
+            Command::AddRecord { record } => add_record(self, record),
+            Command::DropName { name } => drop_name(self, name),
+            Command::SetStub { stub } => set_stub(self, stub),
+            Command::DropStub { name } => drop_stub(self, name),
+        }
+    }
+
+    /// Obeys a command that stands. It was accepted where what stands before it stood, so nothing but memory keeps it from being made.
+    pub fn obey(&mut self, command: &Command) -> Result<(), NoMemory>
+        ensures { OnOk result (self.new ≡ after_command_on command.now self.old) }
+    {
+        match self.change(command)? {
+            None => Ok(()),
+            Some(_) => Err(AllocError),
+        }
+    }
+}
+
+fn set_zone(tables: &mut Tables, name: &Name, kind: ZoneType) -> Result<Option<Reason>, NoMemory>
+    ensures told { IfOk result (λ o. o ≡ reason_on tables.old (Command.SetZone name.now kind)) }
+    ensures changed { IfOk result (λ o. tables.new ≡ unless_refused o (Command.SetZone name.now kind) tables.old) }
+    ensures same { OnErr result (tables.new ≡ tables.old) }
+{
+    match tables.local.set(name.clone()?, kind) {
+        Ok(_) => Ok(None),
+        Err(fault) => Ok(Some(reason(fault)?)),
+    }
+}
+
+fn drop_zone(tables: &mut Tables, name: &Name) -> Result<Option<Reason>, NoMemory>
+    ensures told { IfOk result (λ o. o ≡ None) }
+    ensures changed { OnOk result (tables.new ≡ after_command_on (Command.DropZone name.now) tables.old) }
+    ensures same { OnErr result (tables.new ≡ tables.old) }
+{
+    match tables.local.drop_zone(name) {
+        Ok(_) => Ok(None),
+        Err(_) => Err(AllocError),
+    }
+}
+
+fn add_record(tables: &mut Tables, new: &Shared<Record>) -> Result<Option<Reason>, NoMemory>
+    ensures told { IfOk result (λ o. o ≡ reason_on tables.old (Command.AddRecord new.now)) }
+    ensures changed { IfOk result (λ o. tables.new ≡ unless_refused o (Command.AddRecord new.now) tables.old) }
+    ensures same { OnErr result (tables.new ≡ tables.old) }
+{
+    match tables.local.add_record(new.share()?) {
+        Ok(_) => Ok(None),
+        Err(fault) => Ok(Some(reason(fault)?)),
+    }
+}
+
+fn drop_name(tables: &mut Tables, name: &Name) -> Result<Option<Reason>, NoMemory>
+    ensures told { IfOk result (λ o. o ≡ None) }
+    ensures changed { OnOk result (tables.new ≡ after_command_on (Command.DropName name.now) tables.old) }
+    ensures same { OnErr result (tables.new ≡ tables.old) }
+{
+    match tables.local.drop_name(name) {
+        Ok(_) => Ok(None),
+        Err(_) => Err(AllocError),
+    }
+}
+
+fn set_stub(tables: &mut Tables, new: &Shared<Stub>) -> Result<Option<Reason>, NoMemory>
+    ensures told { IfOk result (λ o. o ≡ reason_on tables.old (Command.SetStub new.now)) }
+    ensures changed { IfOk result (λ o. tables.new ≡ unless_refused o (Command.SetStub new.now) tables.old) }
+    ensures same { OnErr result (tables.new ≡ tables.old) }
+{
+    match tables.stubs.set(new.share()?) {
+        Ok(_) => Ok(None),
+        Err(fault) => Ok(Some(stub_reason(fault)?)),
+    }
+}
+
+fn drop_stub(tables: &mut Tables, name: &Name) -> Result<Option<Reason>, NoMemory>
+    ensures told { IfOk result (λ o. o ≡ None) }
+    ensures changed { OnOk result (tables.new ≡ after_command_on (Command.DropStub name.now) tables.old) }
+    ensures same { OnErr result (tables.new ≡ tables.old) }
+{
+    match tables.stubs.remove(name) {
+        Ok(_) => Ok(None),
+        Err(_) => Err(AllocError),
+    }
+}
+
+/// The reason that a fault of the local tables tells.
+fn reason(fault: TableFault) -> Result<Reason, NoMemory>
+    ensures { IfOk result (λ reason. reason_told fault ≡ Some reason) }
+{
+    match fault {
+        TableFault::BelowRedirect => Ok(Reason::BelowRedirect),
+        TableFault::DataBelow => Ok(Reason::DataBelow),
+        TableFault::CnameClash => Ok(Reason::CnameClash),
+        TableFault::TooMany => Ok(Reason::TooMany),
+        TableFault::NoMemory => Err(AllocError),
+    }
+}
+
+/// The reason that a fault of the stubs tells.
+fn stub_reason(fault: StubFault) -> Result<Reason, NoMemory>
+    ensures { IfOk result (λ reason. stub_reason_told fault ≡ Some reason) }
+{
+    match fault {
+        StubFault::TooMany => Ok(Reason::TooMany),
+        StubFault::NoMemory => Err(AllocError),
+    }
+}

@@ -1,0 +1,177 @@
+//! The servers of a zone, by what the cache holds.
+
+ghost use Rattle.std.specs.Prelude.{◌≡◌, ◌++◌, ◌∷◌, [], IfOk, OnOk, not, filter};
+ghost use Rattle.std.specs.List.{flat_map, list_any};
+ghost use Rattle.dns_name.specs.Below.{is_at_or_below};
+ghost use Rattle.ranked.specs.Body.{data_of};
+ghost use Rattle.history.specs.Servers.{addr_of, addrs_at, cached_servers, data_at, has_no_addr, is_usable, servers_named, target_of};
+
+use crate::event::Settings;
+use crate::servers::{Servers, Source};
+use crate::source::CellSource;
+use dns_name::{Name, NoMemory};
+use dns_text::{Addr, Data, Ip, Items, types};
+use ranked::Body;
+use std::alloc::Global;
+
+/// What the cache has at this very name, where that is usable.
+pub(crate) fn cached_servers<C: CellSource>(
+    alloc: Global,
+    settings: &Settings,
+    cells: &C,
+    name: &Name,
+    moment: u64,
+) -> Result<Option<Servers>, NoMemory>
+    ensures { IfOk result (λ o. o ≡ cached_servers settings.now (C.shows_at cells.now moment) name.now) }
+{
+    let targets = targets(alloc, data_at(cells, name, types::NS, moment))?;
+    let servers = servers_named(alloc, settings, cells, moment, name, &targets)?;
+    if is_usable(&servers, &targets) {
+        Ok(Some(servers))
+    } else {
+        Ok(None)
+    }
+}
+
+/// The data that are alive of a name and a type, of any rank.
+fn data_at<'a, C: CellSource>(cells: &'a C, name: &Name, kind: u16, moment: u64) -> &'a [Data]
+    ensures { result.now ≡ data_at (C.shows_at cells.now moment) kind name.now }
+{
+    match cells.shows(name, kind, moment) {
+        Some(held) => data_in(&held.body.find().body),
+        None => &[],
+    }
+}
+
+fn data_in(body: &Body) -> &[Data]
+    ensures { result.now ≡ data_of body.now }
+{
+    match body {
+        Body::Set(data) => data.as_slice(),
+        Body::NoData(_) | Body::NoName(_) => &[],
+    }
+}
+
+/// The servers that these data name.
+fn targets(alloc: Global, set: &[Data]) -> Result<Vec<Name>, NoMemory>
+    ensures { IfOk result (λ v. v.items ≡ flat_map target_of set.now) }
+{
+    let mut targets = Vec::new(alloc);
+    for datum in set {
+        push_target(datum, &mut targets)?;
+    }
+    Ok(targets)
+}
+
+fn push_target(datum: &Data, out: &mut Vec<Name>) -> Result<(), NoMemory>
+    ensures { OnOk result (out.new.items ≡ out.old.items ++ target_of datum.now) }
+{
+    if let Data::One(name) = datum {
+        out.push(name.clone()?)?;
+    }
+    Ok(())
+}
+
+/// The servers of these names, for a zone.
+fn servers_named<C: CellSource>(
+    alloc: Global,
+    settings: &Settings,
+    cells: &C,
+    moment: u64,
+    zone: &Name,
+    targets: &Vec<Name>,
+) -> Result<Servers, NoMemory>
+    ensures { IfOk result (λ s. s ≡ servers_named settings.now (C.shows_at cells.now moment) zone.now targets.now.items) }
+{
+    let mut addrs = Vec::new(alloc);
+    let mut missing = Vec::new(alloc);
+    for target in targets {
+        add_server(
+            alloc,
+            settings,
+            cells,
+            moment,
+            target,
+            &mut addrs,
+            &mut missing,
+        )?;
+    }
+    Ok(Servers {
+        zone: zone.clone()?,
+        source: Source::Cache,
+        addrs: Items::new(addrs),
+        missing: Items::new(missing),
+    })
+}
+
+/// Adds the addresses of a server, or itself to those that have none.
+fn add_server<C: CellSource>(
+    alloc: Global,
+    settings: &Settings,
+    cells: &C,
+    moment: u64,
+    target: &Name,
+    addrs: &mut Vec<Addr>,
+    missing: &mut Vec<Name>,
+) -> Result<(), NoMemory>
+    ensures addrs { OnOk result (addrs.new.items ≡ addrs.old.items ++ addrs_at settings.now (C.shows_at cells.now moment) target.now) }
+    ensures missing { OnOk result (missing.new.items ≡ missing.old.items ++ filter (has_no_addr settings.now (C.shows_at cells.now moment)) (target.now ∷ [])) }
+{
+    let own = addrs_at(alloc, settings, cells, moment, target)?;
+    if own.is_empty() {
+        missing.push(target.clone()?)?;
+    }
+    addrs.extend_from_slice(&own)
+}
+
+/// The addresses of a server, those of IPv4 first.
+fn addrs_at<C: CellSource>(
+    alloc: Global,
+    settings: &Settings,
+    cells: &C,
+    moment: u64,
+    name: &Name,
+) -> Result<Vec<Addr>, NoMemory>
+    ensures { IfOk result (λ v. v.items ≡ addrs_at settings.now (C.shows_at cells.now moment) name.now) }
+{
+    let port = settings.server_port;
+    let mut addrs = Vec::new(alloc);
+    push_addrs(data_at(cells, name, types::A, moment), port, &mut addrs)?;
+    push_addrs(data_at(cells, name, types::AAAA, moment), port, &mut addrs)?;
+    Ok(addrs)
+}
+
+fn push_addrs(set: &[Data], port: u16, out: &mut Vec<Addr>) -> Result<(), NoMemory>
+    ensures { OnOk result (out.new.items ≡ out.old.items ++ flat_map (addr_of port) set.now) }
+{
+    for datum in set {
+        push_addr(datum, port, out)?;
+    }
+    Ok(())
+}
+
+fn push_addr(datum: &Data, port: u16, out: &mut Vec<Addr>) -> Result<(), NoMemory>
+    ensures { OnOk result (out.new.items ≡ out.old.items ++ addr_of port datum.now) }
+{
+    let ip = match datum {
+        Data::A(octets) => Ip::V4(*octets),
+        Data::Aaaa(octets) => Ip::V6(*octets),
+        _ => return Ok(()),
+    };
+    out.push(Addr { ip, port })?;
+    Ok(())
+}
+
+/// Whether these servers of a zone, which have these names, lead to an answer.
+fn is_usable(servers: &Servers, targets: &Vec<Name>) -> bool
+    ensures { result ≡ is_usable servers.now targets.now.items }
+{
+    !servers.addrs.as_slice().is_empty() || has_outside(targets, &servers.zone)
+}
+
+/// Whether one of the names is not at or below a zone.
+fn has_outside(targets: &Vec<Name>, zone: &Name) -> bool
+    ensures { result ≡ list_any (λ target. not (is_at_or_below target zone.now)) targets.now.items }
+{
+    targets.iter().any(|target| !target.at_or_below(zone))
+}

@@ -1,0 +1,44 @@
+//! What a caller can hand an event to.
+
+ghost use Rattle.std.specs.Prelude.{◌≡◌, Result};
+ghost use Rattle.history.specs.declared.event.Event.{Event};
+ghost use Rattle.history.specs.declared.event.Reply.{Reply};
+ghost use Rattle.history.specs.declared.desk.DeskFault.{DeskFault};
+ghost use Rattle.history.specs.Desk.{BookCall};
+
+use crate::book::{Book, StepFault};
+use crate::event::{Event, Reply};
+use thiserror::Error;
+
+/// Why a call gets no reply.
+#[derive(Clone, Copy, Debug, PartialEq, Eq, Error)]
+pub enum DeskFault {
+    /// The book does not take the event.
+    #[error("{0}")]
+    Step(StepFault),
+    /// The caller has seen more calls than were made: it is a caller of another book.
+    #[error("the book is behind, at {at}")]
+    Behind { at: u64 },
+}
+
+/// Anything that a caller can hand an event to.
+pub trait Desk {
+    /// One call: the desk before, the event, the answer, the desk after.
+    ghost calls: { Self → Event → Result Reply DeskFault → Self → Type 0 };
+
+    /// Hands in an event.
+    fn call(&mut self, event: Event) -> Result<Reply, DeskFault>
+        ensures { calls self.old event result self.new };
+}
+
+/// A book is a desk for whoever has it alone. It is never behind.
+impl<B: Book> Desk for B {
+    ghost calls = { BookCall B.stands_for B.settings B.stored };
+
+    fn call(&mut self, event: Event) -> Result<Reply, DeskFault> {
+        match self.step(event) {
+            Ok(reply) => Ok(reply),
+            Err(fault) => Err(DeskFault::Step(fault)),
+        }
+    }
+}

@@ -1,0 +1,292 @@
+//! What a book is given and asked, and what it replies.
+
+ghost use Rattle.std.specs.Prelude.{◌≡◌, IfOk, Some};
+ghost use Rattle.std.specs.Option.{option_map};
+ghost use Rattle.local_zone.specs.Answer.{local_now};
+
+use crate::servers::Servers;
+use dns_name::{Name, NoMemory};
+use dns_text::{Addr, Items, Question, Record, Shared};
+use local_zone::{Local, LocalRecord, LocalSet, SeenRecord, Zone, ZoneType};
+use ranked::{Flush, Held, Reach, SharedFind, Shown};
+use std::alloc::Global;
+use stub_table::Stub;
+
+/// What a book is asked.
+#[derive(Drop, PartialEq)]
+pub enum Ask {
+    /// What is known about a question.
+    Answer(Question),
+    /// The local zones.
+    Zones,
+    /// The local records.
+    Records,
+    /// The stubs.
+    Stubs,
+    /// The commands that can be undone or redone.
+    Commands,
+    /// The servers to ask about a name.
+    Servers(Name),
+}
+
+/// What the operator gives, and can take back.
+#[derive(Drop, PartialEq)]
+pub enum Command {
+    /// Empties the cell of one question.
+    FlushType(Question),
+    /// Empties the cells of a name of the types that `flush` of `unbound-control(8)` names.
+    Flush { name: Name },
+    /// Empties the cells of every name at or below a name, of any type.
+    FlushZone { name: Name },
+    /// Adds a local zone, or gives the zone of this name another type.
+    SetZone { name: Name, kind: ZoneType },
+    /// Removes a local zone, and the records that lie in it.
+    DropZone { name: Name },
+    /// Adds a local record, and gives its time to live to its set.
+    AddRecord { record: Shared<Record> },
+    /// Removes the local records of an owner.
+    DropName { name: Name },
+    /// Adds a stub, or gives the stub of this name other addresses.
+    SetStub { stub: Shared<Stub> },
+    /// Removes a stub.
+    DropStub { name: Name },
+}
+
+impl Command {
+    ghost use Rattle.history.specs.Event.{covers, flush_of};
+
+    /// Whether it empties the cell of the question of this name and type.
+    pub fn covers(&self, owner: &Name, kind: u16) -> bool
+        ensures { result ≡ covers self.now (record { owner = owner.now; kind = kind }) }
+    {
+        match self {
+            Command::FlushType(target) => {
+                Reach::OneType(target.kind).covers(&target.owner, owner, kind)
+            }
+            Command::Flush { name } => Reach::Name.covers(name, owner, kind),
+            Command::FlushZone { name } => Reach::Zone.covers(name, owner, kind),
+            _ => false,
+        }
+    }
+
+    /// The flush that it gives, if it gives one.
+    pub fn flush(&self) -> Result<Option<Flush>, NoMemory>
+        ensures { IfOk result (λ flush. flush ≡ flush_of self.now) }
+    {
+        match self {
+            Command::FlushType(target) => flush_at(&target.owner, Reach::OneType(target.kind)),
+            Command::Flush { name } => flush_at(name, Reach::Name),
+            Command::FlushZone { name } => flush_at(name, Reach::Zone),
+            _ => Ok(None),
+        }
+    }
+}
+
+fn flush_at(name: &Name, reach: Reach) -> Result<Option<Flush>, NoMemory>
+    ensures { IfOk result (λ flush. flush ≡ Some (record { name = name.now; reach = reach })) }
+{
+    let name = name.clone()?;
+    Ok(Some(Flush { name, reach }))
+}
+
+/// One event, with the moment that it gives, in seconds.
+#[derive(Drop, PartialEq)]
+pub enum Event {
+    /// A find comes to the cache.
+    Admit { moment: u64, find: SharedFind },
+    /// Something is asked.
+    Look { moment: u64, ask: Ask },
+    /// What can never be shown again may be given up. It changes nothing but the clock.
+    Sweep { moment: u64 },
+    /// The operator gives a command.
+    Do { moment: u64, command: Command },
+    /// The newest command that can be undone is taken back.
+    Undo { moment: u64 },
+    /// The command that was undone last is put back at its place.
+    Redo { moment: u64 },
+}
+
+impl Event {
+    ghost use Rattle.history.specs.Event.{moment_of, is_admission};
+
+    /// The moment that it gives.
+    pub fn moment(&self) -> u64
+        ensures { result ≡ moment_of self.now }
+    {
+        match self {
+            Event::Admit { moment, .. } => *moment,
+            Event::Look { moment, .. } => *moment,
+            Event::Sweep { moment } => *moment,
+            Event::Do { moment, .. } => *moment,
+            Event::Undo { moment } => *moment,
+            Event::Redo { moment } => *moment,
+        }
+    }
+
+    /// Whether it is an admission.
+    pub fn is_admission(&self) -> bool
+        ensures { result ≡ is_admission self.now }
+    {
+        matches!(self, Event::Admit { .. })
+    }
+}
+
+/// What is seen, with the data lent.
+#[derive(Drop)]
+pub enum Look<'a> {
+    /// Nothing that may be shown.
+    Unknown,
+    /// A find that is alive, with the seconds left.
+    Held(Held<'a>),
+    /// What local zones answer, which is not `Pass`.
+    Local(Local<LocalSet<'a>, &'a LocalRecord>),
+}
+
+impl Look<'_> {
+    ghost use Rattle.history.specs.Reply.{look_seen};
+
+    /// The same with a share of the data. It fails where a find has more owners than can be counted.
+    pub fn to_seen(&self, alloc: Global) -> Result<Seen, NoMemory>
+        ensures { IfOk result (λ seen. seen ≡ look_seen self.now) }
+    {
+        match self {
+            Look::Unknown => Ok(Seen::Unknown),
+            Look::Held(held) => Ok(Seen::Held(Shown {
+                rank: held.rank,
+                left: held.left,
+                body: held.body.share()?,
+            })),
+            Look::Local(answer) => Ok(Seen::Local(share_answer(alloc, answer)?)),
+        }
+    }
+}
+
+/// A local answer with shares of its records.
+fn share_answer(
+    alloc: Global,
+    answer: &Local<LocalSet<'_>, &LocalRecord>,
+) -> Result<Local<Items<SeenRecord>, LocalRecord>, NoMemory>
+    ensures { IfOk result (λ shared. shared ≡ local_now answer.now) }
+{
+    match answer {
+        Local::Data(set) => Ok(Local::Data(set.to_items(alloc)?)),
+        Local::NoData(soa) => Ok(Local::NoData(share_soa(soa)?)),
+        Local::NoName(soa) => Ok(Local::NoName(share_soa(soa)?)),
+        Local::Refuse => Ok(Local::Refuse),
+        Local::Drop => Ok(Local::Drop),
+        Local::Pass => Ok(Local::Pass),
+    }
+}
+
+fn share_soa(soa: &Option<&LocalRecord>) -> Result<Option<LocalRecord>, NoMemory>
+    ensures { IfOk result (λ shared. shared ≡ option_map (λ r. r.now) soa.now) }
+{
+    match soa {
+        Some(record) => Ok(Some(record.share()?)),
+        None => Ok(None),
+    }
+}
+
+/// What is seen, with a share of the data.
+#[derive(Drop, PartialEq)]
+pub enum Seen {
+    /// Nothing that may be shown.
+    Unknown,
+    /// A find that is alive, with the seconds left.
+    Held(Shown<SharedFind>),
+    /// What local zones answer, which is not `Pass`.
+    Local(Local<Items<SeenRecord>, LocalRecord>),
+    /// The local zones, in order.
+    Zones(Items<Shared<Zone>>),
+    /// The local records, in order.
+    Records(Items<LocalRecord>),
+    /// The stubs, in order.
+    Stubs(Items<Shared<Stub>>),
+    /// The commands that can be undone or redone, the oldest first.
+    Commands(Items<Journalled>),
+    /// The servers that are closest to a name.
+    Servers(Shared<Servers>),
+}
+
+/// A command that can be undone or redone, as the journal holds it.
+#[derive(Drop, PartialEq)]
+pub struct Journalled {
+    pub ticket: u64,
+    /// Whether it can be undone; else it can be redone.
+    pub done: bool,
+    pub command: Command,
+}
+
+/// Why a command is refused.
+#[derive(Clone, Copy, PartialEq, Eq)]
+pub enum Reason {
+    /// The record's owner is strictly below the redirect zone that it lies in.
+    BelowRedirect,
+    /// A record would lie strictly below the name of a redirect zone.
+    DataBelow,
+    /// A CNAME would stand beside other types.
+    CnameClash,
+    /// A list would be longer than it may be, or a stub's addresses are not 1 to 8.
+    TooMany,
+}
+
+/// What is replied to an event.
+#[derive(Drop, PartialEq)]
+pub enum Reply {
+    /// The find is held.
+    Taken,
+    /// The find is not held: what is held is alive and of higher rank.
+    Outranked,
+    /// What the look sees.
+    Seen(Seen),
+    /// What can never be shown again may have been given up.
+    Swept,
+    /// The command is accepted, and took this ticket.
+    Done { ticket: u64 },
+    /// The command is not accepted.
+    Refused(Reason),
+    /// The command of this ticket is taken back.
+    Undone { ticket: u64 },
+    /// The command of this ticket is put back.
+    Redone { ticket: u64 },
+    /// No command can be undone.
+    NothingToUndo,
+    /// No command can be redone.
+    NothingToRedo,
+}
+
+impl Reply {
+    ghost use Rattle.history.specs.Reply.{ticket_taken};
+
+    /// The ticket that a command took, where this is the reply to one.
+    pub fn ticket_taken(&self) -> Option<u64>
+        ensures { result ≡ ticket_taken self.now }
+    {
+        match self {
+            Reply::Done { ticket } => Some(*ticket),
+            _ => None,
+        }
+    }
+}
+
+/// An event that was taken, with the moment at which it counts and the ticket that it took.
+#[derive(Drop)]
+pub struct Entry {
+    pub event: Event,
+    /// In seconds: the greatest moment that was given so far, by this event too.
+    pub moment: u64,
+    pub ticket: Option<u64>,
+}
+
+/// What a book is made with.
+#[derive(Drop, PartialEq)]
+pub struct Settings {
+    /// How many of the newest commands can be undone, from 1 to `MOST_COMMANDS`.
+    pub journal: usize,
+    /// How many cells there may be, from 1 to `MOST_CELLS`.
+    pub cells: usize,
+    /// The addresses of the root's servers, at most `MOST_HINTS`.
+    pub hints: Items<Addr>,
+    /// The port of the servers whose addresses are in the cache, from 1 to 65,535.
+    pub server_port: u16,
+}

@@ -1,0 +1,48 @@
+//! The promise of a book of what was found, in which every command can be undone.
+#![tactic(auto)]
+
+// The servers to ask about a name.
+mod servers;
+// Events, lookups and replies.
+mod event;
+// Copies of events and replies.
+mod copying;
+// Limits of moments, counts and settings.
+mod limits;
+// The tables that the operator's commands make: local zones, records and stubs.
+mod made;
+// The change that a command makes of the tables.
+mod changes;
+// The promise that every book keeps.
+mod book;
+// The desk: whatever a caller can hand an event to.
+mod desk;
+// A run of any book over a list of events.
+mod runs;
+// Laws of undoing and refusing, by the definitions alone.
+mod laws;
+// The trait of what shows cells.
+mod source;
+// The servers of a zone, by the cells shown.
+mod delegation;
+// The servers that are closest to a name.
+mod closest;
+// What a lookup sees, with a share of the data.
+mod sight;
+
+pub use book::{Book, StepFault};
+pub use closest::servers as closest_servers;
+pub use desk::{Desk, DeskFault};
+pub use event::{Ask, Command, Entry, Event, Journalled, Look, Reason, Reply, Seen, Settings};
+pub use laws::{
+    clock_is_greatest, done_is_in_order, equality_law, flush_forgets, journal_law, redo_puts_back,
+    refusal_changes_only_the_clock, servers_law, sweep_changes_only_the_clock, undo_takes_back,
+};
+pub use limits::{
+    MOMENT_END, MOST_CELLS, MOST_COMMANDS, MOST_EVENTS, MOST_HINTS, MakeFault, are_settings,
+};
+pub use made::Tables;
+pub use runs::{RunFault, run};
+pub use servers::{Servers, Source};
+pub use sight::{share_records, share_stubs, share_zones, sight as question_sight};
+pub use source::CellSource;

@@ -1,0 +1,43 @@
+//! How far moments, counts and settings go.
+
+ghost use Rattle.std.specs.Prelude.{◌↔◌, IsTrue};
+ghost use Rattle.history.specs.Event.{AreSettings};
+
+use crate::event::Settings;
+use thiserror::Error;
+
+/// The moment that no event may give, nor a later one, in seconds.
+pub const MOMENT_END: u64 = 1 << 40;
+
+/// The most events that a book takes.
+pub const MOST_EVENTS: usize = (1 << 62) - 1;
+
+/// The most commands that a book can be made to undo.
+pub const MOST_COMMANDS: usize = 256;
+
+/// The most cells that a book can be made to store.
+pub const MOST_CELLS: usize = 1_000_000;
+
+/// The most hints that a book can be made with.
+pub const MOST_HINTS: usize = 16;
+
+/// Why no book is made.
+#[derive(Clone, Copy, Debug, PartialEq, Eq, Error)]
+pub enum MakeFault {
+    /// A number of the settings is out of its range.
+    #[error("bad settings")]
+    BadSettings,
+    /// Memory was refused.
+    #[error("out of memory")]
+    NoMemory,
+}
+
+/// Whether each is in its range.
+pub fn are_settings(settings: &Settings) -> bool
+    ensures { IsTrue result ↔ AreSettings settings.now }
+{
+    let has_journal = settings.journal >= 1 && settings.journal <= MOST_COMMANDS;
+    let has_cells = settings.cells >= 1 && settings.cells <= MOST_CELLS;
+    let has_hints = settings.hints.as_slice().len() <= MOST_HINTS;
+    has_journal && has_cells && has_hints && settings.server_port >= 1
+}

@@ -1,0 +1,93 @@
+//! What a look sees, with a share of the data.
+
+ghost use Rattle.std.specs.Prelude.{◌≡◌, IfOk};
+ghost use Rattle.history.specs.Reply.{look_seen, passes_on, seen_by, seen_first};
+ghost use Rattle.local_zone.specs.Answer.{local_now, local_of};
+
+use crate::event::Look;
+use crate::source::CellSource;
+use dns_name::NoMemory;
+use dns_text::{Question, Shared};
+use local_zone::{Local, LocalRecord, LocalSet, Zone, ZoneTable};
+use std::alloc::Global;
+use stub_table::{Stub, StubTable};
+
+/// What a look at a question sees: what the table answers, and the cell where it says nothing.
+pub fn sight<'a, C: CellSource>(
+    cells: &'a C,
+    table: &'a ZoneTable,
+    question: &'a Question,
+    moment: u64,
+) -> Look<'a>
+    ensures { look_seen result ≡ seen_first (local_of table.now question.now) (seen_by (C.shows_at cells.now moment question.now)) }
+{
+    let answer = table.answer(question);
+    if passes(&answer) {
+        cell_sight(cells, question, moment)
+    } else {
+        Look::Local(answer)
+    }
+}
+
+/// Whether local zones leave a question to what is held.
+fn passes(answer: &Local<LocalSet, &LocalRecord>) -> bool
+    ensures { result ≡ passes_on (local_now answer.now) }
+{
+    match answer {
+        Local::Data(_) => false,
+        Local::NoData(_) => false,
+        Local::NoName(_) => false,
+        Local::Refuse => false,
+        Local::Drop => false,
+        Local::Pass => true,
+    }
+}
+
+/// What the cell of a question lends.
+fn cell_sight<'a, C: CellSource>(cells: &'a C, question: &Question, moment: u64) -> Look<'a>
+    ensures { look_seen result ≡ seen_by (C.shows_at cells.now moment question.now) }
+{
+    match cells.shows(&question.owner, question.kind, moment) {
+        Some(shown) => {
+            if shown.rank.level() < 2 {
+                Look::Unknown
+            } else {
+                Look::Held(shown)
+            }
+        }
+        None => Look::Unknown,
+    }
+}
+
+/// A share of each zone.
+pub fn share_zones(alloc: Global, zones: &[Shared<Zone>]) -> Result<Vec<Shared<Zone>>, NoMemory>
+    ensures { IfOk result (λ v. v.items ≡ zones.now) }
+{
+    let mut shared = Vec::new(alloc);
+    for zone in zones {
+        shared.push(zone.share()?)?;
+    }
+    Ok(shared)
+}
+
+/// A share of each record.
+pub fn share_records(alloc: Global, records: &[LocalRecord]) -> Result<Vec<LocalRecord>, NoMemory>
+    ensures { IfOk result (λ v. v.items ≡ records.now) }
+{
+    let mut shared = Vec::new(alloc);
+    for record in records {
+        shared.push(record.share()?)?;
+    }
+    Ok(shared)
+}
+
+/// A share of each stub.
+pub fn share_stubs(alloc: Global, stubs: &[Shared<Stub>]) -> Result<Vec<Shared<Stub>>, NoMemory>
+    ensures { IfOk result (λ v. v.items ≡ stubs.now) }
+{
+    let mut shared = Vec::new(alloc);
+    for stub in stubs {
+        shared.push(stub.share()?)?;
+    }
+    Ok(shared)
+}
