@@ -12,10 +12,10 @@ use Rattle.dns_text.specs.declared.record.Question.{Question}
 use Rattle.ranked.specs.declared.find.Find.{Find}
 use Rattle.ranked.specs.declared.cell.Admitted.{Admitted}
 use Rattle.ranked.specs.Find.{touches}
-use Rattle.undo_book.specs.declared.event.Event.{Event}
-use Rattle.undo_book.specs.declared.event.Event.TheVariants.{Admit, Look, Sweep, Do, Undo, Redo}
-use Rattle.undo_book.specs.declared.event.Reply.{Reply}
-use Rattle.undo_book.specs.declared.event.Reply.TheVariants.{Undone, Redone}
+use Rattle.history.specs.declared.event.Event.{Event}
+use Rattle.history.specs.declared.event.Event.TheVariants.{Admit, Look, Sweep, Do, Undo, Redo}
+use Rattle.history.specs.declared.event.Reply.{Reply}
+use Rattle.history.specs.declared.event.Reply.TheVariants.{Undone, Redone}
 use Rattle.undo_book.specs.declared.index.Indexed.{Indexed}
 use Rattle.undo_book.specs.declared.log.Logged.{Logged}
 use Rattle.undo_book.specs.Index.{tag_of, index_of_entry, index_from, cell_after_indexed}

@@ -14,23 +14,22 @@ use Rattle.ranked.specs.declared.cell.Admitted.{Admitted}
 use Rattle.ranked.specs.Cell.{turns_away}
 use Rattle.ranked.specs.Find.{admission_of}
 use Rattle.dns_name.specs.ListLaws.{all_push}
-use Rattle.undo_book.specs.declared.event.Event.{Event}
-use Rattle.undo_book.specs.declared.event.Event.TheVariants.{Admit, Look, Sweep, Do, Undo, Redo}
-use Rattle.undo_book.specs.declared.event.Command.{Command}
-use Rattle.undo_book.specs.declared.event.Entry.{Entry}
-use Rattle.undo_book.specs.declared.event.Reason.{Reason}
-use Rattle.undo_book.specs.declared.event.Settings.{Settings}
-use Rattle.undo_book.specs.declared.event.Reply.{Reply}
-use Rattle.undo_book.specs.declared.event.Reply.TheVariants.{Taken, Outranked, Undone, Redone}
+use Rattle.history.specs.declared.event.Event.{Event}
+use Rattle.history.specs.declared.event.Event.TheVariants.{Admit, Look, Sweep, Do, Undo, Redo}
+use Rattle.history.specs.declared.event.Command.{Command}
+use Rattle.history.specs.declared.event.Entry.{Entry}
+use Rattle.history.specs.declared.event.Reason.{Reason}
+use Rattle.history.specs.declared.event.Settings.{Settings}
+use Rattle.history.specs.declared.event.Reply.{Reply}
+use Rattle.history.specs.declared.event.Reply.TheVariants.{Taken, Outranked, Undone, Redone}
 use Rattle.undo_book.specs.declared.log.Logged.{Logged}
-use Rattle.undo_book.specs.Marks.{Marks, last_of, without, strike, restore}
-use Rattle.undo_book.specs.Tickets.{InOne, occurs}
-use Rattle.undo_book.specs.History.{Past, marks_after, ticket_for, ticket_unless, reason_of, standing_with, stands_by, is_unstruck}
-use Rattle.undo_book.specs.Cells.{cell_of, cell_after}
-use Rattle.undo_book.specs.Reply.{reply_of, reply_to_admission, reply_to_command, reply_to_undo, reply_to_redo, ticket_taken}
-use Rattle.undo_book.specs.Plain.{marks_by, entries_in, has_taken, with_flag, flags_by, has_struck, IsFlagged, AreFlagged, cell_after_logged, stands}
-use Rattle.undo_book.proofs.OrderLaw.{tally_same}
-use Rattle.undo_book.proofs.UndoLaw.{struck_now, struck_other}
+use Rattle.history.specs.Marks.{Marks, last_of, without, strike, restore}
+use Rattle.history.specs.Tickets.{InOne}
+use Rattle.history.specs.History.{Past, marks_after, ticket_for, ticket_unless, reason_of, standing_with, stands_by, is_unstruck, stands}
+use Rattle.history.specs.Cells.{cell_of, cell_after}
+use Rattle.history.specs.Reply.{reply_of, reply_to_admission, reply_to_command, reply_to_undo, reply_to_redo, ticket_taken}
+use Rattle.undo_book.specs.Plain.{marks_by, entries_in, has_taken, with_flag, flags_by, has_struck, IsFlagged, AreFlagged, cell_after_logged}
+use Rattle.history.specs.TicketLaws.{struck_now, struck_other, not_struck}
 
 -- ---- a replay by the flags
 
@@ -183,14 +182,6 @@ flags_by_reply : (bound : ℕ) (marks : Marks) (reply : Reply) (log : List Logge
 flags_by_reply bound marks (Undone ticket) log h = struck_flags marks.struck ticket log h
 flags_by_reply bound marks (Redone ticket) log h = stands_flags marks.struck ticket log h
 flags_by_reply bound marks reply log h = h
-
-pub not_struck : (n : ℕ) (xs : List ℕ) → occurs n xs ≡ 0 → list_any (λ s. s == n) xs ≡ false
-not_struck n [] none = refl
-not_struck n (x ∷ xs) none =
-    elim (cases_Bool (x == n)) [
-      | inl same ↦ let here = tally_same x n same in absurd (omega arith)
-      | inr other ↦ rw other (not_struck n xs (omega arith))
-    ]
 
 pub new_by_reason : (marks : Marks) (o : Option Reason) → ((t : ℕ) → InOne marks t) → has_struck marks.struck (ticket_unless marks o) ≡ false
 new_by_reason marks None h =

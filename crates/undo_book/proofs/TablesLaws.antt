@@ -6,20 +6,20 @@ use Rattle.std.proofs.lemmas.Bool.{cases_Bool}
 use Rattle.std.proofs.lemmas.List.{append-nil}
 use Rattle.std.proofs.lemmas.List.Elements.{filter-append}
 use Rattle.std.proofs.lemmas.List.Sums.{fold-append}
-use Rattle.undo_book.specs.declared.made.Tables.{Tables}
-use Rattle.undo_book.specs.declared.event.Event.TheVariants.{Admit, Look, Do, Undo, Redo}
-use Rattle.undo_book.specs.declared.event.Ask.{Ask}
-use Rattle.undo_book.specs.declared.event.Command.{Command}
-use Rattle.undo_book.specs.declared.event.Entry.{Entry}
-use Rattle.undo_book.specs.declared.event.Reason.{Reason}
+use Rattle.history.specs.declared.made.Tables.{Tables}
+use Rattle.history.specs.declared.event.Event.TheVariants.{Admit, Look, Do, Undo, Redo}
+use Rattle.history.specs.declared.event.Ask.{Ask}
+use Rattle.history.specs.declared.event.Command.{Command}
+use Rattle.history.specs.declared.event.Entry.{Entry}
+use Rattle.history.specs.declared.event.Reason.{Reason}
 use Rattle.undo_book.specs.declared.log.Logged.{Logged}
 use Rattle.ranked.specs.declared.find.Find.{Find}
-use Rattle.undo_book.specs.Marks.{Marks, last_of, strike, restore, after_command}
-use Rattle.undo_book.specs.Tickets.{InOne}
-use Rattle.undo_book.specs.History.{Past, followed_by, marks_after, ticket_unless, reason_of, standing_with, stands_by, is_unstruck, tables_of}
-use Rattle.undo_book.specs.Changes.{no_tables, tables_after, tables_by, unless_refused}
-use Rattle.undo_book.specs.Reply.{reply_to_undo, reply_to_redo}
-use Rattle.undo_book.specs.Plain.{entries_in, with_flag, AreFlagged, stands}
+use Rattle.history.specs.Marks.{Marks, last_of, strike, restore, after_command}
+use Rattle.history.specs.Tickets.{InOne}
+use Rattle.history.specs.History.{Past, followed_by, marks_after, ticket_unless, reason_of, standing_with, stands_by, is_unstruck, stands, tables_of}
+use Rattle.history.specs.Changes.{no_tables, tables_after, tables_by, unless_refused}
+use Rattle.history.specs.Reply.{reply_to_undo, reply_to_redo}
+use Rattle.undo_book.specs.Plain.{entries_in, with_flag, AreFlagged}
 use Rattle.undo_book.specs.Replayed.{tables_after_logged, tables_after_flagged, tables_by_reply}
 use Rattle.undo_book.proofs.PlainLaws.{flag_tells, new_by_reason, struck_flags, stands_flags, entries_flagged}
 

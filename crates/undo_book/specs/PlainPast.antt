@@ -1,6 +1,6 @@
 -- What the history of a plain book comes to.
 use Rattle.undo_book.specs.declared.past.PlainPast.{PlainPast}
-use Rattle.undo_book.specs.History.{Past}
+use Rattle.history.specs.History.{Past}
 use Rattle.undo_book.specs.Plain.{marks_in, entries_in}
 
 abbrev pub past_in : PlainPast → Past

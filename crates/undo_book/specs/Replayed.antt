@@ -1,11 +1,11 @@
 -- Local zones, records and stubs, by a log with flags.
 use Rattle.std.specs.Prelude.{ℕ, Bool, true, false, not, List, fold, if◌then◌else◌}
-use Rattle.undo_book.specs.declared.made.Tables.{Tables}
+use Rattle.history.specs.declared.made.Tables.{Tables}
 use Rattle.undo_book.specs.declared.log.Logged.{Logged}
-use Rattle.undo_book.specs.declared.event.Reply.{Reply}
-use Rattle.undo_book.specs.declared.event.Reply.TheVariants.{Undone, Redone}
-use Rattle.undo_book.specs.History.{stands_by}
-use Rattle.undo_book.specs.Changes.{no_tables, tables_after}
+use Rattle.history.specs.declared.event.Reply.{Reply}
+use Rattle.history.specs.declared.event.Reply.TheVariants.{Undone, Redone}
+use Rattle.history.specs.History.{stands_by}
+use Rattle.history.specs.Changes.{no_tables, tables_after}
 use Rattle.undo_book.specs.Plain.{with_flag}
 
 -- the tables after an entry, if that stands

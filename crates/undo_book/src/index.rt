@@ -5,10 +5,10 @@ ghost use Rattle.std.specs.List.{cons_option};
 ghost use Rattle.undo_book.specs.Plain.{admitted_now};
 ghost use Rattle.undo_book.specs.Index.{concerns, index_of_entry, tag_of, cell_after_indexed};
 
-use crate::event::Event;
 use crate::log::Logged;
 use crate::replay::replay_entry;
 use dns_name::Name;
+use history::Event;
 use ranked::{Cell, SharedFind};
 use std::hash::{FoldHasher, Hash, Hasher};
 
@@ -22,7 +22,7 @@ pub(crate) fn tag(name: &Name) -> u64
 }
 
 /// Where an entry stands that can change what is held: an admission, with the tag of its owner, or a command.
-#[derive(Clone, Copy, Debug, Drop)]
+#[derive(Clone, Copy, Drop)]
 pub struct Indexed {
     pub at: usize,
     pub tag: Option<u64>,

@@ -3,10 +3,10 @@
 ghost use Rattle.std.specs.Prelude.{◌≡◌, map};
 ghost use Rattle.undo_book.specs.Plain.{flags_by, with_flag};
 
-use crate::event::{Entry, Reply};
+use history::{Entry, Reply};
 
 /// An entry, with whether the command that it gave is struck. So a replay reads one entry after the other and searches nothing.
-#[derive(Debug, Drop)]
+#[derive(Drop)]
 pub struct Logged {
     pub entry: Entry,
     pub struck: bool,

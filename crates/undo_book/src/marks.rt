@@ -1,13 +1,13 @@
 //! The commands that can be undone and redone, by their tickets.
 
 ghost use Rattle.std.specs.Prelude.{◌≡◌, ◌+◌, ◌<◌, ◌≤◌, ◌^◌, ◌++◌, ◌∷◌, length, take, drop, OnOk, vec_len, vec_capacity};
-ghost use Rattle.undo_book.specs.Marks.{without, in_place};
+ghost use Rattle.history.specs.Marks.{without, in_place};
 
 use dns_name::NoMemory;
 use std::alloc::Global;
 
 /// The marks of a history. What is struck stands in the log too, beside each entry.
-#[derive(Debug, Drop)]
+#[derive(Drop)]
 pub struct PlainMarks {
     pub tickets: u64,
     pub done: Vec<u64>,
@@ -16,7 +16,7 @@ pub struct PlainMarks {
 }
 
 impl PlainMarks {
-    ghost use Rattle.undo_book.specs.Marks.{no_marks, last_of, strike, restore, after_command};
+    ghost use Rattle.history.specs.Marks.{no_marks, last_of, strike, restore, after_command};
     ghost use Rattle.undo_book.specs.Plain.{marks_in, HasRoom};
 
     /// The marks before any command.

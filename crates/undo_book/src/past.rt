@@ -1,24 +1,23 @@
 //! The history of a plain book: its log and its marks.
 
 ghost use Rattle.std.specs.Prelude.{◌≡◌, ℕ, ◌+◌, ◌<◌, ◌≤◌, ◌^◌, [], length, option_map, OnOk, vec_len, vec_capacity, if◌then◌else◌};
-ghost use Rattle.undo_book.specs.Counts.{admissions_in};
-ghost use Rattle.undo_book.specs.Event.{is_admission, AreSettings};
-ghost use Rattle.undo_book.specs.Tickets.{InOne};
+ghost use Rattle.history.specs.Counts.{admissions_in};
+ghost use Rattle.history.specs.Event.{is_admission, AreSettings};
+ghost use Rattle.history.specs.Tickets.{InOne};
 ghost use Rattle.undo_book.specs.Index.{index_from};
-ghost use Rattle.undo_book.specs.Plain.{marks_in, marks_by, entries_in, AreFlagged, AreFlagged-prop, HasRoom, admitted_now, shown_now};
+ghost use Rattle.undo_book.specs.Plain.{marks_in, marks_by, entries_in, AreFlagged, AreFlagged-prop, HasRoom, admitted_now};
 
-use crate::event::{Entry, Event, Look, Reply, Settings};
 use crate::index::{Indexed, add_to_index, tag};
 use crate::log::{Logged, set_flags};
 use crate::marks::PlainMarks;
 use dns_name::{Name, NoMemory};
-use dns_text::Question;
+use history::{CellSource, Entry, Event, Reply, Settings};
 use ranked::{Cell, Fate, Held, Scope, SharedFind};
 use std::alloc::Global;
 
 /// The events so far. Every admission counts as a cell, an outranked one too. The index has a replay read what can change a
 /// cell, and pass over the looks and the owners that are not asked about.
-#[derive(Debug, Drop)]
+#[derive(Drop)]
 pub struct PlainPast {
     pub settings: Settings,
     pub moment: u64,
@@ -35,9 +34,9 @@ pub struct PlainPast {
 }
 
 impl PlainPast {
-    ghost use Rattle.undo_book.specs.History.{nothing, followed_by};
-    ghost use Rattle.undo_book.specs.Cells.{cell_of, shows};
-    ghost use Rattle.undo_book.specs.Reply.{seen_by, reply_of, reply_to_admission, look_seen};
+    ghost use Rattle.history.specs.History.{nothing, followed_by};
+    ghost use Rattle.history.specs.Cells.{cell_of};
+    ghost use Rattle.history.specs.Reply.{reply_of, reply_to_admission};
     ghost use Rattle.undo_book.specs.PlainPast.{past_in};
 
     /// The history of no events. It takes no memory.
@@ -84,29 +83,6 @@ impl PlainPast {
         cell
     }
 
-    /// What the cell of a question shows, of any rank.
-    pub fn shows<'a>(&'a self, owner: &Name, kind: u16, moment: u64) -> Option<Held<'a>>
-        ensures { option_map shown_now result ≡ shows (past_in self.now) (record { owner = owner.now; kind = kind }) moment }
-    {
-        self.cell(owner, kind).at(self.moment.max(moment))
-    }
-
-    /// What a look at a question sees of it.
-    pub fn sight<'a>(&'a self, question: &Question, moment: u64) -> Look<'a>
-        ensures { look_seen result ≡ seen_by (shows (past_in self.now) question.now moment) }
-    {
-        match self.shows(&question.owner, question.kind, moment) {
-            Some(shown) => {
-                if shown.rank.level() < 2 {
-                    Look::Unknown
-                } else {
-                    Look::Held(shown)
-                }
-            }
-            None => Look::Unknown,
-        }
-    }
-
     /// What becomes of an admission.
     pub fn fate(&self, find: &SharedFind, moment: u64) -> Reply
         ensures { result ≡ reply_to_admission (past_in self.now) find.now moment find.now.scope }
@@ -148,6 +124,17 @@ impl PlainPast {
             struck: false,
         });
         set_flags(&mut self.log, reply);
+    }
+}
+
+impl CellSource for PlainPast {
+    ghost use Rattle.history.specs.Cells.{shows};
+    ghost use Rattle.undo_book.specs.PlainPast.{past_in};
+
+    ghost shows_at = { λ past moment question. shows (past_in past) question moment };
+
+    fn shows<'a>(&'a self, owner: &Name, kind: u16, moment: u64) -> Option<Held<'a>> {
+        self.cell(owner, kind).at(self.moment.max(moment))
     }
 }
 

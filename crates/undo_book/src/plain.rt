@@ -1,49 +1,25 @@
 //! The book that keeps its history and replays it.
 
 ghost use Rattle.std.specs.Prelude.{◌≡◌, ◌↔◌, ℕ, [], length, IsTrue, IfOk, OnOk, OnErr, IsOk, IsErrOf};
-ghost use Rattle.undo_book.specs.Event.{is_admission, AreSettings};
-ghost use Rattle.undo_book.specs.History.{tables_of};
+ghost use Rattle.history.specs.Event.{is_admission, AreSettings};
+ghost use Rattle.history.specs.History.{tables_of};
 ghost use Rattle.undo_book.specs.PlainPast.{past_in};
 
-use crate::book::{Book, StepFault};
-use crate::closest::servers;
-use crate::event::{Ask, Event, Look, Reply, Seen, Settings};
-use crate::limits::{MOMENT_END, MOST_CELLS, MOST_COMMANDS, MOST_EVENTS, MOST_HINTS};
-use crate::made::Tables;
 use crate::past::PlainPast;
 use crate::replies::reply;
-use crate::servers::Servers;
-use crate::sight::{shared_sight, sight};
+use crate::seen::seen;
 use dns_name::{Name, NoMemory};
 use dns_text::Question;
+use history::{
+    Ask, Book, Event, Look, MOMENT_END, MOST_EVENTS, MakeFault, Reply, Seen, Servers, Settings,
+    StepFault, Tables, are_settings, closest_servers, question_sight,
+};
 use local_zone::ZoneTable;
 use std::alloc::Global;
 use stub_table::StubTable;
-use thiserror::Error;
-
-/// Why no book is made.
-#[derive(Clone, Copy, Debug, PartialEq, Eq, Error)]
-pub enum MakeFault {
-    /// A number of the settings is out of its range.
-    #[error("bad settings")]
-    BadSettings,
-    /// Memory was refused.
-    #[error("out of memory")]
-    NoMemory,
-}
-
-/// Whether each is in its range.
-fn are_settings(settings: &Settings) -> bool
-    ensures { IsTrue result ↔ AreSettings settings.now }
-{
-    let has_journal = settings.journal >= 1 && settings.journal <= MOST_COMMANDS;
-    let has_cells = settings.cells >= 1 && settings.cells <= MOST_CELLS;
-    let has_hints = settings.hints.as_slice().len() <= MOST_HINTS;
-    has_journal && has_cells && has_hints && settings.server_port >= 1
-}
 
 /// A book that keeps its whole history, and answers by a replay. Beside it stand the tables that it comes to.
-#[derive(Debug, Drop)]
+#[derive(Drop)]
 pub struct PlainBook {
     past: PlainPast,
     tables: Tables,
@@ -52,9 +28,9 @@ pub struct PlainBook {
 }
 
 impl PlainBook {
-    ghost use Rattle.undo_book.specs.History.{followed_by};
-    ghost use Rattle.undo_book.specs.Reply.{reply_of};
-    ghost use Rattle.undo_book.specs.Answers.{IsTimely, AnswersBy};
+    ghost use Rattle.history.specs.History.{followed_by};
+    ghost use Rattle.history.specs.Reply.{reply_of};
+    ghost use Rattle.history.specs.Answers.{IsTimely, AnswersBy};
 
     /// A book of no events. It takes no memory.
     pub fn new(alloc: Global, settings: Settings) -> Result<PlainBook, MakeFault>
@@ -104,10 +80,10 @@ impl PlainBook {
 
 impl Book for PlainBook {
     ghost use Rattle.std.specs.Prelude.{◌≡◌, ◌↔◌, ℕ, List, length, count_by, IsTrue, OnErr, IsErrOf};
-    ghost use Rattle.undo_book.specs.declared.event.Event.{Event};
-    ghost use Rattle.undo_book.specs.Event.{is_admission};
-    ghost use Rattle.undo_book.specs.Counts.{stores_admissions, same_count};
-    ghost use Rattle.undo_book.specs.Answers.{IsTimely, Answers, history_after};
+    ghost use Rattle.history.specs.declared.event.Event.{Event};
+    ghost use Rattle.history.specs.Event.{is_admission};
+    ghost use Rattle.history.specs.Counts.{stores_admissions, same_count};
+    ghost use Rattle.history.specs.Answers.{IsTimely, Answers, history_after};
     ghost use Rattle.undo_book.specs.PlainBook.{settings_in, stored_in, StandsFor};
 
     ghost stands_for = { StandsFor };
@@ -136,11 +112,11 @@ impl Book for PlainBook {
     }
 
     fn seen(&self, ask: &Ask, moment: u64) -> Result<Seen, NoMemory> {
-        shared_sight(self.alloc, &self.past, &self.tables, ask, moment)
+        seen(self.alloc, &self.past, &self.tables, ask, moment)
     }
 
     fn look<'a>(&'a self, question: &'a Question, moment: u64) -> Look<'a> {
-        sight(&self.past, &self.tables.local, question, moment)
+        question_sight(&self.past, &self.tables.local, question, moment)
     }
 
     fn zones(&self) -> &ZoneTable {
@@ -152,7 +128,14 @@ impl Book for PlainBook {
     }
 
     fn servers(&self, name: &Name, moment: u64) -> Result<Servers, NoMemory> {
-        servers(self.alloc, &self.past, &self.tables.stubs, name, moment)
+        closest_servers(
+            self.alloc,
+            &self.past.settings,
+            &self.past,
+            &self.tables.stubs,
+            name,
+            moment,
+        )
     }
 
     fn stored(&self) -> usize

@@ -1,21 +1,19 @@
 //! What is replied to an event, and the tables as they are after it.
 
 ghost use Rattle.std.specs.Prelude.{◌≡◌, IfOk, OnErr, OnOk, ◌+◌, ◌<◌, ◌^◌};
-ghost use Rattle.undo_book.specs.Changes.{reason_on, unless_refused};
-ghost use Rattle.undo_book.specs.History.{followed_by, tables_of};
-ghost use Rattle.undo_book.specs.Marks.{last_of};
+ghost use Rattle.history.specs.Changes.{reason_on, unless_refused};
+ghost use Rattle.history.specs.History.{followed_by, tables_of};
+ghost use Rattle.history.specs.Marks.{last_of};
 ghost use Rattle.undo_book.specs.Plain.{marks_in};
 ghost use Rattle.undo_book.specs.PlainPast.{past_in};
 ghost use Rattle.undo_book.specs.Replayed.{tables_by_reply};
-ghost use Rattle.undo_book.specs.Reply.{reply_of, reply_to_command, reply_to_redo, reply_to_undo};
+ghost use Rattle.history.specs.Reply.{reply_of, reply_to_command, reply_to_redo, reply_to_undo};
 
-use crate::changes::change;
-use crate::event::{Command, Event, Reply};
-use crate::made::Tables;
 use crate::past::PlainPast;
-use crate::sight::shared_sight;
+use crate::seen::seen;
 use crate::tables::replay_tables;
 use dns_name::NoMemory;
+use history::{Command, Event, Reply, Tables};
 use std::alloc::Global;
 
 /// What is replied to an event. The tables are as they are after the event then, and as they were where memory is refused.
@@ -34,7 +32,7 @@ pub(crate) fn reply(
     match event {
         Event::Admit { moment, find } => Ok(past.fate(find, *moment)),
         Event::Look { moment, ask } => {
-            let seen = shared_sight(alloc, past, tables, ask, *moment)?;
+            let seen = seen(alloc, past, tables, ask, *moment)?;
             Ok(Reply::Seen(seen))
         }
         Event::Sweep { .. } => Ok(Reply::Swept),
@@ -54,7 +52,7 @@ fn reply_to_command(
     ensures changed { OnOk result (tables.new ≡ unless_refused (reason_on tables.old command.now) command.now tables.old) }
     ensures same { OnErr result (tables.new ≡ tables.old) }
 {
-    match change(tables, command)? {
+    match tables.change(command)? {
         Some(reason) => Ok(Reply::Refused(reason)),
         None => Ok(Reply::Done {
             ticket: past.marks.tickets + 1,

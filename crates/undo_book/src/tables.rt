@@ -1,15 +1,13 @@
 //! Local zones, records and stubs, by a replay of a log.
 
 ghost use Rattle.std.specs.Prelude.{◌≡◌, ◌&&◌, not, fold, is_some, IfOk, OnOk};
-ghost use Rattle.undo_book.specs.Changes.{no_tables};
+ghost use Rattle.history.specs.Changes.{no_tables};
 ghost use Rattle.undo_book.specs.Plain.{with_flag};
 ghost use Rattle.undo_book.specs.Replayed.{tables_after_flagged};
 
-use crate::changes::obey;
-use crate::event::Event;
 use crate::log::Logged;
-use crate::made::Tables;
 use dns_name::NoMemory;
+use history::{Event, Tables};
 use std::alloc::Global;
 
 /// The tables of a log in which the command of this ticket has this flag.
@@ -40,7 +38,7 @@ fn replay_command(
     match &logged.entry.event {
         Event::Do { command, .. } => {
             if stands(logged, ticket, struck) {
-                obey(tables, command)
+                tables.obey(command)
             } else {
                 Ok(())
             }

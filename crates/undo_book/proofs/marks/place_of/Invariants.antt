@@ -1,5 +1,5 @@
 use Rattle.std.proofs.Common.{◌≡◌, ◌++◌, take, drop}
-use Rattle.undo_book.specs.Marks.{in_place}
+use Rattle.history.specs.Marks.{in_place}
 use Rattle.undo_book.proofs.marks.place_of.Given as goal
 
 -- the place is not among the tickets so far

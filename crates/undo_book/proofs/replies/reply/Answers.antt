@@ -2,15 +2,15 @@
 use Rattle.std.proofs.Common.{◌≡◌, sym, ◌∙◌, ap}
 use Rattle.std.specs.Prelude.{OnOk}
 use Rattle.std.proofs.lemmas.Result.{on_ok_weaker}
-use Rattle.undo_book.specs.declared.made.Tables.{Tables}
-use Rattle.undo_book.specs.declared.event.Event.TheVariants.{Do, Undo, Redo}
-use Rattle.undo_book.specs.declared.event.Reply.{Reply}
-use Rattle.undo_book.specs.Changes.{reason_on, unless_refused}
-use Rattle.undo_book.specs.History.{Past, followed_by, tables_of}
-use Rattle.undo_book.specs.Marks.{last_of}
+use Rattle.history.specs.declared.made.Tables.{Tables}
+use Rattle.history.specs.declared.event.Event.TheVariants.{Do, Undo, Redo}
+use Rattle.history.specs.declared.event.Reply.{Reply}
+use Rattle.history.specs.Changes.{reason_on, unless_refused}
+use Rattle.history.specs.History.{Past, followed_by, tables_of}
+use Rattle.history.specs.Marks.{last_of}
 use Rattle.undo_book.specs.PlainPast.{past_in}
 use Rattle.undo_book.specs.Replayed.{tables_by_reply}
-use Rattle.undo_book.specs.Reply.{reply_to_undo, reply_to_redo}
+use Rattle.history.specs.Reply.{reply_to_undo, reply_to_redo}
 use Rattle.undo_book.specs.declared.log.Logged.{Logged}
 use Rattle.std.specs.Prelude.{List, Result, Ok, Err, IfOk}
 use Rattle.undo_book.proofs.TablesLaws.{tables_commanded, tables_undone, tables_redone}

@@ -1,6 +1,6 @@
 use Rattle.std.proofs.Common.{◌≡◌, take}
 use Rattle.std.specs.Prelude.{fold}
-use Rattle.undo_book.specs.Changes.{no_tables}
+use Rattle.history.specs.Changes.{no_tables}
 use Rattle.undo_book.specs.Replayed.{tables_after_flagged}
 use Rattle.undo_book.proofs.tables.replay_tables.Given as goal
 

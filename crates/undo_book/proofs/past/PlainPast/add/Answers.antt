@@ -1,22 +1,22 @@
 -- The book with an event more: each field is what the definitions say.
 use Rattle.std.specs.List.{cons_option}
 use Rattle.std.proofs.Common.{◌≡◌, ℕ, ◌+◌, cond, max, List, [], ◌∷◌, ◌++◌, false, refl, sym, ◌∙◌, ap, subst, arith, length}
-use Rattle.undo_book.specs.declared.event.Entry.{Entry}
-use Rattle.undo_book.specs.declared.event.Reply.{Reply}
+use Rattle.history.specs.declared.event.Entry.{Entry}
+use Rattle.history.specs.declared.event.Reply.{Reply}
 use Rattle.undo_book.specs.declared.log.Logged.{Logged}
-use Rattle.undo_book.specs.Event.{moment_of, is_admission}
-use Rattle.undo_book.specs.Counts.{admissions_in}
-use Rattle.undo_book.specs.Marks.{Marks}
-use Rattle.undo_book.specs.Tickets.{InOne}
-use Rattle.undo_book.specs.History.{Past, ticket_for}
-use Rattle.undo_book.specs.Reply.{reply_of, ticket_taken}
+use Rattle.history.specs.Event.{moment_of, is_admission}
+use Rattle.history.specs.Counts.{admissions_in}
+use Rattle.history.specs.Marks.{Marks}
+use Rattle.history.specs.Tickets.{InOne}
+use Rattle.history.specs.History.{Past, ticket_for}
+use Rattle.history.specs.Reply.{reply_of, ticket_taken}
 use Rattle.undo_book.specs.Plain.{marks_in, marks_by, entries_in, flags_by, AreFlagged}
 use Rattle.undo_book.specs.PlainPast.{past_in}
 use Rattle.undo_book.specs.declared.index.Indexed.{Indexed}
 use Rattle.undo_book.specs.Index.{index_from, index_of_entry}
-use Rattle.undo_book.specs.Counts.{count_push}
+use Rattle.history.specs.Counts.{count_push}
 use Rattle.undo_book.proofs.IndexLaws.{index_after}
-use Rattle.undo_book.proofs.OrderLaw.{next_in_one}
+use Rattle.history.specs.TicketLaws.{next_in_one}
 use Rattle.undo_book.proofs.PlainLaws.{marks_by_reply, ticket_by_reply, entries_after, length_after, flags_after, past_by_parts, entry_by_parts}
 use Rattle.undo_book.proofs.past.PlainPast.add.Goals as goal
 

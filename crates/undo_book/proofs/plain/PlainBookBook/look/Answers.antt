@@ -1,11 +1,11 @@
 -- The tables are those of the history, and so is each cell.
 use Rattle.std.proofs.Common.{ap, ◌∙◌}
 use Rattle.local_zone.specs.Answer.{local_of}
-use Rattle.undo_book.specs.declared.made.Tables.{Tables}
-use Rattle.undo_book.specs.Cells.{shows}
-use Rattle.undo_book.specs.History.{Past, tables_of}
+use Rattle.history.specs.declared.made.Tables.{Tables}
+use Rattle.history.specs.Cells.{shows}
+use Rattle.history.specs.History.{Past, tables_of}
 use Rattle.undo_book.specs.PlainPast.{past_in}
-use Rattle.undo_book.specs.Reply.{seen_by, seen_first}
+use Rattle.history.specs.Reply.{seen_by, seen_first}
 use Rattle.undo_book.proofs.plain.PlainBookBook.look.Goals as goal
 
 pub returns : goal.returns

@@ -1,0 +1,24 @@
+use Rattle.std.proofs.Common.{refl, arith}
+use Rattle.ranked.specs.Flush.{covers}
+use Rattle.table_changes.specs.Both.{change_after}
+use Rattle.store.specs.StoreLaws.{table_made, flush_made, tables_same_row, cells_same_row}
+use Rattle.store.specs.WorldLaws.{on_err}
+use Rattle.store.proofs.store.StoreChangeChange.apply.Goals as goal
+
+pub returns-in_err-saved-in-Table-clause-same : goal.returns-in_err-saved-in-Table-clause-same
+returns-in_err-saved-in-Table-clause-same c =
+    let same = tables_same_row c.args.world.now (record { tables = c.apply.new.world; cells = c.args.world.now.cells }) refl c.in_err-saved-in-Table.ensures.same.0 in
+    on_err c.from_residual.result (same, omega arith, refl)
+
+pub returns-in_err-saved-in-Flush-clause-same : goal.returns-in_err-saved-in-Flush-clause-same
+returns-in_err-saved-in-Flush-clause-same c =
+    let same = cells_same_row c.args.world.now (record { tables = c.args.world.now.tables; cells = c.apply-in-Flush.new.world }) refl c.in_err-saved-in-Flush.ensures.same.0 in
+    on_err c.from_residual-in_err-saved-in-Flush.result (same, c.in_err-saved-in-Flush.ensures.same.1, c.in_err-saved-in-Flush.ensures.same.2)
+
+pub returns-in_ok-saved-in-Table-clause-row : goal.returns-in_ok-saved-in-Table-clause-row
+returns-in_ok-saved-in-Table-clause-row c = rw c.in-Table.is (table_made c.args.world.now (record { tables = c.apply.new.world; cells = c.args.world.now.cells })
+    c.args.self.command c.args.ticket (change_after c.in-Table.change) c.in_ok-saved-in-Table.saved refl c.in_ok-saved-in-Table.ensures.row)
+
+pub returns-in_ok-saved-in-Flush-clause-row : goal.returns-in_ok-saved-in-Flush-clause-row
+returns-in_ok-saved-in-Flush-clause-row c = rw c.in-Flush.is (flush_made c.args.world.now (record { tables = c.args.world.now.tables; cells = c.apply-in-Flush.new.world })
+    c.args.self.command c.args.ticket (covers c.in-Flush.change.flush) c.in_ok-saved-in-Flush.saved refl c.in_ok-saved-in-Flush.ensures.row)

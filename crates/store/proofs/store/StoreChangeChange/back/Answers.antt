@@ -1,0 +1,27 @@
+use Rattle.std.proofs.Common.{◌≡◌, refl, arith}
+use Rattle.store.specs.declared.store.Way.TheVariants as way
+use Rattle.store.specs.StoreLaws.{table_can_go_back, flush_can_go_back, table_goes_back, flush_goes_back, tables_same_row, same_table}
+use Rattle.store.specs.WorldLaws.{on_err}
+use Rattle.store.specs.declared.store.SavedChange.{SavedChange}
+use Rattle.store.proofs.store.StoreChangeChange.back.Goals as goal
+
+pub back-requires : goal.back-requires
+back-requires c = table_can_go_back c.args.world.now c.args.saved.now c.in-Table.saved c.in-Table.is c.requires
+
+pub returns-in_err-back-in-Table-clause-err : goal.returns-in_err-back-in-Table-clause-err
+returns-in_err-back-in-Table-clause-err c =
+    let err = c.in_err-back-in-Table.ensures.err in
+    let same = tables_same_row c.args.world.now (record { tables = c.back.new.world; cells = c.args.world.now.cells }) refl err.0.0 in
+    let saved : ◌≡◌ {A = SavedChange} (record { command = c.args.saved.now.command; way = way.Table c.back.new.saved }) c.args.saved.now = same_table c.args.saved.now c.in-Table.saved c.back.new.saved c.in-Table.is err.1 in
+    on_err c.from_residual.result ((same, omega arith, refl), saved)
+
+pub back-requires-in-Flush : goal.back-requires-in-Flush
+back-requires-in-Flush c = flush_can_go_back c.args.world.now c.args.saved.now c.in-Flush.saved c.in-Flush.is c.requires
+
+pub returns-in_ok-back-in-Table-clause-row : goal.returns-in_ok-back-in-Table-clause-row
+returns-in_ok-back-in-Table-clause-row c = table_goes_back c.args.world.now (record { tables = c.back.new.world; cells = c.args.world.now.cells }) c.args.saved.now
+    (record { command = c.args.saved.now.command; way = way.Table c.back.new.saved }) c.in-Table.saved c.back.new.saved c.in-Table.is refl refl c.in_ok-back-in-Table.ensures.row
+
+pub returns-in_ok-back-in-Flush-clause-row : goal.returns-in_ok-back-in-Flush-clause-row
+returns-in_ok-back-in-Flush-clause-row c = flush_goes_back c.args.world.now (record { tables = c.args.world.now.tables; cells = c.back-in-Flush.new.world }) c.args.saved.now
+    (record { command = c.args.saved.now.command; way = way.Flush c.back-in-Flush.new.saved }) c.in-Flush.saved c.back-in-Flush.new.saved c.in-Flush.is refl refl c.in_ok-back-in-Flush.ensures.row

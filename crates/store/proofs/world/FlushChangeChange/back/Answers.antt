@@ -1,0 +1,8 @@
+use Rattle.change_law.specs.declared.kept.Standing.TheVariants.{Done, Undone}
+use Rattle.store.specs.World.{shelved}
+use Rattle.store.specs.WorldLaws.{row_turned}
+use Rattle.store.proofs.world.FlushChangeChange.back.Goals as goal
+
+pub returns-clause-row : goal.returns-clause-row
+returns-clause-row c = rw (← c.world.view_is) (λ earlier ticket later last.
+    row_turned Done Undone (shelved c.world.inside.shelf) (shelved c.hide.new.self) earlier ticket c.args.saved.now later c.world.invariant.ascending last.kept c.hide.ensures.kept c.hide.ensures.faces)

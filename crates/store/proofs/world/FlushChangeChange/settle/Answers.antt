@@ -1,0 +1,11 @@
+use Rattle.store.specs.World.{shelved}
+use Rattle.store.specs.WorldLaws.{row_oldest, row_cleared}
+use Rattle.store.proofs.world.FlushChangeChange.settle.Goals as goal
+
+pub returns-clause-oldest : goal.returns-clause-oldest
+returns-clause-oldest c = rw (← c.world.view_is) (λ ticket later h.
+    row_oldest (shelved c.world.inside.shelf) (shelved c.settle.new.self) ticket c.args.saved later c.world.invariant.ascending h c.settle.ensures.kept c.settle.ensures.faces)
+
+pub returns-clause-cleared : goal.returns-clause-cleared
+returns-clause-cleared c = rw (← c.world.view_is) (λ earlier ticket later h.
+    row_cleared (shelved c.world.inside.shelf) (shelved c.settle.new.self) earlier ticket c.args.saved later c.world.invariant.ascending h c.settle.ensures.kept c.settle.ensures.faces)

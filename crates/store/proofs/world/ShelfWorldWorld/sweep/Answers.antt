@@ -1,0 +1,7 @@
+use Rattle.store.specs.World.{shelved}
+use Rattle.store.specs.WorldLaws.{row_swept}
+use Rattle.store.proofs.world.ShelfWorldWorld.sweep.Goals as goal
+
+pub returns-clause-row : goal.returns-clause-row
+returns-clause-row c = rw (← c.self.view_is) (λ kept h.
+    row_swept (shelved c.self.inside.shelf) (shelved c.sweep.new.self) kept c.args.moment h c.sweep.ensures.flushes.0 c.sweep.ensures.faces)

@@ -1,0 +1,217 @@
+-- The row of the store, by the rows of its parts: lemmas.
+use Rattle.std.proofs.Common.{◌≡◌, ℕ, Bool, true, false, Option, Some, None, List, [], ◌∷◌, ◌++◌, refl, sym, ap, subst, ◌∙◌, arith}
+use Rattle.dns_text.specs.declared.record.Question.{Question}
+use Rattle.ranked.specs.declared.cell.Fate.{Fate}
+use Rattle.ranked.specs.declared.find.Find.{Find}
+use Rattle.ranked.specs.declared.find.Scope.{Scope}
+use Rattle.ranked.specs.declared.find.Scope.TheVariants.{One, Whole}
+use Rattle.change_law.specs.declared.kept.Kept.{Kept}
+use Rattle.change_law.specs.declared.kept.Standing.TheVariants.{Done, Undone, Cleared}
+use Rattle.change_law.specs.Choice.{IsPresent, cleared}
+use Rattle.change_law.specs.Effect.{effect}
+use Rattle.change_law.specs.Face.{Face, IsSame, face_with, fate_in}
+use Rattle.change_law.specs.Row.{IsRowAfter, IsEachRowFrom, IsSameRow, IsMade, CanGoBack, CanGoAgain, GoesBack, GoesAgain, any, same_face, where_chosen, kept_as}
+use Rattle.history.specs.declared.event.Command.{Command}
+use Rattle.history.specs.declared.made.Tables.{Tables}
+use Rattle.table_changes.specs.Part.{part}
+use Rattle.table_changes.specs.PartLaws.{part_at}
+use Rattle.table_changes.specs.Both.{saved_table, change_after, shown_tables, KeepsBoth}
+use Rattle.table_changes.specs.Both as tables
+use Rattle.table_changes.specs.BothLaws.{clears_both, shows_both}
+use Rattle.table_changes.specs.declared.tables.SavedTable.{SavedTable}
+use Rattle.store.specs.SumLaws.{sum_same, sum_clears, sum_shows, sum_admitted, sum_swept, first_made, second_made, first_moved, second_moved, first_gone, second_gone, next_part, last_part, first_part, row_still}
+use Rattle.store.specs.World.{Shelved, KeepsFlushes, shown_face}
+use Rattle.store.specs.World as cells
+use Rattle.store.specs.WorldLaws.{shows_present, clears_by_word}
+use Rattle.store.specs.declared.world.SavedFlush.{SavedFlush}
+use Rattle.store.specs.declared.store.Way.{Way}
+use Rattle.store.specs.declared.store.Way.TheVariants as way
+use Rattle.store.specs.declared.store.SavedChange.{SavedChange}
+use Rattle.store.specs.declared.store.Store.{Store}
+use Rattle.store.specs.Store.{tables_in, cells_in, table_way, flush_way, of_tables, of_cells, table_of, store_table, KeepsStore, store_face, store_shown}
+
+-- ---- the tables of the parts
+
+abbrev no_table : SavedFlush → Option ℕ
+no_table saved = None
+
+way_of_tables : (w : Way) (s : SavedTable) → table_way w ≡ Some s → table_of w ≡ saved_table s
+way_of_tables (way.Table saved) s e = cc
+way_of_tables (way.Flush saved) s e = absurd cc
+
+way_of_cells : (w : Way) (s : SavedFlush) → flush_way w ≡ Some s → table_of w ≡ None
+way_of_cells (way.Table saved) s e = absurd cc
+way_of_cells (way.Flush saved) s e = refl
+
+tables_agree : (saved : SavedChange) (s : SavedTable) → of_tables saved ≡ Some s → store_table saved ≡ saved_table s
+tables_agree saved s e = way_of_tables saved.way s e
+
+cells_agree : (saved : SavedChange) (s : SavedFlush) → of_cells saved ≡ Some s → store_table saved ≡ no_table s
+cells_agree saved s e = way_of_cells saved.way s e
+
+-- ---- the laws of the world
+
+pub clears_store : (x : Store) (kept : List (Kept SavedChange)) → KeepsStore x kept → IsRowAfter store_table KeepsStore store_face same_face any x kept x (cleared kept)
+clears_store = sum_clears tables_in cells_in of_tables of_cells store_table saved_table no_table tables_agree cells_agree KeepsBoth KeepsFlushes tables.face_by cells.face_by clears_both clears_by_word
+
+pub shows_store : (x : Store) (kept : List (Kept SavedChange)) (chosen : ℕ → Bool) → KeepsStore x kept → IsPresent kept chosen → IsSame (store_face x kept chosen) (store_shown x)
+shows_store = sum_shows tables_in cells_in of_tables of_cells store_table saved_table no_table tables_agree cells_agree KeepsBoth KeepsFlushes tables.face_by cells.face_by shown_tables shown_face (λ world kept chosen h present. shows_both world kept chosen present) shows_present
+
+-- ---- where only one part changes
+
+pub tables_same_row : (x x' : Store) → x'.cells ≡ x.cells → IsSameRow saved_table KeepsBoth tables.face_by x.tables x'.tables → IsSameRow store_table KeepsStore store_face x x'
+tables_same_row x x' stays same = λ kept h.
+    sum_same tables_in cells_in of_tables of_cells store_table saved_table no_table tables_agree cells_agree KeepsBoth KeepsFlushes tables.face_by cells.face_by any any any (λ chosen p. tt) (λ chosen p. tt) x x' kept kept
+    (same (part of_tables kept) h.0)
+    (row_still no_table KeepsFlushes cells.face_by x.cells x'.cells (part of_cells kept) (part of_cells kept) stays refl h.1)
+
+pub cells_same_row : (x x' : Store) → x'.tables ≡ x.tables → IsSameRow no_table KeepsFlushes cells.face_by x.cells x'.cells → IsSameRow store_table KeepsStore store_face x x'
+cells_same_row x x' stays same = λ kept h.
+    sum_same tables_in cells_in of_tables of_cells store_table saved_table no_table tables_agree cells_agree KeepsBoth KeepsFlushes tables.face_by cells.face_by any any any (λ chosen p. tt) (λ chosen p. tt) x x' kept kept
+    (row_still saved_table KeepsBoth tables.face_by x.tables x'.tables (part of_tables kept) (part of_tables kept) stays refl h.0)
+    (same (part of_cells kept) h.1)
+
+-- ---- admissions and sweeps
+
+same_fate : (face : Face (Unit {0})) (t : Tables) (find : Find) (moment : ℕ) (scope : Scope) → fate_in face find moment scope ≡ fate_in (record { tables = t; cell = face.cell }) find moment scope
+same_fate face t find moment (One kind) = refl
+same_fate face t find moment Whole = refl
+
+pub store_fate : (x : Store) (find : Find) (moment : ℕ) (fate : Fate) → fate ≡ fate_in (shown_face x.cells) find moment find.scope → fate ≡ fate_in (store_shown x) find moment find.scope
+store_fate x find moment fate e = e ∙ same_fate (shown_face x.cells) x.tables.tables find moment find.scope
+
+pub store_admitted : (x x' : Store) (find : Find) (moment : ℕ) → x'.tables ≡ x.tables →
+    IsEachRowFrom no_table KeepsFlushes cells.face_by moment (face_with true find moment) x.cells x'.cells →
+    IsEachRowFrom store_table KeepsStore store_face moment (face_with true find moment) x x'
+store_admitted x x' find moment stays row = λ kept h. sum_admitted tables_in cells_in of_tables of_cells store_table saved_table no_table tables_agree cells_agree KeepsBoth KeepsFlushes tables.face_by cells.face_by find moment x x' kept stays h (row (part of_cells kept) h.1)
+
+pub store_swept : (x x' : Store) (moment : ℕ) → x'.tables ≡ x.tables →
+    IsEachRowFrom no_table KeepsFlushes cells.face_by moment (λ f. f) x.cells x'.cells → IsEachRowFrom store_table KeepsStore store_face moment (λ f. f) x x'
+store_swept x x' moment stays row = λ kept h. sum_swept tables_in cells_in of_tables of_cells store_table saved_table no_table tables_agree cells_agree KeepsBoth KeepsFlushes tables.face_by cells.face_by moment x x' kept stays h (row (part of_cells kept) h.1)
+
+-- ---- a change more
+
+pub table_made : (x x' : Store) (command : Command) (ticket : ℕ) (after : Tables → Tables) (saved : SavedTable) → x'.cells ≡ x.cells →
+    IsMade saved_table KeepsBoth tables.face_by (λ w. 0) (where_chosen ticket (effect after (λ q. false))) ticket saved x.tables x'.tables →
+    IsMade store_table KeepsStore store_face (λ s. s.cells.top) (where_chosen ticket (effect after (λ q. false))) ticket (record { command = command; way = way.Table saved }) x x'
+table_made x x' command ticket after saved stays made = λ kept h next newest.
+    first_made tables_in cells_in of_tables of_cells store_table saved_table no_table tables_agree cells_agree KeepsBoth KeepsFlushes tables.face_by cells.face_by clears_by_word after (λ q. false) (λ q. false) (λ q. refl) x x' kept ticket (record { command = command; way = way.Table saved }) saved refl refl stays h
+    (made (part of_tables kept) h.0 (next_part of_tables store_table saved_table tables_agree ticket kept next) (omega (arith, newest)))
+
+pub flush_made : (x x' : Store) (command : Command) (ticket : ℕ) (empties : Question → Bool) (saved : SavedFlush) → x'.tables ≡ x.tables →
+    IsMade no_table KeepsFlushes cells.face_by (λ w. w.top) (where_chosen ticket (effect (λ t. t) empties)) ticket saved x.cells x'.cells →
+    IsMade store_table KeepsStore store_face (λ s. s.cells.top) (where_chosen ticket (effect (λ t. t) empties)) ticket (record { command = command; way = way.Flush saved }) x x'
+flush_made x x' command ticket empties saved stays made = λ kept h next newest.
+    second_made tables_in cells_in of_tables of_cells store_table saved_table no_table tables_agree cells_agree KeepsBoth KeepsFlushes tables.face_by cells.face_by clears_both (λ t. t) (λ t. t) empties (λ t. refl) x x' kept ticket (record { command = command; way = way.Flush saved }) saved refl refl stays h
+    (made (part of_cells kept) h.1 (next_part of_cells store_table no_table cells_agree ticket kept next) newest)
+
+-- ---- a change that is undone or redone
+
+pub same_table : (saved : SavedChange) (s s' : SavedTable) → saved.way ≡ way.Table s → s' ≡ s → ◌≡◌ {A = SavedChange} (record { command = saved.command; way = way.Table s' }) saved
+same_table saved s s' e same = ap (λ (w : Way). record { command = saved.command; way = w }) (ap (λ (t : SavedTable). way.Table t) same ∙ sym e)
+
+pub table_can_go_back : (x : Store) (saved : SavedChange) (s : SavedTable) → saved.way ≡ way.Table s → CanGoBack store_table KeepsStore x saved → CanGoBack saved_table KeepsBoth x.tables s
+table_can_go_back x saved s e r = (
+  part of_tables r.0,
+  (
+    r.1.0,
+    (
+      part of_tables r.1.1.0,
+      last_part of_tables store_table saved_table tables_agree KeepsBoth x.tables r.0 r.1.0 saved r.1.1.0 s (ap table_way e) r.1.1.1.kept.0 r.1.1.1.uncovered,
+    ),
+  ),
+)
+
+pub table_goes_back : (x x' : Store) (saved saved' : SavedChange) (s s' : SavedTable) → saved.way ≡ way.Table s → saved'.way ≡ way.Table s' → x'.cells ≡ x.cells →
+    GoesBack saved_table KeepsBoth tables.face_by x.tables s x'.tables s' → GoesBack store_table KeepsStore store_face x saved x' saved'
+table_goes_back x x' saved saved' s s' e e' stays goes = λ earlier ticket later at.
+    first_moved tables_in cells_in of_tables of_cells store_table saved_table no_table tables_agree cells_agree KeepsBoth KeepsFlushes tables.face_by cells.face_by x x' earlier Done Undone ticket saved saved' later s s' (ap table_way e) (ap table_way e') (ap flush_way e) (ap flush_way e') stays at.kept
+    (goes (part of_tables earlier) ticket (part of_tables later) (last_part of_tables store_table saved_table tables_agree KeepsBoth x.tables earlier ticket saved later s (ap table_way e) at.kept.0 at.uncovered))
+
+pub table_can_go_again : (x : Store) (saved : SavedChange) (s : SavedTable) → saved.way ≡ way.Table s → CanGoAgain store_table KeepsStore x saved → CanGoAgain saved_table KeepsBoth x.tables s
+table_can_go_again x saved s e r = (
+  part of_tables r.0,
+  (
+    r.1.0,
+    (
+      part of_tables r.1.1.0,
+      first_part of_tables store_table saved_table tables_agree KeepsBoth x.tables r.0 r.1.0 saved r.1.1.0 s (ap table_way e) r.1.1.1.kept.0 r.1.1.1.founded,
+    ),
+  ),
+)
+
+pub table_goes_again : (x x' : Store) (saved saved' : SavedChange) (s s' : SavedTable) → saved.way ≡ way.Table s → saved'.way ≡ way.Table s' → x'.cells ≡ x.cells →
+    GoesAgain saved_table KeepsBoth tables.face_by x.tables s x'.tables s' → GoesAgain store_table KeepsStore store_face x saved x' saved'
+table_goes_again x x' saved saved' s s' e e' stays goes = λ earlier ticket later at.
+    first_moved tables_in cells_in of_tables of_cells store_table saved_table no_table tables_agree cells_agree KeepsBoth KeepsFlushes tables.face_by cells.face_by x x' earlier Undone Done ticket saved saved' later s s' (ap table_way e) (ap table_way e') (ap flush_way e) (ap flush_way e') stays at.kept
+    (goes (part of_tables earlier) ticket (part of_tables later) (first_part of_tables store_table saved_table tables_agree KeepsBoth x.tables earlier ticket saved later s (ap table_way e) at.kept.0 at.founded))
+
+pub flush_can_go_back : (x : Store) (saved : SavedChange) (s : SavedFlush) → saved.way ≡ way.Flush s → CanGoBack store_table KeepsStore x saved → CanGoBack no_table KeepsFlushes x.cells s
+flush_can_go_back x saved s e r = (
+  part of_cells r.0,
+  (
+    r.1.0,
+    (
+      part of_cells r.1.1.0,
+      last_part of_cells store_table no_table cells_agree KeepsFlushes x.cells r.0 r.1.0 saved r.1.1.0 s (ap flush_way e) r.1.1.1.kept.1 r.1.1.1.uncovered,
+    ),
+  ),
+)
+
+pub flush_goes_back : (x x' : Store) (saved saved' : SavedChange) (s s' : SavedFlush) → saved.way ≡ way.Flush s → saved'.way ≡ way.Flush s' → x'.tables ≡ x.tables →
+    GoesBack no_table KeepsFlushes cells.face_by x.cells s x'.cells s' → GoesBack store_table KeepsStore store_face x saved x' saved'
+flush_goes_back x x' saved saved' s s' e e' stays goes = λ earlier ticket later at.
+    second_moved tables_in cells_in of_tables of_cells store_table saved_table no_table tables_agree cells_agree KeepsBoth KeepsFlushes tables.face_by cells.face_by x x' earlier Done Undone ticket saved saved' later s s' (ap flush_way e) (ap flush_way e') (ap table_way e) (ap table_way e') stays at.kept
+    (goes (part of_cells earlier) ticket (part of_cells later) (last_part of_cells store_table no_table cells_agree KeepsFlushes x.cells earlier ticket saved later s (ap flush_way e) at.kept.1 at.uncovered))
+
+pub flush_can_go_again : (x : Store) (saved : SavedChange) (s : SavedFlush) → saved.way ≡ way.Flush s → CanGoAgain store_table KeepsStore x saved → CanGoAgain no_table KeepsFlushes x.cells s
+flush_can_go_again x saved s e r = (
+  part of_cells r.0,
+  (
+    r.1.0,
+    (
+      part of_cells r.1.1.0,
+      first_part of_cells store_table no_table cells_agree KeepsFlushes x.cells r.0 r.1.0 saved r.1.1.0 s (ap flush_way e) r.1.1.1.kept.1 r.1.1.1.founded,
+    ),
+  ),
+)
+
+pub flush_goes_again : (x x' : Store) (saved saved' : SavedChange) (s s' : SavedFlush) → saved.way ≡ way.Flush s → saved'.way ≡ way.Flush s' → x'.tables ≡ x.tables →
+    GoesAgain no_table KeepsFlushes cells.face_by x.cells s x'.cells s' → GoesAgain store_table KeepsStore store_face x saved x' saved'
+flush_goes_again x x' saved saved' s s' e e' stays goes = λ earlier ticket later at.
+    second_moved tables_in cells_in of_tables of_cells store_table saved_table no_table tables_agree cells_agree KeepsBoth KeepsFlushes tables.face_by cells.face_by x x' earlier Undone Done ticket saved saved' later s s' (ap flush_way e) (ap flush_way e') (ap table_way e) (ap table_way e') stays at.kept
+    (goes (part of_cells earlier) ticket (part of_cells later) (first_part of_cells store_table no_table cells_agree KeepsFlushes x.cells earlier ticket saved later s (ap flush_way e) at.kept.1 at.founded))
+
+-- ---- a change that is no longer kept
+
+pub table_settles_oldest : (x x' : Store) (saved : SavedChange) (s : SavedTable) → saved.way ≡ way.Table s → x'.cells ≡ x.cells →
+    ((ticket : ℕ) (later : List (Kept SavedTable)) → KeepsBoth x.tables (kept_as Done ticket s ∷ later) → IsRowAfter saved_table KeepsBoth tables.face_by same_face (λ chosen. chosen ticket ≡ true) x.tables (kept_as Done ticket s ∷ later) x'.tables later) →
+    (ticket : ℕ) (later : List (Kept SavedChange)) → KeepsStore x (kept_as Done ticket saved ∷ later) → IsRowAfter store_table KeepsStore store_face same_face (λ chosen. chosen ticket ≡ true) x (kept_as Done ticket saved ∷ later) x' later
+table_settles_oldest x x' saved s e stays goes ticket later h =
+    first_gone tables_in cells_in of_tables of_cells store_table saved_table no_table tables_agree cells_agree KeepsBoth KeepsFlushes tables.face_by cells.face_by (λ chosen. chosen ticket ≡ true) x x' [] Done ticket saved later s (ap table_way e) (ap flush_way e) stays h
+    (goes ticket (part of_tables later) (subst (λ (l : List (Kept SavedTable)). KeepsBoth x.tables l) (part_at of_tables [] Done ticket saved later s (ap table_way e)) h.0))
+
+pub table_settles_cleared : (x x' : Store) (saved : SavedChange) (s : SavedTable) → saved.way ≡ way.Table s → x'.cells ≡ x.cells →
+    ((earlier : List (Kept SavedTable)) (ticket : ℕ) (later : List (Kept SavedTable)) → KeepsBoth x.tables (earlier ++ kept_as Cleared ticket s ∷ later) →
+    IsRowAfter saved_table KeepsBoth tables.face_by same_face (λ chosen. chosen ticket ≡ false) x.tables (earlier ++ kept_as Cleared ticket s ∷ later) x'.tables (earlier ++ later)) →
+    (earlier : List (Kept SavedChange)) (ticket : ℕ) (later : List (Kept SavedChange)) → KeepsStore x (earlier ++ kept_as Cleared ticket saved ∷ later) →
+    IsRowAfter store_table KeepsStore store_face same_face (λ chosen. chosen ticket ≡ false) x (earlier ++ kept_as Cleared ticket saved ∷ later) x' (earlier ++ later)
+table_settles_cleared x x' saved s e stays goes earlier ticket later h =
+    first_gone tables_in cells_in of_tables of_cells store_table saved_table no_table tables_agree cells_agree KeepsBoth KeepsFlushes tables.face_by cells.face_by (λ chosen. chosen ticket ≡ false) x x' earlier Cleared ticket saved later s (ap table_way e) (ap flush_way e) stays h
+    (goes (part of_tables earlier) ticket (part of_tables later) (subst (λ (l : List (Kept SavedTable)). KeepsBoth x.tables l) (part_at of_tables earlier Cleared ticket saved later s (ap table_way e)) h.0))
+
+pub flush_settles_oldest : (x x' : Store) (saved : SavedChange) (s : SavedFlush) → saved.way ≡ way.Flush s → x'.tables ≡ x.tables →
+    ((ticket : ℕ) (later : List (Kept SavedFlush)) → KeepsFlushes x.cells (kept_as Done ticket s ∷ later) → IsRowAfter no_table KeepsFlushes cells.face_by same_face (λ chosen. chosen ticket ≡ true) x.cells (kept_as Done ticket s ∷ later) x'.cells later) →
+    (ticket : ℕ) (later : List (Kept SavedChange)) → KeepsStore x (kept_as Done ticket saved ∷ later) → IsRowAfter store_table KeepsStore store_face same_face (λ chosen. chosen ticket ≡ true) x (kept_as Done ticket saved ∷ later) x' later
+flush_settles_oldest x x' saved s e stays goes ticket later h =
+    second_gone tables_in cells_in of_tables of_cells store_table saved_table no_table tables_agree cells_agree KeepsBoth KeepsFlushes tables.face_by cells.face_by (λ chosen. chosen ticket ≡ true) x x' [] Done ticket saved later s (ap flush_way e) (ap table_way e) stays h
+    (goes ticket (part of_cells later) (subst (λ (l : List (Kept SavedFlush)). KeepsFlushes x.cells l) (part_at of_cells [] Done ticket saved later s (ap flush_way e)) h.1))
+
+pub flush_settles_cleared : (x x' : Store) (saved : SavedChange) (s : SavedFlush) → saved.way ≡ way.Flush s → x'.tables ≡ x.tables →
+    ((earlier : List (Kept SavedFlush)) (ticket : ℕ) (later : List (Kept SavedFlush)) → KeepsFlushes x.cells (earlier ++ kept_as Cleared ticket s ∷ later) →
+    IsRowAfter no_table KeepsFlushes cells.face_by same_face (λ chosen. chosen ticket ≡ false) x.cells (earlier ++ kept_as Cleared ticket s ∷ later) x'.cells (earlier ++ later)) →
+    (earlier : List (Kept SavedChange)) (ticket : ℕ) (later : List (Kept SavedChange)) → KeepsStore x (earlier ++ kept_as Cleared ticket saved ∷ later) →
+    IsRowAfter store_table KeepsStore store_face same_face (λ chosen. chosen ticket ≡ false) x (earlier ++ kept_as Cleared ticket saved ∷ later) x' (earlier ++ later)
+flush_settles_cleared x x' saved s e stays goes earlier ticket later h =
+    second_gone tables_in cells_in of_tables of_cells store_table saved_table no_table tables_agree cells_agree KeepsBoth KeepsFlushes tables.face_by cells.face_by (λ chosen. chosen ticket ≡ false) x x' earlier Cleared ticket saved later s (ap flush_way e) (ap table_way e) stays h
+    (goes (part of_cells earlier) ticket (part of_cells later) (subst (λ (l : List (Kept SavedFlush)). KeepsFlushes x.cells l) (part_at of_cells earlier Cleared ticket saved later s (ap flush_way e)) h.1))

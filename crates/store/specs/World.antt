@@ -1,0 +1,70 @@
+-- The flushes that a shelf keeps, and its faces.
+use Rattle.std.specs.Prelude.{◌≡◌, ℕ, Bool, Option, None, List, map, if◌then◌else◌}
+use Rattle.std.specs.List.{AllByRecursion}
+use Rattle.dns_text.specs.declared.record.Question.{Question}
+use Rattle.change_law.specs.declared.kept.Kept.{Kept}
+use Rattle.change_law.specs.declared.fault.WorldFault.{WorldFault}
+use Rattle.change_law.specs.declared.fault.WorldFault.TheVariants as world
+use Rattle.change_law.specs.Choice.{is_done}
+use Rattle.change_law.specs.Face.{Face}
+use Rattle.std.specs.Map.{lookup}
+use Rattle.dns_name.specs.Labels.{Labels}
+use Rattle.dns_name.specs.Order.{name_eq}
+use Rattle.ranked.specs.declared.find.Find.{Find}
+use Rattle.ranked.specs.declared.cell.Admitted.{Admitted}
+use Rattle.cell_store.specs.declared.owner.OwnerCells.{OwnerCells}
+use Rattle.cell_store.specs.Store.{cell_by_owner}
+use Rattle.shelf.specs.declared.fault.StoreFault.{StoreFault}
+use Rattle.shelf.specs.declared.fault.StoreFault.TheVariants as store
+use Rattle.shelf.specs.declared.shelf.KeptFlush.{KeptFlush}
+use Rattle.shelf.specs.declared.shelf.Shelf.{Shelf}
+use Rattle.shelf.specs.Told.{chosen_version, shown_version}
+use Rattle.store.specs.declared.world.SavedFlush.{SavedFlush}
+
+-- what a shelf holds, by names, which flushes it keeps, the greatest number so far, how many places count, and how many may
+pub record Shelved : Type 0 where
+  pub names : List (Labels × OwnerCells)
+  pub flushes : List KeptFlush
+  pub top : ℕ
+  pub stored : ℕ
+  pub limit : ℕ
+
+abbrev pub shelved : Shelf → Shelved
+shelved shelf = record { names = shelf.owners.entries; flushes = shelf.kept.items; top = shelf.top; stored = shelf.stored; limit = shelf.limit }
+
+-- the cell of a question in a version
+abbrev pub cell_at : Shelved → Question → ℕ → Option (Admitted Find)
+cell_at shelf q v = cell_by_owner (lookup (name_eq q.owner) shelf.names) q.kind v
+
+-- the cell of a question, if of the kept flushes just the chosen ones stood
+abbrev pub cell_by : Shelved → (ℕ → Bool) → Question → Option (Admitted Find)
+cell_by shelf chosen q = cell_at shelf q (chosen_version shelf.flushes q chosen)
+
+abbrev pub fault_told : StoreFault → WorldFault
+fault_told (store.Full stored) = world.Full stored
+fault_told store.NoMemory = world.NoMemory
+
+-- the number of a flush, and whether it stands: as the journal has it, and as the shelf has it
+abbrev pub mark_of : Kept SavedFlush → ℕ × Bool
+mark_of k = (k.ticket, is_done k.standing)
+
+abbrev pub mark : KeptFlush → ℕ × Bool
+mark own = (own.number, own.shown)
+
+-- These are the flushes that the shelf keeps, by their numbers: the done ones stand, the others do not.
+pub record KeepsFlushes (shelf : Shelved) (kept : List (Kept SavedFlush)) : Type 0 where
+  pub agree : map mark_of kept ≡ map mark shelf.flushes
+  pub numbers : AllByRecursion (λ k. k.saved.number ≡ k.ticket) kept
+
+-- what it would show, if of its flushes just the chosen ones stood
+abbrev pub face_by : Shelved → List (Kept SavedFlush) → (ℕ → Bool) → Face (Unit {0})
+face_by shelf kept chosen = record { tables = tt; cell = cell_by shelf chosen }
+
+-- what it shows: of each question, the cell of the last flush that stands and covers it, or of none
+abbrev pub shown_face : Shelved → Face (Unit {0})
+shown_face shelf = record { tables = tt; cell = λ q. cell_at shelf q (shown_version shelf.flushes q) }
+
+-- The same flushes are kept, and in each face the cells of a name are empty.
+pub record IsForgottenIn (owner : Labels) (before : Shelved) (kept : List (Kept SavedFlush)) (after : Shelved) : Type 0 where
+  pub keeps_still : KeepsFlushes after kept
+  pub faces : (chosen : ℕ → Bool) (q : Question) → (face_by after kept chosen).cell q ≡ (if name_eq owner q.owner then None else (face_by before kept chosen).cell q)

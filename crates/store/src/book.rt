@@ -1,0 +1,63 @@
+//! What a book asks of the tables and the cache: what they show, and the change of each command.
+
+ghost use Rattle.std.specs.Prelude.{◌≡◌, IfOk};
+ghost use Rattle.store.specs.Command.{IsMadeOf};
+
+use crate::store::{Made, SavedChange, Store, StoreChange};
+use crate::world::FlushChange;
+use dns_name::{Name, NoMemory};
+use history::{CellSource, Command, Tables};
+use ranked::Held;
+use table_changes::TableChange;
+use world_book::{BookChange, BookWorld};
+
+impl CellSource for Store {
+    ghost use Rattle.ranked.specs.Cell.{shown_at};
+    ghost use Rattle.store.specs.Store.{store_shown};
+
+    ghost shows_at = { λ store moment q. shown_at ((store_shown store).cell q) moment };
+
+    fn shows<'a>(&'a self, owner: &Name, kind: u16, moment: u64) -> Option<Held<'a>> {
+        self.cells.show(owner, kind, moment)
+    }
+}
+
+impl BookWorld for Store {
+    ghost use Rattle.std.specs.Prelude.{refl};
+
+    fn tables(&self) -> &Tables {
+        self.tables.tables()
+    }
+
+    fn stored(&self) -> usize {
+        self.cells.stored() as usize
+    }
+
+    fn command(saved: &SavedChange) -> &Command {
+        &saved.command
+    }
+
+    ghost with_cells = { refl };
+
+    ghost as_shown = { λ world moment q. refl };
+}
+
+// The change of a command: a flush of the cache, or a change of the tables.
+fn made_of(command: &Command) -> Result<Made, NoMemory>
+    ensures { IfOk result (λ made. IsMadeOf command.now made) }
+{
+    match command.flush()? {
+        Some(flush) => Ok(Made::Flush(FlushChange { flush })),
+        None => match TableChange::of(command)? {
+            Some(change) => Ok(Made::Table(change)),
+            None => unreachable!(),
+        },
+    }
+}
+
+impl BookChange for StoreChange {
+    fn of(command: Command) -> Result<StoreChange, NoMemory> {
+        let made = made_of(&command)?;
+        Ok(StoreChange { command, made })
+    }
+}

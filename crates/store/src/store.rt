@@ -1,0 +1,192 @@
+//! The tables and the cache as one world, in which every command can be undone.
+
+use crate::world::{FlushChange, SavedFlush, ShelfWorld};
+use cell_store::NameSeed;
+use change_law::{Change, ChangeFault, World, WorldFault};
+use dns_name::NoMemory;
+use history::{Command, Tables};
+use ranked::{Fate, SharedFind};
+use std::alloc::Global;
+use table_changes::{SavedTable, TableChange, TableWorld};
+
+/// What a kept change saved for its way back.
+#[derive(Drop)]
+pub enum Way {
+    Table(SavedTable),
+    Flush(SavedFlush),
+}
+
+/// A kept change: its command, and its way back.
+#[derive(Drop)]
+pub struct SavedChange {
+    pub command: Command,
+    pub way: Way,
+}
+
+/// The change of a command, of the tables or of the cache.
+#[derive(Drop)]
+pub enum Made {
+    Table(TableChange),
+    Flush(FlushChange),
+}
+
+/// The change that a command makes, and the command.
+#[derive(Drop)]
+pub struct StoreChange {
+    pub command: Command,
+    pub made: Made,
+}
+
+/// The local zones and records, the stubs, and the cache.
+#[derive(Drop)]
+pub struct Store {
+    pub tables: TableWorld,
+    pub cells: ShelfWorld,
+}
+
+impl Store {
+    ghost use Rattle.std.specs.Prelude.{◌≡◌, ◌≤◌, ◌^◌, ℕ, Bool, []};
+    ghost use Rattle.change_law.specs.Face.{IsSame};
+    ghost use Rattle.world_book.specs.Deeds.{empty_face};
+
+    /// Empty tables and an empty cache that may store so many cells. The cache's index hashes with this seed.
+    pub fn new(alloc: Global, limit: u64, seed: NameSeed) -> Store
+        requires { limit ≤ 2 ^ 32 }
+        ensures keeps { ⟦<Store as World>⟧.keeps result [] }
+        ensures empty { (chosen : ℕ → Bool) → IsSame (⟦<Store as World>⟧.face result [] chosen) empty_face }
+        ensures newest { ⟦<Store as World>⟧.newest result ≡ 0 }
+        ensures stored { ⟦<Store as World>⟧.stored result ≡ 0 }
+        ensures limit { ⟦<Store as World>⟧.limit result ≡ limit }
+    {
+        Store {
+            tables: TableWorld::new(alloc),
+            cells: ShelfWorld::seeded(alloc, limit, seed),
+        }
+    }
+}
+
+impl World for Store {
+    ghost use Rattle.std.specs.Prelude.{true};
+    ghost use Rattle.store.specs.Store.{store_face, store_shown, table_of, needs_memory_of, KeepsStore};
+    ghost use Rattle.store.specs.StoreLaws.{clears_store, shows_store};
+
+    type Tables = Tables;
+
+    type Saved = SavedChange;
+
+    type Told = Command;
+
+    ghost has_cells = { true };
+
+    ghost table = { λ saved. table_of saved.way };
+
+    ghost told = { λ saved. saved.command };
+
+    ghost needs_memory = { λ saved. needs_memory_of saved.way };
+
+    ghost keeps = { KeepsStore };
+
+    ghost face = { store_face };
+
+    ghost newest = { λ store. store.cells.top };
+
+    ghost shown = { store_shown };
+
+    ghost stored = { λ store. store.cells.stored };
+
+    ghost limit = { λ store. store.cells.limit };
+
+    ghost shows = { λ world kept chosen h p. shows_store world kept chosen h p };
+
+    fn admit(&mut self, find: SharedFind, moment: u64) -> Result<Fate, WorldFault> {
+        match self.cells.admit(find, moment) {
+            Ok(fate) => return Ok(fate),
+            Err(fault) => return Err(fault),
+        }
+    }
+
+    fn sweep(&mut self, moment: u64) {
+        self.cells.sweep(moment);
+    }
+
+    ghost clears = { λ world kept h. clears_store world kept h };
+}
+
+impl Change for StoreChange {
+    ghost use Rattle.store.specs.Store.{reason_of_made, after_made, empties_made, table_of_made};
+
+    type World = Store;
+
+    ghost reason = { λ change. reason_of_made change.made };
+
+    ghost after = { λ change. after_made change.made };
+
+    ghost empties = { λ change. empties_made change.made };
+
+    ghost table = { λ change. table_of_made change.made };
+
+    ghost told = { λ change. change.command };
+
+    fn apply(self, world: &mut Store, ticket: u64) -> Result<SavedChange, ChangeFault> {
+        let StoreChange { command, made } = self;
+        match made {
+            Made::Table(change) => {
+                let saved = change.apply(&mut world.tables, ticket)?;
+                Ok(SavedChange {
+                    command,
+                    way: Way::Table(saved),
+                })
+            }
+            Made::Flush(change) => {
+                let saved = change.apply(&mut world.cells, ticket)?;
+                Ok(SavedChange {
+                    command,
+                    way: Way::Flush(saved),
+                })
+            }
+        }
+    }
+
+    fn back(world: &mut Store, saved: &mut SavedChange) -> Result<(), NoMemory> {
+        match &mut saved.way {
+            Way::Table(saved) => {
+                TableChange::back(&mut world.tables, saved)?;
+                Ok(())
+            }
+            Way::Flush(saved) => {
+                FlushChange::back(&mut world.cells, saved)?;
+                Ok(())
+            }
+        }
+    }
+
+    fn again(world: &mut Store, saved: &mut SavedChange) -> Result<(), NoMemory> {
+        match &mut saved.way {
+            Way::Table(saved) => {
+                TableChange::again(&mut world.tables, saved)?;
+                Ok(())
+            }
+            Way::Flush(saved) => {
+                FlushChange::again(&mut world.cells, saved)?;
+                Ok(())
+            }
+        }
+    }
+
+    fn settle(world: &mut Store, saved: SavedChange) {
+        let SavedChange {
+            command: _command,
+            way,
+        } = saved;
+        match way {
+            Way::Table(saved) => {
+                TableChange::settle(&mut world.tables, saved);
+                return;
+            }
+            Way::Flush(saved) => {
+                FlushChange::settle(&mut world.cells, saved);
+                return;
+            }
+        }
+    }
+}

@@ -1,0 +1,200 @@
+//! The cache as a world, and flushes as its changes.
+
+ghost use Rattle.std.specs.Prelude.{◌≡◌, ℕ, None, Some, IfOk};
+ghost use Rattle.shelf.specs.declared.fault.StoreFault.{StoreFault};
+ghost use Rattle.store.specs.World.{fault_told};
+
+use cell_store::NameSeed;
+use change_law::{Change, ChangeFault, World, WorldFault};
+use dns_name::{Name, NoMemory};
+use ranked::{Fate, Flush, Held, SharedFind};
+use shelf::{Shelf, StoreFault};
+use std::alloc::Global;
+use std::marker::Model;
+
+/// A flush that the cache keeps: its number there.
+#[derive(Drop)]
+pub struct SavedFlush {
+    pub number: u64,
+}
+
+/// A flush that is to be made.
+#[derive(Drop)]
+pub struct FlushChange {
+    pub flush: Flush,
+}
+
+/// A cache of which each kept flush can be undone.
+#[derive(Drop)]
+pub struct ShelfWorld {
+    shelf: Shelf,
+}
+
+impl Model for ShelfWorld {
+    ghost use Rattle.std.specs.Coded.{codes};
+    ghost use Rattle.ranked.specs.contracts.find.Find as find_type;
+    ghost use Rattle.shelf.specs.Told.{IsShelf};
+    ghost use Rattle.store.specs.World.{Shelved, shelved};
+
+    ghost Value = { Shelved };
+
+    ghost coded = { Prim.hlevel (codes, find_type.the_row.coded) };
+
+    ghost view = { λ w. shelved w.shelf };
+
+    ghost invariant = { λ w. IsShelf w.shelf };
+}
+
+fn fault_told(fault: StoreFault) -> WorldFault
+    ensures { result ≡ fault_told fault }
+{
+    match fault {
+        StoreFault::Full { stored } => WorldFault::Full {
+            stored: stored as usize,
+        },
+        StoreFault::NoMemory => WorldFault::NoMemory,
+    }
+}
+
+impl ShelfWorld {
+    ghost use Rattle.std.specs.Prelude.{◌≤◌, ◌^◌, Bool, List, []};
+    ghost use Rattle.change_law.specs.Face.{IsSame};
+    ghost use Rattle.ranked.specs.Cell.{shown_at};
+    ghost use Rattle.cell_store.specs.Owner.{held_now};
+    ghost use Rattle.change_law.specs.declared.kept.Kept.{Kept};
+    ghost use Rattle.store.specs.declared.world.SavedFlush.{SavedFlush};
+    ghost use Rattle.store.specs.World.{IsForgottenIn};
+
+    /// An empty cache that may store so many cells. It keeps no flushes, and its index hashes with the fixed seed.
+    pub fn new(alloc: Global, limit: u64) -> ShelfWorld
+        requires { limit ≤ 2 ^ 32 }
+        ensures keeps { ⟦<ShelfWorld as World>⟧.keeps result [] }
+        ensures empty { (chosen : ℕ → Bool) → IsSame (⟦<ShelfWorld as World>⟧.face result [] chosen) (record { tables = tt; cell = λ q. None }) }
+        ensures newest { ⟦<ShelfWorld as World>⟧.newest result ≡ 0 }
+        ensures stored { ⟦<ShelfWorld as World>⟧.stored result ≡ 0 }
+        ensures limit { ⟦<ShelfWorld as World>⟧.limit result ≡ limit }
+    {
+        ShelfWorld::seeded(alloc, limit, NameSeed::fixed())
+    }
+
+    /// The same, but its index hashes with a seed that the program drew, since strangers choose the names.
+    pub fn seeded(alloc: Global, limit: u64, seed: NameSeed) -> ShelfWorld
+        requires { limit ≤ 2 ^ 32 }
+        ensures keeps { ⟦<ShelfWorld as World>⟧.keeps result [] }
+        ensures empty { (chosen : ℕ → Bool) → IsSame (⟦<ShelfWorld as World>⟧.face result [] chosen) (record { tables = tt; cell = λ q. None }) }
+        ensures newest { ⟦<ShelfWorld as World>⟧.newest result ≡ 0 }
+        ensures stored { ⟦<ShelfWorld as World>⟧.stored result ≡ 0 }
+        ensures limit { ⟦<ShelfWorld as World>⟧.limit result ≡ limit }
+    {
+        ShelfWorld {
+            shelf: Shelf::seeded(alloc, limit, seed),
+        }
+    }
+
+    /// What is shown of a question at a moment. It takes no memory.
+    pub fn show(&self, owner: &Name, kind: u16, moment: u64) -> Option<Held<'_>>
+        ensures { held_now result ≡ shown_at ((⟦<ShelfWorld as World>⟧.shown self.now).cell (record { owner = owner.now; kind = kind })) moment }
+    {
+        self.shelf.show(owner, kind, moment)
+    }
+
+    /// How many places count.
+    pub fn stored(&self) -> u64
+        ensures { result ≡ ⟦<ShelfWorld as World>⟧.stored self.now }
+    {
+        self.shelf.stored()
+    }
+
+    /// Forgets a name: nothing of it is held, whatever choice of the kept flushes stands. It takes no memory.
+    pub fn forget(&mut self, owner: &Name)
+        ensures row { (kept : List (Kept SavedFlush)) → ⟦<ShelfWorld as World>⟧.keeps self.old kept → IsForgottenIn owner.now self.old kept self.new }
+        ensures newest { ⟦<ShelfWorld as World>⟧.newest self.new ≤ ⟦<ShelfWorld as World>⟧.newest self.old }
+        ensures stored { ⟦<ShelfWorld as World>⟧.stored self.new ≤ ⟦<ShelfWorld as World>⟧.stored self.old }
+    {
+        self.shelf.forget(owner);
+    }
+}
+
+impl World for ShelfWorld {
+    ghost use Rattle.std.specs.Prelude.{true, false, None};
+    ghost use Rattle.store.specs.World.{KeepsFlushes, face_by, shown_face};
+    ghost use Rattle.store.specs.WorldLaws.{shows_present, clears_by_word};
+
+    type Tables = ();
+
+    type Saved = SavedFlush;
+
+    type Told = ();
+
+    ghost has_cells = { true };
+
+    ghost table = { λ saved. None };
+
+    ghost told = { λ saved. tt };
+
+    ghost needs_memory = { λ saved. false };
+
+    ghost keeps = { KeepsFlushes };
+
+    ghost face = { face_by };
+
+    ghost newest = { λ shelf. shelf.top };
+
+    ghost shown = { shown_face };
+
+    ghost stored = { λ shelf. shelf.stored };
+
+    ghost limit = { λ shelf. shelf.limit };
+
+    ghost shows = { λ world kept chosen h p. shows_present world kept chosen h p };
+
+    ghost clears = { λ world kept h. clears_by_word world kept h };
+
+    fn admit(&mut self, find: SharedFind, moment: u64) -> Result<Fate, WorldFault> {
+        let fate = self.shelf.fate(find.find(), moment);
+        match self.shelf.admit(find, moment) {
+            Ok(()) => return Ok(fate),
+            Err(fault) => return Err(fault_told(fault)),
+        }
+    }
+
+    fn sweep(&mut self, moment: u64) {
+        self.shelf.sweep(moment);
+    }
+}
+
+impl Change for FlushChange {
+    ghost use Rattle.std.specs.Prelude.{None};
+    ghost use Rattle.ranked.specs.Flush.{covers};
+
+    type World = ShelfWorld;
+
+    ghost reason = { λ change tables. None };
+
+    ghost after = { λ change tables. tables };
+
+    ghost empties = { λ change. covers change.flush };
+
+    ghost table = { λ change. None };
+
+    ghost told = { λ change. tt };
+
+    fn apply(self, world: &mut ShelfWorld, ticket: u64) -> Result<SavedFlush, ChangeFault> {
+        world.shelf.open_flush(self.flush, ticket)?;
+        Ok(SavedFlush { number: ticket })
+    }
+
+    fn back(world: &mut ShelfWorld, saved: &mut SavedFlush) -> Result<(), NoMemory> {
+        world.shelf.hide(saved.number);
+        Ok(())
+    }
+
+    fn again(world: &mut ShelfWorld, saved: &mut SavedFlush) -> Result<(), NoMemory> {
+        world.shelf.unhide(saved.number);
+        Ok(())
+    }
+
+    fn settle(world: &mut ShelfWorld, saved: SavedFlush) {
+        world.shelf.settle(saved.number);
+    }
+}

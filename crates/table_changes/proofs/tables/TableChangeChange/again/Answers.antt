@@ -1,0 +1,37 @@
+use Rattle.std.proofs.Common.{refl, sym, ap}
+use Rattle.local_zone.specs.Saved as zone
+use Rattle.stub_table.specs.Saved as stub
+use Rattle.table_changes.specs.Both.{of_zones, of_stubs, saved_table, KeepsBoth}
+use Rattle.table_changes.specs.declared.tables.SavedTable.TheVariants as saved
+use Rattle.table_changes.specs.BothLaws.{zones_numbered, stubs_numbered, zones_apart, stubs_apart}
+use Rattle.table_changes.proofs.BothRows.{zones_tab, stubs_tab, zones_with_stubs, stubs_with_zones, zones_split, stubs_split, zones_join, stubs_join}
+use Rattle.table_changes.proofs.PartRows.{both_again, both_first}
+use Rattle.table_changes.proofs.tables.TableChangeChange.again.Goals as goal
+
+pub again-requires : goal.again-requires
+again-requires c =
+    let r = c.requires in (
+      zone.before_of c.in-Zones.saved c.args.world.now.tables.local,
+      both_first zones_tab stubs_tab zones_with_stubs of_zones of_stubs zone.before_of zone.TakesBack stub.before_of stub.TakesBack saved_table 1 2 zones_numbered stubs_numbered zones_apart KeepsBoth zones_split zones_join
+          c.args.world.now r.0 r.1.0 c.args.saved.now r.1.1.0 c.in-Zones.saved (ap of_zones c.in-Zones.is) r.1.1.1,
+    )
+
+pub returns-in_ok-again-in-Zones-clause-row : goal.returns-in_ok-again-in-Zones-clause-row
+returns-in_ok-again-in-Zones-clause-row c = λ earlier ticket later at.
+    both_again zones_tab stubs_tab zones_with_stubs of_zones of_stubs zone.before_of zone.TakesBack stub.before_of stub.TakesBack saved_table 1 2 zones_numbered stubs_numbered zones_apart KeepsBoth zones_split zones_join
+    c.args.world.now (record { tables = record { local = c.again.new.self; stubs = c.args.world.now.tables.stubs } }) earlier ticket c.args.saved.now (saved.Zones c.again.new.saved) later c.in-Zones.saved c.again.new.saved (ap of_zones c.in-Zones.is) refl
+    (sym c.in_ok-again-in-Zones.ensures.ok) c.in_ok-again-in-Zones.ensures.back.gives c.in_ok-again-in-Zones.ensures.back refl at
+
+pub again-requires-in-Stubs : goal.again-requires-in-Stubs
+again-requires-in-Stubs c =
+    let r = c.requires in (
+      stub.before_of c.in-Stubs.saved c.args.world.now.tables.stubs,
+      both_first stubs_tab zones_tab stubs_with_zones of_stubs of_zones stub.before_of stub.TakesBack zone.before_of zone.TakesBack saved_table 2 1 stubs_numbered zones_numbered stubs_apart KeepsBoth stubs_split stubs_join
+          c.args.world.now r.0 r.1.0 c.args.saved.now r.1.1.0 c.in-Stubs.saved (ap of_stubs c.in-Stubs.is) r.1.1.1,
+    )
+
+pub returns-in_ok-again-in-Stubs-clause-row : goal.returns-in_ok-again-in-Stubs-clause-row
+returns-in_ok-again-in-Stubs-clause-row c = λ earlier ticket later at.
+    both_again stubs_tab zones_tab stubs_with_zones of_stubs of_zones stub.before_of stub.TakesBack zone.before_of zone.TakesBack saved_table 2 1 stubs_numbered zones_numbered stubs_apart KeepsBoth stubs_split stubs_join
+    c.args.world.now (record { tables = record { local = c.args.world.now.tables.local; stubs = c.again-in-Stubs.new.self } }) earlier ticket c.args.saved.now (saved.Stubs c.again-in-Stubs.new.saved) later c.in-Stubs.saved c.again-in-Stubs.new.saved (ap of_stubs c.in-Stubs.is) refl
+    (sym c.in_ok-again-in-Stubs.ensures.ok) c.in_ok-again-in-Stubs.ensures.back.gives c.in_ok-again-in-Stubs.ensures.back refl at

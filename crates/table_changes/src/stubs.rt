@@ -1,0 +1,70 @@
+//! The changes of stubs.
+
+ghost use Rattle.std.specs.Prelude.{◌≡◌, None, IfErr, IfOk, OnOk};
+ghost use Rattle.change_law.specs.Effect.{IsFaultFor};
+ghost use Rattle.stub_table.specs.Saved.{TakesBack};
+ghost use Rattle.table_changes.specs.Stubs.{stub_code, stub_reason, stubs_after};
+
+use change_law::ChangeFault;
+use dns_name::Name;
+use dns_text::Shared;
+use stub_table::{SavedStubs, Stub, StubFault, StubTable};
+
+/// A change of the stubs.
+#[derive(Drop)]
+pub enum StubChange {
+    /// Adds a stub, or gives the stub of its name other addresses.
+    Set(Shared<Stub>),
+    /// Removes the stub of a name, if there is one.
+    Drop(Name),
+}
+
+// The fault of a change, from that of the table.
+fn stub_fault(fault: StubFault) -> ChangeFault
+    ensures { IsFaultFor (stub_code fault) result }
+{
+    match fault {
+        StubFault::TooMany => ChangeFault::Refused(4),
+        StubFault::NoMemory => ChangeFault::NoMemory,
+    }
+}
+
+// Sets a stub.
+fn set_stub(table: &mut StubTable, stub: Shared<Stub>) -> Result<SavedStubs, ChangeFault>
+    ensures ok { OnOk result ((stub_reason (StubChange.Set stub) table.old ≡ None)
+        × (table.new ≡ stubs_after (StubChange.Set stub) table.old)) }
+    ensures saved { IfOk result (λ saved. TakesBack saved table.new table.old) }
+    ensures err { IfErr result (λ fault. IsFaultFor (stub_reason (StubChange.Set stub) table.old) fault × (table.new ≡ table.old)) }
+{
+    match table.set(stub) {
+        Ok(saved) => Ok(saved),
+        Err(fault) => Err(stub_fault(fault)),
+    }
+}
+
+// Removes a stub.
+fn drop_stub(table: &mut StubTable, name: Name) -> Result<SavedStubs, ChangeFault>
+    ensures ok { OnOk result (table.new ≡ stubs_after (StubChange.Drop name) table.old) }
+    ensures saved { IfOk result (λ saved. TakesBack saved table.new table.old) }
+    ensures err { IfErr result (λ fault. (fault ≡ ChangeFault.NoMemory) × (table.new ≡ table.old)) }
+{
+    match table.remove(&name) {
+        Ok(saved) => Ok(saved),
+        Err(_) => Err(ChangeFault::NoMemory),
+    }
+}
+
+// Makes a change of the stubs.
+pub(crate) fn make_stub_change(
+    table: &mut StubTable,
+    change: StubChange,
+) -> Result<SavedStubs, ChangeFault>
+    ensures ok { OnOk result ((stub_reason change table.old ≡ None) × (table.new ≡ stubs_after change table.old)) }
+    ensures saved { IfOk result (λ saved. TakesBack saved table.new table.old) }
+    ensures err { IfErr result (λ fault. IsFaultFor (stub_reason change table.old) fault × (table.new ≡ table.old)) }
+{
+    match change {
+        StubChange::Set(stub) => set_stub(table, stub),
+        StubChange::Drop(name) => drop_stub(table, name),
+    }
+}

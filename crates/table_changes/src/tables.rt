@@ -1,0 +1,200 @@
+//! Both tables as one world, and the six kinds of their changes.
+
+ghost use Rattle.std.specs.Prelude.{◌≡◌, IfOk};
+
+use crate::stubs::{StubChange, make_stub_change};
+use crate::zones::{ZoneChange, make_zone_change};
+use change_law::{Change, ChangeFault, World, WorldFault};
+use dns_name::NoMemory;
+use history::{Command, Tables};
+use local_zone::SavedTables;
+use ranked::{Fate, SharedFind};
+use std::alloc::Global;
+use stub_table::SavedStubs;
+
+/// What the operator set: local zones and records, and stubs. It has no cells.
+#[derive(Drop)]
+pub struct TableWorld {
+    tables: Tables,
+}
+
+/// A change of one of the two tables.
+#[derive(Drop)]
+pub enum TableChange {
+    Zones(ZoneChange),
+    Stubs(StubChange),
+}
+
+/// The way back of a change of one of the two tables.
+#[derive(Drop)]
+pub enum SavedTable {
+    Zones(SavedTables),
+    Stubs(SavedStubs),
+}
+
+impl TableChange {
+    ghost use Rattle.table_changes.specs.Both.{change_of};
+
+    /// The change that a command makes of the tables. A flush makes none. What can be shared is shared.
+    pub fn of(command: &Command) -> Result<Option<TableChange>, NoMemory>
+        ensures { IfOk result (λ change. change ≡ change_of command.now) }
+    {
+        match command {
+            Command::SetZone { name, kind } => Ok(Some(TableChange::Zones(ZoneChange::SetZone {
+                name: name.clone()?,
+                kind: *kind,
+            }))),
+            Command::DropZone { name } => {
+                Ok(Some(TableChange::Zones(ZoneChange::DropZone(name.clone()?))))
+            }
+            Command::AddRecord { record } => {
+                Ok(Some(TableChange::Zones(ZoneChange::AddRecord(record.share()?))))
+            }
+            Command::DropName { name } => {
+                Ok(Some(TableChange::Zones(ZoneChange::DropName(name.clone()?))))
+            }
+            Command::SetStub { stub } => {
+                Ok(Some(TableChange::Stubs(StubChange::Set(stub.share()?))))
+            }
+            Command::DropStub { name } => {
+                Ok(Some(TableChange::Stubs(StubChange::Drop(name.clone()?))))
+            }
+            _ => Ok(None),
+        }
+    }
+}
+
+impl TableWorld {
+    ghost use Rattle.std.specs.Prelude.{ℕ, Bool, []};
+    ghost use Rattle.change_law.specs.Face.{IsSame};
+    ghost use Rattle.history.specs.Changes.{no_tables};
+
+    /// Empty tables, which keep no changes. They take no memory.
+    pub fn new(alloc: Global) -> TableWorld
+        ensures keeps { ⟦<TableWorld as World>⟧.keeps result [] }
+        ensures empty { (chosen : ℕ → Bool) → IsSame (⟦<TableWorld as World>⟧.face result [] chosen) (record { tables = no_tables; cell = λ q. None }) }
+        ensures newest { ⟦<TableWorld as World>⟧.newest result ≡ 0 }
+    {
+        TableWorld {
+            tables: Tables::new(alloc),
+        }
+    }
+
+    /// The tables as they are.
+    pub fn tables(&self) -> &Tables
+        ensures { result.now ≡ (⟦<TableWorld as World>⟧.shown self.now).tables }
+    {
+        &self.tables
+    }
+}
+
+impl World for TableWorld {
+    ghost use Rattle.std.specs.Prelude.{false, true};
+    ghost use Rattle.table_changes.specs.Both.{saved_table, face_by, shown_tables, KeepsBoth};
+    ghost use Rattle.table_changes.specs.BothLaws.{clears_both, shows_both};
+
+    type Tables = Tables;
+
+    type Saved = SavedTable;
+
+    type Told = ();
+
+    ghost has_cells = { false };
+
+    ghost table = { saved_table };
+
+    ghost told = { λ saved. tt };
+
+    ghost needs_memory = { λ saved. true };
+
+    ghost keeps = { KeepsBoth };
+
+    ghost face = { face_by };
+
+    ghost newest = { λ world. 0 };
+
+    ghost shown = { shown_tables };
+
+    ghost stored = { λ world. 0 };
+
+    ghost limit = { λ world. 0 };
+
+    ghost shows = { λ world kept chosen h p. shows_both world kept chosen p };
+
+    fn admit(&mut self, _find: SharedFind, _moment: u64) -> Result<Fate, WorldFault> {
+        Ok(Fate::Taken)
+    }
+
+    fn sweep(&mut self, _moment: u64) {}
+
+    ghost clears = { λ world kept h. clears_both world kept h };
+}
+
+impl Change for TableChange {
+    ghost use Rattle.std.specs.Prelude.{false};
+    ghost use Rattle.table_changes.specs.Both.{change_table, change_reason, change_after};
+
+    type World = TableWorld;
+
+    ghost reason = { change_reason };
+
+    ghost after = { change_after };
+
+    ghost empties = { λ change question. false };
+
+    ghost table = { change_table };
+
+    ghost told = { λ change. tt };
+
+    fn apply(self, world: &mut TableWorld, _ticket: u64) -> Result<SavedTable, ChangeFault> {
+        match self {
+            TableChange::Zones(change) => {
+                let saved = make_zone_change(&mut world.tables.local, change)?;
+                Ok(SavedTable::Zones(saved))
+            }
+            TableChange::Stubs(change) => {
+                let saved = make_stub_change(&mut world.tables.stubs, change)?;
+                Ok(SavedTable::Stubs(saved))
+            }
+        }
+    }
+
+    fn back(world: &mut TableWorld, saved: &mut SavedTable) -> Result<(), NoMemory> {
+        match saved {
+            SavedTable::Zones(saved) => {
+                world.tables.local.back(saved)?;
+                Ok(())
+            }
+            SavedTable::Stubs(saved) => {
+                world.tables.stubs.back(saved)?;
+                Ok(())
+            }
+        }
+    }
+
+    fn again(world: &mut TableWorld, saved: &mut SavedTable) -> Result<(), NoMemory> {
+        match saved {
+            SavedTable::Zones(saved) => {
+                world.tables.local.again(saved)?;
+                Ok(())
+            }
+            SavedTable::Stubs(saved) => {
+                world.tables.stubs.again(saved)?;
+                Ok(())
+            }
+        }
+    }
+
+    fn settle(world: &mut TableWorld, saved: SavedTable) {
+        match saved {
+            SavedTable::Zones(saved) => {
+                world.tables.local.settle(saved);
+                return;
+            }
+            SavedTable::Stubs(saved) => {
+                world.tables.stubs.settle(saved);
+                return;
+            }
+        }
+    }
+}

@@ -1,0 +1,112 @@
+//! The changes of local zones and records.
+
+ghost use Rattle.std.specs.Prelude.{◌≡◌, None, IfErr, IfOk, OnOk};
+ghost use Rattle.change_law.specs.Effect.{IsFaultFor};
+ghost use Rattle.local_zone.specs.Saved.{TakesBack};
+ghost use Rattle.table_changes.specs.Zones.{zone_code, zone_reason, zones_after};
+
+use change_law::ChangeFault;
+use dns_name::Name;
+use dns_text::{Record, Shared};
+use local_zone::{SavedTables, TableFault, ZoneTable, ZoneType};
+
+/// A change of the local zones and records.
+#[derive(Drop)]
+pub enum ZoneChange {
+    /// Adds a zone, or gives the zone of this name another type.
+    SetZone { name: Name, kind: ZoneType },
+    /// Removes a zone and the records that lie in it, if there is one.
+    DropZone(Name),
+    /// Adds a record, with a zone for it if none covers its owner.
+    AddRecord(Shared<Record>),
+    /// Removes all records of an owner.
+    DropName(Name),
+}
+
+// The fault of a change, from that of the table.
+pub(crate) fn zone_fault(fault: TableFault) -> ChangeFault
+    ensures { IsFaultFor (zone_code fault) result }
+{
+    match fault {
+        TableFault::BelowRedirect => ChangeFault::Refused(1),
+        TableFault::DataBelow => ChangeFault::Refused(2),
+        TableFault::CnameClash => ChangeFault::Refused(3),
+        TableFault::TooMany => ChangeFault::Refused(4),
+        TableFault::NoMemory => ChangeFault::NoMemory,
+    }
+}
+
+// Sets a zone.
+pub(crate) fn set_zone(
+    table: &mut ZoneTable,
+    name: Name,
+    kind: ZoneType,
+) -> Result<SavedTables, ChangeFault>
+    ensures ok { OnOk result ((zone_reason (ZoneChange.SetZone name kind) table.old ≡ None)
+        × (table.new ≡ zones_after (ZoneChange.SetZone name kind) table.old)) }
+    ensures saved { IfOk result (λ saved. TakesBack saved table.new table.old) }
+    ensures err { IfErr result (λ fault. IsFaultFor (zone_reason (ZoneChange.SetZone name kind) table.old) fault
+        × (table.new ≡ table.old)) }
+{
+    match table.set(name, kind) {
+        Ok(saved) => Ok(saved),
+        Err(fault) => Err(zone_fault(fault)),
+    }
+}
+
+// Adds a record.
+pub(crate) fn add_record(
+    table: &mut ZoneTable,
+    new: Shared<Record>,
+) -> Result<SavedTables, ChangeFault>
+    ensures ok { OnOk result ((zone_reason (ZoneChange.AddRecord new) table.old ≡ None)
+        × (table.new ≡ zones_after (ZoneChange.AddRecord new) table.old)) }
+    ensures saved { IfOk result (λ saved. TakesBack saved table.new table.old) }
+    ensures err { IfErr result (λ fault. IsFaultFor (zone_reason (ZoneChange.AddRecord new) table.old) fault × (table.new ≡ table.old)) }
+{
+    match table.add_record(new) {
+        Ok(saved) => Ok(saved),
+        Err(fault) => Err(zone_fault(fault)),
+    }
+}
+
+// Removes a zone and the records that lie in it.
+pub(crate) fn drop_zone(table: &mut ZoneTable, name: Name) -> Result<SavedTables, ChangeFault>
+    ensures ok { OnOk result (table.new ≡ zones_after (ZoneChange.DropZone name) table.old) }
+    ensures saved { IfOk result (λ saved. TakesBack saved table.new table.old) }
+    ensures err { IfErr result (λ fault. (fault ≡ ChangeFault.NoMemory) × (table.new ≡ table.old)) }
+{
+    match table.drop_zone(&name) {
+        Ok(saved) => Ok(saved),
+        Err(_) => Err(ChangeFault::NoMemory),
+    }
+}
+
+// Removes all records of an owner.
+pub(crate) fn drop_name(table: &mut ZoneTable, name: Name) -> Result<SavedTables, ChangeFault>
+    ensures ok { OnOk result (table.new ≡ zones_after (ZoneChange.DropName name) table.old) }
+    ensures saved { IfOk result (λ saved. TakesBack saved table.new table.old) }
+    ensures err { IfErr result (λ fault. (fault ≡ ChangeFault.NoMemory) × (table.new ≡ table.old)) }
+{
+    match table.drop_name(&name) {
+        Ok(saved) => Ok(saved),
+        Err(_) => Err(ChangeFault::NoMemory),
+    }
+}
+
+// Makes a change of the zones and records.
+pub(crate) fn make_zone_change(
+    table: &mut ZoneTable,
+    change: ZoneChange,
+) -> Result<SavedTables, ChangeFault>
+    ensures ok { OnOk result ((zone_reason change table.old ≡ None) × (table.new ≡ zones_after change table.old)) }
+    ensures saved { IfOk result (λ saved. TakesBack saved table.new table.old) }
+    ensures err { IfErr result (λ fault. IsFaultFor (zone_reason change table.old) fault × (table.new ≡ table.old)) }
+{
+    match change {
+        ZoneChange::SetZone { name, kind } => set_zone(table, name, kind),
+        ZoneChange::DropZone(name) => drop_zone(table, name),
+        ZoneChange::AddRecord(new) => add_record(table, new),
+        ZoneChange::DropName(name) => drop_name(table, name),
+    }
+}

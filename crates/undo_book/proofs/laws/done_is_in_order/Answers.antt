@@ -1,5 +1,0 @@
-use Rattle.undo_book.proofs.OrderLaw.{done_ascends}
-use Rattle.undo_book.proofs.laws.done_is_in_order.Goals as goal
-
-pub returns : goal.returns
-returns c = done_ascends

@@ -1,0 +1,351 @@
+-- The tie of a world under its journal to a past goes on with each event.
+use Rattle.std.proofs.Common.{◌≡◌, ◌≢◌, ℕ, ◌+◌, ◌-◌, ◌<◌, ◌≤◌, Bool, true, false, not, Option, Some, None, List, [], ◌∷◌, ◌++◌, length, take, drop, map, max, refl, sym, ap, subst, ◌∙◌, arith, rules, append_assoc, length-append}
+use Rattle.std.specs.Prelude.{filter_map, reverse, ⊤}
+use Rattle.std.specs.List.{AllByRecursion, Contains, cons_option}
+use Rattle.std.specs.Option.{option_map_or}
+use Rattle.std.proofs.Math.Path.{fun_ext}
+use Rattle.std.proofs.lemmas.List.{append-nil, map-append, reverse-reverse, take-append-drop}
+use Rattle.std.proofs.lemmas.List.Elements.{filter_map-append, Contains-append_left, Contains-append_right}
+use Rattle.dns_name.specs.ListLaws.{all-append, all-take, all-drop, all_weaker, all_split}
+use Rattle.dns_text.specs.declared.record.Question.{Question}
+use Rattle.ranked.specs.declared.find.Find.{Find}
+use Rattle.change_law.specs.declared.kept.Kept.{Kept}
+use Rattle.change_law.specs.Choice.{IsChoice, IsPresent}
+use Rattle.change_law.specs.Effect.{effect}
+use Rattle.change_law.specs.Face.{Face, IsSame, IsSameAt, face_with}
+use Rattle.change_law.specs.Row.{IsRowAfter, IsRowFrom, IsSameRow, any, same_face, where_chosen}
+use Rattle.undo_journal.specs.Journal.{Changes, AreChanges, IsChange, IsUndo, IsRedo, tickets_of, done_of, undone_of, told_of, newest, settled_by}
+use Rattle.course.specs.Course.{Deed, Came, Made, AreAscending, Stands, face_by, struck_with, struck_without}
+use Rattle.course.specs.CourseLaws.{asc_front, asc_push, asc_cross, same_at, same_at_later, same_at_then, stands_admitted, stands_swept, stands_made, stands_undo, stands_redo, stands_still, stands_shown}
+use Rattle.history.specs.declared.event.Ask.{Ask}
+use Rattle.history.specs.declared.event.Command.{Command}
+use Rattle.history.specs.declared.event.Event.{Event}
+use Rattle.history.specs.declared.event.Event.TheVariants.{Admit, Look, Sweep, Do, Undo, Redo}
+use Rattle.history.specs.declared.event.Entry.{Entry}
+use Rattle.history.specs.declared.event.Reason.{Reason}
+use Rattle.history.specs.declared.made.Tables.{Tables}
+use Rattle.history.specs.Event.{covers}
+use Rattle.history.specs.Changes.{after_command_on}
+use Rattle.history.specs.Marks.{Marks, is_struck, last_of, without, in_place, strike, restore, after_command}
+use Rattle.history.specs.History.{Past, followed_by, marks_after, ticket_unless, reason_of, is_unstruck}
+use Rattle.world_book.specs.Deeds.{deed_of, deeds_of, given_of, given_in, given_tickets, empty_face, face_of}
+use Rattle.world_book.specs.Tied.{AreGiven, IsTied}
+use Rattle.world_book.proofs.DeedLaws.{deeds_show}
+use Rattle.world_book.proofs.MarkLaws.{last_push, without_last, without_least, in_place_last, struck_after_strike, struck_after_restore, turned, turned_push, turned_none}
+
+-- ---- one entry more
+
+deeds_more : (log : List Entry) (e : Entry) (o : Option (Deed Tables)) → deed_of e.event e.moment e.ticket ≡ o → deeds_of (log ++ e ∷ []) ≡ deeds_of log ++ cons_option o []
+deeds_more log e o is = filter_map-append (λ (entry : Entry). deed_of entry.event entry.moment entry.ticket) log (e ∷ []) ∙ ap (λ (d : Option (Deed Tables)). deeds_of log ++ cons_option d []) is
+
+given_more : (log : List Entry) (e : Entry) (o : Option (ℕ × Command)) → given_of e.event e.ticket ≡ o → given_in (log ++ e ∷ []) ≡ given_in log ++ cons_option o []
+given_more log e o is = filter_map-append (λ (entry : Entry). given_of entry.event entry.ticket) log (e ∷ []) ∙ ap (λ (d : Option (ℕ × Command)). given_in log ++ cons_option d []) is
+
+deeds_same : (log : List Entry) (e : Entry) → deed_of e.event e.moment e.ticket ≡ None → deeds_of (log ++ e ∷ []) ≡ deeds_of log
+deeds_same log e none = deeds_more log e None none ∙ append-nil (deeds_of log)
+
+given_same : (log : List Entry) (e : Entry) → given_of e.event e.ticket ≡ None → given_in (log ++ e ∷ []) ≡ given_in log
+given_same log e none = given_more log e None none ∙ append-nil (given_in log)
+
+-- no command more
+still_given : {S : Type 0} (told : S → Command) (before after : Changes S) (past : Past) (now : ℕ) (marks : Marks) (e : Entry) → given_of e.event e.ticket ≡ None →
+    marks.tickets ≡ past.marks.tickets → told_of told after.kept ≡ told_of told before.kept → AreGiven told before past →
+    AreGiven told after (record { now = now; marks = marks; log = past.log ++ e ∷ [] })
+still_given told before after past now marks e none tickets same g =
+    let log = given_same past.log e none in
+    record {
+      ascending = subst (λ (l : List (ℕ × Command)). AreAscending (map (λ given. given.0) l)) (sym log) g.ascending;
+      known = subst (λ (n : ℕ). AllByRecursion (λ t. t ≤ n) (given_tickets (past.log ++ e ∷ []))) (sym tickets)
+          (subst (λ (l : List (ℕ × Command)). AllByRecursion (λ t. t ≤ past.marks.tickets) (map (λ given. given.0) l)) (sym log) g.known);
+      kept = subst (λ (l : List (ℕ × Command)). AllByRecursion (λ given. Contains l given) (told_of told after.kept)) (sym log)
+          (subst (λ (l : List (ℕ × Command)). AllByRecursion (λ given. Contains (given_in past.log) given) l) (sym same) g.kept);
+    }
+
+-- one command more, which takes the next ticket
+now_given : {S : Type 0} (told : S → Command) (before after : Changes S) (past : Past) (now : ℕ) (marks : Marks) (e : Entry) (c : Command) →
+    given_of e.event e.ticket ≡ Some (past.marks.tickets + 1, c) → marks.tickets ≡ past.marks.tickets + 1 →
+    told_of told after.kept ≡ newest before.limit (take before.done (told_of told before.kept) ++ (past.marks.tickets + 1, c) ∷ []) → AreGiven told before past →
+    AreGiven told after (record { now = now; marks = marks; log = past.log ++ e ∷ [] })
+now_given told before after past now marks e c one tickets kept g =
+    let n = past.marks.tickets + 1 in
+    let new : ℕ × Command = (n, c) in
+    let log : given_in (past.log ++ e ∷ []) ≡ given_in past.log ++ new ∷ [] = given_more past.log e (Some new) one in
+    let first : ℕ × Command → ℕ = λ given. given.0 in
+    let all : given_tickets (past.log ++ e ∷ []) ≡ given_tickets past.log ++ n ∷ [] = ap (map first) log ∙ map-append first (given_in past.log) (new ∷ []) in
+    let below : AllByRecursion (λ t. t < n) (given_tickets past.log) = all_weaker (λ t. t ≤ past.marks.tickets) (λ t. t < n) (λ t less. omega (arith, less)) (given_tickets past.log) g.known in
+    let wider : AllByRecursion (λ given. Contains (given_in past.log ++ new ∷ []) given) (told_of told before.kept)
+    = all_weaker (λ given. Contains (given_in past.log) given) (λ given. Contains (given_in past.log ++ new ∷ []) given) (λ given has. Contains-append_left (given_in past.log) (new ∷ []) given has) (told_of told before.kept) g.kept in
+    let itself : Contains (given_in past.log ++ new ∷ []) new = Contains-append_right (given_in past.log) (new ∷ []) new (search rules) in
+    let T = take before.done (told_of told before.kept) ++ new ∷ [] in
+    record {
+      ascending = subst AreAscending (sym all) (asc_push (given_tickets past.log) n g.ascending below);
+      known = subst (λ (m : ℕ). AllByRecursion (λ t. t ≤ m) (given_tickets (past.log ++ e ∷ []))) (sym tickets)
+          (subst (λ (l : List ℕ). AllByRecursion (λ t. t ≤ n) l) (sym all)
+          (all-append (λ t. t ≤ n) (given_tickets past.log) (n ∷ []) (all_weaker (λ t. t < n) (λ t. t ≤ n) (λ t less. omega (arith, less)) (given_tickets past.log) below) (omega arith, tt)));
+      kept = subst (λ (l : List (ℕ × Command)). AllByRecursion (λ given. Contains l given) (told_of told after.kept)) (sym log)
+          (subst (λ (l : List (ℕ × Command)). AllByRecursion (λ given. Contains (given_in past.log ++ new ∷ []) given) l) (sym kept)
+          (all-drop (λ given. Contains (given_in past.log ++ new ∷ []) given) (length T - before.limit) T
+          (all-append (λ given. Contains (given_in past.log ++ new ∷ []) given) (take before.done (told_of told before.kept)) (new ∷ [])
+          (all-take (λ given. Contains (given_in past.log ++ new ∷ []) given) before.done (told_of told before.kept) wider) (itself, tt))));
+    }
+
+-- ---- what an undo and a redo reach
+
+module _ {W S : Type 0} (has_cells : Bool) (table : S → Option ℕ) (told : S → Command) (keeps : W → List (Kept S) → Type 0) (face : W → List (Kept S) → (ℕ → Bool) → Face Tables) where
+  abbrev Tied : W → Changes S → ℕ → Past → Type 0
+  Tied world changes bound past = IsTied has_cells table told keeps face world changes bound past
+
+  abbrev StandsAt : W → Changes S → ℕ → List (Deed Tables) → (ℕ → Bool) → Type 0
+  StandsAt world changes now deeds struck = Stands has_cells table keeps face empty_face world changes now deeds struck
+
+  pub undo_reaches : (w : W) (before after : Changes S) (bound : ℕ) (past : Past) (ticket : Option ℕ) → Tied w before bound past → IsUndo before ticket after → last_of past.marks.done ≡ ticket
+  undo_reaches w before after bound past None tied is = ap last_of (sym tied.done ∙ is.0)
+  undo_reaches w before after bound past (Some t) tied is = ap last_of (sym tied.done ∙ is.0) ∙ last_push (done_of after) t
+
+  pub redo_reaches : (w : W) (before after : Changes S) (bound : ℕ) (past : Past) (ticket : Option ℕ) → Tied w before bound past → IsRedo before ticket after → last_of past.marks.undone ≡ ticket
+  redo_reaches w before after bound past None tied is = ap last_of (turned_none past.marks.undone (sym tied.undone ∙ is.0))
+  redo_reaches w before after bound past (Some t) tied is =
+      ap last_of (turned past.marks.undone t (undone_of after) (sym tied.undone ∙ is.1)) ∙ last_push (reverse (undone_of after)) t
+
+  -- ---- at a later moment
+
+  later : (w : W) (changes : Changes S) (now moment : ℕ) (deeds : List (Deed Tables)) (struck : ℕ → Bool) → now ≤ moment → StandsAt w changes now deeds struck → StandsAt w changes moment deeds struck
+  later w changes now moment deeds struck less st = record {
+    kept = st.kept;
+    ascending = st.ascending;
+    given = st.given;
+    done = st.done;
+    undone = st.undone;
+    later = st.later;
+    faces = λ chosen choice fair. same_at_later now moment (face w changes.kept chosen) (face_by has_cells chosen empty_face deeds) less (st.faces chosen choice fair);
+  }
+
+  -- an entry that does nothing, and marks that may have moved
+  moved : (w w' : W) (before after : Changes S) (bound now : ℕ) (past : Past) (marks : Marks) (e : Entry) →
+      deed_of e.event e.moment e.ticket ≡ None → given_of e.event e.ticket ≡ None →
+      StandsAt w' after now (deeds_of past.log) (is_struck marks) → done_of after ≡ marks.done → undone_of after ≡ reverse marks.undone →
+      after.tickets ≡ before.tickets → after.limit ≡ before.limit → marks.tickets ≡ past.marks.tickets → told_of told after.kept ≡ told_of told before.kept →
+      Tied w before bound past → Tied w' after bound (record { now = now; marks = marks; log = past.log ++ e ∷ [] })
+  moved w w' before after bound now past marks e no_deed no_command st done undone tickets limit same_tickets same tied = record {
+    cells = tied.cells;
+    stands = subst (λ (deeds : List (Deed Tables)). StandsAt w' after now deeds (is_struck marks)) (sym (deeds_same past.log e no_deed)) st;
+    done = done;
+    undone = undone;
+    tickets = tickets ∙ tied.tickets ∙ sym same_tickets;
+    limit = limit ∙ tied.limit;
+    given = still_given told before after past now marks e no_command same_tickets same tied.given;
+  }
+
+  -- ---- undo
+
+  undone_now : (w w' : W) (before after : Changes S) (bound now : ℕ) (past : Past) (e : Entry) (ticket : Option ℕ) → past.now ≤ now →
+      deed_of e.event e.moment e.ticket ≡ None → given_of e.event e.ticket ≡ None →
+      IsUndo before ticket after → IsRowAfter table keeps face same_face any w before.kept w' after.kept →
+      ((chosen : ℕ → Bool) → IsChoice table after.kept chosen → IsChoice table before.kept chosen) → told_of told after.kept ≡ told_of told before.kept →
+      Tied w before bound past → Tied w' after bound (record { now = now; marks = option_map_or (strike past.marks) ticket past.marks; log = past.log ++ e ∷ [] })
+  undone_now w w' before after bound now past e None less no_deed no_command is row choices same tied =
+      moved w w' before after bound now past past.marks e no_deed no_command
+      (later w' after past.now now (deeds_of past.log) (is_struck past.marks) less (stands_undo has_cells table keeps face empty_face w w' before after past.now (deeds_of past.log) (is_struck past.marks) None is row choices tied.stands))
+      (ap done_of is.1 ∙ tied.done) (ap undone_of is.1 ∙ tied.undone) (ap (λ (x : Changes S). x.tickets) is.1) (ap (λ (x : Changes S). x.limit) is.1) refl same tied
+  undone_now w w' before after bound now past e (Some t) less no_deed no_command is row choices same tied =
+      let D = done_of after in
+      let U = undone_of before in
+      let all : tickets_of before.kept ≡ (D ++ t ∷ []) ++ U = sym (take-append-drop before.done (tickets_of before.kept)) ∙ ap (λ (l : List ℕ). l ++ U) is.0 in
+      let asc : AreAscending (D ++ t ∷ []) = asc_front (D ++ t ∷ []) U (subst AreAscending all tied.stands.ascending) in
+      let below : AllByRecursion (λ u. u < t) D = (asc_cross D (t ∷ []) asc).0 in
+      let done : past.marks.done ≡ D ++ t ∷ [] = sym tied.done ∙ is.0 in
+      moved w w' before after bound now past (strike past.marks t) e no_deed no_command
+      (later w' after past.now now (deeds_of past.log) (is_struck (strike past.marks t)) less
+      (subst (λ (struck : ℕ → Bool). StandsAt w' after past.now (deeds_of past.log) struck) (sym (struck_after_strike past.marks t))
+      (stands_undo has_cells table keeps face empty_face w w' before after past.now (deeds_of past.log) (is_struck past.marks) (Some t) is row choices tied.stands)))
+      (sym (ap (λ (l : List ℕ). without t l) done ∙ without_last t D below))
+      (is.1 ∙ ap (λ (l : List ℕ). t ∷ l) tied.undone ∙ sym (turned_push past.marks.undone t))
+      is.2 is.3 refl same tied
+
+  pub tied_undo : (w w' : W) (before after : Changes S) (bound moment : ℕ) (past : Past) (ticket : Option ℕ) →
+      IsUndo before ticket after → IsRowAfter table keeps face same_face any w before.kept w' after.kept →
+      ((chosen : ℕ → Bool) → IsChoice table after.kept chosen → IsChoice table before.kept chosen) → told_of told after.kept ≡ told_of told before.kept →
+      Tied w before bound past → Tied w' after bound (followed_by bound past (Undo moment))
+  tied_undo w w' before after bound moment past ticket is row choices same tied =
+      let now = max past.now moment in
+      let e : Entry = record { event = Undo moment; moment = now; ticket = None } in
+      subst (λ (o : Option ℕ). Tied w' after bound (record { now = now; marks = option_map_or (strike past.marks) o past.marks; log = past.log ++ e ∷ [] }))
+      (sym (undo_reaches w before after bound past ticket tied is))
+      (undone_now w w' before after bound now past e ticket (omega arith) refl refl is row choices same tied)
+
+  -- ---- redo
+
+  redone_now : (w w' : W) (before after : Changes S) (bound now : ℕ) (past : Past) (e : Entry) (ticket : Option ℕ) → past.now ≤ now →
+      deed_of e.event e.moment e.ticket ≡ None → given_of e.event e.ticket ≡ None →
+      IsRedo before ticket after → IsRowAfter table keeps face same_face any w before.kept w' after.kept →
+      ((chosen : ℕ → Bool) → IsChoice table after.kept chosen → IsChoice table before.kept chosen) → told_of told after.kept ≡ told_of told before.kept →
+      Tied w before bound past → Tied w' after bound (record { now = now; marks = option_map_or (restore past.marks) ticket past.marks; log = past.log ++ e ∷ [] })
+  redone_now w w' before after bound now past e None less no_deed no_command is row choices same tied =
+      moved w w' before after bound now past past.marks e no_deed no_command
+      (later w' after past.now now (deeds_of past.log) (is_struck past.marks) less (stands_redo has_cells table keeps face empty_face w w' before after past.now (deeds_of past.log) (is_struck past.marks) None is row choices tied.stands))
+      (ap done_of is.1 ∙ tied.done) (ap undone_of is.1 ∙ tied.undone) (ap (λ (x : Changes S). x.tickets) is.1) (ap (λ (x : Changes S). x.limit) is.1) refl same tied
+  redone_now w w' before after bound now past e (Some t) less no_deed no_command is row choices same tied =
+      let D = done_of before in
+      let U = undone_of after in
+      let all : tickets_of before.kept ≡ D ++ t ∷ U = sym (take-append-drop before.done (tickets_of before.kept)) ∙ ap (λ (l : List ℕ). D ++ l) is.1 in
+      let asc : AreAscending (D ++ t ∷ U) = subst AreAscending all tied.stands.ascending in
+      let below : AllByRecursion (λ u. u < t) D = (asc_cross D (t ∷ U) asc).0 in
+      let above : AllByRecursion (λ u. t < u) U = behind D t U asc in
+      let undone : past.marks.undone ≡ reverse U ++ t ∷ [] = turned past.marks.undone t U (sym tied.undone ∙ is.1) in
+      moved w w' before after bound now past (restore past.marks t) e no_deed no_command
+      (later w' after past.now now (deeds_of past.log) (is_struck (restore past.marks t)) less
+      (subst (λ (struck : ℕ → Bool). StandsAt w' after past.now (deeds_of past.log) struck) (sym (struck_after_restore past.marks t))
+      (stands_redo has_cells table keeps face empty_face w w' before after past.now (deeds_of past.log) (is_struck past.marks) (Some t) is row choices tied.stands)))
+      (is.0 ∙ sym (in_place_last t D below) ∙ ap (λ (l : List ℕ). in_place t l) tied.done)
+      (sym (ap (λ (l : List ℕ). reverse (without t l)) undone ∙ ap reverse (without_least t U above) ∙ reverse-reverse U))
+      is.2 is.3 refl same tied
+    where
+      behind : (D : List ℕ) (t : ℕ) (U : List ℕ) → AreAscending (D ++ t ∷ U) → AllByRecursion (λ u. t < u) U
+      behind [] t U h = h.0
+      behind (d ∷ D) t U h = behind D t U h.1
+
+  pub tied_redo : (w w' : W) (before after : Changes S) (bound moment : ℕ) (past : Past) (ticket : Option ℕ) →
+      IsRedo before ticket after → IsRowAfter table keeps face same_face any w before.kept w' after.kept →
+      ((chosen : ℕ → Bool) → IsChoice table after.kept chosen → IsChoice table before.kept chosen) → told_of told after.kept ≡ told_of told before.kept →
+      Tied w before bound past → Tied w' after bound (followed_by bound past (Redo moment))
+  tied_redo w w' before after bound moment past ticket is row choices same tied =
+      let now = max past.now moment in
+      let e : Entry = record { event = Redo moment; moment = now; ticket = None } in
+      subst (λ (o : Option ℕ). Tied w' after bound (record { now = now; marks = option_map_or (restore past.marks) o past.marks; log = past.log ++ e ∷ [] }))
+      (sym (redo_reaches w before after bound past ticket tied is))
+      (redone_now w w' before after bound now past e ticket (omega arith) refl refl is row choices same tied)
+
+  -- ---- what changes no command
+
+  -- after a fault
+  pub tied_still : (w w' : W) (before after : Changes S) (bound : ℕ) (past : Past) → IsSameRow table keeps face w w' → after ≡ before → Tied w before bound past → Tied w' after bound past
+  tied_still w w' before after bound past row same tied =
+      let here = subst (λ (x : Changes S). IsRowAfter table keeps face same_face any w before.kept w' x.kept) (sym same) (row before.kept tied.stands.kept) in
+      let stands = stands_still has_cells table keeps face empty_face w w' before after past.now (deeds_of past.log) (is_struck past.marks) same here tied.stands in
+      record {
+        cells = tied.cells;
+        stands = stands;
+        done = ap done_of same ∙ tied.done;
+        undone = ap undone_of same ∙ tied.undone;
+        tickets = ap (λ (x : Changes S). x.tickets) same ∙ tied.tickets;
+        limit = ap (λ (x : Changes S). x.limit) same ∙ tied.limit;
+        given = subst (λ (x : Changes S). AreGiven told x past) (sym same) tied.given;
+      }
+
+  quiet : (w : W) (changes : Changes S) (bound now : ℕ) (past : Past) (e : Entry) → past.now ≤ now → deed_of e.event e.moment e.ticket ≡ None → given_of e.event e.ticket ≡ None →
+      Tied w changes bound past → Tied w changes bound (record { now = now; marks = past.marks; log = past.log ++ e ∷ [] })
+  quiet w changes bound now past e less no_deed no_command tied =
+      moved w w changes changes bound now past past.marks e no_deed no_command (later w changes past.now now (deeds_of past.log) (is_struck past.marks) less tied.stands)
+      tied.done tied.undone refl refl refl refl tied
+
+  pub tied_look : (w : W) (changes : Changes S) (bound moment : ℕ) (ask : Ask) (past : Past) → Tied w changes bound past → Tied w changes bound (followed_by bound past (Look moment ask))
+  tied_look w changes bound moment ask past tied =
+      let now = max past.now moment in
+      quiet w changes bound now past (record { event = Look moment ask; moment = now; ticket = None }) (omega arith) refl refl tied
+
+  pub tied_swept : (w w' : W) (changes : Changes S) (bound moment : ℕ) (past : Past) → IsRowFrom table keeps face (max past.now moment) (λ f. f) w changes.kept w' →
+      Tied w changes bound past → Tied w' changes bound (followed_by bound past (Sweep moment))
+  tied_swept w w' changes bound moment past row tied =
+      let now = max past.now moment in
+      moved w w' changes changes bound now past past.marks (record { event = Sweep moment; moment = now; ticket = None }) refl refl
+      (stands_swept has_cells table keeps face empty_face w w' changes past.now now (deeds_of past.log) (is_struck past.marks) (omega arith) row tied.stands)
+      tied.done tied.undone refl refl refl refl tied
+
+  pub tied_came : (w w' : W) (changes : Changes S) (bound moment : ℕ) (find : Find) (past : Past) →
+      IsRowFrom table keeps face (max past.now moment) (face_with has_cells find (max past.now moment)) w changes.kept w' →
+      Tied w changes bound past → Tied w' changes bound (followed_by bound past (Admit moment find))
+  tied_came w w' changes bound moment find past row tied =
+      let now = max past.now moment in
+      let e : Entry = record { event = Admit moment find; moment = now; ticket = None } in
+      record {
+        cells = tied.cells;
+        stands = subst (λ (deeds : List (Deed Tables)). StandsAt w' changes now deeds (is_struck past.marks)) (sym (deeds_more past.log e (Some (Came find now)) refl))
+            (stands_admitted has_cells table keeps face empty_face w w' changes past.now now (deeds_of past.log) (is_struck past.marks) find (omega arith) row tied.stands);
+        done = tied.done;
+        undone = tied.undone;
+        tickets = tied.tickets;
+        limit = tied.limit;
+        given = still_given told changes changes past now past.marks e refl refl refl tied.given;
+      }
+
+  -- the same, at the moment to which the clock comes
+  pub tied_swept_at : (w w' : W) (changes : Changes S) (bound moment clock : ℕ) (past : Past) → clock ≡ max past.now moment → IsRowFrom table keeps face clock (λ f. f) w changes.kept w' →
+      Tied w changes bound past → Tied w' changes bound (followed_by bound past (Sweep moment))
+  tied_swept_at w w' changes bound moment clock past is row tied =
+      tied_swept w w' changes bound moment past (subst (λ (m : ℕ). IsRowFrom table keeps face m (λ f. f) w changes.kept w') is row) tied
+
+  pub tied_came_at : (w w' : W) (changes : Changes S) (bound moment clock : ℕ) (find : Find) (past : Past) → clock ≡ max past.now moment →
+      IsRowFrom table keeps face clock (face_with has_cells find clock) w changes.kept w' →
+      Tied w changes bound past → Tied w' changes bound (followed_by bound past (Admit moment find))
+  tied_came_at w w' changes bound moment clock find past is row tied =
+      tied_came w w' changes bound moment find past (subst (λ (m : ℕ). IsRowFrom table keeps face m (face_with has_cells find m) w changes.kept w') is row) tied
+
+  -- ---- a command
+
+  pub tied_refused : (w w' : W) (before after : Changes S) (bound moment : ℕ) (command : Command) (past : Past) (reason : Reason) → reason_of past command ≡ Some reason →
+      IsSameRow table keeps face w w' → after ≡ before → Tied w before bound past → Tied w' after bound (followed_by bound past (Do moment command))
+  tied_refused w w' before after bound moment command past reason refused row same tied =
+      let now = max past.now moment in
+      subst (λ (o : Option Reason). Tied w' after bound (record {
+        now = now;
+        marks = marks_after bound past.marks (Do moment command) (ticket_unless past.marks o);
+        log = past.log ++ record { event = Do moment command; moment = now; ticket = ticket_unless past.marks o } ∷ [];
+      })) (sym refused)
+      (quiet w' after bound now past (record { event = Do moment command; moment = now; ticket = None }) (omega arith) refl refl (tied_still w w' before after bound past row same tied))
+
+  made_now : (w w' : W) (before after : Changes S) (bound now moment : ℕ) (command : Command) (past : Past) (ticket : ℕ) (tables : Tables → Tables) (empties : Question → Bool) (said : Command) →
+      past.now ≤ now → ((t : Tables) → tables t ≡ after_command_on command t) → ((q : Question) → empties q ≡ covers command q) → said ≡ command →
+      AreChanges before → IsChange before ticket after →
+      IsRowAfter table keeps face (where_chosen ticket (effect tables empties)) (IsPresent (settled_by before)) w before.kept w' after.kept →
+      ((chosen : ℕ → Bool) → IsPresent (settled_by before) chosen → IsChoice table after.kept chosen → IsChoice table before.kept chosen) →
+      told_of told after.kept ≡ newest before.limit (take before.done (told_of told before.kept) ++ (ticket, said) ∷ []) →
+      Tied w before bound past → Tied w' after bound (record {
+        now = now;
+        marks = after_command bound past.marks;
+        log = past.log ++ record { event = Do moment command; moment = now; ticket = Some (past.marks.tickets + 1) } ∷ [];
+      })
+  made_now w w' before after bound now moment command past ticket tables empties said less same_tables same_cells same_said are is row choices kept tied =
+      let n = past.marks.tickets + 1 in
+      let e : Entry = record { event = Do moment command; moment = now; ticket = Some n } in
+      let struck = is_struck past.marks in
+      let tick : ticket ≡ n = is.next ∙ ap (λ (m : ℕ). m + 1) tied.tickets in
+      let deed : Made ticket tables empties ≡ Made n (after_command_on command) (covers command) = λ i. Made (tick i) (fun_ext same_tables i) (fun_ext same_cells i) in
+      let made = later w' after past.now now (deeds_of past.log ++ Made ticket tables empties ∷ []) struck less
+      (stands_made has_cells table keeps face empty_face w w' before after past.now (deeds_of past.log) struck ticket tables empties are is row choices tied.stands) in
+      record {
+        cells = tied.cells;
+        stands = subst (λ (deeds : List (Deed Tables)). StandsAt w' after now deeds struck) (sym (deeds_more past.log e (Some (Made n (after_command_on command) (covers command))) refl))
+            (subst (λ (d : Deed Tables). StandsAt w' after now (deeds_of past.log ++ d ∷ []) struck) deed made);
+        done = is.done ∙ (λ i. newest (tied.limit i) (tied.done i ++ tick i ∷ []));
+        undone = is.undone;
+        tickets = is.tickets ∙ tick;
+        limit = is.limit ∙ tied.limit;
+        given = now_given told before after past now (after_command bound past.marks) e command refl refl
+            (kept ∙ (λ i. newest before.limit (take before.done (told_of told before.kept) ++ (tick i, same_said i) ∷ []))) tied.given;
+      }
+
+  pub tied_made : (w w' : W) (before after : Changes S) (bound moment : ℕ) (command : Command) (past : Past) (ticket : ℕ) (tables : Tables → Tables) (empties : Question → Bool) (said : Command) →
+      ((t : Tables) → tables t ≡ after_command_on command t) → ((q : Question) → empties q ≡ covers command q) → said ≡ command → reason_of past command ≡ None →
+      AreChanges before → IsChange before ticket after →
+      IsRowAfter table keeps face (where_chosen ticket (effect tables empties)) (IsPresent (settled_by before)) w before.kept w' after.kept →
+      ((chosen : ℕ → Bool) → IsPresent (settled_by before) chosen → IsChoice table after.kept chosen → IsChoice table before.kept chosen) →
+      told_of told after.kept ≡ newest before.limit (take before.done (told_of told before.kept) ++ (ticket, said) ∷ []) →
+      Tied w before bound past → Tied w' after bound (followed_by bound past (Do moment command))
+  tied_made w w' before after bound moment command past ticket tables empties said same_tables same_cells same_said accepted are is row choices kept tied =
+      let now = max past.now moment in
+      subst (λ (o : Option Reason). Tied w' after bound (record {
+        now = now;
+        marks = marks_after bound past.marks (Do moment command) (ticket_unless past.marks o);
+        log = past.log ++ record { event = Do moment command; moment = now; ticket = ticket_unless past.marks o } ∷ [];
+      })) (sym accepted)
+      (made_now w w' before after bound now moment command past ticket tables empties said (omega arith) same_tables same_cells same_said are is row choices kept tied)
+
+  -- ---- what is shown
+
+  pub tied_shows : (shown : W → Face Tables) → ((w : W) (kept : List (Kept S)) (chosen : ℕ → Bool) → keeps w kept → IsPresent kept chosen → IsSame (face w kept chosen) (shown w)) →
+      (w : W) (changes : Changes S) (bound : ℕ) (past : Past) → AreChanges changes → Tied w changes bound past → IsSameAt past.now (shown w) (face_of (is_unstruck past.marks) past.log)
+  tied_shows shown shows w changes bound past are tied =
+      same_at_then (stands_shown has_cells table keeps face empty_face shown shows w changes past.now (deeds_of past.log) (is_struck past.marks) are tied.stands)
+      (same_at past.now (face_by has_cells (is_unstruck past.marks) empty_face (deeds_of past.log)) (face_of (is_unstruck past.marks) past.log)
+      (subst (λ (b : Bool). IsSame (face_by b (is_unstruck past.marks) empty_face (deeds_of past.log)) (face_of (is_unstruck past.marks) past.log)) (sym tied.cells)
+      (deeds_show (is_unstruck past.marks) past.log)))

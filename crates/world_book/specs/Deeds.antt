@@ -1,0 +1,41 @@
+-- The deeds of a log: what came, and what was made. And what a log shows by a choice of its commands.
+use Rattle.std.specs.Prelude.{ℕ, Bool, Option, Some, None, List, map, filter_map}
+use Rattle.change_law.specs.Face.{Face}
+use Rattle.course.specs.Course.{Deed, Came, Made}
+use Rattle.history.specs.declared.event.Command.{Command}
+use Rattle.history.specs.declared.event.Event.{Event}
+use Rattle.history.specs.declared.event.Event.TheVariants.{Admit, Do}
+use Rattle.history.specs.declared.event.Entry.{Entry}
+use Rattle.history.specs.declared.made.Tables.{Tables}
+use Rattle.history.specs.Event.{covers}
+use Rattle.history.specs.Changes.{no_tables, tables_by, after_command_on}
+use Rattle.history.specs.Cells.{cell_by}
+use Rattle.history.specs.History.{standing_with}
+
+-- A find came; a command that took a ticket was made; nothing else does anything.
+abbrev pub deed_of : Event → ℕ → Option ℕ → Option (Deed Tables)
+deed_of (Admit given find) moment ticket = Some (Came find moment)
+deed_of (Do given command) moment (Some ticket) = Some (Made ticket (after_command_on command) (covers command))
+deed_of event moment ticket = None
+
+abbrev pub deeds_of : List Entry → List (Deed Tables)
+deeds_of log = filter_map (λ entry. deed_of entry.event entry.moment entry.ticket) log
+
+-- a command that took a ticket
+abbrev pub given_of : Event → Option ℕ → Option (ℕ × Command)
+given_of (Do given command) (Some ticket) = Some (ticket, command)
+given_of event ticket = None
+
+-- the commands that took a ticket, in order
+abbrev pub given_in : List Entry → List (ℕ × Command)
+given_in log = filter_map (λ entry. given_of entry.event entry.ticket) log
+
+abbrev pub given_tickets : List Entry → List ℕ
+given_tickets log = map (λ given. given.0) (given_in log)
+
+abbrev pub empty_face : Face Tables
+empty_face = record { tables = no_tables; cell = λ q. None }
+
+-- what stands of a log by a choice, from nothing
+abbrev pub face_of : (ℕ → Bool) → List Entry → Face Tables
+face_of chosen log = record { tables = tables_by (standing_with chosen log); cell = λ q. cell_by q (standing_with chosen log) }

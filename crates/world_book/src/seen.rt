@@ -1,0 +1,50 @@
+//! What a look sees of a world under its journal.
+
+ghost use Rattle.std.specs.Prelude.{◌≡◌, max, ℕ, IfOk};
+ghost use Rattle.history.specs.History.{Past};
+ghost use Rattle.history.specs.Reply.{seen_of};
+ghost use Rattle.world_book.specs.Step.{IsSound};
+ghost use Rattle.world_book.specs.Tied.{IsTied};
+
+use crate::commands::commands;
+use crate::world::{BookChange, BookWorld};
+use dns_name::NoMemory;
+use dns_text::{Items, Shared};
+use history::{
+    Ask, Seen, Settings, closest_servers, question_sight, share_records, share_stubs, share_zones,
+};
+use std::alloc::Global;
+use undo_journal::Journal;
+
+/// What is seen of what is asked, where the clock stands here with the look.
+pub(crate) fn seen<C: BookChange>(
+    alloc: Global,
+    settings: &Settings,
+    journal: &Journal<C>,
+    world: &C::World,
+    ask: &Ask,
+    clock: u64,
+) -> Result<Seen, NoMemory>
+    ensures { IfOk result (λ s. (bound moment : ℕ) (past : Past) → clock ≡ max past.now moment →
+        IsTied C.World.has_cells C.World.table C.World.told C.World.keeps C.World.face world.now journal.now bound past → s ≡ seen_of settings.now past ask.now moment) }
+{
+    let _undone = journal.undone();
+    let tables = world.tables();
+    match ask {
+        Ask::Answer(question) => {
+            let seen = question_sight(world, &tables.local, question, clock).to_seen(alloc)?;
+            Ok(seen)
+        }
+        Ask::Zones => Ok(Seen::Zones(Items::new(share_zones(alloc, tables.local.zones())?))),
+        Ask::Records => Ok(Seen::Records(Items::new(share_records(
+            alloc,
+            tables.local.records(),
+        )?))),
+        Ask::Stubs => Ok(Seen::Stubs(Items::new(share_stubs(alloc, tables.stubs.stubs())?))),
+        Ask::Commands => Ok(Seen::Commands(Items::new(commands(alloc, journal)?))),
+        Ask::Servers(name) => {
+            let found = closest_servers(alloc, settings, world, &tables.stubs, name, clock)?;
+            Ok(Seen::Servers(Shared::new(alloc, found)?))
+        }
+    }
+}

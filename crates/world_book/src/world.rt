@@ -1,0 +1,45 @@
+//! What a book asks of a world and of its changes.
+
+ghost use Rattle.std.specs.Prelude.{◌≡◌, ℕ, true, IfOk};
+ghost use Rattle.std.specs.Option.{option_map};
+ghost use Rattle.dns_text.specs.declared.record.Question.{Question};
+ghost use Rattle.ranked.specs.Cell.{shown_at};
+ghost use Rattle.history.specs.declared.made.Tables.{Tables};
+ghost use Rattle.history.specs.Changes.{after_command_on, reason_on};
+ghost use Rattle.history.specs.Event.{covers};
+ghost use Rattle.world_book.specs.Step.{code_of};
+
+use change_law::{Change, World};
+use dns_name::NoMemory;
+use history::{CellSource, Command, Tables};
+
+/// A world of tables and cells.
+pub trait BookWorld: World<Tables = Tables, Told = Command> + CellSource {
+    /// Local zones, records and stubs.
+    fn tables(&self) -> &Tables
+        ensures { result.now ≡ (Self.shown self.now).tables };
+
+    /// How many cells are stored.
+    fn stored(&self) -> usize
+        ensures { result ≡ Self.stored self.now };
+
+    /// The command of a change that is kept.
+    fn command(saved: &Self::Saved) -> &Command
+        ensures { result.now ≡ Self.told saved.now };
+
+    /// It has cells.
+    ghost with_cells: { Self.has_cells ≡ true };
+
+    /// It shows what the cells of its face do.
+    ghost as_shown: { (world : Self) (moment : ℕ) (q : Question) → Self.shows_at world moment q ≡ shown_at ((Self.shown world).cell q) moment };
+}
+
+/// A change that a command makes.
+pub trait BookChange: Change<World: BookWorld> {
+    /// The change of a command.
+    fn of(command: Command) -> Result<Self, NoMemory>
+        ensures after { IfOk result (λ change. (t : Tables) → Self.after change t ≡ after_command_on command t) }
+        ensures empties { IfOk result (λ change. (q : Question) → Self.empties change q ≡ covers command q) }
+        ensures reason { IfOk result (λ change. (t : Tables) → Self.reason change t ≡ option_map code_of (reason_on t command)) }
+        ensures told { IfOk result (λ change. Self.told change ≡ command) };
+}
