@@ -2,7 +2,7 @@
 use Rattle.std.proofs.Common.{◌≡◌, ℕ, true, eqb, eq-eqb, refl}
 use Rattle.std.proofs.lemmas.Bool.{and_parts, eqb-true}
 use Rattle.std.specs.Cmp.Derive.{both_true}
-use Rattle.undo_book.specs.EqualLaws.{event_eq_exact, event_eq_itself, reply_eq_exact, reply_eq_itself}
+use Rattle.history.specs.EqualLaws.{event_eq_exact, event_eq_itself, reply_eq_exact, reply_eq_itself}
 use Rattle.shared_book.specs.declared.receipt.Receipt.{Receipt}
 use Rattle.shared_book.specs.Equal.{receipt_eq}
 

@@ -1,11 +1,11 @@
 -- A record that grows by one call.
 use Rattle.std.proofs.Common.{◌≡◌, ◌+◌, ◌≤◌, List, [], ◌∷◌, ◌++◌, length, refl, sym, ◌∙◌, ap, subst, arith, append_assoc, length-append}
 use Rattle.std.proofs.lemmas.List.{map-append, length-map, take_all}
-use Rattle.undo_book.specs.declared.event.Event.{Event}
-use Rattle.undo_book.specs.declared.event.Settings.{Settings}
-use Rattle.undo_book.specs.History.{past_of}
-use Rattle.undo_book.specs.Reply.{reply_of}
-use Rattle.undo_book.specs.Answers.{IsTimely}
+use Rattle.history.specs.declared.event.Event.{Event}
+use Rattle.history.specs.declared.event.Settings.{Settings}
+use Rattle.history.specs.History.{past_of}
+use Rattle.history.specs.Reply.{reply_of}
+use Rattle.history.specs.Answers.{IsTimely}
 use Rattle.shared_book.specs.declared.receipt.Receipt.{Receipt}
 use Rattle.shared_book.specs.Record.{events_of, IsLegalAfter}
 use Rattle.shared_book.specs.Kept.{KeptState, IsKept}

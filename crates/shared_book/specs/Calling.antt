@@ -1,21 +1,22 @@
 -- What a call gives back.
-use Rattle.std.specs.Prelude.{◌≡◌, ℕ, ◌+◌, ◌<◌, ◌≤◌, IsTrue, List, length, Result, Ok, Err}
-use Rattle.undo_book.specs.declared.event.Event.{Event}
-use Rattle.undo_book.specs.declared.event.Reply.{Reply}
-use Rattle.undo_book.specs.declared.event.Settings.{Settings}
-use Rattle.undo_book.specs.declared.book.StepFault.{StepFault}
-use Rattle.undo_book.specs.declared.book.StepFault.TheVariants.{BadMoment, CountEnded, Full, NoMemory}
-use Rattle.undo_book.specs.declared.desk.DeskFault.{DeskFault}
-use Rattle.undo_book.specs.declared.desk.DeskFault.TheVariants.{Step, Behind}
-use Rattle.undo_book.specs.declared.limits.TheConstants.{MOMENT_END}
-use Rattle.undo_book.specs.Event.{moment_of, is_admission}
-use Rattle.undo_book.specs.Answers.{Answers, IsTimely}
-use Rattle.undo_book.specs.History.{past_of}
-use Rattle.undo_book.specs.Reply.{reply_of}
+use Rattle.std.specs.Prelude.{◌≡◌, ◌⊎◌, ℕ, ◌+◌, ◌<◌, ◌≤◌, IsTrue, List, length, Result, Ok, Err, IsErrOf}
+use Rattle.history.specs.declared.event.Event.{Event}
+use Rattle.history.specs.declared.event.Reply.{Reply}
+use Rattle.history.specs.declared.event.Settings.{Settings}
+use Rattle.history.specs.declared.book.StepFault.{StepFault}
+use Rattle.history.specs.declared.book.StepFault.TheVariants.{BadMoment, CountEnded, Full, NoMemory}
+use Rattle.history.specs.declared.desk.DeskFault.{DeskFault}
+use Rattle.history.specs.declared.desk.DeskFault.TheVariants.{Step, Behind}
+use Rattle.history.specs.declared.limits.TheConstants.{MOMENT_END, MOST_EVENTS}
+use Rattle.history.specs.Event.{moment_of, is_admission}
+use Rattle.history.specs.Answers.{IsTimely}
+use Rattle.history.specs.History.{past_of}
+use Rattle.history.specs.Reply.{reply_of}
 use Rattle.shared_book.specs.declared.fault.CallFault.{CallFault}
 use Rattle.shared_book.specs.declared.fault.CallFault.TheVariants.{Behind as CallBehind, Step as CallStep}
 use Rattle.shared_book.specs.declared.receipt.Receipt.{Receipt}
 use Rattle.shared_book.specs.Pass.{PassState, after_call}
+use Rattle.shared_book.specs.Kept.{KeptState, IsKept, IsStep}
 
 -- The receipt of a call with this pass, which then has seen it.
 pub record IsReceiptOf (pass : PassState) (event : Event) (receipt : Receipt) (pass' : PassState) : Type 0 where
@@ -31,32 +32,68 @@ pub record IsJustified (settings : Settings) (number : ℕ) (event : Event) (rep
   pub timely : IsTimely (length history) event
   pub reply_is : reply ≡ reply_of settings (past_of settings.journal history) event
 
--- why the book does not take an event
-abbrev pub IsReason : Event → StepFault → Type 0
-IsReason event BadMoment = MOMENT_END ≤ moment_of event
-IsReason event CountEnded = moment_of event < MOMENT_END
-IsReason event (Full stored) = IsTrue (is_admission event)
-IsReason event NoMemory = Unit {0}
+-- Why a book that was made with these settings does not take an event. That the count has ended depends on what lies under the lock (`IsCall`).
+abbrev pub IsReason : Settings → Event → StepFault → Type 0
+IsReason settings event BadMoment = MOMENT_END ≤ moment_of event
+IsReason settings event CountEnded = moment_of event < MOMENT_END
+IsReason settings event (Full stored) = IsTrue (is_admission event) × (stored ≡ settings.cells)
+IsReason settings event NoMemory = Unit {0}
 
-abbrev pub IsReasonOf : Event → CallFault → Type 0
-IsReasonOf event (CallStep fault) = IsReason event fault
-IsReasonOf event (CallBehind at) = Unit {0}
+-- why a call with this pass gets no reply
+abbrev pub IsReasonOf : Settings → PassState → Event → CallFault → Type 0
+IsReasonOf settings pass event (CallStep fault) = IsReason settings event fault
+IsReasonOf settings pass event (CallBehind at) = at < pass.seen
 
--- A fault that a step may answer comes for its reason. The lemma stands here since a proof of another crate may cite it.
-pub has_reason : (settings : Settings) (h : List Event) (event : Event) (fault : StepFault) → Answers settings h event (Err fault) → IsReason event fault
-has_reason settings h event BadMoment a = a
-has_reason settings h event CountEnded a = a.0
-has_reason settings h event (Full stored) a = a.1
-has_reason settings h event NoMemory a = tt
+-- The reply to a call with this pass, which then has seen the call.
+pub record IsReplyTo (settings : Settings) (pass : PassState) (event : Event) (reply : Reply) (pass' : PassState) : Type 0 where
+  pub counted : pass' ≡ after_call pass pass'.seen
+  pub later : pass.seen < pass'.seen
+  pub justified : IsJustified settings pass'.seen event reply
+
+-- The fault of a call with this pass, which stays as it was.
+pub record IsFaultOf (settings : Settings) (pass : PassState) (event : Event) (fault : CallFault) (pass' : PassState) : Type 0 where
+  pub reason : IsReasonOf settings pass event fault
+  pub same : pass' ≡ pass
+
+-- One call under the lock: what lay there and the pass, the event, the answer, and both afterwards. It is one step. But a pass that has seen more calls than were made is told how many were made, and nothing changes.
+abbrev pub IsCall : {B : Type 0} → (B → List Event → Type 0) → (B → Settings) → (B → ℕ) → KeptState B → PassState → Event → Result Reply CallFault → KeptState B → PassState → Type 0
+IsCall stands_for made_with stored before pass event (Ok reply) after pass' =
+    (pass.seen ≤ before.total) × IsStep stands_for made_with stored before pass event (Ok reply) after pass'
+IsCall stands_for made_with stored before pass event (Err (CallStep fault)) after pass' =
+    (pass.seen ≤ before.total) × IsStep stands_for made_with stored before pass event (Err fault) after pass'
+IsCall stands_for made_with stored before pass event (Err (CallBehind at)) after pass' =
+    (before.total < pass.seen) × (at ≡ before.total) × (after ≡ before) × (pass' ≡ pass)
+
+-- A call at a shared book that was made with these settings: it is a call of what lay under the lock. So the count had ended, or as many cells were stored, or so many calls were made there, where the answer says so.
+pub record IsLocked {B : Type 0} (stands_for : B → List Event → Type 0) (made_with : B → Settings) (stored : B → ℕ) (settings : Settings) (pass : PassState) (event : Event) (answer : Result Reply CallFault) (pass' : PassState) : Type 0 where
+  pub before : KeptState B
+  pub after : KeptState B
+  pub kept : IsKept stands_for made_with before
+  pub same_settings : made_with before.book ≡ settings
+  pub call : IsCall stands_for made_with stored before pass event answer after pass'
+  pub ended : IsErrOf answer (CallStep CountEnded) → MOST_EVENTS ≤ before.total
+
+-- A call whose event is first shared and copied, which may find no memory.
+abbrev pub IsShared : {B : Type 0} → (B → List Event → Type 0) → (B → Settings) → (B → ℕ) → Settings → PassState → Event → Result Reply CallFault → PassState → Type 0
+IsShared stands_for made_with stored settings pass event answer pass' =
+    (answer ≡ Err (CallStep NoMemory)) ⊎ IsLocked stands_for made_with stored settings pass event answer pass'
+
+-- the answer that a receipt has
+abbrev pub answer_of : Result Receipt CallFault → Result Reply CallFault
+answer_of (Ok receipt) = Ok receipt.reply
+answer_of (Err fault) = Err fault
 
 -- what a seat tells of a call's fault
 abbrev pub fault_at_desk : CallFault → DeskFault
 fault_at_desk (CallStep fault) = Step fault
 fault_at_desk (CallBehind at) = Behind at
 
--- One call at a shared book that was made with these settings: the pass before, the event, the answer, the pass after.
-abbrev pub SeatCall : Settings → PassState → Event → Result Reply DeskFault → PassState → Type 0
-SeatCall settings pass event (Ok reply) pass' =
+-- One call at a seat of a shared book that was made with these settings: the pass before, the event, the answer, the pass after.
+abbrev pub SeatCall : {B : Type 0} → (B → List Event → Type 0) → (B → Settings) → (B → ℕ) → Settings → PassState → Event → Result Reply DeskFault → PassState → Type 0
+SeatCall stands_for made_with stored settings pass event (Ok reply) pass' =
     (receipt : Receipt) × (receipt.reply ≡ reply) × IsReceiptOf pass event receipt pass' × IsJustified settings receipt.number event reply
-SeatCall settings pass event (Err (Step fault)) pass' = (pass' ≡ pass) × IsReason event fault
-SeatCall settings pass event (Err (Behind at)) pass' = (pass' ≡ pass) × (at < pass.seen)
+    × IsShared stands_for made_with stored settings pass event (Ok reply) pass'
+SeatCall stands_for made_with stored settings pass event (Err (Step fault)) pass' =
+    (pass' ≡ pass) × IsReason settings event fault × IsShared stands_for made_with stored settings pass event (Err (CallStep fault)) pass'
+SeatCall stands_for made_with stored settings pass event (Err (Behind at)) pass' =
+    (pass' ≡ pass) × (at < pass.seen) × IsShared stands_for made_with stored settings pass event (Err (CallBehind at)) pass'

@@ -45,6 +45,11 @@ ClosesAs kept passes receipts (Some (Mismatch number)) =
     IsComplete kept passes receipts × ((sorted : List Receipt) × IsInOrder receipts sorted × IsFirstOther kept.first number sorted kept.entries)
 ClosesAs kept passes receipts (Some NoMemory) = IsComplete kept passes receipts × (20 < length receipts)
 
+-- how a book is closed, of a ledger of so many parts, and what its passes count
+pub record IsClosed {B : Type 0} (parts : ℕ) (kept : KeptState B) (passes : List PassState) (receipts : List Receipt) (fault : Option CloseFault) : Type 0 where
+  pub verdict : ClosesAs kept passes receipts fault
+  pub gathered : IsGathered parts kept passes
+
 -- what closing comes to once the receipts are in order
 abbrev pub IsOfOrder : Option CloseFault → Type 0
 IsOfOrder None = Unit {0}

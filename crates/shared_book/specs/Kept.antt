@@ -1,13 +1,11 @@
 -- What lies under the lock.
-use Rattle.std.specs.Prelude.{◌≡◌, ℕ, ◌+◌, ◌<◌, ◌≤◌, ◌^◌, List, [], ◌∷◌, ◌++◌, length, take, refl}
+use Rattle.std.specs.Prelude.{◌≡◌, ℕ, ◌+◌, ◌<◌, ◌≤◌, ◌^◌, List, [], ◌∷◌, ◌++◌, length, take, refl, Result, IfOk, OnErr}
 use Rattle.std.specs.Coded.{Coded, code_by, coded×, coded_ℕ, coded_list}
-use Rattle.undo_book.specs.declared.event.Event.{Event}
-use Rattle.undo_book.specs.declared.event.Reply.{Reply}
-use Rattle.undo_book.specs.declared.event.Settings.{Settings}
-use Rattle.undo_book.specs.declared.book.StepFault.{StepFault}
-use Rattle.undo_book.specs.declared.book.StepFault.TheVariants.{BadMoment, CountEnded}
-use Rattle.undo_book.specs.declared.limits.TheConstants.{MOMENT_END, MOST_EVENTS}
-use Rattle.undo_book.specs.Event.{moment_of}
+use Rattle.history.specs.declared.event.Event.{Event}
+use Rattle.history.specs.declared.event.Reply.{Reply}
+use Rattle.history.specs.declared.event.Settings.{Settings}
+use Rattle.history.specs.declared.book.StepFault.{StepFault}
+use Rattle.history.specs.Desk.{IsStep as IsBookStep}
 use Rattle.shared_book.specs.declared.receipt.Receipt.{Receipt}
 use Rattle.shared_book.specs.Pass.{PassState, after_call}
 use Rattle.shared_book.specs.Record.{receipt_for, events_of, IsLegalAfter}
@@ -17,9 +15,13 @@ pub record KeptState (B : Type 0) : Type 0 where
   pub book : B
   pub first : ℕ  -- the number of the first entry
   pub entries : List Receipt
-  pub limit : ℕ  -- how many calls are recorded
+  pub limit : ℕ  -- how many calls can be recorded
   pub total : ℕ
   pub callers : ℕ
+
+-- a book that has taken no event, with a record of no calls, which takes so many
+abbrev pub first_kept : {B : Type 0} → B → ℕ → KeptState B
+first_kept book limit = record { book = book; first = 1; entries = []; limit = limit; total = 0; callers = 1 }
 
 -- The record has each call, is legal, and the book stands for its events.
 pub record IsWhole {B : Type 0} (stands_for : B → List Event → Type 0) (settings : B → Settings) (kept : KeptState B) : Type 0 where
@@ -56,11 +58,12 @@ pub record IsSameRecord {B : Type 0} (before after : KeptState B) : Type 0 where
   pub total : after.total ≡ before.total
   pub callers : after.callers ≡ before.callers
 
--- why an event is not taken after so many, whatever it is
-abbrev pub IsUntimely : ℕ → Event → StepFault → Type 0
-IsUntimely count event BadMoment = MOMENT_END ≤ moment_of event
-IsUntimely count event CountEnded = (moment_of event < MOMENT_END) × (MOST_EVENTS ≤ count)
-IsUntimely count event _ = ⊥
+-- One step under the lock: what lay there and the pass, the event, the answer, and both afterwards. The book takes the step as its promise says. A call that got a reply is counted and recorded; after a fault the record and the pass are as they were.
+pub record IsStep {B : Type 0} (stands_for : B → List Event → Type 0) (settings : B → Settings) (stored : B → ℕ) (before : KeptState B) (pass : PassState) (event : Event) (answer : Result Reply StepFault) (after : KeptState B) (pass' : PassState) : Type 0 where
+  pub book : IsBookStep stands_for settings stored before.book event answer after.book
+  pub called : IfOk answer (λ reply. IsCalled before after pass event reply pass')
+  pub same_record : OnErr answer (IsSameRecord before after)
+  pub same_pass : OnErr answer (pass' ≡ pass)
 
 -- such a state is stored as the tuple of its fields
 abbrev pub kept_code : {B : Type 0} → Coded B → Coded Receipt → Coded (KeptState B)

@@ -1,4 +1,4 @@
-pub mod Blank
+pub mod Ledger
 pub mod Pass
 pub mod Record
 pub mod Ahead
@@ -6,3 +6,4 @@ pub mod Kept
 pub mod Calling
 pub mod Closing
 pub mod Equal
+pub mod OneHistory

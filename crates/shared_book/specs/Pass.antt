@@ -1,5 +1,5 @@
 -- What a caller holds.
-use Rattle.std.specs.Prelude.{ℕ, ◌+◌, List, map, sum}
+use Rattle.std.specs.Prelude.{◌≡◌, ℕ, ◌+◌, ◌/◌, ◌<◌, ◌≤◌, ◌^◌, max, List, map, sum}
 
 pub record PassState : Type 0 where
   pub caller : ℕ
@@ -14,6 +14,24 @@ first_pass parts = record { caller = 0; seen = 0; made = 0; parts = parts }
 -- one call more, of this number
 abbrev pub after_call : PassState → ℕ → PassState
 after_call pass number = record { caller = pass.caller; seen = number; made = pass.made + 1; parts = pass.parts }
+
+-- A pass gives half of its parts to a new one, which has seen as much, and with which no call was made yet.
+pub record IsSplit (pass new pass' : PassState) : Type 0 where
+  pub seen : new.seen ≡ pass.seen
+  pub made : new.made ≡ 0
+  pub half : new.parts ≡ pass.parts / 2
+  pub whole : pass'.parts + new.parts ≡ pass.parts
+  pub same_seen : pass'.seen ≡ pass.seen
+  pub same_made : pass'.made ≡ pass.made
+  pub same_caller : pass'.caller ≡ pass.caller
+
+-- Two passes of a ledger of so many parts are one, under the first one's number. It has seen what either had, and counts the calls of both.
+pub record IsJoined (all : ℕ) (first second joined : PassState) : Type 0 where
+  pub caller : joined.caller ≡ first.caller
+  pub seen : joined.seen ≡ max first.seen second.seen
+  pub made : joined.made ≡ first.made + second.made
+  pub parts : first.parts + second.parts < 2 ^ 64 → joined.parts ≡ first.parts + second.parts
+  pub within : first.parts + second.parts ≤ all
 
 -- how many calls the passes count
 abbrev pub calls_of : List PassState → ℕ

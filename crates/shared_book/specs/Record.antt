@@ -1,10 +1,10 @@
 -- A record of calls that one thread could have made.
 use Rattle.std.specs.Prelude.{◌≡◌, ℕ, ◌+◌, List, [], ◌∷◌, ◌++◌, length, map}
-use Rattle.undo_book.specs.declared.event.Event.{Event}
-use Rattle.undo_book.specs.declared.event.Reply.{Reply}
-use Rattle.undo_book.specs.declared.event.Settings.{Settings}
-use Rattle.undo_book.specs.History.{past_of}
-use Rattle.undo_book.specs.Reply.{reply_of}
+use Rattle.history.specs.declared.event.Event.{Event}
+use Rattle.history.specs.declared.event.Reply.{Reply}
+use Rattle.history.specs.declared.event.Settings.{Settings}
+use Rattle.history.specs.History.{past_of}
+use Rattle.history.specs.Reply.{reply_of}
 use Rattle.shared_book.specs.declared.receipt.Receipt.{Receipt}
 
 abbrev pub receipt_for : ℕ → ℕ → Event → Reply → Receipt

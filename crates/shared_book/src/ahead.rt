@@ -1,17 +1,16 @@
 //! What a look is about to be answered. The record keeps it, since a reply cannot be copied without memory.
 
-ghost use Rattle.std.specs.Prelude.{◌≡◌, List, IfOk};
-ghost use Rattle.undo_book.specs.declared.event.Event.{Event};
-ghost use Rattle.undo_book.specs.declared.event.Settings.{Settings};
-ghost use Rattle.undo_book.specs.History.{Past, past_of};
-ghost use Rattle.undo_book.specs.Reply.{reply_of};
-ghost use Rattle.shared_book.specs.Ahead.{seen_ahead};
+ghost use Rattle.std.specs.Prelude.{◌≡◌, ◌<◌, List, IfOk, OnOk, vec_len, vec_capacity};
+ghost use Rattle.history.specs.declared.event.Event.{Event};
+ghost use Rattle.history.specs.History.{past_of};
+ghost use Rattle.shared_book.specs.Ahead.{seen_ahead, ShowsNothing, IsEcho};
 
+use crate::receipt::Receipt;
 use dns_name::NoMemory;
-use undo_book::{Book, Event, Reply, Seen};
+use history::{Book, Event, Reply, Seen};
 
 /// What a look is about to be answered.
-pub(crate) fn look_ahead<B: Book>(book: &B, event: &Event) -> Result<Option<Seen>, NoMemory>
+fn look_ahead<B: Book>(book: &B, event: &Event) -> Result<Option<Seen>, NoMemory>
     ensures { (h : List Event) → B.stands_for book.now h →
         IfOk result (λ ahead. ahead ≡ seen_ahead (B.settings book.now) (past_of (B.settings book.now).journal h) event.now) }
 {
@@ -21,16 +20,39 @@ pub(crate) fn look_ahead<B: Book>(book: &B, event: &Event) -> Result<Option<Seen
     }
 }
 
+/// Makes room for one entry, and sees what a look is about to be answered.
+pub(crate) fn make_ready<B: Book>(
+    entries: &mut Vec<Receipt>,
+    book: &B,
+    event: &Event,
+) -> Result<Option<Seen>, NoMemory>
+    ensures same { entries.new.items ≡ entries.old.items }
+    ensures room { OnOk result (vec_len entries.new < vec_capacity entries.new) }
+    ensures ahead { (h : List Event) → B.stands_for book.now h →
+        IfOk result (λ ahead. ahead ≡ seen_ahead (B.settings book.now) (past_of (B.settings book.now).journal h) event.now) }
+{
+    entries.reserve(1)?;
+    look_ahead(book, event)
+}
+
 /// The same reply, which for a look is what was seen ahead. It takes no memory.
 pub(crate) fn told_again(reply: &Reply, ahead: Option<Seen>) -> Reply
-    requires { (settings : Settings) × (past : Past) × (event : Event) × (reply.now ≡ reply_of settings past event) × (ahead ≡ seen_ahead settings past event) }
+    requires { IsEcho reply.now ahead }
+    ensures { result ≡ reply.now }
+{
+    match ahead {
+        Some(seen) => Reply::Seen(seen),
+        None => told_alike(reply),
+    }
+}
+
+/// A copy of a reply that shows nothing.
+fn told_alike(reply: &Reply) -> Reply
+    requires { ShowsNothing reply.now }
     ensures { result ≡ reply.now }
 {
     match reply {
-        Reply::Seen(_) => match ahead {
-            Some(seen) => Reply::Seen(seen),
-            None => unreachable!(),
-        },
+        Reply::Seen(_) => unreachable!(),
         Reply::Taken => Reply::Taken,
         Reply::Outranked => Reply::Outranked,
         Reply::Swept => Reply::Swept,

@@ -1,18 +1,17 @@
 //! What callers do with what lies under the lock.
 
-ghost use Rattle.std.specs.Prelude.{◌≡◌, ◌+◌, ◌<◌, ◌≤◌, ◌^◌, ◌/◌, ◌↔◌, ◌⊎◌, max, ℕ, IfOk, IfErr, OnOk, OnErr, IsErrOf, IsErr};
-ghost use Rattle.undo_book.specs.declared.limits.TheConstants.{MOST_EVENTS};
-ghost use Rattle.shared_book.specs.Pass.{calls_of, parts_of};
-ghost use Rattle.shared_book.specs.Kept.{IsCalled, IsSameRecord};
-ghost use Rattle.shared_book.specs.Calling.{IsJustified, IsReasonOf};
+ghost use Rattle.std.specs.Prelude.{◌≡◌, ◌+◌, ◌<◌, ◌≤◌, ◌^◌, ◌↔◌, ◌⊎◌, IfOk, OnOk, OnErr, IsErr};
+ghost use Rattle.shared_book.specs.Pass.{IsSplit, IsJoined, calls_of, parts_of};
+ghost use Rattle.shared_book.specs.Kept.{IsKept};
+ghost use Rattle.shared_book.specs.Calling.{IsCall};
 
-use crate::blank::CallLedger;
 use crate::fault::{CallFault, SplitFault};
-use crate::kept::{Kept, untimely};
+use crate::kept::Kept;
+use crate::ledger::CallLedger;
 use crate::pass::Pass;
 use dns_text::Shared;
+use history::{Book, Event, Reply};
 use std::sync::ledger::Share;
-use undo_book::{Book, Event, Reply, StepFault};
 
 impl<B: Book, L: CallLedger> Kept<B, L> {
     /// A step for a pass that has seen no more than there is.
@@ -23,25 +22,15 @@ impl<B: Book, L: CallLedger> Kept<B, L> {
         copy: Event,
     ) -> Result<Reply, CallFault>
         requires same { copy ≡ event }
-        ensures called { IfOk result (λ reply. IsCalled self.old self.new pass.old event reply pass.new) }
-        ensures later { OnOk result (pass.old.seen < pass.new.seen) }
-        ensures justified { IfOk result (λ reply. IsJustified L.settings pass.new.seen event reply) }
-        ensures reason { IfErr result (λ fault. IsReasonOf event fault) }
-        ensures fault { OnErr result (pass.new ≡ pass.old) }
-        ensures behind { (at : ℕ) → IsErrOf result (CallFault.Behind at) → (at ≡ self.old.total) × (at < pass.old.seen) }
-        ensures ahead { self.old.total < pass.old.seen → IsErrOf result (CallFault.Behind self.old.total) }
-        ensures ended { IsErrOf result (CallFault.Step StepFault.CountEnded) → MOST_EVENTS ≤ self.old.total }
-        ensures full { (n : ℕ) → IsErrOf result (CallFault.Step (StepFault.Full n)) → B.stored self.old.book ≡ n }
-        ensures same_record { OnErr result (IsSameRecord self.old self.new) }
+        ensures kept { IsKept B.stands_for B.settings self.old }
+        ensures made_with { B.settings self.old.book ≡ L.settings }
+        ensures call { IsCall B.stands_for B.settings B.stored self.old pass.old event result self.new pass.new }
     {
         if self.total < pass.seen() {
+            drop(copy);
             return Err(CallFault::Behind { at: self.total });
         }
-        match untimely(self.total, event.get()) {
-            Ok(()) => {}
-            Err(fault) => return Err(CallFault::Step(fault)),
-        }
-        match self.take(pass, event, copy) {
+        match self.step_by_copy(pass, event, copy) {
             Ok(reply) => Ok(reply),
             Err(fault) => Err(CallFault::Step(fault)),
         }
@@ -54,22 +43,15 @@ impl<B: Book, L: CallLedger> Kept<B, L> {
         event: Event,
     ) -> Result<Reply, CallFault>
         requires beyond { L.limit ≤ pass.old.seen }
-        ensures called { IfOk result (λ reply. IsCalled self.old self.new pass.old event reply pass.new) }
-        ensures later { OnOk result (pass.old.seen < pass.new.seen) }
-        ensures justified { IfOk result (λ reply. IsJustified L.settings pass.new.seen event reply) }
-        ensures reason { IfErr result (λ fault. IsReasonOf event fault) }
-        ensures fault { OnErr result (pass.new ≡ pass.old) }
-        ensures behind { (at : ℕ) → IsErrOf result (CallFault.Behind at) → at < pass.old.seen }
-        ensures same_record { OnErr result (IsSameRecord self.old self.new) }
+        ensures kept { IsKept B.stands_for B.settings self.old }
+        ensures made_with { B.settings self.old.book ≡ L.settings }
+        ensures call { IsCall B.stands_for B.settings B.stored self.old pass.old event result self.new pass.new }
     {
         if pass.seen() > self.total {
+            drop(event);
             return Err(CallFault::Behind { at: self.total });
         }
-        match untimely(self.total, &event) {
-            Ok(()) => {}
-            Err(fault) => return Err(CallFault::Step(fault)),
-        }
-        match self.pass_by(pass, event) {
+        match self.step_unrecorded(pass, event) {
             Ok(told) => Ok(told),
             Err(fault) => Err(CallFault::Step(fault)),
         }
@@ -78,9 +60,8 @@ impl<B: Book, L: CallLedger> Kept<B, L> {
     /// Half of a pass's parts, in a pass with a caller number of its own.
     pub(crate) fn split(&mut self, pass: &mut Pass<L>) -> Result<Pass<L>, SplitFault>
         ensures refused { IsErr result ↔ ((pass.old.parts ≡ 1) ⊎ (2 ^ 62 ≤ self.old.callers)) }
-        ensures told { IfOk result (λ new. (new.seen ≡ pass.old.seen) × ((new.made ≡ 0) × (new.caller ≡ self.old.callers))) }
-        ensures same { OnOk result ((pass.new.seen ≡ pass.old.seen) × ((pass.new.made ≡ pass.old.made) × (pass.new.caller ≡ pass.old.caller))) }
-        ensures parts { IfOk result (λ new. (new.parts ≡ pass.old.parts / 2) × (pass.new.parts + new.parts ≡ pass.old.parts)) }
+        ensures split { IfOk result (λ new. IsSplit pass.old new pass.new) }
+        ensures caller { IfOk result (λ new. new.caller ≡ self.old.callers) }
         ensures numbered { OnOk result (self.new ≡ record self.old { callers = self.old.callers + 1 }) }
         ensures err { OnErr result ((self.new ≡ self.old) × (pass.new ≡ pass.old)) }
     {
@@ -94,11 +75,7 @@ impl<B: Book, L: CallLedger> Kept<B, L> {
 
     /// Both passes in one.
     pub(crate) fn join(&mut self, first: Pass<L>, second: Pass<L>) -> Pass<L>
-        ensures caller { result.caller ≡ first.caller }
-        ensures seen { result.seen ≡ max first.seen second.seen }
-        ensures made { result.made ≡ first.made + second.made }
-        ensures parts { first.parts + second.parts < 2 ^ 64 → result.parts ≡ first.parts + second.parts }
-        ensures within { first.parts + second.parts ≤ L.parts }
+        ensures joined { IsJoined L.parts first second result }
         ensures same { self.new ≡ self.old }
     {
         Pass::joined(first, second, &mut self.calls)

@@ -1,16 +1,16 @@
 //! Whether the receipts that are handed in are the record.
 
-ghost use Rattle.std.specs.Prelude.{◌≡◌, ◌+◌, ◌<◌, ◌≤◌, ◌^◌, ◌↔◌, IsTrue, length, slice_get, Some, None, OnOk, IfOk, IsOk, MatchResult, MatchOption};
-ghost use Rattle.shared_book.specs.Closing.{IsInOrder, IsFirstOther, IsGathered, ClosesAs};
+ghost use Rattle.std.specs.Prelude.{◌≡◌, ◌+◌, ◌<◌, ◌≤◌, ◌^◌, ◌↔◌, IsTrue, length, slice_get, Some, None, OnOk, IfOk, IfErr, IsOk, MatchResult, MatchOption};
+ghost use Rattle.shared_book.specs.Closing.{IsInOrder, IsFirstOther, IsClosed};
 ghost use Rattle.shared_book.specs.Kept.{IsWhole};
 
-use crate::blank::CallLedger;
 use crate::fault::CloseFault;
 use crate::kept::Kept;
+use crate::ledger::CallLedger;
 use crate::pass::Pass;
 use crate::receipt::Receipt;
 use dns_name::NoMemory;
-use undo_book::Book;
+use history::Book;
 
 /// Why a book is not closed, and what lay under its lock, unchanged.
 #[derive(Drop)]
@@ -27,8 +27,8 @@ impl<B: Book, L: CallLedger> Kept<B, L> {
         mut receipts: Vec<Receipt>,
     ) -> Result<Kept<B, L>, NotClosed<B, L>>
         ensures same { MatchResult result (λ kept. kept ≡ self) (λ not_closed. not_closed.kept ≡ self) }
-        ensures verdict { MatchResult result (λ kept. ClosesAs self passes.items receipts.items None) (λ not_closed. ClosesAs self passes.items receipts.items (Some not_closed.fault)) }
-        ensures gathered { IsGathered L.parts self passes.items }
+        ensures ok { IfOk result (λ kept. IsClosed L.parts kept passes.items receipts.items None) }
+        ensures err { IfErr result (λ not_closed. IsClosed L.parts not_closed.kept passes.items receipts.items (Some not_closed.fault)) }
         ensures whole { IfOk result (λ kept. IsWhole B.stands_for B.settings kept) }
     {
         let made = self.gather(passes);

@@ -1,7 +1,7 @@
 //! Why something comes to nothing. Then nothing has changed.
 
+use history::StepFault;
 use thiserror::Error;
-use undo_book::StepFault;
 
 /// Why a call gets no reply.
 #[derive(Clone, Copy, Debug, PartialEq, Eq, Error)]

@@ -1,22 +1,21 @@
 //! What lies under the lock.
 
-ghost use Rattle.std.specs.Prelude.{◌≡◌, ◌+◌, ◌<◌, ◌≤◌, ◌^◌, ◌↔◌, ℕ, List, [], length, IfOk, IfErr, OnOk, OnErr, IsOk, IsErrOf};
-ghost use Rattle.undo_book.specs.declared.event.Event.{Event};
-ghost use Rattle.undo_book.specs.Answers.{Answers, IsTimely, history_after};
+ghost use Rattle.std.specs.Prelude.{◌≡◌, ◌<◌, ◌≤◌, ◌^◌, ◌↔◌, [], IfOk, IfErr, OnOk, IsOk, IsErrOf};
+ghost use Rattle.history.specs.Answers.{IsTimely};
 ghost use Rattle.shared_book.specs.declared.kept.TheConstants.{MOST_RECORDED};
-ghost use Rattle.shared_book.specs.Pass.{first_pass};
-ghost use Rattle.shared_book.specs.Kept.{IsKept, IsWhole, IsCalled, IsSameRecord, IsUntimely};
+ghost use Rattle.shared_book.specs.Pass.{PassState, first_pass};
+ghost use Rattle.shared_book.specs.Kept.{first_kept, IsKept, IsWhole, IsStep};
 
-use crate::ahead::{look_ahead, told_again};
-use crate::blank::{Blank, CallLedger};
+use crate::ahead::{make_ready, told_again};
+use crate::ledger::{Blank, CallLedger};
 use crate::pass::Pass;
 use crate::receipt::Receipt;
-use crate::record::{CallRecord, make_room};
+use crate::record::CallRecord;
 use dns_text::Shared;
+use history::{Book, Event, MOMENT_END, MOST_EVENTS, MakeFault, Reply, StepFault};
 use std::alloc::Global;
 use std::marker::Model;
 use std::sync::ledger::{Book as Calls, Share};
-use undo_book::{Book, Event, MOMENT_END, MOST_EVENTS, MakeFault, Reply, StepFault};
 
 /// The most calls that can be recorded.
 pub const MOST_RECORDED: u64 = 1_000_000;
@@ -41,10 +40,25 @@ impl<B: Book, L: CallLedger> Model for Kept<B, L> {
 
     ghost coded = { kept_code B.code receipt_type.the_row.coded };
 
-    ghost view = { λ k. record { book = k.book; first = k.recorded.first; entries = k.recorded.entries.items; limit = k.recorded.limit; total = k.total; callers = k.callers } };
+    ghost view = { λ k. record {
+      book = k.book;
+      first = k.recorded.first;
+      entries = k.recorded.entries.items;
+      limit = k.recorded.limit;
+      total = k.total;
+      callers = k.callers;
+    } };
 
     ghost invariant = { λ k. (k.total ≡ k.calls.total) × ((k.recorded.limit ≡ L.limit) × (B.settings k.book ≡ L.settings))
-        × IsKept B.stands_for B.settings (record { book = k.book; first = k.recorded.first; entries = k.recorded.entries.items; limit = k.recorded.limit; total = k.total; callers = k.callers }) };
+        × IsKept B.stands_for B.settings
+        (record {
+          book = k.book;
+          first = k.recorded.first;
+          entries = k.recorded.entries.items;
+          limit = k.recorded.limit;
+          total = k.total;
+          callers = k.callers;
+        }) };
 }
 
 impl<B: Book, L: CallLedger> Kept<B, L> {
@@ -62,8 +76,7 @@ impl<B: Book, L: CallLedger> Kept<B, L> {
         requires fresh { B.stands_for book [] }
         ensures refused { IsErrOf result MakeFault.BadSettings ↔ ¬ ((1 ≤ blank.parts) × (1 ≤ limit) × (limit ≤ MOST_RECORDED)) }
         ensures made { 1 ≤ blank.parts → 1 ≤ limit → limit ≤ MOST_RECORDED → IsOk result }
-        ensures kept { IfOk result (λ made. made.0 ≡ record { book = book; first = 1; entries = []; limit = limit; total = 0; callers = 1 }) }
-        ensures pass { IfOk result (λ made. made.1 ≡ first_pass blank.parts) }
+        ensures first { IfOk result (λ made. (made.0 ≡ first_kept book limit) × (made.1 ≡ first_pass blank.parts)) }
     {
         let parts = blank.parts();
         if parts < 1 || limit < 1 || limit > MOST_RECORDED {
@@ -90,7 +103,7 @@ impl<B: Book, L: CallLedger> Kept<B, L> {
         self.total
     }
 
-    /// How many calls are recorded.
+    /// How many calls can be recorded.
     pub fn limit(&self) -> u64
         ensures limit { result ≡ self.now.limit }
         ensures same { result ≡ L.limit }
@@ -117,37 +130,60 @@ impl<B: Book, L: CallLedger> Kept<B, L> {
 
     /// Takes an event, and records the call.
     pub fn step(&mut self, pass: &mut Pass<L>, event: Shared<Event>) -> Result<Reply, StepFault>
-        // The reply is that of the replay; a fault comes only for its reason.
-        ensures answers { (h : List Event) → B.stands_for self.old.book h → Answers (B.settings self.old.book) h event result }
-        ensures stands { (h : List Event) → B.stands_for self.old.book h → B.stands_for self.new.book (history_after h event result) }
-        ensures full { (n : ℕ) → IsErrOf result (StepFault.Full n) → B.stored self.old.book ≡ n }
-        ensures settings { B.settings self.new.book ≡ B.settings self.old.book }
-
-        // The call is counted and recorded.
-        ensures called { IfOk result (λ reply. IsCalled self.old self.new pass.old event reply pass.new) }
-
-        // After a fault the record is as it was, and so is the pass.
-        ensures same_record { OnErr result (IsSameRecord self.old self.new) }
-        ensures same_store { OnErr result (B.stored self.new.book ≡ B.stored self.old.book) }
-        ensures same_pass { OnErr result (pass.new ≡ pass.old) }
+        ensures { IsStep B.stands_for B.settings B.stored self.old pass.old event result self.new pass.new }
     {
-        untimely(self.total, event.get())?;
-        let copy = event.get().copy()?;
-        self.take(pass, event, copy)
+        match self.timely(event.get()) {
+            Ok(()) => {}
+            Err(fault) => return Err(fault),
+        }
+        match event.get().copy() {
+            Ok(copy) => self.take(pass, event, copy),
+            Err(_) => Err(StepFault::NoMemory),
+        }
+    }
+
+    /// Takes an event by its copy, and records the call.
+    pub(crate) fn step_by_copy(
+        &mut self,
+        pass: &mut Pass<L>,
+        event: Shared<Event>,
+        copy: Event,
+    ) -> Result<Reply, StepFault>
+        requires { copy ≡ event }
+        ensures { IsStep B.stands_for B.settings B.stored self.old pass.old event result self.new pass.new }
+    {
+        match self.timely(event.get()) {
+            Ok(()) => self.take(pass, event, copy),
+            Err(fault) => {
+                drop(copy);
+                Err(fault)
+            }
+        }
+    }
+
+    /// Takes an event behind all calls that are recorded.
+    pub(crate) fn step_unrecorded(
+        &mut self,
+        pass: &mut Pass<L>,
+        event: Event,
+    ) -> Result<Reply, StepFault>
+        requires { self.old.limit ≤ self.old.total }
+        ensures { IsStep B.stands_for B.settings B.stored self.old pass.old event result self.new pass.new }
+    {
+        match self.timely(&event) {
+            Ok(()) => self.pass_by(pass, event),
+            Err(fault) => {
+                drop(event);
+                Err(fault)
+            }
+        }
     }
 
     /// Takes a timely event behind all calls that are recorded.
-    pub(crate) fn pass_by(&mut self, pass: &mut Pass<L>, event: Event) -> Result<Reply, StepFault>
+    fn pass_by(&mut self, pass: &mut Pass<L>, event: Event) -> Result<Reply, StepFault>
         requires timely { IsTimely self.old.total event }
         requires beyond { self.old.limit ≤ self.old.total }
-        ensures answers { (h : List Event) → B.stands_for self.old.book h → Answers (B.settings self.old.book) h event result }
-        ensures stands { (h : List Event) → B.stands_for self.old.book h → B.stands_for self.new.book (history_after h event result) }
-        ensures full { (n : ℕ) → IsErrOf result (StepFault.Full n) → B.stored self.old.book ≡ n }
-        ensures settings { B.settings self.new.book ≡ B.settings self.old.book }
-        ensures called { IfOk result (λ reply. IsCalled self.old self.new pass.old event reply pass.new) }
-        ensures same_record { OnErr result (IsSameRecord self.old self.new) }
-        ensures same_store { OnErr result (B.stored self.new.book ≡ B.stored self.old.book) }
-        ensures same_pass { OnErr result (pass.new ≡ pass.old) }
+        ensures { IsStep B.stands_for B.settings B.stored self.old pass.old event result self.new pass.new }
     {
         let reply = self.book.step(event)?;
         let number = self.total + 1;
@@ -157,7 +193,7 @@ impl<B: Book, L: CallLedger> Kept<B, L> {
     }
 
     /// Takes a timely event by its copy, and records the call.
-    pub(crate) fn take(
+    fn take(
         &mut self,
         pass: &mut Pass<L>,
         event: Shared<Event>,
@@ -165,22 +201,27 @@ impl<B: Book, L: CallLedger> Kept<B, L> {
     ) -> Result<Reply, StepFault>
         requires timely { IsTimely self.old.total event }
         requires same { copy ≡ event }
-        ensures answers { (h : List Event) → B.stands_for self.old.book h → Answers (B.settings self.old.book) h event result }
-        ensures stands { (h : List Event) → B.stands_for self.old.book h → B.stands_for self.new.book (history_after h event result) }
-        ensures full { (n : ℕ) → IsErrOf result (StepFault.Full n) → B.stored self.old.book ≡ n }
-        ensures settings { B.settings self.new.book ≡ B.settings self.old.book }
-        ensures called { IfOk result (λ reply. IsCalled self.old self.new pass.old event reply pass.new) }
-        ensures same_record { OnErr result (IsSameRecord self.old self.new) }
-        ensures same_store { OnErr result (B.stored self.new.book ≡ B.stored self.old.book) }
-        ensures same_pass { OnErr result (pass.new ≡ pass.old) }
+        ensures { IsStep B.stands_for B.settings B.stored self.old pass.old event result self.new pass.new }
     {
         if self.total >= self.recorded.limit {
             return self.pass_by(pass, copy);
         }
         let number = self.total + 1;
-        make_room(&mut self.recorded.entries)?;
-        let ahead = look_ahead(&self.book, event.get())?;
-        let reply = self.book.step(copy)?;
+        // What is owned is let go by calls: else each way out is proved once for each variant of an event.
+        let ahead = match make_ready(&mut self.recorded.entries, &self.book, event.get()) {
+            Ok(ahead) => ahead,
+            Err(fault) => {
+                drop(copy);
+                return Err(StepFault::from(fault));
+            }
+        };
+        let reply = match self.book.step(copy) {
+            Ok(reply) => reply,
+            Err(fault) => {
+                drop(ahead);
+                return Err(fault);
+            }
+        };
         pass.count(&mut self.calls, number);
         self.total = number;
         self.recorded.entries.push_reserved(Receipt {
@@ -191,18 +232,21 @@ impl<B: Book, L: CallLedger> Kept<B, L> {
         });
         Ok(reply)
     }
-}
 
-/// Why an event is not taken after so many, whatever it is.
-pub(crate) fn untimely(total: u64, event: &Event) -> Result<(), StepFault>
-    ensures ok { OnOk result (IsTimely total event.now) }
-    ensures err { IfErr result (λ fault. IsUntimely total event.now fault) }
-{
-    if event.moment() >= MOMENT_END {
-        return Err(StepFault::BadMoment);
+    /// Whether an event is timely; else the fault with which a step ends. A timely event may find no memory.
+    fn timely(&self, event: &Event) -> Result<(), StepFault>
+        ensures ok { OnOk result (IsTimely self.now.total event.now) }
+        ensures err { IfErr result (λ fault. (pass : PassState) →
+            IsStep B.stands_for B.settings B.stored self.now pass event.now (Err fault) self.now pass) }
+        ensures no_memory { OnOk result ((pass : PassState) →
+            IsStep B.stands_for B.settings B.stored self.now pass event.now (Err StepFault.NoMemory) self.now pass) }
+    {
+        if event.moment() >= MOMENT_END {
+            return Err(StepFault::BadMoment);
+        }
+        if self.total >= MOST_EVENTS as u64 {
+            return Err(StepFault::CountEnded);
+        }
+        Ok(())
     }
-    if total >= MOST_EVENTS as u64 {
-        return Err(StepFault::CountEnded);
-    }
-    Ok(())
 }

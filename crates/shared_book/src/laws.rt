@@ -6,11 +6,19 @@ ghost use Rattle.shared_book.specs.declared.fault.CloseFault.{CloseFault};
 ghost use Rattle.shared_book.specs.Pass.{PassState};
 ghost use Rattle.shared_book.specs.Kept.{KeptState};
 ghost use Rattle.shared_book.specs.Closing.{ClosesAs, AgreeButMemory};
+ghost use Rattle.shared_book.specs.OneHistory.{ClosedIsOneHistory};
 
-use undo_book::Book;
+use history::Book;
 
 /// A book is closed in one way, save that memory may be refused. So each fault comes exactly where its condition holds.
 pub fn one_verdict<B: Book>()
     ensures { (kept : KeptState B) (passes : List PassState) (receipts : List Receipt) (a b : Option CloseFault) →
         ClosesAs kept passes receipts a → ClosesAs kept passes receipts b → AgreeButMemory a b }
+{}
+
+/// The receipts with which a book was closed are of one history, for which the book stands: each reply is that of a replay of
+/// the events before it, and each caller's receipts are there in the order of its calls.
+#[tactic(auto, using(crate::proofs::OneHistory::one_history))]
+pub fn one_history<B: Book>()
+    ensures { ClosedIsOneHistory B.stands_for B.settings }
 {}

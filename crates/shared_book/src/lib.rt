@@ -6,7 +6,7 @@ mod fault;
 // What a call gives back, and what the record has of it.
 mod receipt;
 // The ledger of the calls of one book.
-mod blank;
+mod ledger;
 // A caller's right to call, with what it has seen.
 mod pass;
 // The calls that are recorded.
@@ -26,11 +26,11 @@ mod shared;
 // A shared book with a pass, as a desk.
 mod seat;
 
-pub use blank::{Blank, CallLedger};
 pub use close::NotClosed;
 pub use fault::{CallFault, CloseFault, SplitFault};
 pub use kept::{Kept, MOST_RECORDED};
-pub use laws::one_verdict;
+pub use laws::{one_history, one_verdict};
+pub use ledger::{Blank, CallLedger};
 pub use pass::Pass;
 pub use receipt::Receipt;
 pub use seat::Seat;

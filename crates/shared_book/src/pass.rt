@@ -1,6 +1,6 @@
 //! A caller's right to call.
 
-ghost use Rattle.std.specs.Prelude.{◌≡◌, ◌+◌, ◌<◌, ◌≤◌, ◌^◌, ◌/◌, max};
+ghost use Rattle.std.specs.Prelude.{◌≡◌, ◌+◌, ◌<◌, ◌≤◌, ◌^◌};
 
 use std::marker::Model;
 use std::sync::ledger::{Book as Calls, Ledger, Share};
@@ -27,7 +27,7 @@ impl<L: Ledger> Model for Pass<L> {
 }
 
 impl<L: Ledger> Pass<L> {
-    ghost use Rattle.shared_book.specs.Pass.{PassState, first_pass, after_call};
+    ghost use Rattle.shared_book.specs.Pass.{PassState, first_pass, after_call, IsSplit, IsJoined};
 
     /// The first pass of a ledger, with all its parts.
     pub(crate) fn first(share: Share<L>, parts: u64) -> Pass<L>
@@ -89,10 +89,8 @@ impl<L: Ledger> Pass<L> {
     /// Half of the parts, with a caller number of its own.
     pub(crate) fn halve(&mut self, caller: u64) -> Pass<L>
         requires { 2 ≤ self.old.parts }
-        ensures told { (result.seen ≡ self.old.seen) × ((result.made ≡ 0) × (result.caller ≡ caller)) }
-        ensures same { (self.new.seen ≡ self.old.seen) × ((self.new.made ≡ self.old.made) × (self.new.caller ≡ self.old.caller)) }
-        ensures parts { self.new.parts + result.parts ≡ self.old.parts }
-        ensures half { result.parts ≡ self.old.parts / 2 }
+        ensures split { IsSplit self.old result self.new }
+        ensures caller { result.caller ≡ caller }
     {
         let half = self.parts / 2;
         let share = self.share.split_off(half, 0);
@@ -109,11 +107,7 @@ impl<L: Ledger> Pass<L> {
     /// Both in one, under the first one's number.
     pub(crate) fn joined(first: Pass<L>, second: Pass<L>, calls: &mut Calls<L>) -> Pass<L>
         requires { calls.old.total < 2 ^ 62 }
-        ensures caller { result.caller ≡ first.caller }
-        ensures seen { result.seen ≡ max first.seen second.seen }
-        ensures made { result.made ≡ first.made + second.made }
-        ensures parts { first.parts + second.parts < 2 ^ 64 → result.parts ≡ first.parts + second.parts }
-        ensures within { first.parts + second.parts ≤ L.parts }
+        ensures joined { IsJoined L.parts first second result }
         ensures same { calls.new.total ≡ calls.old.total }
     {
         let Pass {

@@ -1,10 +1,10 @@
 //! What a call gives back.
 
 use dns_text::Shared;
-use undo_book::{Event, Reply};
+use history::{Event, Reply};
 
 /// One call that got a reply. The record has the same of it.
-#[derive(Debug, Drop, PartialEq)]
+#[derive(Drop, PartialEq)]
 pub struct Receipt {
     /// Its place among all calls, from 1.
     pub number: u64,

@@ -1,17 +1,16 @@
 //! The calls that are recorded.
 
-ghost use Rattle.std.specs.Prelude.{◌≡◌, ◌<◌, [], OnOk, vec_len, vec_capacity};
+ghost use Rattle.std.specs.Prelude.{◌≡◌, []};
 
 use crate::receipt::Receipt;
-use dns_name::NoMemory;
 use std::alloc::Global;
 
 /// The entries, the first with the number `first`, each other with the next.
-#[derive(Debug, Drop)]
+#[derive(Drop)]
 pub(crate) struct CallRecord {
     pub first: u64,
     pub entries: Vec<Receipt>,
-    /// How many calls are recorded.
+    /// How many calls can be recorded.
     pub limit: u64,
 }
 
@@ -28,13 +27,4 @@ impl CallRecord {
             limit,
         }
     }
-}
-
-/// Makes room for one entry.
-pub(crate) fn make_room(entries: &mut Vec<Receipt>) -> Result<(), NoMemory>
-    ensures same { entries.new.items ≡ entries.old.items }
-    ensures room { OnOk result (vec_len entries.new < vec_capacity entries.new) }
-{
-    entries.reserve(1)?;
-    Ok(())
 }

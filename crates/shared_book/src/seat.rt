@@ -3,15 +3,15 @@
 ghost use Rattle.std.specs.Prelude.{◌≡◌};
 ghost use Rattle.shared_book.specs.Calling.{fault_at_desk, SeatCall};
 
-use crate::blank::CallLedger;
 use crate::fault::CallFault;
+use crate::ledger::CallLedger;
 use crate::pass::Pass;
 use crate::receipt::Receipt;
 use crate::shared::SharedBook;
 use dns_text::Shared;
+use history::{Book, Desk, DeskFault, Event, Reply, StepFault};
 use std::alloc::Global;
 use std::sync::Wait;
-use undo_book::{Book, Desk, DeskFault, Event, Reply, StepFault};
 
 /// A caller's place at a shared book.
 #[derive(Drop)]
@@ -49,7 +49,7 @@ impl<'a, B: Book, L: CallLedger, R: Wait> Seat<'a, B, L, R> {
 
     /// Takes an event that may be recorded, and is shared with the record.
     fn call_recorded(&mut self, event: Event) -> Result<Reply, DeskFault>
-        ensures { SeatCall L.settings self.old.pass event result self.new.pass }
+        ensures { SeatCall B.stands_for B.settings B.stored L.settings self.old.pass event result self.new.pass }
     {
         let Ok(event) = Shared::new(self.alloc, event) else {
             return Err(DeskFault::Step(StepFault::NoMemory));
@@ -75,7 +75,7 @@ impl<'a, B: Book, L: CallLedger, R: Wait> Seat<'a, B, L, R> {
 }
 
 impl<'a, B: Book, L: CallLedger, R: Wait> Desk for Seat<'a, B, L, R> {
-    ghost calls = { λ before event answer after. SeatCall L.settings before.pass event answer after.pass };
+    ghost calls = { λ before event answer after. SeatCall B.stands_for B.settings B.stored L.settings before.pass event answer after.pass };
 
     fn call(&mut self, event: Event) -> Result<Reply, DeskFault> {
         if self.pass.seen() < self.book.limit() {

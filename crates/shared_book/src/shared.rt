@@ -1,28 +1,28 @@
 //! One lock round the book and its record.
 
-ghost use Rattle.std.specs.Prelude.{◌≡◌, ◌+◌, ◌<◌, ◌≤◌, ◌^◌, ◌/◌, ◌↔◌, max, ℕ, [], Some, None, IfOk, IfErr, OnOk, OnErr, IsOk, IsErr, IsErrOf, MatchResult};
+ghost use Rattle.std.specs.Prelude.{◌≡◌, ◌≤◌, ◌↔◌, [], Some, None, IfOk, IfErr, OnErr, IsOk, IsErr, IsErrOf, MatchResult};
 ghost use Rattle.shared_book.specs.declared.kept.TheConstants.{MOST_RECORDED};
-ghost use Rattle.shared_book.specs.Pass.{first_pass, after_call};
-ghost use Rattle.shared_book.specs.Calling.{IsReceiptOf, IsJustified, IsReasonOf};
-ghost use Rattle.shared_book.specs.Closing.{IsGathered, ClosesAs};
+ghost use Rattle.shared_book.specs.Pass.{first_pass, IsSplit, IsJoined};
+ghost use Rattle.shared_book.specs.Calling.{IsReceiptOf, IsJustified, IsReplyTo, IsFaultOf, IsLocked, IsShared, answer_of};
+ghost use Rattle.shared_book.specs.Closing.{IsClosed};
 ghost use Rattle.shared_book.specs.Kept.{IsWhole};
 
-use crate::blank::{Blank, CallLedger};
 use crate::close::NotClosed;
 use crate::fault::{CallFault, SplitFault};
 use crate::kept::Kept;
+use crate::ledger::{Blank, CallLedger};
 use crate::pass::Pass;
 use crate::receipt::Receipt;
 use dns_text::Shared;
+use history::{Book, Event, MakeFault, Reply, StepFault};
 use std::alloc::Global;
 use std::sync::{Mutex, Wait};
-use undo_book::{Book, Event, MakeFault, Reply, StepFault};
 
 /// A book that many callers share, each with a pass.
 #[derive(Drop)]
 pub struct SharedBook<B: Book, L: CallLedger> {
     kept: Mutex<Kept<B, L>>,
-    /// How many calls are recorded.
+    /// How many calls can be recorded.
     limit: u64,
     ghost same_limit: { limit ≡ L.limit },
 }
@@ -58,9 +58,7 @@ impl<B: Book, L: CallLedger> SharedBook<B, L> {
 
     /// Half of a pass's parts, in a pass with a caller number of its own, which has seen as much.
     pub fn split<R: Wait>(&self, rt: &R, pass: &mut Pass<L>) -> Result<Pass<L>, SplitFault>
-        ensures told { IfOk result (λ new. (new.seen ≡ pass.old.seen) × (new.made ≡ 0)) }
-        ensures same { OnOk result ((pass.new.seen ≡ pass.old.seen) × ((pass.new.made ≡ pass.old.made) × (pass.new.caller ≡ pass.old.caller))) }
-        ensures parts { IfOk result (λ new. (new.parts ≡ pass.old.parts / 2) × (pass.new.parts + new.parts ≡ pass.old.parts)) }
+        ensures split { IfOk result (λ new. IsSplit pass.old new pass.new) }
         ensures err { OnErr result (pass.new ≡ pass.old) }
         ensures one_part { pass.old.parts ≡ 1 → IsErr result }
     {
@@ -69,11 +67,7 @@ impl<B: Book, L: CallLedger> SharedBook<B, L> {
 
     /// Both passes in one, under the first one's number, which has seen what either had.
     pub fn join<R: Wait>(&self, rt: &R, first: Pass<L>, second: Pass<L>) -> Pass<L>
-        ensures caller { result.caller ≡ first.caller }
-        ensures seen { result.seen ≡ max first.seen second.seen }
-        ensures made { result.made ≡ first.made + second.made }
-        ensures parts { first.parts + second.parts < 2 ^ 64 → result.parts ≡ first.parts + second.parts }
-        ensures within { first.parts + second.parts ≤ L.parts }
+        ensures { IsJoined L.parts first second result }
     {
         self.kept.lock(rt).join(first, second)
     }
@@ -87,11 +81,13 @@ impl<B: Book, L: CallLedger> SharedBook<B, L> {
     ) -> Result<Receipt, CallFault>
         ensures receipt { IfOk result (λ r. IsReceiptOf pass.old event r pass.new) }
         ensures justified { IfOk result (λ r. IsJustified L.settings r.number event r.reply) }
-        ensures reason { IfErr result (λ fault. IsReasonOf event fault) }
-        ensures fault { OnErr result (pass.new ≡ pass.old) }
-        ensures behind { (at : ℕ) → IsErrOf result (CallFault.Behind at) → at < pass.old.seen }
+        ensures err { IfErr result (λ fault. IsFaultOf L.settings pass.old event fault pass.new) }
+        ensures shared { IsShared B.stands_for B.settings B.stored L.settings pass.old event (answer_of result) pass.new }
     {
-        let (Ok(recorded), Ok(copy)) = (event.share(), event.get().copy()) else {
+        let Ok(recorded) = event.share() else {
+            return Err(CallFault::Step(StepFault::NoMemory));
+        };
+        let Ok(copy) = event.get().copy() else {
             return Err(CallFault::Step(StepFault::NoMemory));
         };
         match self.step(rt, pass, recorded, copy) {
@@ -105,7 +101,7 @@ impl<B: Book, L: CallLedger> SharedBook<B, L> {
         }
     }
 
-    /// How many calls are recorded.
+    /// How many calls can be recorded.
     pub fn limit(&self) -> u64
         ensures { result ≡ L.limit }
     {
@@ -121,12 +117,9 @@ impl<B: Book, L: CallLedger> SharedBook<B, L> {
         event: Event,
     ) -> Result<Reply, CallFault>
         requires beyond { L.limit ≤ pass.old.seen }
-        ensures counted { OnOk result (pass.new ≡ after_call pass.old pass.new.seen) }
-        ensures later { OnOk result (pass.old.seen < pass.new.seen) }
-        ensures justified { IfOk result (λ reply. IsJustified L.settings pass.new.seen event reply) }
-        ensures reason { IfErr result (λ fault. IsReasonOf event fault) }
-        ensures fault { OnErr result (pass.new ≡ pass.old) }
-        ensures behind { (at : ℕ) → IsErrOf result (CallFault.Behind at) → at < pass.old.seen }
+        ensures ok { IfOk result (λ reply. IsReplyTo L.settings pass.old event reply pass.new) }
+        ensures err { IfErr result (λ fault. IsFaultOf L.settings pass.old event fault pass.new) }
+        ensures locked { IsLocked B.stands_for B.settings B.stored L.settings pass.old event result pass.new }
     {
         self.kept.lock(rt).call_unrecorded(pass, event)
     }
@@ -140,12 +133,7 @@ impl<B: Book, L: CallLedger> SharedBook<B, L> {
         copy: Event,
     ) -> Result<Reply, CallFault>
         requires same { copy ≡ event }
-        ensures counted { OnOk result (pass.new ≡ after_call pass.old pass.new.seen) }
-        ensures later { OnOk result (pass.old.seen < pass.new.seen) }
-        ensures justified { IfOk result (λ reply. IsJustified L.settings pass.new.seen event reply) }
-        ensures reason { IfErr result (λ fault. IsReasonOf event fault) }
-        ensures fault { OnErr result (pass.new ≡ pass.old) }
-        ensures behind { (at : ℕ) → IsErrOf result (CallFault.Behind at) → at < pass.old.seen }
+        ensures { IsLocked B.stands_for B.settings B.stored L.settings pass.old event result pass.new }
     {
         self.kept.lock(rt).call(pass, event, copy)
     }
@@ -156,8 +144,8 @@ impl<B: Book, L: CallLedger> SharedBook<B, L> {
         passes: Vec<Pass<L>>,
         receipts: Vec<Receipt>,
     ) -> Result<Kept<B, L>, NotClosed<B, L>>
-        ensures verdict { MatchResult result (λ kept. ClosesAs kept passes.items receipts.items None) (λ not_closed. ClosesAs not_closed.kept passes.items receipts.items (Some not_closed.fault)) }
-        ensures gathered { MatchResult result (λ kept. IsGathered L.parts kept passes.items) (λ not_closed. IsGathered L.parts not_closed.kept passes.items) }
+        ensures ok { IfOk result (λ kept. IsClosed L.parts kept passes.items receipts.items None) }
+        ensures err { IfErr result (λ not_closed. IsClosed L.parts not_closed.kept passes.items receipts.items (Some not_closed.fault)) }
         ensures limit { MatchResult result (λ kept. kept.limit ≡ L.limit) (λ not_closed. not_closed.kept.limit ≡ L.limit) }
         ensures whole { IfOk result (λ kept. IsWhole B.stands_for B.settings kept) }
     {

@@ -7,9 +7,9 @@ use std::sync::ledger::{Blank as BlankLedger, Book as Calls, Ledger, Share};
 
 /// Which book's ledger it is, with what all callers know of that book.
 pub trait CallLedger: Ledger {
-    ghost use Rattle.undo_book.specs.declared.event.Settings.{Settings};
+    ghost use Rattle.history.specs.declared.event.Settings.{Settings};
 
-    // How many calls are recorded.
+    // How many calls can be recorded.
     ghost limit: { ℕ };
 
     // What the book was made with.
@@ -31,7 +31,7 @@ pub struct Blank {
 
 impl Model for Blank {
     ghost use Rattle.std.specs.Prelude.{◌≡◌};
-    ghost use Rattle.shared_book.specs.Blank.{BlankState};
+    ghost use Rattle.shared_book.specs.Ledger.{BlankState};
 
     ghost Value = { BlankState };
 

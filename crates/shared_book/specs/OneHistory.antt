@@ -1,0 +1,43 @@
+-- What the receipts of all callers come to once a book is closed.
+use Rattle.std.specs.Prelude.{◌≡◌, ℕ, ◌+◌, ◌<◌, ◌≤◌, None, List, [], ◌∷◌, ◌++◌, length, All, AllPairs, Contains}
+use Rattle.history.specs.declared.event.Event.{Event}
+use Rattle.history.specs.declared.event.Settings.{Settings}
+use Rattle.history.specs.History.{past_of}
+use Rattle.history.specs.Reply.{reply_of}
+use Rattle.shared_book.specs.declared.receipt.Receipt.{Receipt}
+use Rattle.shared_book.specs.Pass.{PassState}
+use Rattle.shared_book.specs.Kept.{KeptState, IsWhole}
+use Rattle.shared_book.specs.Calling.{IsReceiptOf}
+use Rattle.shared_book.specs.Closing.{ClosesAs}
+
+-- A receipt's event is in a history at the receipt's number. Its reply is that of a replay of the events before it.
+pub record IsPlaced (settings : Settings) (history : List Event) (receipt : Receipt) : Type 0 where
+  pub before : List Event
+  pub later : List Event
+  pub history_is : history ≡ before ++ receipt.event ∷ later
+  pub number_is : receipt.number ≡ length before + 1
+  pub reply_is : receipt.reply ≡ reply_of settings (past_of settings.journal before) receipt.event
+
+-- The receipts that one caller got, in the order of its calls, with its pass before the first and after the last. Between two calls the pass may be split or joined, and never forgets what it has seen.
+abbrev pub AreOfCaller : PassState → List Receipt → PassState → Type 0
+AreOfCaller first [] last = (last.caller ≡ first.caller) × (first.seen ≤ last.seen)
+AreOfCaller first (receipt ∷ receipts) last =
+    (before : PassState) × (after : PassState) × (before.caller ≡ first.caller) × (first.seen ≤ before.seen)
+    × IsReceiptOf before receipt.event receipt after
+    × AreOfCaller after receipts last
+
+-- The receipts are of one history, for which the book stands. It has as many events, each with a receipt of its number, and each receipt has its place there. The receipts of one caller are there in the order of its calls.
+pub record AreOfOneHistory {B : Type 0} (stands_for : B → List Event → Type 0) (settings : B → Settings) (book : B) (receipts : List Receipt) : Type 0 where
+  pub history : List Event
+  pub stands : stands_for book history
+  pub as_many : length receipts ≡ length history
+  pub placed : All (IsPlaced (settings book) history) receipts
+  pub each_event : (n : ℕ) → n < length history → (receipt : Receipt) × Contains receipts receipt × (receipt.number ≡ n + 1)
+  pub in_turn : (first last : PassState) (own : List Receipt) → AreOfCaller first own last → All (Contains receipts) own
+      → AllPairs (λ a b. a.number < b.number) own × All (IsPlaced (settings book) history) own × All (λ r. r.caller ≡ first.caller) own
+
+-- The receipts with which a book was closed are of one history.
+abbrev pub ClosedIsOneHistory : {B : Type 0} → (B → List Event → Type 0) → (B → Settings) → Type 0
+ClosedIsOneHistory {B} stands_for settings =
+    (kept : KeptState B) (passes : List PassState) (receipts : List Receipt)
+    → ClosesAs kept passes receipts None → IsWhole stands_for settings kept → AreOfOneHistory stands_for settings kept.book receipts
