@@ -14,7 +14,7 @@ use Rattle.dns_text.specs.Written.{WritesNames, WritesNumbers, WritesTypes, Writ
 use Rattle.local_zone.specs.declared.zone_type.ZoneType.{ZoneType}
 use Rattle.local_zone.specs.declared.zone_type.ZoneType.TheVariants.{Deny, Refuse, Static, Transparent, TypeTransparent, Redirect, AlwaysTransparent, AlwaysRefuse, AlwaysNxDomain, AlwaysNoData}
 use Rattle.local_zone.specs.ZoneType.{word_of, zone_type_in}
-use Rattle.undo_book.specs.declared.event.Command.TheVariants.{Flush as FlushCommand, FlushType as FlushTypeCommand, FlushZone as FlushZoneCommand, SetZone, DropZone, AddRecord, DropName, SetStub, DropStub}
+use Rattle.history.specs.declared.event.Command.TheVariants.{Flush as FlushCommand, FlushType as FlushTypeCommand, FlushZone as FlushZoneCommand, SetZone, DropZone, AddRecord, DropName, SetStub, DropStub}
 use Rattle.command_text.specs.declared.line.Line.TheVariants.{Request as RequestLine}
 use Rattle.command_text.specs.declared.request.Request.TheVariants.{Do}
 use Rattle.command_text.specs.declared.words.Verb.{Verb}

@@ -3,7 +3,7 @@ use Rattle.std.proofs.Common.{◌≡◌, ℕ, ◌<◌, Bool, List, [], ◌∷◌
 use Rattle.std.proofs.lemmas.Bool.{lt-ltb}
 use Rattle.streams.specs.declared.held_line.TheConstants.{LONGEST_LINE}
 use Rattle.streams.specs.Split.{Heard}
-use Rattle.undo_book.specs.declared.event.Settings.{Settings}
+use Rattle.history.specs.declared.event.Settings.{Settings}
 use Rattle.command_text.specs.declared.line.Line.{Line}
 use Rattle.command_text.specs.declared.fault.LineFault.{LineFault}
 use Rattle.command_text.specs.declared.words.Channel.{Channel}

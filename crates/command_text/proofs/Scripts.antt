@@ -7,8 +7,8 @@ use Rattle.streams.specs.declared.fault.ScriptFault.{ScriptFault}
 use Rattle.streams.specs.declared.fault.ScriptFault.TheVariants.{Read, Write}
 use Rattle.streams.specs.Laws.{IsRuled, Transcript-ruled, Partly-ruled}
 use Rattle.streams.specs.Transcript.{Transcript, Partly, IsFront, EndsBy, paired}
-use Rattle.undo_book.specs.declared.event.Settings.{Settings}
-use Rattle.undo_book.specs.declared.event.Event.{Event}
+use Rattle.history.specs.declared.event.Settings.{Settings}
+use Rattle.history.specs.declared.event.Event.{Event}
 use Rattle.command_text.specs.Obeying.{Place, Obeys}
 use Rattle.command_text.specs.Script.{obeying, Scripted}
 

@@ -10,8 +10,8 @@ use Rattle.dns_text.specs.Record.{record_text}
 use Rattle.dns_text.specs.declared.addr.Addr.{Addr}
 use Rattle.dns_text.specs.Written.{IsIp}
 use Rattle.local_zone.specs.ZoneType.{word_of}
-use Rattle.undo_book.specs.declared.event.Command.{Command}
-use Rattle.undo_book.specs.declared.event.Command.TheVariants.{Flush, FlushType, FlushZone, SetZone, DropZone, AddRecord, DropName, SetStub, DropStub}
+use Rattle.history.specs.declared.event.Command.{Command}
+use Rattle.history.specs.declared.event.Command.TheVariants.{Flush, FlushType, FlushZone, SetZone, DropZone, AddRecord, DropName, SetStub, DropStub}
 use Rattle.command_text.specs.declared.line.Line.TheVariants.{Request as RequestLine}
 use Rattle.command_text.specs.declared.request.Request.TheVariants.{Do}
 use Rattle.command_text.specs.declared.words.Channel.{Channel}

@@ -1,9 +1,9 @@
 -- What a line of control does, and what it is told.
 use Rattle.std.specs.Prelude.{◌≡◌, ℕ, Bool, true, false, IsTrue, ◌⊎◌, Result, Ok, Err, List, [], codes}
 use Rattle.streams.specs.Split.{with_end}
-use Rattle.undo_book.specs.declared.event.Event.{Event}
-use Rattle.undo_book.specs.declared.event.Reply.{Reply}
-use Rattle.undo_book.specs.declared.desk.DeskFault.{DeskFault}
+use Rattle.history.specs.declared.event.Event.{Event}
+use Rattle.history.specs.declared.event.Reply.{Reply}
+use Rattle.history.specs.declared.desk.DeskFault.{DeskFault}
 use Rattle.command_text.specs.declared.request.Request.{Request}
 use Rattle.command_text.specs.declared.line.Line.{Line}
 use Rattle.command_text.specs.declared.line.Line.TheVariants.{Silent, Request as RequestLine, Stop}

@@ -4,8 +4,8 @@ use Rattle.streams.specs.declared.held_line.TheConstants.{LONGEST_LINE}
 use Rattle.dns_name.specs.Results.{◌>>=◌, or_fault}
 use Rattle.dns_text.specs.Word.{next_word}
 use Rattle.dns_text.specs.Number.{number_in}
-use Rattle.undo_book.specs.declared.event.Ask.TheVariants.{Answer, Servers as ServersAsk, Zones, Records, Stubs, Commands as CommandsAsk}
-use Rattle.undo_book.specs.declared.event.Command.TheVariants.{Flush as FlushCommand, FlushType as FlushTypeCommand, FlushZone as FlushZoneCommand}
+use Rattle.history.specs.declared.event.Ask.TheVariants.{Answer, Servers as ServersAsk, Zones, Records, Stubs, Commands as CommandsAsk}
+use Rattle.history.specs.declared.event.Command.TheVariants.{Flush as FlushCommand, FlushType as FlushTypeCommand, FlushZone as FlushZoneCommand}
 use Rattle.command_text.specs.declared.line.Line.{Line}
 use Rattle.command_text.specs.declared.line.Line.TheVariants.{Silent, At as AtLine, Admit as AdmitLine, Deny as DenyLine, Request as RequestLine, Stop as StopLine}
 use Rattle.command_text.specs.declared.request.Request.TheVariants.{Look as LookRequest, Sweep as SweepRequest, Do as DoRequest, Undo as UndoRequest, Redo as RedoRequest}

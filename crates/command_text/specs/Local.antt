@@ -6,8 +6,8 @@ use Rattle.dns_text.specs.declared.fault.TextFault.TheVariants as text_fault
 use Rattle.dns_text.specs.Field.{named}
 use Rattle.dns_text.specs.Record.{record_in}
 use Rattle.local_zone.specs.ZoneType.{zone_type_in}
-use Rattle.undo_book.specs.declared.event.Command.{Command}
-use Rattle.undo_book.specs.declared.event.Command.TheVariants.{SetZone, DropZone, AddRecord, DropName}
+use Rattle.history.specs.declared.event.Command.{Command}
+use Rattle.history.specs.declared.event.Command.TheVariants.{SetZone, DropZone, AddRecord, DropName}
 use Rattle.command_text.specs.declared.fault.LineFault.{LineFault}
 use Rattle.command_text.specs.declared.fault.LineFault.TheVariants.{BadName, BadType, BadData, NoMemory}
 use Rattle.command_text.specs.Parts.{QuestionWords, word_in, ends, question_words, only_name}

@@ -2,14 +2,14 @@
 use Rattle.std.specs.Prelude.{◌≡◌, ℕ, Bool, IsTrue, ◌⊎◌, Result, Ok, Err, List, [], codes}
 use Rattle.streams.specs.Split.{with_end}
 use Rattle.ranked.specs.declared.find.Find.{Find}
-use Rattle.undo_book.specs.declared.event.Settings.{Settings}
-use Rattle.undo_book.specs.declared.event.Event.{Event}
-use Rattle.undo_book.specs.declared.event.Event.TheVariants.{Admit as AdmitEvent}
-use Rattle.undo_book.specs.declared.event.Reply.{Reply}
-use Rattle.undo_book.specs.declared.book.StepFault.{StepFault}
-use Rattle.undo_book.specs.declared.desk.DeskFault.{DeskFault}
-use Rattle.undo_book.specs.Answers.{Answers, history_after}
-use Rattle.undo_book.specs.Desk.{desk_answer}
+use Rattle.history.specs.declared.event.Settings.{Settings}
+use Rattle.history.specs.declared.event.Event.{Event}
+use Rattle.history.specs.declared.event.Event.TheVariants.{Admit as AdmitEvent}
+use Rattle.history.specs.declared.event.Reply.{Reply}
+use Rattle.history.specs.declared.book.StepFault.{StepFault}
+use Rattle.history.specs.declared.desk.DeskFault.{DeskFault}
+use Rattle.history.specs.Answers.{Answers, history_after}
+use Rattle.history.specs.Desk.{desk_answer}
 use Rattle.command_text.specs.declared.line.Line.{Line}
 use Rattle.command_text.specs.declared.line.Line.TheVariants.{Silent, At, Admit, Deny, Request, Stop}
 use Rattle.command_text.specs.declared.fault.LineFault.{LineFault}

@@ -1,7 +1,7 @@
 -- What a line hands in.
 use Rattle.std.specs.Prelude.{ℕ}
-use Rattle.undo_book.specs.declared.event.Event.{Event}
-use Rattle.undo_book.specs.declared.event.Event.TheVariants as event
+use Rattle.history.specs.declared.event.Event.{Event}
+use Rattle.history.specs.declared.event.Event.TheVariants as event
 use Rattle.command_text.specs.declared.request.Request.{Request}
 use Rattle.command_text.specs.declared.request.Request.TheVariants.{Look, Sweep, Do, Undo, Redo}
 

@@ -1,8 +1,8 @@
 -- A script: lines that are obeyed at a book, one after another.
 use Rattle.std.specs.Prelude.{◌≡◌, ℕ, Bool, false, List}
 use Rattle.streams.specs.Transcript.{Obeying}
-use Rattle.undo_book.specs.declared.event.Settings.{Settings}
-use Rattle.undo_book.specs.declared.event.Event.{Event}
+use Rattle.history.specs.declared.event.Settings.{Settings}
+use Rattle.history.specs.declared.event.Event.{Event}
 use Rattle.command_text.specs.Obeying.{Place, GoesOn, Obeys}
 
 -- from place to place, whichever line it is

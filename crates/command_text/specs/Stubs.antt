@@ -2,8 +2,8 @@
 use Rattle.std.specs.Prelude.{ℕ, Result, Ok, List}
 use Rattle.dns_name.specs.Results.{◌>>=◌, or_fault}
 use Rattle.dns_text.specs.Field.{named}
-use Rattle.undo_book.specs.declared.event.Command.{Command}
-use Rattle.undo_book.specs.declared.event.Command.TheVariants.{SetStub, DropStub}
+use Rattle.history.specs.declared.event.Command.{Command}
+use Rattle.history.specs.declared.event.Command.TheVariants.{SetStub, DropStub}
 use Rattle.command_text.specs.declared.fault.LineFault.{LineFault}
 use Rattle.command_text.specs.declared.fault.LineFault.TheVariants.{BadName}
 use Rattle.command_text.specs.Parts.{word_in, only_name}

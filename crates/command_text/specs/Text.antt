@@ -21,20 +21,20 @@ use Rattle.local_zone.specs.declared.local.Local.TheVariants as local
 use Rattle.local_zone.specs.declared.zone.Zone.{Zone}
 use Rattle.local_zone.specs.ZoneType.{word_of}
 use Rattle.stub_table.specs.declared.stub.Stub.{Stub}
-use Rattle.undo_book.specs.declared.event.Journalled.{Journalled}
-use Rattle.undo_book.specs.declared.servers.Servers.{Servers as ServersOf}
-use Rattle.undo_book.specs.declared.servers.Source.{Source}
-use Rattle.undo_book.specs.declared.servers.Source.TheVariants as source
-use Rattle.undo_book.specs.declared.event.Reason.{Reason}
-use Rattle.undo_book.specs.declared.event.Reason.TheVariants.{BelowRedirect, DataBelow, CnameClash, TooMany}
-use Rattle.undo_book.specs.declared.event.Seen.{Seen as Sight}
-use Rattle.undo_book.specs.declared.event.Seen.TheVariants.{Unknown as NothingHeld, Held, Local as LocalSeen, Servers, Zones, Records, Stubs, Commands}
-use Rattle.undo_book.specs.declared.event.Reply.{Reply}
-use Rattle.undo_book.specs.declared.event.Reply.TheVariants.{Taken, Outranked, Swept, Seen, Done, Refused, Undone, Redone, NothingToUndo, NothingToRedo}
-use Rattle.undo_book.specs.declared.book.StepFault.{StepFault}
-use Rattle.undo_book.specs.declared.book.StepFault.TheVariants.{BadMoment, CountEnded, Full, NoMemory as StepNoMemory}
-use Rattle.undo_book.specs.declared.desk.DeskFault.{DeskFault}
-use Rattle.undo_book.specs.declared.desk.DeskFault.TheVariants.{Step, Behind}
+use Rattle.history.specs.declared.event.Journalled.{Journalled}
+use Rattle.history.specs.declared.servers.Servers.{Servers as ServersOf}
+use Rattle.history.specs.declared.servers.Source.{Source}
+use Rattle.history.specs.declared.servers.Source.TheVariants as source
+use Rattle.history.specs.declared.event.Reason.{Reason}
+use Rattle.history.specs.declared.event.Reason.TheVariants.{BelowRedirect, DataBelow, CnameClash, TooMany}
+use Rattle.history.specs.declared.event.Seen.{Seen as Sight}
+use Rattle.history.specs.declared.event.Seen.TheVariants.{Unknown as NothingHeld, Held, Local as LocalSeen, Servers, Zones, Records, Stubs, Commands}
+use Rattle.history.specs.declared.event.Reply.{Reply}
+use Rattle.history.specs.declared.event.Reply.TheVariants.{Taken, Outranked, Swept, Seen, Done, Refused, Undone, Redone, NothingToUndo, NothingToRedo}
+use Rattle.history.specs.declared.book.StepFault.{StepFault}
+use Rattle.history.specs.declared.book.StepFault.TheVariants.{BadMoment, CountEnded, Full, NoMemory as StepNoMemory}
+use Rattle.history.specs.declared.desk.DeskFault.{DeskFault}
+use Rattle.history.specs.declared.desk.DeskFault.TheVariants.{Step, Behind}
 use Rattle.command_text.specs.declared.fault.LineFault.{LineFault}
 use Rattle.command_text.specs.declared.fault.LineFault.TheVariants.{Unknown, Missing, BadName, BadType, BadData, BadAddress, TooLong, NoMemory}
 use Rattle.command_text.specs.Addrs.{addrs_text}

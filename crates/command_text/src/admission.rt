@@ -9,7 +9,7 @@ use ranked::{Find, Rank};
 use std::marker::Model;
 
 /// What a line admits. It lives for a second at least and has a datum, and each has the form of its type.
-#[derive(Debug, Drop)]
+#[derive(Drop)]
 pub struct Admission {
     pub(crate) rank: Rank,
     pub(crate) owner: Name,

@@ -11,10 +11,10 @@ ghost use Rattle.command_text.specs.CommandWords.{command_words};
 use crate::addrs::push_addrs;
 use dns_name::Name;
 use dns_text::{NoMemory, Question, Record, push_data, push_type};
+use history::Command;
 use itoa::Buffer;
 use local_zone::ZoneType;
 use stub_table::Stub;
-use undo_book::Command;
 
 /// Writes a word, and a name behind it.
 fn push_named(word: &[u8], name: &Name, out: &mut Vec<u8>) -> Result<(), NoMemory>

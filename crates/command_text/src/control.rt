@@ -11,9 +11,9 @@ ghost use Rattle.command_text.specs.Control.{Controls};
 
 use crate::clock::Clock;
 use crate::control_line::obey_control;
+use history::Desk;
 use std::alloc::Global;
 use streams::{Ended, Obeyer, ScriptFault, Sink, Source, Told, run_lines};
-use undo_book::Desk;
 
 /// The lines of control, obeyed at a desk, at the moments of a clock.
 struct Control;

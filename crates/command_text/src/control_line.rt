@@ -10,9 +10,9 @@ use crate::line::{Line, is_silent, read_line};
 use crate::request::{Request, event_at};
 use crate::text::{answer_text, line_fault_text};
 use crate::words::Channel;
+use history::Desk;
 use std::alloc::Global;
 use streams::{Text, Told};
-use undo_book::Desk;
 
 /// A line that is told this, and is not the last.
 fn going_on(text: Text) -> Told

@@ -8,7 +8,7 @@ use ranked::{Find, Scope};
 use std::marker::Model;
 
 /// What a line denies. It lives for a second at least, and an SOA record denies it.
-#[derive(Debug, Drop)]
+#[derive(Drop)]
 pub struct Denial {
     pub(crate) owner: Name,
     pub(crate) scope: Scope,

@@ -6,9 +6,9 @@ ghost use Rattle.command_text.specs.Text.{state_text, journalled_line};
 
 use crate::command_words::push_command;
 use dns_text::{Items, NoMemory};
+use history::Journalled;
 use itoa::Buffer;
 use std::alloc::Global;
-use undo_book::Journalled;
 
 fn state_word(done: bool) -> &'static [u8]
     ensures { result.now ≡ state_text done }

@@ -1,31 +1,56 @@
 //! The operator's lines: what a line says, how it is obeyed, and what it is told.
 #![tactic(auto)]
 
-mod words; // the commands: word, form, and where each is allowed
-mod fault; // why a line says nothing
-mod request; // what a line hands in
-mod line; // what a line says
-mod parts; // words that many commands have
-mod admission; // what is admitted
-mod admit; // the words of `admit`
-mod denial; // what denies that there are data, or a name
-mod deny; // the words of `nodata` and `noname`
-mod addrs; // addresses of servers, each a word
-mod stubs; // the words of the commands on stubs
-mod local; // the words of the commands on local zones and local data
-mod bar; // the data of a set, between bars
-mod command_words; // commands in the words that give them
-mod answers; // what local zones answer, as it is told
-mod lists; // the lists of local zones, local data and stubs, as they are told
-mod servers; // the servers of a name, as they are told
-mod journal; // the commands that can be undone or redone, as they are told
-mod text; // what is told
-mod obeying; // a line of a script is obeyed
-mod script; // a script in, a transcript out
-mod clock; // what tells the moment
-mod control_line; // a line of control is obeyed
-mod control; // lines of control in, a transcript out
-mod laws; // what the definitions come to, by themselves
+// The table of commands: word, form, and where each is allowed.
+mod words;
+// Why a line says nothing.
+mod fault;
+// The request that a line hands in.
+mod request;
+// The meaning of a line.
+mod line;
+// Words that many commands have.
+mod parts;
+// An admission.
+mod admission;
+// The words of `admit`.
+mod admit;
+// A negative answer.
+mod denial;
+// The words of `nodata` and `noname`.
+mod deny;
+// Addresses of servers, each a word.
+mod addrs;
+// The words of the commands on stubs.
+mod stubs;
+// The words of the commands on local zones and local data.
+mod local;
+// The data of a set, between bars.
+mod bar;
+// The words that give a command.
+mod command_words;
+// The text of local answers.
+mod answers;
+// The text of the lists of local zones, local data and stubs.
+mod lists;
+// The text of the servers of a name.
+mod servers;
+// The text of the commands that can be undone or redone.
+mod journal;
+// The text of a reply.
+mod text;
+// One line of a script.
+mod obeying;
+// A script in, a transcript out.
+mod script;
+// The trait of clocks.
+mod clock;
+// One line of control.
+mod control_line;
+// Lines of control in, a transcript out.
+mod control;
+// Laws of the definitions alone.
+mod laws;
 
 pub use admission::Admission;
 pub use clock::Clock;

@@ -16,12 +16,12 @@ use crate::request::Request;
 use crate::stubs::{read_drop_stub, read_set_stub};
 use crate::words::{Channel, Verb, verb_in};
 use dns_text::{next_word, read_number};
+use history::{Ask, Command};
 use std::alloc::Global;
 use streams::LONGEST_LINE;
-use undo_book::{Ask, Command};
 
 /// What a line says.
-#[derive(Debug, Drop)]
+#[derive(Drop)]
 pub enum Line {
     /// Nothing: the line is empty or a comment.
     Silent,

@@ -12,9 +12,9 @@ ghost use Rattle.command_text.specs.Local.{set_zone_in, drop_zone_in, drop_name_
 use crate::fault::LineFault;
 use crate::parts::{read_end, read_name, read_only_name, read_word};
 use dns_text::{Record, Shared, TextFault, read_record};
+use history::Command;
 use local_zone::{ZoneType, read_zone_type};
 use std::alloc::Global;
-use undo_book::Command;
 
 fn read_kind_of_zone(word: &[u8]) -> Result<ZoneType, LineFault>
     ensures { result ≡ or_fault BadType (zone_type_in word.now) }

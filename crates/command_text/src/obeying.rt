@@ -3,7 +3,7 @@
 ghost use Rattle.std.specs.Prelude.{◌≡◌, List, Ok, IfOk, codes};
 ghost use Rattle.streams.specs.Split.{with_end};
 ghost use Rattle.streams.specs.Text.{octets_in};
-ghost use Rattle.undo_book.specs.declared.event.Event.{Event};
+ghost use Rattle.history.specs.declared.event.Event.{Event};
 ghost use Rattle.command_text.specs.declared.line.Line.TheVariants.{At, Admit, Deny, Request as RequestLine};
 ghost use Rattle.command_text.specs.Admission.{IsFindOf};
 ghost use Rattle.command_text.specs.Denial.{IsDenialOf};
@@ -16,10 +16,10 @@ use crate::line::{Line, is_silent, read_line};
 use crate::request::{Request, event_at};
 use crate::text::{answer_text, line_fault_text};
 use crate::words::Channel;
+use history::{Book, Desk, Event};
 use ranked::SharedFind;
 use std::alloc::{AllocError, Global};
 use streams::Text;
-use undo_book::{Book, Desk, Event};
 
 /// Asks the book an event, and says what is told.
 fn ask<B: Book>(alloc: Global, book: &mut B, event: Event) -> Text

@@ -3,10 +3,10 @@
 ghost use Rattle.std.specs.Prelude.{◌≡◌};
 ghost use Rattle.command_text.specs.Request.{event_at};
 
-use undo_book::{Ask, Command, Event};
+use history::{Ask, Command, Event};
 
 /// What a line hands in, before it has a moment.
-#[derive(Debug, Drop)]
+#[derive(Drop)]
 pub enum Request {
     /// Something is asked.
     Look(Ask),

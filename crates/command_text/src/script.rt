@@ -7,14 +7,14 @@ ghost use Rattle.streams.specs.declared.source.TheConstants.{MOST_COUNTED};
 ghost use Rattle.streams.specs.declared.fault.ScriptFault.TheVariants.{Read as ReadFault, Write as WriteFault};
 ghost use Rattle.streams.specs.Split.{ended_lines, lines_of};
 ghost use Rattle.streams.specs.Transcript.{Transcript, Partly, IsFront};
-ghost use Rattle.undo_book.specs.declared.event.Event.{Event};
+ghost use Rattle.history.specs.declared.event.Event.{Event};
 ghost use Rattle.command_text.specs.Obeying.{Place};
 ghost use Rattle.command_text.specs.Script.{obeying};
 
 use crate::obeying::obey;
+use history::Book;
 use std::alloc::Global;
 use streams::{Obeyer, ScriptFault, Sink, Source, Told, run_lines};
-use undo_book::Book;
 
 /// The lines of a script, obeyed at a book. The moment is that of the events of the lines to come.
 struct Script;

@@ -7,8 +7,8 @@ ghost use Rattle.command_text.specs.Text.{source_text, names_text, missing_text,
 use crate::addrs::push_addrs;
 use dns_name::Name;
 use dns_text::NoMemory;
+use history::{Servers, Source};
 use std::alloc::Global;
-use undo_book::{Servers, Source};
 
 fn source_word(source: Source) -> &'static [u8]
     ensures { result.now ≡ source_text source }

@@ -11,9 +11,9 @@ use crate::fault::LineFault;
 use crate::parts::{read_name, read_only_name, read_word};
 use dns_name::Name;
 use dns_text::{Addr, Items, Shared};
+use history::Command;
 use std::alloc::{AllocError, Global};
 use stub_table::Stub;
-use undo_book::Command;
 
 fn share_stub(alloc: Global, name: Name, addrs: Items<Addr>) -> Result<Shared<Stub>, AllocError>
     ensures { IfOk result (λ stub. stub ≡ record { name = name; addrs = addrs }) }

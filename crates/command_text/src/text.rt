@@ -16,11 +16,11 @@ use crate::lists::{records_lines, stubs_lines, zones_lines};
 use crate::servers::servers_line;
 use arrayvec::ArrayVec;
 use dns_text::{Data, NoMemory, push_data, push_type};
+use history::{DeskFault, Reason, Reply, Seen, StepFault};
 use itoa::Buffer;
 use ranked::{Body, Find, Scope, SharedFind, Shown};
 use std::alloc::Global;
 use streams::Text;
-use undo_book::{DeskFault, Reason, Reply, Seen, StepFault};
 
 /// Writes the data after the first of a set.
 fn push_others(others: &[Data], out: &mut Vec<u8>) -> Result<(), NoMemory>

@@ -35,7 +35,7 @@ pub(crate) enum Verb {
 }
 
 /// Where lines come from.
-#[derive(Clone, Copy, Debug, PartialEq, Eq)]
+#[derive(Clone, Copy, PartialEq, Eq)]
 pub enum Channel {
     Script,
     /// The control socket.

@@ -7,8 +7,10 @@
 mod device;
 // A query to a name server, and what comes of it.
 mod exchange;
-// Where queries come in: datagrams, and connections.
+// Where datagrams come in and replies go out.
 mod port;
+// Where connections come in.
+mod listener;
 // What a task is run with.
 mod tools;
 // A task from its question to its answer.
@@ -25,17 +27,24 @@ mod fault;
 mod framing;
 // A stream of messages.
 mod stream;
-// Workers, each of which serves what comes in.
+// How workers end, and which octets get a reply.
 mod working;
+// A worker that serves connections.
+mod tcp_worker;
+// A worker that serves datagrams, for tests and readers: the service has `fly_udp` of `flight_sockets`.
+mod udp_worker;
 
 pub use device::DeviceFault;
 pub use exchange::Exchange;
 pub use fault::StreamFault;
 pub use framing::{frame, size_of};
-pub use port::{Came, Listener, Port};
+pub use listener::Listener;
+pub use port::{Came, Port};
 pub use query::{copy_question, serve_query};
 pub use reply::write_answer;
 pub use run::run_task;
 pub use stream::serve_stream;
+pub use tcp_worker::work_tcp;
 pub use tools::Tools;
-pub use working::{MOST_DATAGRAM, MOST_FAILURES, WorkEnd, wants_reply, work_tcp, work_udp};
+pub use udp_worker::work_udp;
+pub use working::{MOST_DATAGRAM, MOST_FAILURES, WorkEnd, wants_reply};

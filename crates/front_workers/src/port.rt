@@ -1,4 +1,4 @@
-//! Where queries come in: datagrams, and connections.
+//! Where datagrams come in and replies go out, for a worker that serves one after another.
 
 ghost use Rattle.std.specs.Prelude.{◌≡◌, ℕ, ◌≤◌, List, Option, Result, length, IfOk, IfSome};
 ghost use Rattle.std.specs.declared.net.SocketAddr.{SocketAddr};
@@ -8,10 +8,9 @@ ghost use Rattle.front_workers.specs.Counts.{Counts};
 
 use crate::device::DeviceFault;
 use std::net::SocketAddr;
-use streams::{Sink, Source};
 
 /// A datagram that came.
-#[derive(Clone, Copy, Debug)]
+#[derive(Clone, Copy)]
 pub struct Came {
     /// Who sent it.
     pub peer: SocketAddr,
@@ -39,20 +38,5 @@ pub trait Port {
     /// Sends a reply.
     fn give(&mut self, peer: SocketAddr, reply: &[u8]) -> Result<(), DeviceFault>
         ensures given { gives self.old peer reply.now result self.new }
-        ensures counted { Counts result (failures self.old) (failures self.new) };
-}
-
-/// Where connections come in. Each is read from and written to.
-pub trait Listener<S: Source, W: Sink> {
-    /// One call: the listener before, what came, the listener after.
-    ghost accepts: { Self → Result (Option (S × W)) DeviceFault → Self → Type 0 };
-
-    /// How many calls failed. At most 2^64 - 1 are counted.
-    ghost failures: { Self → ℕ };
-
-    /// The next connection. None where the listener has ended.
-    fn accept(&mut self) -> Result<Option<(S, W)>, DeviceFault>
-        ensures accepted { accepts self.old result self.new }
-        ensures fresh { IfOk result (λ came. IfSome came (λ c. (S.calls c.0 ≡ 0) × (W.failures c.1 ≡ 0))) }
         ensures counted { Counts result (failures self.old) (failures self.new) };
 }

@@ -14,9 +14,9 @@ use dns_name::NoMemory;
 use dns_query::Over;
 use dns_text::Question;
 use dns_wire::{Asked, Query, read_question};
+use history::Desk;
 use rand_core::Rng;
 use std::alloc::Global;
-use undo_book::Desk;
 
 /// The same question, which takes no memory.
 pub fn copy_question(question: &Question) -> Result<Question, NoMemory>

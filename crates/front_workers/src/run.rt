@@ -11,10 +11,10 @@ use crate::tools::Tools;
 use command_text::Clock;
 use dns_name::NoMemory;
 use dns_text::Question;
+use history::Desk;
 use iterate::{Answer, Input, Task, Want, due_law};
 use rand_core::Rng;
 use std::alloc::{AllocError, Global};
-use undo_book::Desk;
 
 /// What a want comes to.
 pub(crate) enum Turn {

@@ -16,10 +16,10 @@ use crate::tools::Tools;
 use command_text::Clock;
 use dns_query::Over;
 use dns_text::Octets;
+use history::Desk;
 use rand_core::Rng;
 use std::alloc::Global;
 use streams::{MOST_READS, Sink, Source, send};
-use undo_book::Desk;
 
 /// Serves one message of a stream.
 fn serve_message<D: Desk, X: Exchange, C: Clock, R: Rng, W: Sink>(

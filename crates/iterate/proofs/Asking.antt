@@ -10,7 +10,7 @@ use Rattle.dns_text.specs.declared.record.Question.{Question}
 use Rattle.dns_query.specs.declared.over.Over.{Over}
 use Rattle.dns_query.specs.Query.{IsQuery}
 use Rattle.rand_core.specs.Stream.{Stream, next_u32}
-use Rattle.undo_book.specs.declared.event.Event.TheVariants.{Look}
+use Rattle.history.specs.declared.event.Event.TheVariants.{Look}
 use Rattle.iterate.specs.declared.answer.Answer.TheVariants.{Reply as Replies}
 use Rattle.iterate.specs.declared.path.Path.{Path}
 use Rattle.iterate.specs.declared.phase.Phase.{Phase}

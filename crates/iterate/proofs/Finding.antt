@@ -9,13 +9,13 @@ use Rattle.dns_text.specs.declared.record.Question.{Question}
 use Rattle.dns_query.specs.Query.{address_question}
 use Rattle.local_zone.specs.declared.local.Local.TheVariants as local
 use Rattle.rand_core.specs.Stream.{Stream}
-use Rattle.undo_book.specs.declared.event.Ask.{Ask}
-use Rattle.undo_book.specs.declared.event.Ask.TheVariants.{Answer as Asked, Servers as ServersFor}
-use Rattle.undo_book.specs.declared.event.Event.TheVariants.{Look}
-use Rattle.undo_book.specs.declared.event.Reply.TheVariants.{Seen}
-use Rattle.undo_book.specs.declared.event.Seen.{Seen as SeenValue}
-use Rattle.undo_book.specs.declared.event.Seen.TheVariants.{Unknown, Held, Local as LocalSeen, Zones, Records, Stubs, Commands, Servers as SeenServers}
-use Rattle.undo_book.specs.declared.servers.Servers.{Servers}
+use Rattle.history.specs.declared.event.Ask.{Ask}
+use Rattle.history.specs.declared.event.Ask.TheVariants.{Answer as Asked, Servers as ServersFor}
+use Rattle.history.specs.declared.event.Event.TheVariants.{Look}
+use Rattle.history.specs.declared.event.Reply.TheVariants.{Seen}
+use Rattle.history.specs.declared.event.Seen.{Seen as SeenValue}
+use Rattle.history.specs.declared.event.Seen.TheVariants.{Unknown, Held, Local as LocalSeen, Zones, Records, Stubs, Commands, Servers as SeenServers}
+use Rattle.history.specs.declared.servers.Servers.{Servers}
 use Rattle.iterate.specs.declared.answer.Answer.TheVariants.{Reply as Replies}
 use Rattle.iterate.specs.declared.answer.Told.{Told}
 use Rattle.iterate.specs.declared.path.Path.{Path}

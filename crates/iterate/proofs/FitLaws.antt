@@ -18,7 +18,7 @@ use Rattle.ranked.specs.declared.find.Body.TheVariants.{Set, NoData, NoName}
 use Rattle.ranked.specs.declared.find.Find.{Find}
 use Rattle.ranked.specs.declared.find.Scope.{Scope}
 use Rattle.ranked.specs.declared.find.Scope.TheVariants.{One, Whole}
-use Rattle.undo_book.specs.declared.event.Seen.{Seen as SeenValue}
+use Rattle.history.specs.declared.event.Seen.{Seen as SeenValue}
 use Rattle.iterate.specs.declared.answer.Answer.{Answer}
 use Rattle.iterate.specs.declared.answer.Answer.TheVariants.{Reply, Silent}
 use Rattle.iterate.specs.declared.answer.Soa.{Soa}

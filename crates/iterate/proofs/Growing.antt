@@ -6,7 +6,7 @@ use Rattle.std.proofs.lemmas.List.Sums.{sum_by-append}
 use Rattle.dns_name.specs.Labels.{Labels}
 use Rattle.dns_text.specs.declared.addr.Addr.{Addr}
 use Rattle.dns_text.specs.declared.record.Question.{Question}
-use Rattle.undo_book.specs.declared.servers.Servers.{Servers}
+use Rattle.history.specs.declared.servers.Servers.{Servers}
 use Rattle.iterate.specs.declared.answer.Told.{Told}
 use Rattle.iterate.specs.declared.path.Path.{Path}
 use Rattle.iterate.specs.declared.search.Frame.{Frame}

@@ -18,8 +18,8 @@ use Rattle.dns_query.specs.declared.verdict.Says.TheVariants.{Denies, Refers}
 use Rattle.neg_rule.specs.Negative.{Said, said_by}
 use Rattle.rand_core.specs.Stream.{Stream}
 use Rattle.ranked.specs.declared.find.Find.{Find}
-use Rattle.undo_book.specs.declared.event.Event.TheVariants.{Admit}
-use Rattle.undo_book.specs.declared.servers.Servers.{Servers}
+use Rattle.history.specs.declared.event.Event.TheVariants.{Admit}
+use Rattle.history.specs.declared.servers.Servers.{Servers}
 use Rattle.iterate.specs.declared.answer.Answer.TheVariants.{Reply as Replies}
 use Rattle.iterate.specs.declared.path.Path.{Path}
 use Rattle.iterate.specs.declared.phase.Phase.TheVariants.{Admitting, Ended}

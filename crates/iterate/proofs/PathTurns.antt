@@ -8,12 +8,12 @@ use Rattle.dns_text.specs.declared.record.Record.{Record}
 use Rattle.local_zone.specs.declared.local.Local.{Local as LocalAnswer}
 use Rattle.local_zone.specs.declared.local.Local.TheVariants as local
 use Rattle.rand_core.specs.Stream.{Stream}
-use Rattle.undo_book.specs.declared.event.Ask.{Ask}
-use Rattle.undo_book.specs.declared.event.Ask.TheVariants.{Answer as Asked}
-use Rattle.undo_book.specs.declared.event.Event.TheVariants.{Look}
-use Rattle.undo_book.specs.declared.event.Reply.TheVariants.{Taken, Outranked, Seen, Swept, Done, Refused as RefusedCommand, Undone, Redone, NothingToUndo, NothingToRedo}
-use Rattle.undo_book.specs.declared.event.Seen.{Seen as SeenValue}
-use Rattle.undo_book.specs.declared.event.Seen.TheVariants.{Unknown, Held, Local as LocalSeen, Zones, Records, Stubs, Commands, Servers}
+use Rattle.history.specs.declared.event.Ask.{Ask}
+use Rattle.history.specs.declared.event.Ask.TheVariants.{Answer as Asked}
+use Rattle.history.specs.declared.event.Event.TheVariants.{Look}
+use Rattle.history.specs.declared.event.Reply.TheVariants.{Taken, Outranked, Seen, Swept, Done, Refused as RefusedCommand, Undone, Redone, NothingToUndo, NothingToRedo}
+use Rattle.history.specs.declared.event.Seen.{Seen as SeenValue}
+use Rattle.history.specs.declared.event.Seen.TheVariants.{Unknown, Held, Local as LocalSeen, Zones, Records, Stubs, Commands, Servers}
 use Rattle.iterate.specs.declared.answer.Answer.{Answer}
 use Rattle.iterate.specs.declared.answer.Answer.TheVariants.{Reply as Replies, Silent}
 use Rattle.iterate.specs.declared.answer.Soa.{Soa}

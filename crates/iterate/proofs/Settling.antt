@@ -1,8 +1,8 @@
 -- A task that has begun by the look at its question.
 use Rattle.std.proofs.Common.{◌≡◌, ℕ, List, [], ◌∷◌, refl}
 use Rattle.dns_text.specs.declared.record.Question.{Question}
-use Rattle.undo_book.specs.declared.event.Ask.TheVariants.{Answer as Asked}
-use Rattle.undo_book.specs.declared.event.Event.TheVariants.{Look}
+use Rattle.history.specs.declared.event.Ask.TheVariants.{Answer as Asked}
+use Rattle.history.specs.declared.event.Event.TheVariants.{Look}
 use Rattle.iterate.specs.declared.phase.Phase.TheVariants.{First}
 use Rattle.iterate.specs.declared.want.Input.TheVariants.{Begin}
 use Rattle.iterate.specs.declared.want.Step.{Step}

@@ -7,7 +7,7 @@ use Rattle.std.proofs.Math.Seq.{take-append-add}
 use Rattle.dns_name.specs.Labels.{Labels, IsAtOrBelow}
 use Rattle.dns_text.specs.declared.addr.Addr.{Addr}
 use Rattle.dns_text.specs.declared.record.Question.{Question}
-use Rattle.undo_book.specs.declared.servers.Servers.{Servers}
+use Rattle.history.specs.declared.servers.Servers.{Servers}
 use Rattle.dns_text.specs.declared.types.TheConstants as number
 use Rattle.dns_query.specs.Query.{address_question}
 use Rattle.iterate.specs.declared.path.Path.{Path}

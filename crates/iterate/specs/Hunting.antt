@@ -8,7 +8,7 @@ use Rattle.dns_text.specs.declared.addr.Ip.TheVariants.{V4}
 use Rattle.dns_text.specs.declared.record.Data.{Data}
 use Rattle.dns_text.specs.declared.record.Data.TheVariants.{A}
 use Rattle.dns_text.specs.declared.record.Question.{Question}
-use Rattle.undo_book.specs.declared.servers.Servers.{Servers}
+use Rattle.history.specs.declared.servers.Servers.{Servers}
 use Rattle.iterate.specs.declared.search.Frame.{Frame}
 use Rattle.iterate.specs.declared.search.Hunt.{Hunt}
 use Rattle.iterate.specs.declared.search.Next.{Next}
@@ -23,11 +23,11 @@ use Rattle.dns_name.specs.Labels.{IsAtOrBelow}
 use Rattle.local_zone.specs.declared.local.Local.TheVariants.{Data as LocalData}
 use Rattle.ranked.specs.declared.find.Body.{Body}
 use Rattle.ranked.specs.declared.find.Body.TheVariants.{Set}
-use Rattle.undo_book.specs.declared.event.Ask.TheVariants.{Servers as ServersFor}
-use Rattle.undo_book.specs.declared.event.Event.TheVariants.{Look}
-use Rattle.undo_book.specs.declared.event.Reply.TheVariants.{Seen}
-use Rattle.undo_book.specs.declared.event.Seen.{Seen as SeenValue}
-use Rattle.undo_book.specs.declared.event.Seen.TheVariants.{Held, Local as LocalSeen, Servers as SeenServers}
+use Rattle.history.specs.declared.event.Ask.TheVariants.{Servers as ServersFor}
+use Rattle.history.specs.declared.event.Event.TheVariants.{Look}
+use Rattle.history.specs.declared.event.Reply.TheVariants.{Seen}
+use Rattle.history.specs.declared.event.Seen.{Seen as SeenValue}
+use Rattle.history.specs.declared.event.Seen.TheVariants.{Held, Local as LocalSeen, Servers as SeenServers}
 use Rattle.iterate.specs.declared.want.Input.{Input}
 use Rattle.iterate.specs.declared.want.Input.TheVariants.{Reply}
 use Rattle.iterate.specs.declared.want.Want.TheVariants.{Book}

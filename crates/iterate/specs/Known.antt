@@ -20,12 +20,12 @@ use Rattle.local_zone.specs.declared.local.Local.TheVariants.{Data as LocalData}
 use Rattle.neg_rule.specs.Negative.{said_by}
 use Rattle.ranked.specs.declared.cell.Shown.{Shown}
 use Rattle.ranked.specs.declared.find.Find.{Find}
-use Rattle.undo_book.specs.declared.event.Ask.TheVariants.{Answer as Asked, Servers as ServersFor}
-use Rattle.undo_book.specs.declared.event.Event.TheVariants.{Look}
-use Rattle.undo_book.specs.declared.event.Reply.TheVariants.{Seen}
-use Rattle.undo_book.specs.declared.event.Seen.TheVariants.{Held, Local as LocalSeen, Servers as SeenServers}
-use Rattle.undo_book.specs.declared.servers.Servers.{Servers}
-use Rattle.undo_book.specs.declared.servers.Source.TheVariants.{Cache}
+use Rattle.history.specs.declared.event.Ask.TheVariants.{Answer as Asked, Servers as ServersFor}
+use Rattle.history.specs.declared.event.Event.TheVariants.{Look}
+use Rattle.history.specs.declared.event.Reply.TheVariants.{Seen}
+use Rattle.history.specs.declared.event.Seen.TheVariants.{Held, Local as LocalSeen, Servers as SeenServers}
+use Rattle.history.specs.declared.servers.Servers.{Servers}
+use Rattle.history.specs.declared.servers.Source.TheVariants.{Cache}
 use Rattle.iterate.specs.declared.answer.Told.{Told}
 use Rattle.iterate.specs.declared.answer.Told.TheVariants.{Local as LocalTold, Passing as PassingTold}
 use Rattle.iterate.specs.declared.want.Input.TheVariants.{Reply, Came}

@@ -4,10 +4,10 @@ use Rattle.std.specs.Prelude.{◌≡◌, false}
 use Rattle.dns_text.specs.declared.record.Question.{Question}
 use Rattle.local_zone.specs.declared.local.Local.TheVariants.{Data as LocalData}
 use Rattle.ranked.specs.Body.{is_negative}
-use Rattle.undo_book.specs.declared.event.Ask.TheVariants.{Answer as Asked}
-use Rattle.undo_book.specs.declared.event.Reply.TheVariants.{Seen}
-use Rattle.undo_book.specs.declared.event.Seen.{Seen as SeenValue}
-use Rattle.undo_book.specs.declared.event.Seen.TheVariants.{Unknown as SeenUnknown, Held as SeenHeld, Local as SeenLocal}
+use Rattle.history.specs.declared.event.Ask.TheVariants.{Answer as Asked}
+use Rattle.history.specs.declared.event.Reply.TheVariants.{Seen}
+use Rattle.history.specs.declared.event.Seen.{Seen as SeenValue}
+use Rattle.history.specs.declared.event.Seen.TheVariants.{Unknown as SeenUnknown, Held as SeenHeld, Local as SeenLocal}
 use Rattle.iterate.specs.declared.answer.Told.{Told}
 use Rattle.iterate.specs.declared.answer.Told.TheVariants.{Local as LocalTold}
 use Rattle.iterate.specs.declared.shown.Looked.{Looked}

@@ -14,9 +14,9 @@ use Rattle.harvest.specs.Learnt.{set_of}
 use Rattle.neg_rule.specs.Negative.{said_by}
 use Rattle.rand_core.specs.Stream.{Stream}
 use Rattle.ranked.specs.declared.find.Find.{Find}
-use Rattle.undo_book.specs.declared.event.Ask.{Ask}
-use Rattle.undo_book.specs.declared.event.Ask.TheVariants.{Answer as Asked, Servers as ServersFor}
-use Rattle.undo_book.specs.declared.event.Event.TheVariants.{Admit, Look}
+use Rattle.history.specs.declared.event.Ask.{Ask}
+use Rattle.history.specs.declared.event.Ask.TheVariants.{Answer as Asked, Servers as ServersFor}
+use Rattle.history.specs.declared.event.Event.TheVariants.{Admit, Look}
 use Rattle.iterate.specs.declared.answer.Answer.{Answer}
 use Rattle.iterate.specs.declared.limits.TheConstants.{MOST_DEPTH, MOST_SENDS}
 use Rattle.iterate.specs.declared.phase.Phase.{Phase}

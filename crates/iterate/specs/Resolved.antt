@@ -14,13 +14,13 @@ use Rattle.dns_query.specs.Verdict.{IsDenial, IsUseless}
 use Rattle.local_zone.specs.declared.local.Local.TheVariants as local
 use Rattle.neg_rule.specs.Negative.{said_by, negative_in}
 use Rattle.ranked.specs.declared.find.Find.{Find}
-use Rattle.undo_book.specs.declared.event.Ask.TheVariants.{Answer as Asked, Servers as ServersFor}
-use Rattle.undo_book.specs.declared.event.Event.{Event}
-use Rattle.undo_book.specs.declared.event.Event.TheVariants.{Look}
-use Rattle.undo_book.specs.declared.event.Reply.TheVariants.{Seen}
-use Rattle.undo_book.specs.declared.event.Seen.{Seen as SeenValue}
-use Rattle.undo_book.specs.declared.event.Seen.TheVariants.{Held, Local as LocalSeen, Servers as SeenServers}
-use Rattle.undo_book.specs.declared.servers.Servers.{Servers}
+use Rattle.history.specs.declared.event.Ask.TheVariants.{Answer as Asked, Servers as ServersFor}
+use Rattle.history.specs.declared.event.Event.{Event}
+use Rattle.history.specs.declared.event.Event.TheVariants.{Look}
+use Rattle.history.specs.declared.event.Reply.TheVariants.{Seen}
+use Rattle.history.specs.declared.event.Seen.{Seen as SeenValue}
+use Rattle.history.specs.declared.event.Seen.TheVariants.{Held, Local as LocalSeen, Servers as SeenServers}
+use Rattle.history.specs.declared.servers.Servers.{Servers}
 use Rattle.iterate.specs.declared.answer.Answer.{Answer}
 use Rattle.iterate.specs.declared.answer.Answer.TheVariants.{Reply as Replies, Silent}
 use Rattle.iterate.specs.declared.answer.Soa.{Soa}

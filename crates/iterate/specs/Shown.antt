@@ -14,14 +14,14 @@ use Rattle.ranked.specs.Rank.{level_of}
 use Rattle.ranked.specs.declared.cell.Shown.{Shown}
 use Rattle.ranked.specs.declared.find.Body.TheVariants.{NoData, NoName}
 use Rattle.ranked.specs.declared.find.Find.{Find}
-use Rattle.undo_book.specs.declared.event.Ask.{Ask}
-use Rattle.undo_book.specs.declared.event.Ask.TheVariants.{Answer as Asked, Servers as ServersFor}
-use Rattle.undo_book.specs.declared.event.Event.{Event}
-use Rattle.undo_book.specs.declared.event.Event.TheVariants.{Admit, Look}
-use Rattle.undo_book.specs.declared.event.Reply.{Reply as BookReply}
-use Rattle.undo_book.specs.declared.event.Reply.TheVariants.{Taken, Outranked, Seen}
-use Rattle.undo_book.specs.declared.event.Seen.{Seen as SeenValue}
-use Rattle.undo_book.specs.declared.event.Seen.TheVariants.{Unknown, Held, Local as LocalSeen, Servers as SeenServers}
+use Rattle.history.specs.declared.event.Ask.{Ask}
+use Rattle.history.specs.declared.event.Ask.TheVariants.{Answer as Asked, Servers as ServersFor}
+use Rattle.history.specs.declared.event.Event.{Event}
+use Rattle.history.specs.declared.event.Event.TheVariants.{Admit, Look}
+use Rattle.history.specs.declared.event.Reply.{Reply as BookReply}
+use Rattle.history.specs.declared.event.Reply.TheVariants.{Taken, Outranked, Seen}
+use Rattle.history.specs.declared.event.Seen.{Seen as SeenValue}
+use Rattle.history.specs.declared.event.Seen.TheVariants.{Unknown, Held, Local as LocalSeen, Servers as SeenServers}
 use Rattle.iterate.specs.declared.answer.Soa.{Soa}
 use Rattle.iterate.specs.declared.answer.Soa.TheVariants.{Find as FindSoa, Local as LocalSoa}
 use Rattle.iterate.specs.declared.answer.Told.{Told}

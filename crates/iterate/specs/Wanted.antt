@@ -13,9 +13,9 @@ use Rattle.harvest.specs.Harvest.{finds_in}
 use Rattle.neg_rule.specs.Negative.{said_by}
 use Rattle.rand_core.specs.Stream.{Stream, next_u32}
 use Rattle.ranked.specs.declared.find.Find.{Find}
-use Rattle.undo_book.specs.declared.event.Ask.TheVariants.{Answer as Asked, Servers as ServersFor}
-use Rattle.undo_book.specs.declared.event.Event.{Event}
-use Rattle.undo_book.specs.declared.event.Event.TheVariants.{Admit, Look}
+use Rattle.history.specs.declared.event.Ask.TheVariants.{Answer as Asked, Servers as ServersFor}
+use Rattle.history.specs.declared.event.Event.{Event}
+use Rattle.history.specs.declared.event.Event.TheVariants.{Admit, Look}
 use Rattle.iterate.specs.declared.want.Input.TheVariants.{Came}
 use Rattle.iterate.specs.declared.want.Want.{Want}
 use Rattle.iterate.specs.declared.want.Want.TheVariants.{Book, Send, Finish}

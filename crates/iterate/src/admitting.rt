@@ -3,7 +3,7 @@
 ghost use Rattle.std.specs.Prelude.{◌≡◌, ◌<◌, ◌≤◌, ◌-◌, ◌^◌, ℕ, false, List, IfOk, IsTrue, length};
 ghost use Rattle.dns_text.specs.declared.record.Question.{Question};
 ghost use Rattle.ranked.specs.declared.find.Find.{Find};
-ghost use Rattle.undo_book.specs.declared.event.Event.TheVariants.{Admit};
+ghost use Rattle.history.specs.declared.event.Event.TheVariants.{Admit};
 ghost use Rattle.iterate.specs.declared.want.Want.{Want};
 ghost use Rattle.iterate.specs.declared.want.Want.TheVariants.{Book};
 ghost use Rattle.iterate.specs.Exchanges.{Exchange, exchange, Adds};
@@ -18,9 +18,9 @@ use crate::search::Search;
 use crate::want::{Input, Want};
 use dns_name::NoMemory;
 use dns_query::Heard;
+use history::{Event, Reply};
 use rand_core::Rng;
 use std::alloc::Global;
-use undo_book::{Event, Reply};
 
 /// How many finds a response taught.
 fn count_finds(heard: &Heard) -> usize

@@ -11,7 +11,7 @@ use ranked::SharedFind;
 use std::alloc::Global;
 
 /// A set of an answer.
-#[derive(Debug, Drop)]
+#[derive(Drop)]
 pub enum Told {
     /// What was learnt, with the seconds for which it may be kept.
     Find { ttl: u32, find: SharedFind },
@@ -22,7 +22,7 @@ pub enum Told {
 }
 
 /// The SOA record of a negative answer (RFC 2308, section 3).
-#[derive(Debug, Drop)]
+#[derive(Drop)]
 pub enum Soa {
     /// That of a find that denies, with the seconds for which it may be kept.
     Find { ttl: u32, find: SharedFind },
@@ -31,7 +31,7 @@ pub enum Soa {
 }
 
 /// What a question is answered.
-#[derive(Debug, Drop)]
+#[derive(Drop)]
 pub enum Answer {
     /// A reply.
     Reply {

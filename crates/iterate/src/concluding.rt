@@ -20,9 +20,9 @@ use dns_name::{Name, NoMemory};
 use dns_query::{Heard, Referral, Says};
 use dns_text::{Addr, Shared};
 use harvest::Harvest;
+use history::{Servers, Source};
 use rand_core::Rng;
 use std::alloc::Global;
-use undo_book::{Servers, Source};
 
 /// The servers to which a response refers.
 fn servers_of(alloc: Global, referral: Referral) -> Result<Shared<Servers>, NoMemory>

@@ -3,7 +3,7 @@
 ghost use Rattle.std.specs.Prelude.{◌≡◌, ◌<◌, ◌≤◌, [], true, false, ℕ, List, Some, None, IfOk, MatchOption};
 ghost use Rattle.std.specs.Option.{option_map};
 ghost use Rattle.dns_text.specs.declared.record.Question.{Question};
-ghost use Rattle.undo_book.specs.declared.event.Seen.TheVariants.{Held as SeenHeld, Local as SeenLocal};
+ghost use Rattle.history.specs.declared.event.Seen.TheVariants.{Held as SeenHeld, Local as SeenLocal};
 ghost use Rattle.iterate.specs.declared.answer.Soa.TheVariants.{Find as FindSoa, Local as LocalSoa};
 ghost use Rattle.iterate.specs.Exchanges.{Exchange};
 ghost use Rattle.iterate.specs.Known.{Known, Had};

@@ -1,10 +1,10 @@
 //! The first look, at the question itself.
 
 ghost use Rattle.std.specs.Prelude.{◌≡◌, [], ℕ, List, IfOk, MatchOption};
-ghost use Rattle.undo_book.specs.declared.event.Ask.TheVariants.{Answer as Asked};
-ghost use Rattle.undo_book.specs.declared.event.Event.TheVariants.{Look};
-ghost use Rattle.undo_book.specs.declared.event.Reply.TheVariants.{Seen as SeenReply};
-ghost use Rattle.undo_book.specs.declared.event.Seen.TheVariants.{Unknown as SeenUnknown, Held as SeenHeld, Local as SeenLocal};
+ghost use Rattle.history.specs.declared.event.Ask.TheVariants.{Answer as Asked};
+ghost use Rattle.history.specs.declared.event.Event.TheVariants.{Look};
+ghost use Rattle.history.specs.declared.event.Reply.TheVariants.{Seen as SeenReply};
+ghost use Rattle.history.specs.declared.event.Seen.TheVariants.{Unknown as SeenUnknown, Held as SeenHeld, Local as SeenLocal};
 ghost use Rattle.iterate.specs.declared.want.Input.{Input as InputValue};
 ghost use Rattle.iterate.specs.declared.want.Input.TheVariants.{Reply as Replied};
 ghost use Rattle.iterate.specs.declared.want.Want.TheVariants.{Book};
@@ -24,10 +24,10 @@ use crate::shown::{Looked, replied};
 use crate::want::{Input, Want};
 use dns_name::NoMemory;
 use dns_text::{Items, Question};
+use history::{Ask, Event};
 use local_zone::{Local, LocalRecord, SeenRecord};
 use ranked::{SharedFind, Shown};
 use std::alloc::Global;
-use undo_book::{Ask, Event};
 
 fn copy_question(question: &Question) -> Result<Question, NoMemory>
     ensures { IfOk result (λ copy. copy ≡ question.now) }

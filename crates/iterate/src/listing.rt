@@ -2,10 +2,10 @@
 
 ghost use Rattle.std.specs.Prelude.{◌≡◌, ℕ, List, IfOk, MatchOption};
 ghost use Rattle.dns_text.specs.declared.record.Question.{Question};
-ghost use Rattle.undo_book.specs.declared.event.Ask.TheVariants.{Servers as ServersFor};
-ghost use Rattle.undo_book.specs.declared.event.Event.TheVariants.{Look};
-ghost use Rattle.undo_book.specs.declared.event.Reply.TheVariants.{Seen as SeenReply};
-ghost use Rattle.undo_book.specs.declared.event.Seen.TheVariants.{Servers as SeenServers};
+ghost use Rattle.history.specs.declared.event.Ask.TheVariants.{Servers as ServersFor};
+ghost use Rattle.history.specs.declared.event.Event.TheVariants.{Look};
+ghost use Rattle.history.specs.declared.event.Reply.TheVariants.{Seen as SeenReply};
+ghost use Rattle.history.specs.declared.event.Seen.TheVariants.{Servers as SeenServers};
 ghost use Rattle.iterate.specs.declared.want.Input.TheVariants.{Reply as Replied};
 ghost use Rattle.iterate.specs.declared.want.Want.TheVariants.{Book};
 ghost use Rattle.iterate.specs.Exchanges.{Exchange, exchange, Adds};
@@ -21,9 +21,9 @@ use crate::search::{go_on, reach};
 use crate::want::Input;
 use dns_name::{Name, NoMemory};
 use dns_text::Shared;
+use history::{Reply, Seen, Servers};
 use rand_core::Rng;
 use std::alloc::Global;
-use undo_book::{Reply, Seen, Servers};
 
 fn servers_in(input: &Input) -> Option<&Shared<Servers>>
     ensures { MatchOption result (IsUnlisted input.now) (λ servers. input.now ≡ Replied (SeenReply (SeenServers servers.now))) }

@@ -1,10 +1,10 @@
 //! The aliases so far, and the question to which they lead.
 
 ghost use Rattle.std.specs.Prelude.{◌≡◌, ◌≤◌, ◌<◌, ◌++◌, ◌∷◌, [], ℕ, List, length, None, IfOk, IfSome, MatchOption};
-ghost use Rattle.undo_book.specs.declared.event.Ask.TheVariants.{Answer as Asked};
-ghost use Rattle.undo_book.specs.declared.event.Event.TheVariants.{Look};
-ghost use Rattle.undo_book.specs.declared.event.Reply.TheVariants.{Seen as SeenReply};
-ghost use Rattle.undo_book.specs.declared.event.Seen.TheVariants.{Local as SeenLocal};
+ghost use Rattle.history.specs.declared.event.Ask.TheVariants.{Answer as Asked};
+ghost use Rattle.history.specs.declared.event.Event.TheVariants.{Look};
+ghost use Rattle.history.specs.declared.event.Reply.TheVariants.{Seen as SeenReply};
+ghost use Rattle.history.specs.declared.event.Seen.TheVariants.{Local as SeenLocal};
 ghost use Rattle.iterate.specs.declared.want.Input.{Input as InputValue};
 ghost use Rattle.iterate.specs.declared.want.Input.TheVariants.{Reply as Replied};
 ghost use Rattle.iterate.specs.declared.want.Want.TheVariants.{Book};
@@ -28,12 +28,12 @@ use crate::want::{Input, Want};
 use dns_name::{Name, NoMemory};
 use dns_text::types::CNAME;
 use dns_text::{Items, Question};
+use history::{Ask, Event};
 use local_zone::{Local, LocalRecord, SeenRecord};
 use std::alloc::Global;
-use undo_book::{Ask, Event};
 
 /// The aliases so far, and the question to which they lead.
-#[derive(Debug, Drop)]
+#[derive(Drop)]
 pub struct Path {
     pub sets: Vec<Told>,
     pub last: Question,

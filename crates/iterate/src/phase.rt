@@ -21,7 +21,7 @@ use rand_core::Rng;
 use std::alloc::{AllocError, Global};
 
 /// What is looked for of a server without an address.
-#[derive(Clone, Copy, Debug, PartialEq, Eq)]
+#[derive(Clone, Copy, PartialEq, Eq)]
 pub enum Stage {
     /// Its address.
     Address,
@@ -32,7 +32,7 @@ pub enum Stage {
 }
 
 /// Where a task stands. What only a search remembers has a block of its own, so that a step which needs none moves little.
-#[derive(Debug, Drop)]
+#[derive(Drop)]
 pub enum Phase {
     /// It has not begun.
     Fresh,

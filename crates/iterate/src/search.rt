@@ -25,12 +25,12 @@ use crate::shown::is_name;
 use dns_name::{Name, NoMemory};
 use dns_text::types::A;
 use dns_text::{Addr, Question, Shared};
+use history::Servers;
 use rand_core::Rng;
 use std::alloc::Global;
-use undo_book::Servers;
 
 /// The servers of a zone, as they are asked about a name.
-#[derive(Debug, Drop)]
+#[derive(Drop)]
 pub struct Hunt {
     pub servers: Shared<Servers>,
     /// Where to ask, each once: where the servers listen, then what was found of those without an address.
@@ -42,14 +42,14 @@ pub struct Hunt {
 }
 
 /// A question for the address of a server that the question behind it lacks.
-#[derive(Debug, Drop)]
+#[derive(Drop)]
 pub struct Frame {
     pub target: Name,
     pub hunt: Hunt,
 }
 
 /// The search for an answer by queries.
-#[derive(Debug, Drop)]
+#[derive(Drop)]
 pub struct Search {
     pub path: Path,
     /// The servers that are asked for the last question of the path.

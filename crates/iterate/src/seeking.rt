@@ -4,9 +4,9 @@ ghost use Rattle.std.specs.Prelude.{◌≡◌, ◌<◌, ℕ, List, IfOk};
 ghost use Rattle.std.specs.List.{AllByRecursion};
 ghost use Rattle.dns_text.specs.declared.record.Question.{Question};
 ghost use Rattle.dns_query.specs.Query.{address_question, alias_question};
-ghost use Rattle.undo_book.specs.declared.event.Ask.TheVariants.{Answer as Asked};
-ghost use Rattle.undo_book.specs.declared.event.Event.TheVariants.{Look};
-ghost use Rattle.undo_book.specs.declared.event.Reply.TheVariants.{Seen as SeenReply};
+ghost use Rattle.history.specs.declared.event.Ask.TheVariants.{Answer as Asked};
+ghost use Rattle.history.specs.declared.event.Event.TheVariants.{Look};
+ghost use Rattle.history.specs.declared.event.Reply.TheVariants.{Seen as SeenReply};
 ghost use Rattle.iterate.specs.declared.want.Input.TheVariants.{Reply as Replied};
 ghost use Rattle.iterate.specs.declared.want.Want.TheVariants.{Book};
 ghost use Rattle.iterate.specs.Exchanges.{Exchange, exchange, Adds};
@@ -28,11 +28,11 @@ use crate::want::{Input, Want};
 use dns_name::{Name, NoMemory};
 use dns_text::types::{A, CNAME};
 use dns_text::{Addr, Question};
+use history::{Ask, Event, Seen};
 use local_zone::Local;
 use rand_core::Rng;
 use ranked::Body;
 use std::alloc::Global;
-use undo_book::{Ask, Event, Seen};
 
 /// What is asked of a book about a server without an address.
 fn ask_at(stage: Stage, target: &Name) -> Result<Ask, NoMemory>

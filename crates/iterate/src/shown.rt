@@ -8,10 +8,10 @@ ghost use Rattle.dns_name.specs.Labels.{Labels};
 ghost use Rattle.ranked.specs.Body.{data_of};
 ghost use Rattle.iterate.specs.declared.answer.Told.{Told};
 ghost use Rattle.iterate.specs.declared.answer.Told.TheVariants.{Local as LocalTold};
-ghost use Rattle.undo_book.specs.declared.event.Ask.TheVariants.{Answer as Asked};
-ghost use Rattle.undo_book.specs.declared.event.Event.TheVariants.{Look};
-ghost use Rattle.undo_book.specs.declared.event.Reply.TheVariants.{Seen as SeenReply};
-ghost use Rattle.undo_book.specs.declared.event.Seen.TheVariants.{Held as SeenHeld, Local as SeenLocal};
+ghost use Rattle.history.specs.declared.event.Ask.TheVariants.{Answer as Asked};
+ghost use Rattle.history.specs.declared.event.Event.TheVariants.{Look};
+ghost use Rattle.history.specs.declared.event.Reply.TheVariants.{Seen as SeenReply};
+ghost use Rattle.history.specs.declared.event.Seen.TheVariants.{Held as SeenHeld, Local as SeenLocal};
 ghost use Rattle.iterate.specs.declared.want.Input.TheVariants.{Reply as Replied};
 ghost use Rattle.iterate.specs.declared.want.Want.TheVariants.{Book};
 ghost use Rattle.iterate.specs.Phase.{Suits};
@@ -24,13 +24,13 @@ use crate::want::Input;
 use dns_name::{Name, NoMemory};
 use dns_text::types::CNAME;
 use dns_text::{Data, Items, Shared};
+use history::{Reply, Seen};
 use local_zone::{Local, LocalRecord, SeenRecord};
 use ranked::{Body, SharedFind, Shown};
 use std::alloc::Global;
-use undo_book::{Reply, Seen};
 
 /// What a look at a question was answered.
-#[derive(Clone, Copy, Debug)]
+#[derive(Clone, Copy)]
 pub(crate) enum Looked<'a> {
     /// Nothing that may be shown.
     Unknown,

@@ -2,8 +2,8 @@
 
 ghost use Rattle.std.specs.Prelude.{◌≡◌, ◌<◌, ◌≤◌, ◌++◌, ◌∷◌, [], IfOk, OnOk, OnErr, IsErr};
 ghost use Rattle.iterate.specs.declared.answer.Answer.{Answer};
-ghost use Rattle.undo_book.specs.declared.event.Ask.TheVariants.{Answer as Asked};
-ghost use Rattle.undo_book.specs.declared.event.Event.TheVariants.{Look};
+ghost use Rattle.history.specs.declared.event.Ask.TheVariants.{Answer as Asked};
+ghost use Rattle.history.specs.declared.event.Event.TheVariants.{Look};
 ghost use Rattle.iterate.specs.declared.want.Input.TheVariants.{Begin};
 ghost use Rattle.iterate.specs.declared.want.Want.TheVariants.{Book, Finish};
 ghost use Rattle.iterate.specs.Exchanges.{exchanges_of, sent_in};
@@ -24,7 +24,7 @@ use std::marker::Model;
 use std::mem;
 
 /// What a task is about, what it did, and where it stands.
-#[derive(Debug, Drop)]
+#[derive(Drop)]
 pub struct State {
     pub question: Question,
     /// Where servers listen that have no port of their own.
@@ -72,7 +72,7 @@ fn take_step<R: Rng>(
 }
 
 /// The resolution of one question (RFC 1034, section 5.3.3).
-#[derive(Debug, Drop)]
+#[derive(Drop)]
 pub struct Task {
     alloc: Global,
     state: State,

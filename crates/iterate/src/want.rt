@@ -6,11 +6,11 @@ use crate::answer::Answer;
 use dns_name::NoMemory;
 use dns_query::Over;
 use dns_text::{Addr, Octets, Shared};
+use history::{DeskFault, Event, Reply};
 use std::alloc::Global;
-use undo_book::{DeskFault, Event, Reply};
 
 /// What comes to a task.
-#[derive(Debug, Drop)]
+#[derive(Drop)]
 pub enum Input {
     /// It begins.
     Begin,
@@ -25,7 +25,7 @@ pub enum Input {
 }
 
 /// What a task wants.
-#[derive(Debug, Drop)]
+#[derive(Drop)]
 pub enum Want {
     /// That a book takes an event.
     Book(Event),
@@ -40,7 +40,7 @@ pub enum Want {
 }
 
 /// What came, and what was wanted then.
-#[derive(Debug, Drop)]
+#[derive(Drop)]
 pub struct Step {
     pub input: Input,
     pub want: Want,

@@ -1,8 +1,8 @@
 use Rattle.std.proofs.Common.{Result, refl, subst}
 use Rattle.streams.specs.Text.{octets_in}
-use Rattle.undo_book.specs.declared.event.Reply.{Reply}
-use Rattle.undo_book.specs.declared.desk.DeskFault.{DeskFault}
-use Rattle.undo_book.specs.Answers.{history_after}
+use Rattle.history.specs.declared.event.Reply.{Reply}
+use Rattle.history.specs.declared.desk.DeskFault.{DeskFault}
+use Rattle.history.specs.Answers.{history_after}
 use Rattle.command_text.specs.Obeying.{Tells}
 use Rattle.command_text.proofs.obeying.ask.Goals as goal
 

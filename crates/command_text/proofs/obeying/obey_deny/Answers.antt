@@ -1,6 +1,6 @@
 use Rattle.std.proofs.Common.{ℕ, inl, sym, subst, ◌∙◌}
 use Rattle.streams.specs.Text.{octets_in}
-use Rattle.undo_book.specs.declared.event.Event.TheVariants.{Admit}
+use Rattle.history.specs.declared.event.Event.TheVariants.{Admit}
 use Rattle.command_text.specs.Obeying.{Asks}
 use Rattle.command_text.proofs.obeying.obey_deny.Goals as goal
 

@@ -7,7 +7,7 @@ use Rattle.iterate.specs.declared.want.Want.{Want}
 use Rattle.iterate.specs.Measure.{left_of_sending}
 use Rattle.iterate.specs.Phase.{IsHearing, Suits}
 use Rattle.iterate.specs.Searching.{hunt_of, question_of}
-use Rattle.undo_book.specs.declared.servers.Servers.{Servers}
+use Rattle.history.specs.declared.servers.Servers.{Servers}
 use Rattle.iterate.proofs.Coming.{counted, asked_once, same_next, meant, useless, vain, was_truncated, from_less, below, going_less, again_less, ended_less, hearing_less, hearing}
 use Rattle.iterate.proofs.came.came.Goals as goal
 

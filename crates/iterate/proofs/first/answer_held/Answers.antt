@@ -1,5 +1,5 @@
 use Rattle.std.proofs.Common.{false, List, ap, sym, subst, ◌∙◌}
-use Rattle.undo_book.specs.declared.event.Seen.TheVariants.{Held}
+use Rattle.history.specs.declared.event.Seen.TheVariants.{Held}
 use Rattle.iterate.specs.declared.answer.Answer.{Answer}
 use Rattle.iterate.specs.declared.answer.Answer.TheVariants.{Reply}
 use Rattle.iterate.specs.declared.answer.Told.{Told}

@@ -1,5 +1,5 @@
 use Rattle.std.proofs.Common.{true, List, ap, sym, subst, ◌∙◌}
-use Rattle.undo_book.specs.declared.event.Seen.TheVariants.{Local}
+use Rattle.history.specs.declared.event.Seen.TheVariants.{Local}
 use Rattle.iterate.specs.declared.answer.Answer.{Answer}
 use Rattle.iterate.specs.declared.answer.Answer.TheVariants.{Reply}
 use Rattle.iterate.specs.declared.answer.Told.{Told}

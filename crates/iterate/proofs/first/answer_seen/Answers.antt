@@ -1,6 +1,6 @@
 use Rattle.std.proofs.Common.{[], subst}
-use Rattle.undo_book.specs.declared.event.Ask.TheVariants.{Answer as Asked}
-use Rattle.undo_book.specs.declared.event.Event.TheVariants.{Look}
+use Rattle.history.specs.declared.event.Ask.TheVariants.{Answer as Asked}
+use Rattle.history.specs.declared.event.Event.TheVariants.{Look}
 use Rattle.iterate.specs.declared.shown.Looked.{Looked}
 use Rattle.iterate.specs.declared.want.Input.{Input}
 use Rattle.iterate.specs.declared.want.Want.TheVariants.{Book}

@@ -1,10 +1,10 @@
 use Rattle.std.proofs.Common.{[], List, subst}
 use Rattle.dns_text.specs.declared.record.Record.{Record}
 use Rattle.local_zone.specs.declared.local.Local.{Local}
-use Rattle.undo_book.specs.declared.event.Ask.TheVariants.{Answer as Asked}
-use Rattle.undo_book.specs.declared.event.Event.TheVariants.{Look}
-use Rattle.undo_book.specs.declared.event.Reply.TheVariants.{Seen}
-use Rattle.undo_book.specs.declared.event.Seen.TheVariants.{Local as LocalSeen}
+use Rattle.history.specs.declared.event.Ask.TheVariants.{Answer as Asked}
+use Rattle.history.specs.declared.event.Event.TheVariants.{Look}
+use Rattle.history.specs.declared.event.Reply.TheVariants.{Seen}
+use Rattle.history.specs.declared.event.Seen.TheVariants.{Local as LocalSeen}
 use Rattle.iterate.specs.declared.want.Input.TheVariants.{Reply}
 use Rattle.iterate.specs.declared.want.Want.TheVariants.{Book}
 use Rattle.iterate.specs.Exchanges.{exchange, Adds}

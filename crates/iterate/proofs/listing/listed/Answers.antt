@@ -1,7 +1,7 @@
 use Rattle.std.proofs.Common.{[], sym, subst, refl}
-use Rattle.undo_book.specs.declared.event.Ask.TheVariants.{Servers as ServersFor}
-use Rattle.undo_book.specs.declared.event.Event.TheVariants.{Look}
-use Rattle.undo_book.specs.declared.servers.Servers.{Servers}
+use Rattle.history.specs.declared.event.Ask.TheVariants.{Servers as ServersFor}
+use Rattle.history.specs.declared.event.Event.TheVariants.{Look}
+use Rattle.history.specs.declared.servers.Servers.{Servers}
 use Rattle.iterate.specs.declared.want.Input.{Input}
 use Rattle.iterate.specs.declared.want.Want.TheVariants.{Book}
 use Rattle.iterate.specs.Exchanges.{exchange, Adds}

@@ -1,5 +1,5 @@
 use Rattle.dns_query.specs.Query.{alias_question}
-use Rattle.undo_book.specs.declared.event.Ask.TheVariants.{Answer as Asked}
+use Rattle.history.specs.declared.event.Ask.TheVariants.{Answer as Asked}
 use Rattle.iterate.proofs.PathTurns.{turned, failing_look, path_some}
 use Rattle.iterate.proofs.path.aliased.Goals as goal
 

@@ -1,4 +1,4 @@
-use Rattle.undo_book.specs.declared.event.Seen.TheVariants.{Local}
+use Rattle.history.specs.declared.event.Seen.TheVariants.{Local}
 use Rattle.iterate.proofs.PathTurns.{turned, seeing, failing_barred, path_some}
 use Rattle.iterate.proofs.path.local_on.Goals as goal
 

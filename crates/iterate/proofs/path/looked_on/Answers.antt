@@ -1,4 +1,4 @@
-use Rattle.undo_book.specs.declared.event.Ask.TheVariants.{Answer as Asked}
+use Rattle.history.specs.declared.event.Ask.TheVariants.{Answer as Asked}
 use Rattle.iterate.proofs.PathTurns.{turned, failing_look, path_some}
 use Rattle.iterate.proofs.path.looked_on.Goals as goal
 

@@ -2,7 +2,7 @@ use Rattle.std.proofs.Common.{◌≡◌, List, length, inl, inr, sym, ap, ◌∙
 use Rattle.std.specs.List.{Contains}
 use Rattle.dns_name.specs.Labels.{Labels}
 use Rattle.dns_text.specs.declared.addr.Addr.{Addr}
-use Rattle.undo_book.specs.declared.servers.Servers.{Servers}
+use Rattle.history.specs.declared.servers.Servers.{Servers}
 use Rattle.iterate.proofs.Supplying.{none_within}
 use Rattle.iterate.proofs.search.begin_hunt.Goals as goal
 

@@ -1,7 +1,7 @@
 use Rattle.std.proofs.Common.{◌≡◌, ◌≤◌, List, length, ap, ◌∙◌, subst}
 use Rattle.std.proofs.Common.{MatchOption}
 use Rattle.dns_name.specs.Labels.{Labels}
-use Rattle.undo_book.specs.declared.servers.Servers.{Servers}
+use Rattle.history.specs.declared.servers.Servers.{Servers}
 use Rattle.iterate.specs.Hunting.{IsAt}
 use Rattle.iterate.proofs.search.next_missing.Goals as goal
 

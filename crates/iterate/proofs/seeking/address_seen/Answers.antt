@@ -1,6 +1,6 @@
 use Rattle.std.proofs.Common.{List, sym, subst, refl, arith}
 use Rattle.dns_text.specs.declared.addr.Addr.{Addr}
-use Rattle.undo_book.specs.declared.event.Reply.TheVariants.{Seen as SeenReply}
+use Rattle.history.specs.declared.event.Reply.TheVariants.{Seen as SeenReply}
 use Rattle.iterate.specs.declared.phase.Stage.TheVariants as stage
 use Rattle.iterate.specs.declared.want.Input.TheVariants.{Reply as Replied}
 use Rattle.iterate.specs.Hunting.{AllServe}

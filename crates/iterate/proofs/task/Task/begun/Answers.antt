@@ -1,5 +1,5 @@
 use Rattle.std.proofs.Common.{[], ◌∷◌, List, ◌∙◌, ap}
-use Rattle.undo_book.specs.declared.event.Event.{Event}
+use Rattle.history.specs.declared.event.Event.{Event}
 use Rattle.iterate.specs.declared.want.Input.TheVariants.{Begin}
 use Rattle.iterate.specs.declared.want.Step.{Step}
 use Rattle.iterate.specs.declared.want.Want.TheVariants.{Book}

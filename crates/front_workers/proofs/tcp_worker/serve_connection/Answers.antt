@@ -1,5 +1,5 @@
 use Rattle.front_workers.proofs.Counting.{excused}
-use Rattle.front_workers.proofs.working.serve_connection.Goals as goal
+use Rattle.front_workers.proofs.tcp_worker.serve_connection.Goals as goal
 
 pub returns-clause-streamed : goal.returns-clause-streamed
 returns-clause-streamed g c =

@@ -2,7 +2,7 @@ use Rattle.std.proofs.Common.{◌≡◌, ◌<◌}
 use Rattle.dns_query.specs.declared.over.Over.TheVariants.{Tcp}
 use Rattle.front_workers.specs.Stream.{serving, lacking}
 use Rattle.front_workers.specs.Working.{connections, streaming, Streamed, Works, HasFailed}
-use Rattle.front_workers.proofs.working.work_tcp.Given as goal
+use Rattle.front_workers.proofs.tcp_worker.work_tcp.Given as goal
 
 -- the connections so far were served
 abbrev pub invariant-loop : goal.invariant-loop

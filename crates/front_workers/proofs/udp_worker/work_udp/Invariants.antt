@@ -2,7 +2,7 @@ use Rattle.std.proofs.Common.{◌≡◌, ◌<◌}
 use Rattle.dns_query.specs.declared.over.Over.TheVariants.{Udp}
 use Rattle.front_workers.specs.Stream.{serving, lacking}
 use Rattle.front_workers.specs.Working.{datagrams, answering, Works, HasFailed}
-use Rattle.front_workers.proofs.working.work_udp.Given as goal
+use Rattle.front_workers.proofs.udp_worker.work_udp.Given as goal
 
 -- what has come so far was served
 abbrev pub invariant-loop : goal.invariant-loop

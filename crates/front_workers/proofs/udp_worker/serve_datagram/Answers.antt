@@ -3,7 +3,7 @@ use Rattle.std.proofs.Common.{refl}
 use Rattle.front_workers.specs.Serves.{fault_octets}
 use Rattle.front_workers.specs.Working.{served, unserved, too_long, too_long_reply}
 use Rattle.front_workers.proofs.Headers.{unserved_header}
-use Rattle.front_workers.proofs.working.serve_datagram.Goals as goal
+use Rattle.front_workers.proofs.udp_worker.serve_datagram.Goals as goal
 
 pub returns-then-wants_reply-clause-answered : goal.returns-then-wants_reply-clause-answered
 returns-then-wants_reply-clause-answered g c =
