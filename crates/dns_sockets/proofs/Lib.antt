@@ -1,1 +1,3 @@
+mod Durations
+mod Passing
 mod Reading

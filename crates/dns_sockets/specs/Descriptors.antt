@@ -2,7 +2,7 @@
 use Rattle.std.specs.Prelude.{◌≡◌, ◌⊎◌, Some}
 use Rattle.std.specs.declared.io.Error.{Error}
 use Rattle.std.specs.IoError.{raw_os_error}
-use Rattle.dns_sockets.specs.declared.descriptors.TheConstants.{EMFILE, ENFILE}
+use Rattle.dns_sockets.specs.declared.clients.descriptors.TheConstants.{EMFILE, ENFILE}
 
 -- The process has as many as it may have (EMFILE), or the system has (ENFILE).
 abbrev pub IsWantOfDescriptors : Error → Type 0

@@ -2,7 +2,10 @@ pub mod Answerable
 pub mod Asked
 pub mod Descriptors
 pub mod Fits
+pub mod Line
+pub mod Moments
+pub mod Own
 pub mod Place
 pub mod Reads
-pub mod Seconds
 pub mod Spots
+pub mod Wanting

@@ -1,7 +1,7 @@
 -- Where messages begin in what comes over a connection: each stands behind its length in two octets (RFC 1035, section 4.2.2).
 use Rattle.std.specs.Prelude.{◌≢◌, ℕ, ◌+◌, ◌-◌, ◌*◌, ◌<◌, ◌==◌, List, length, take, fold, if◌then◌else◌}
-use Rattle.dns_sockets.specs.declared.spot.Spot.{Spot}
-use Rattle.dns_sockets.specs.declared.spot.Spot.TheVariants.{Beginning, Length, Inside}
+use Rattle.dns_sockets.specs.declared.clients.spot.Spot.{Spot}
+use Rattle.dns_sockets.specs.declared.clients.spot.Spot.TheVariants.{Beginning, Length, Inside}
 
 -- so many octets of a message are left, or it has ended
 abbrev pub spot_inside : ℕ → Spot

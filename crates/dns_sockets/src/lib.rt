@@ -3,57 +3,39 @@
 
 // In the order in which to read them.
 
+// How many octets a message has at most.
+mod lengths;
 // How long is waited.
 mod deadline;
-// What tells the moment.
-mod seconds;
-// An address as the C library takes it.
-mod c_address;
-// What std does not offer of sockets and descriptors.
-mod options;
-// The sockets of the service, and how what waits at them is woken.
-mod binding;
-// What workers are told to stop by.
-mod stop_flag;
-// What datagrams come and leave by.
-mod datagram_socket;
-// Datagrams.
-mod udp_port;
+// What a call that never waits returns where it would.
+mod waiting;
+// The time since a moment, by the system's monotonic clock.
+mod monotonic;
 // Calls of a connection that are limited in time.
 mod limits;
-// Where messages begin in what comes over a connection.
-mod spot;
-// What is read of a connection.
-mod frame_reader;
-// What is written to it.
-mod frame_writer;
-// What a want of descriptors is told by.
-mod descriptors;
-// Connections.
-mod connections;
-// Where a server is.
-mod place;
-// Which octets may be the reply to a query.
-mod fitting;
-// The network in which name servers are.
-mod server_net;
-// A connection whose calls end by a deadline.
-mod timed;
-// Queries to name servers.
-mod socket_exchange;
+// What workers are told to stop by.
+mod stop_flag;
+// Sockets at which clients' queries come in.
+mod clients;
+// Sockets by which queries go out to name servers.
+mod name_servers;
 
-pub use binding::{bind_any, bind_each, bind_tcp, bind_udp, wake_tcp, wake_udp};
-pub use connections::Connections;
-pub use datagram_socket::DatagramSocket;
+pub use clients::answerable::is_answerable;
+pub use clients::binding::{bind_each, bind_tcp, wake_tcp};
+pub use clients::connections::Connections;
+pub use clients::frame_reader::FrameReader;
+pub use clients::frame_writer::{FrameWriter, Outgoing};
+pub use clients::options::descriptor_limit;
 pub use deadline::glance;
-pub use fitting::fits;
-pub use frame_reader::FrameReader;
-pub use frame_writer::{FrameWriter, Outgoing};
+pub use lengths::MOST_MESSAGE;
 pub use limits::Limits;
-pub use options::descriptor_limit;
-pub use place::place_of;
-pub use seconds::{Elapsing, SecondsClock};
-pub use server_net::ServerNet;
-pub use socket_exchange::{MOST_MESSAGE, SocketExchange};
+pub use monotonic::{Elapsing, MonotonicClock};
+pub use name_servers::fitting::fits;
+pub use name_servers::place::place_of;
+pub use name_servers::ready_net::{ReadyConnection, ReadyNet, ReadySocket};
+pub use name_servers::server_net::ServerNet;
+pub use name_servers::socket_exchange::SocketExchange;
+pub use name_servers::tcp_line::TcpLine;
+pub use name_servers::udp_line::UdpLine;
 pub use stop_flag::StopFlag;
-pub use udp_port::{UdpPort, is_answerable};
+pub use waiting::would_wait;

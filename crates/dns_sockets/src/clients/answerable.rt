@@ -1,0 +1,13 @@
+//! Which datagrams can be answered.
+
+ghost use Rattle.std.specs.Prelude.{◌↔◌, IsTrue};
+ghost use Rattle.dns_sockets.specs.Answerable.{IsAnswerable};
+
+use std::net::SocketAddr;
+
+/// No reply reaches port 0, and an empty datagram asks nothing.
+pub fn is_answerable(peer: SocketAddr, count: usize) -> bool
+    ensures { IsTrue result ↔ IsAnswerable peer count }
+{
+    peer.port() != 0 && count != 0
+}

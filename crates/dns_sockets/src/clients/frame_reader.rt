@@ -1,0 +1,171 @@
+//! What is read of a connection.
+
+ghost use Rattle.std.specs.Prelude.{◌≡◌, ◌+◌, ◌<◌, ◌≤◌, None, length, take, drop, IfOk, IfSome, MatchBool, MatchOption, OnErr};
+ghost use Rattle.std.specs.Io.Buffered.{reader_buffer, reader_capacity, reader_inner, reader_remaining};
+ghost use Rattle.std.specs.Io.KnownBytes.{Consumes, IsAtEnd, Keeps};
+ghost use Rattle.streams.specs.Told.{CountsFailure};
+ghost use Rattle.streams.specs.declared.source.TheConstants.{MOST_COUNTED};
+ghost use Rattle.dns_sockets.specs.declared.clients.spot.Spot.TheVariants.{Beginning};
+ghost use Rattle.dns_sockets.specs.Reads.{Reads};
+ghost use Rattle.dns_sockets.specs.Spots.{spot_after, IsOfOneMessage};
+
+use crate::clients::spot::Spot;
+use crate::deadline::{Deadline, begin_wait, glance, is_wait_over};
+use crate::lengths::MOST_FRAMED;
+use crate::limits::Limits;
+use crate::stop_flag::StopFlag;
+use std::alloc::Global;
+use std::io;
+use std::io::{BufRead, BufReader, Read};
+use std::rt::Clock;
+use streams::{ReadFailed, Source};
+
+/// Reads messages behind their lengths (RFC 1035, section 4.2.2) from a connection, ahead of what it hands out.
+///
+/// A message that has not come whole two seconds after the reader first waited for it ends the connection by a failed
+/// read, and so does one that does not begin. Where a message would begin and the stop flag is set, the connection is
+/// at its end.
+#[derive(Drop)]
+pub struct FrameReader<'a, R: Clock, F: StopFlag, S: Read> {
+    rt: &'a R,
+    stop: &'a F,
+    stream: BufReader<S>,
+    spot: Spot,
+    /// By when the message has to come, once it was waited for.
+    deadline: Option<Deadline>,
+    calls: u64,
+    failures: u64,
+    ghost fewer: { failures ≤ calls },
+}
+
+impl<'a, R: Clock, F: StopFlag, S: Read + Limits + Drop> FrameReader<'a, R, F, S> {
+    pub(crate) fn new(
+        rt: &'a R,
+        alloc: Global,
+        stream: S,
+        stop: &'a F,
+    ) -> io::Result<FrameReader<'a, R, F, S>>
+        ensures { IfOk result (λ reader. reader.calls ≡ 0) }
+    {
+        Ok(FrameReader {
+            rt,
+            stop,
+            // Reads ahead the longest message behind its length, or many short ones.
+            stream: BufReader::with_capacity(alloc, MOST_FRAMED, stream)?,
+            spot: Spot::Beginning,
+            deadline: None,
+            calls: 0,
+            failures: 0,
+        })
+    }
+}
+
+/// Has the next read wait no longer than until the deadline, nor than until the stop flag is looked at again.
+fn limit_wait<R: Clock, S: Limits>(
+    rt: &R,
+    stream: &S,
+    deadline: &mut Option<Deadline>,
+) -> io::Result<()> {
+    let left = begin_wait(rt, deadline)?.left(rt)?;
+    stream.limit_read(left.min(glance()))
+}
+
+impl<'a, R: Clock, F: StopFlag, S: Read + Limits> FrameReader<'a, R, F, S> {
+    /// Hands out octets of one message.
+    fn hand_out(&mut self, room: &mut [u8]) -> usize
+        ensures within { result ≤ length room.new }
+        ensures held { take result room.new ≡ take result (reader_buffer self.old.stream) }
+        ensures left { reader_buffer self.new.stream ≡ drop result (reader_buffer self.old.stream) }
+        ensures inner { reader_inner self.new.stream ≡ reader_inner self.old.stream }
+        ensures capacity { reader_capacity self.new.stream ≡ reader_capacity self.old.stream }
+        ensures spot { self.new.spot ≡ spot_after self.old.spot (take result room.new) }
+        ensures one { IsOfOneMessage self.old.spot (take result room.new) }
+        ensures counts { (self.new.calls ≡ self.old.calls) × (self.new.failures ≡ self.old.failures) }
+    {
+        let held = self.stream.buffer();
+        let most = held.len().min(room.len());
+        let count = self.spot.go_on(&held[..most]);
+        room[..count].copy_from_slice(&held[..count]);
+        self.stream.consume(count);
+        // What waited in vain goes on waiting: only what came ends a wait.
+        if count > 0 && self.spot == Spot::Beginning {
+            self.deadline = None;
+        }
+        count
+    }
+
+    /// Waits for octets where none are held, and not for ever: none may have come. False at the end of the connection.
+    fn fill(&mut self) -> io::Result<bool>
+        ensures kept { Keeps (reader_remaining S.remaining self.old.stream) (reader_remaining S.remaining self.new.stream) }
+        ensures end { IfOk result (λ going. MatchBool going (Unit {0}) (IsAtEnd (reader_remaining S.remaining self.old.stream))) }
+        ensures spot { self.new.spot ≡ self.old.spot }
+        ensures counts { (self.new.calls ≡ self.old.calls) × (self.new.failures ≡ self.old.failures) }
+    {
+        if !self.stream.buffer().is_empty() {
+            return Ok(true);
+        }
+        limit_wait(self.rt, self.stream.get_ref(), &mut self.deadline)?;
+        match self.stream.fill_buf() {
+            Ok(octets) => Ok(!octets.is_empty()),
+            Err(error) => {
+                if is_wait_over(&error) {
+                    Ok(true)
+                } else {
+                    Err(error)
+                }
+            }
+        }
+    }
+
+    /// Some octets of one message, none where none came so far, or the end.
+    fn come(&mut self, room: &mut [u8]) -> io::Result<Option<usize>>
+        // It ends where a message begins and the flag is set, or with the connection.
+        ensures read { IfOk result (λ came. Reads came ((self.old.spot ≡ Beginning) × F.stopped)
+            (reader_remaining S.remaining self.old.stream) (reader_remaining S.remaining self.new.stream) room.new) }
+        ensures within { IfOk result (λ came. IfSome came (λ count. count ≤ length room.new)) }
+        ensures spot { IfOk result (λ came. IfSome came (λ count. self.new.spot ≡ spot_after self.old.spot (take count room.new))) }
+        ensures one { IfOk result (λ came. IfSome came (λ count. IsOfOneMessage self.old.spot (take count room.new))) }
+        ensures counts { (self.new.calls ≡ self.old.calls) × (self.new.failures ≡ self.old.failures) }
+    {
+        if self.spot == Spot::Beginning && self.stop.is_set() {
+            return Ok(None);
+        }
+        if !self.fill()? {
+            return Ok(None);
+        }
+        Ok(Some(self.hand_out(room)))
+    }
+}
+
+impl<'a, R: Clock, F: StopFlag, S: Read + Limits> Source for FrameReader<'a, R, F, S> {
+    // Nothing is known of what a peer sends.
+    ghost remaining = { λ _. None };
+
+    ghost calls = { λ reader. reader.calls };
+
+    ghost failures = { λ reader. reader.failures };
+
+    fn next(&mut self, room: &mut [u8]) -> Result<Option<usize>, ReadFailed>
+        requires room { 0 < length room.old }
+        requires few { self.old.calls < MOST_COUNTED }
+        // As at a source of which nothing is known,
+        ensures some { IfOk result (λ came. MatchOption came (Keeps None None × IsAtEnd None) (λ n. (n ≤ length room.new) × Consumes None None (take n room.new))) }
+        ensures err { OnErr result (Keeps None None) }
+        // and it ends where a message begins and the flag is set, or with the connection.
+        ensures read { IfOk result (λ came. Reads came ((self.old.spot ≡ Beginning) × F.stopped)
+            (reader_remaining S.remaining self.old.stream) (reader_remaining S.remaining self.new.stream) room.new) }
+        ensures length { length room.new ≡ length room.old }
+        ensures calls { self.new.calls ≡ self.old.calls + 1 }
+        ensures failures { CountsFailure result self.old.failures self.new.failures }
+    {
+        let came = self.come(room);
+        self.calls += 1;
+        match came {
+            Ok(came) => Ok(came),
+            Err(_) => {
+                self.failures += 1;
+                Err(ReadFailed)
+            }
+        }
+    }
+}

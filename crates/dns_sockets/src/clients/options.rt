@@ -1,0 +1,65 @@
+//! What std does not offer of sockets and descriptors: the only file that calls the C library.
+
+ghost use Rattle.std.specs.Prelude.{◌↔◌, ◌≤ℤ◌, pos, IsOk};
+ghost use Rattle.libc.specs.Net.{SockOption};
+
+use crate::clients::c_address::encode;
+use libc::net as c;
+use libc::types::rlimit;
+use os::FromRawFd;
+use std::io;
+use std::net::{Net, SocketAddr, UdpSocket};
+use std::os::fd::AsRawFd;
+
+/// The octets of datagrams that wait to be taken. With the system's default, bursts of some hundred are lost.
+const RECEIVE_BUFFER: i32 = 1 << 20;
+
+/// What a call of the C library came to.
+fn check(status: i32) -> io::Result<()>
+    ensures { IsOk result ↔ (pos 0 ≤ℤ status) }
+{
+    if status < 0 {
+        return Err(io::Error::from_raw_os_error(os::errno()));
+    }
+    Ok(())
+}
+
+/// Sets an option of the level `SOL_SOCKET`, which is 1, to a number.
+fn set_option(socket: &UdpSocket, name: i32, value: i32) -> io::Result<()>
+    requires { SockOption (pos 1) name }
+{
+    let mut octets = [0u8; 16];
+    octets[..4].copy_from_slice(&value.to_ne_bytes());
+    check(unsafe { c::setsockopt(socket.as_raw_fd(), c::SOL_SOCKET, name, &octets, 4) })
+}
+
+/// Has a socket hold more datagrams that wait. The system gives less than this where it allows less.
+pub(crate) fn widen_receive_buffer(socket: &UdpSocket) -> io::Result<()> {
+    set_option(socket, c::SO_RCVBUF, RECEIVE_BUFFER)
+}
+
+/// A socket that has its address together with others that are bound so by the same user. The system hands each datagram
+/// to one of them, by who sent it.
+pub(crate) fn bind_beside<R: Net>(_rt: &R, addr: SocketAddr) -> io::Result<UdpSocket> {
+    let kind = c::SOCK_DGRAM | c::SOCK_CLOEXEC;
+    let fd = match addr {
+        SocketAddr::V4(_) => unsafe { c::socket(c::AF_INET, kind, 0) },
+        SocketAddr::V6(_) => unsafe { c::socket(c::AF_INET6, kind, 0) },
+    };
+    check(fd)?;
+    let socket = unsafe { UdpSocket::from_raw_fd(fd) };
+    set_option(&socket, c::SO_REUSEPORT, 1)?;
+    let (octets, count) = encode(addr);
+    check(unsafe { c::bind(socket.as_raw_fd(), &octets, count) })?;
+    Ok(socket)
+}
+
+/// How many descriptors the process may have (`getrlimit(2)`).
+pub fn descriptor_limit() -> io::Result<u64> {
+    let mut limit = rlimit {
+        rlim_cur: 0,
+        rlim_max: 0,
+    };
+    check(libc::getrlimit(libc::RLIMIT_NOFILE, &mut limit))?;
+    Ok(limit.rlim_cur)
+}

@@ -1,0 +1,95 @@
+//! The network in which name servers are.
+
+ghost use Rattle.std.specs.Prelude.{ℕ, List, ◌≤◌, length, take, IfOk, OnOk};
+ghost use Rattle.std.specs.declared.net.SocketAddr.{SocketAddr};
+
+use crate::limits::Limits;
+use crate::name_servers::drawn_port::bind_any;
+use std::io;
+use std::io::{Read, Write};
+use std::net::{Net, SocketAddr, TcpStream, UdpSocket};
+use std::time::Duration;
+
+/// A network in which name servers are.
+pub trait ServerNet {
+    /// A socket for datagrams to and from one server.
+    type Datagrams: Drop;
+
+    /// A connection to one server.
+    type Connection: Read + Write + Limits + Drop;
+
+    /// The socket is connected to this place.
+    ghost opened: { Self.Datagrams → SocketAddr → Type 0 };
+
+    /// A datagram left by the socket.
+    ghost sent: { Self.Datagrams → List ℕ → Type 0 };
+
+    /// A datagram came to the socket.
+    ghost came: { Self.Datagrams → List ℕ → Type 0 };
+
+    /// The connection is to this place.
+    ghost connected: { Self.Connection → SocketAddr → Type 0 };
+
+    /// A socket at a port that the system draws.
+    fn open_socket(&self, place: SocketAddr) -> io::Result<Self::Datagrams>
+        ensures { IfOk result (λ socket. opened socket place) };
+
+    fn send_datagram(&self, socket: &Self::Datagrams, query: &[u8]) -> io::Result<()>
+        ensures { OnOk result (sent socket.now query.now) };
+
+    /// The next datagram: how many octets of the room it fills. It is waited for so long at most.
+    fn take_datagram(
+        &self,
+        socket: &Self::Datagrams,
+        room: &mut [u8],
+        most: Duration,
+    ) -> io::Result<usize>
+        ensures within { IfOk result (λ count. count ≤ length room.new) }
+        ensures came { IfOk result (λ count. came socket.now (take count room.new)) };
+
+    /// A connection, which comes in so long at most.
+    fn open_connection(&self, place: SocketAddr, most: Duration) -> io::Result<Self::Connection>
+        ensures { IfOk result (λ connection. connected connection place) };
+}
+
+impl<R: Net<Stream = TcpStream>> ServerNet for R {
+    type Datagrams = UdpSocket;
+
+    type Connection = TcpStream;
+
+    // Nothing is known of the system's network.
+    ghost opened = { λ _ _. Unit {0} };
+
+    ghost sent = { λ _ _. Unit {0} };
+
+    ghost came = { λ _ _. Unit {0} };
+
+    ghost connected = { λ _ _. Unit {0} };
+
+    fn open_socket(&self, place: SocketAddr) -> io::Result<UdpSocket> {
+        let socket = bind_any(self, place)?;
+        socket.connect(place)?;
+        Ok(socket)
+    }
+
+    fn send_datagram(&self, socket: &UdpSocket, query: &[u8]) -> io::Result<()> {
+        socket.send(query)?;
+        Ok(())
+    }
+
+    fn take_datagram(
+        &self,
+        socket: &UdpSocket,
+        room: &mut [u8],
+        most: Duration,
+    ) -> io::Result<usize> {
+        socket.set_read_timeout(Some(most))?;
+        socket.recv(room)
+    }
+
+    fn open_connection(&self, place: SocketAddr, most: Duration) -> io::Result<TcpStream> {
+        let stream = TcpStream::connect_timeout(self, &place, most)?;
+        stream.set_nodelay(true)?;
+        Ok(stream)
+    }
+}

@@ -1,0 +1,196 @@
+//! Queries to name servers.
+
+ghost use Rattle.std.specs.Prelude.{◌≡◌, ◌≤◌, ◌<◌, ◌+◌, ◌++◌, length, take, drop, vec_len, IfOk, OnOk};
+ghost use Rattle.std.specs.Io.KnownBytes.{Appends, Consumes};
+ghost use Rattle.std.specs.declared.net.SocketAddr.{SocketAddr};
+ghost use Rattle.front_workers.specs.Framing.{framed};
+ghost use Rattle.dns_sockets.specs.declared.lengths.TheConstants.{MOST_MESSAGE, MOST_FRAMED};
+ghost use Rattle.dns_sockets.specs.Asked.{ByDatagrams, ByStream, IsAskedAt};
+ghost use Rattle.dns_sockets.specs.Fits.{Fits};
+ghost use Rattle.dns_sockets.specs.Place.{IsPlaceOf};
+
+use crate::deadline::Deadline;
+use crate::lengths::{MOST_FRAMED, MOST_MESSAGE};
+use crate::name_servers::fitting::fits;
+use crate::name_servers::place::place_of;
+use crate::name_servers::server_net::ServerNet;
+use crate::name_servers::timed::Timed;
+use dns_query::Over;
+use dns_text::{Addr, NoMemory, Octets};
+use front_workers::{DeviceFault, Exchange};
+use log::{Log, warn};
+use std::alloc::Global;
+use std::io;
+use std::io::{ErrorKind, Read, Write};
+use std::net::SocketAddr;
+use std::rt::Clock;
+
+/// So many datagrams are looked at for one reply. The deadline ends most exchanges earlier.
+const MOST_DATAGRAMS: u32 = 65_536;
+
+/// Asks name servers over sockets, a new one for each query.
+///
+/// An exchange has two seconds for all of it, connecting included. Over UDP the socket is connected to the server
+/// (RFC 5452, section 9.2), at a port that the system draws, and each datagram that does not fit the query is passed
+/// over. Over TCP a message stands behind its length in two octets (RFC 1035, section 4.2.2), and the exchange fails
+/// where the first message does not fit. A reply fits that has the query's identifier and question. Each exchange that
+/// fails is logged.
+#[derive(Drop)]
+pub struct SocketExchange<'a, R> {
+    rt: &'a R,
+    alloc: Global,
+    room: Vec<u8>,
+    failures: u64,
+    ghost whole: { vec_len room ≡ MOST_FRAMED },
+}
+
+impl<'a, R> SocketExchange<'a, R> {
+    /// Makes room for the longest message.
+    pub fn new(rt: &'a R, alloc: Global) -> Result<SocketExchange<'a, R>, NoMemory>
+        ensures { IfOk result (λ exchange. exchange.failures ≡ 0) }
+    {
+        let room = Vec::from_elem(alloc, 0u8, MOST_FRAMED)?;
+        Ok(SocketExchange {
+            rt,
+            alloc,
+            room,
+            failures: 0,
+        })
+    }
+}
+
+fn ask_udp<R: ServerNet + Clock>(
+    rt: &R,
+    place: SocketAddr,
+    query: &[u8],
+    room: &mut [u8],
+) -> io::Result<usize>
+    requires { length room.old ≡ MOST_FRAMED }
+    ensures few { IfOk result (λ count. count ≤ MOST_MESSAGE) }
+    ensures fits { IfOk result (λ count. Fits query.now (take count room.new)) }
+    ensures asked { IfOk result (λ count. ByDatagrams R.opened R.sent R.came place query.now (take count room.new)) }
+{
+    let deadline = Deadline::set(rt)?;
+    let socket = rt.open_socket(place)?;
+    rt.send_datagram(&socket, query)?;
+    for _ in 0..MOST_DATAGRAMS {
+        match rt.take_datagram(&socket, room, deadline.left(rt)?) {
+            Ok(count) => {
+                if count <= MOST_MESSAGE && fits(query, &room[..count]) {
+                    return Ok(count);
+                }
+            }
+            Err(error) => {
+                if error.kind() != ErrorKind::Interrupted {
+                    return Err(error);
+                }
+            }
+        }
+    }
+    Err(io::Error::from(ErrorKind::TimedOut))
+}
+
+/// Puts octets at a place of the room.
+fn put(room: &mut [u8], at: usize, octets: &[u8])
+    requires { at + length octets.now ≤ length room.old }
+    ensures { room.new ≡ take at room.old ++ (octets.now ++ drop (at + length octets.now) room.old) }
+{
+    room[at..at + octets.len()].copy_from_slice(octets);
+}
+
+/// Sends a message behind its length, in one piece (RFC 7766, section 8).
+fn send_framed<W: Write>(stream: &mut W, message: &[u8], room: &mut [u8]) -> io::Result<()>
+    requires { length room.old ≡ MOST_FRAMED }
+    ensures { OnOk result (Appends (W.contents stream.old) (W.contents stream.new) (framed message.now)) }
+{
+    let size = message.len();
+    if size > MOST_MESSAGE {
+        return Err(io::Error::from(ErrorKind::InvalidInput));
+    }
+    put(room, 0, &[(size / 256) as u8, (size % 256) as u8]);
+    put(room, 2, message);
+    stream.write_all(&room[..2 + size])
+}
+
+/// Reads a message behind its length: how many octets of the room it fills.
+fn read_framed<S: Read>(stream: &mut S, room: &mut [u8]) -> io::Result<usize>
+    requires { length room.old ≡ MOST_FRAMED }
+    ensures few { IfOk result (λ count. count ≤ MOST_MESSAGE) }
+    ensures came { IfOk result (λ count. Consumes (S.remaining stream.old) (S.remaining stream.new) (framed (take count room.new))) }
+{
+    let mut length = [0u8; 2];
+    stream.read_exact(&mut length)?;
+    let [high, low] = length;
+    let count = usize::from(high) * 256 + usize::from(low);
+    stream.read_exact(&mut room[..count])?;
+    Ok(count)
+}
+
+fn ask_tcp<R: ServerNet + Clock>(
+    rt: &R,
+    place: SocketAddr,
+    query: &[u8],
+    room: &mut [u8],
+) -> io::Result<usize>
+    requires { length room.old ≡ MOST_FRAMED }
+    ensures few { IfOk result (λ count. count ≤ MOST_MESSAGE) }
+    ensures fits { IfOk result (λ count. Fits query.now (take count room.new)) }
+    ensures asked { IfOk result (λ count. ByStream R.connected R.Connection.contents R.Connection.remaining place query.now (take count room.new)) }
+{
+    let deadline = Deadline::set(rt)?;
+    let stream = rt.open_connection(place, deadline.left(rt)?)?;
+    let mut stream = Timed {
+        rt,
+        stream,
+        deadline,
+    };
+    send_framed(&mut stream, query, room)?;
+    let count = read_framed(&mut stream, room)?;
+    if !fits(query, &room[..count]) {
+        return Err(io::Error::from(ErrorKind::InvalidData));
+    }
+    Ok(count)
+}
+
+/// One exchange: how many octets of the room the reply fills.
+fn ask_over<R: ServerNet + Clock>(
+    rt: &R,
+    server: &Addr,
+    over: Over,
+    query: &[u8],
+    room: &mut [u8],
+) -> io::Result<usize>
+    requires { length room.old ≡ MOST_FRAMED }
+    ensures few { IfOk result (λ count. count ≤ MOST_MESSAGE) }
+    ensures fits { IfOk result (λ count. Fits query.now (take count room.new)) }
+    ensures asked { IfOk result (λ count. (place : SocketAddr) × IsPlaceOf server.now place
+        × IsAskedAt R.opened R.sent R.came R.connected R.Connection.contents R.Connection.remaining over place query.now (take count room.new)) }
+{
+    let place = place_of(server);
+    match over {
+        Over::Udp => ask_udp(rt, place, query, room),
+        Over::Tcp => ask_tcp(rt, place, query, room),
+    }
+}
+
+impl<'a, R: ServerNet + Clock + Log> Exchange for SocketExchange<'a, R> {
+    // What comes is of the server's place, over the transport, behind the query, and fits it.
+    ghost asks = { λ _ server over query came _. IfOk came (λ reply. (length reply ≤ MOST_MESSAGE) × Fits query reply
+        × ((place : SocketAddr) × IsPlaceOf server place × IsAskedAt R.opened R.sent R.came R.connected R.Connection.contents R.Connection.remaining over place query reply)) };
+
+    ghost failures = { λ exchange. exchange.failures };
+
+    fn ask(&mut self, server: &Addr, over: Over, query: &[u8]) -> Result<Octets, DeviceFault> {
+        match ask_over(self.rt, server, over, query, &mut self.room) {
+            Ok(count) => match Vec::from_slice(self.alloc, &self.room[..count]) {
+                Ok(reply) => Ok(Octets::new(reply)),
+                Err(_) => Err(DeviceFault::NoMemory),
+            },
+            Err(_) => {
+                warn!(self.rt; "resolver: device fault");
+                self.failures = self.failures.saturating_add(1);
+                Err(DeviceFault::Device)
+            }
+        }
+    }
+}

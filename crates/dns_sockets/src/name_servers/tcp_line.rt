@@ -1,0 +1,90 @@
+//! A query and its reply over a connection, without waiting.
+
+ghost use Rattle.std.specs.Prelude.{◌≡◌, ◌↔◌, ◌<◌, ◌≤◌, [], length, IsTrue, IfOk, IfSome, IsNone, OnOk};
+ghost use Rattle.std.specs.Io.{StartsWith};
+ghost use Rattle.dns_sockets.specs.declared.lengths.TheConstants.{MOST_MESSAGE};
+ghost use Rattle.front_workers.specs.Framing.{framed};
+ghost use Rattle.dns_sockets.specs.Line.{IsDone, Moves, WentFrom};
+ghost use Rattle.dns_sockets.specs.Wanting.{IsWhole};
+
+use crate::name_servers::framed_query::FramedQuery;
+use crate::name_servers::framed_reply::FramedReply;
+use crate::name_servers::ready_net::{ReadyConnection, ReadyNet};
+use mio::{Registry, Token};
+use std::alloc::Global;
+use std::io;
+use std::marker::Model;
+use std::net::SocketAddr;
+
+/// A connection on which one query goes out and one reply comes in, each behind its length. Contracts see it, what has left
+/// and what has come.
+#[derive(Drop)]
+pub struct TcpLine<S> {
+    stream: S,
+    query: FramedQuery,
+    reply: FramedReply,
+}
+
+impl<S> Model for TcpLine<S> {
+    ghost use Rattle.dns_sockets.specs.Line.{LineState};
+
+    ghost Value = { LineState S };
+
+    ghost view = { λ line. record { stream = line.stream; asks = line.query.octets.items; left = line.query.left; came = line.reply.octets.items } };
+}
+
+impl<S: ReadyConnection> TcpLine<S> {
+    /// Begins to connect, and has the poll watch for what comes. It fails where the query is longer than a message may be,
+    /// where memory or a descriptor is not to be had, or where the system knows no way to the place.
+    pub fn begin<R: ReadyNet<Connection = S>>(
+        rt: &R,
+        alloc: Global,
+        registry: &Registry,
+        token: Token,
+        place: SocketAddr,
+        query: &[u8],
+    ) -> io::Result<TcpLine<S>>
+        ensures connected { IfOk result (λ line. S.connected line.stream place) }
+        ensures reported { IfOk result (λ line. S.reported line.stream token) }
+        ensures asks { IfOk result (λ line. line.asks ≡ framed query.now) }
+        ensures left { IfOk result (λ line. line.left ≡ 0) }
+        ensures came { IfOk result (λ line. line.came ≡ []) }
+        ensures went { IfOk result (λ line. WentFrom S.contents S.remaining line.stream line) }
+    {
+        let query = FramedQuery::new(alloc, query)?;
+        Ok(TcpLine {
+            stream: rt.begin_connection(registry, token, place)?,
+            query,
+            reply: FramedReply::new(alloc),
+        })
+    }
+
+    /// Goes on as far as the connection lets it. Whether the reply has come whole. It fails where connecting did, where the
+    /// connection failed or ended, where signals end each call, or where no memory is found for what came: octets may be
+    /// lost then, and the line is of no more use.
+    pub fn go_on(&mut self, room: &mut [u8]) -> io::Result<bool>
+        requires { 0 < length room.old }
+        ensures asks { self.new.asks ≡ self.old.asks }
+        ensures left { self.old.left ≤ self.new.left }
+        ensures came { StartsWith self.new.came self.old.came }
+        ensures checked { OnOk result (S.has_no_fault self.old.stream) }
+        ensures moves { OnOk result (Moves S.contents S.remaining self.old self.new) }
+        ensures went { OnOk result ((fresh : S) → WentFrom S.contents S.remaining fresh self.old → WentFrom S.contents S.remaining fresh self.new) }
+        ensures done { IfOk result (λ is_done. IsTrue is_done ↔ IsDone self.new) }
+    {
+        self.stream.check()?;
+        if !self.query.write_on(&mut self.stream)? {
+            return Ok(false);
+        }
+        self.reply.read_on(&mut self.stream, room)
+    }
+
+    /// The reply. None where it has not come whole.
+    pub fn reply(&self) -> Option<&[u8]>
+        ensures reply { IfSome result (λ reply. self.now.came ≡ framed reply.now) }
+        ensures within { IfSome result (λ reply. length reply.now ≤ MOST_MESSAGE) }
+        ensures none { IsNone result → ¬ (IsWhole self.now.came) }
+    {
+        self.reply.message()
+    }
+}

@@ -1,0 +1,96 @@
+//! A query and its reply over datagrams, without waiting.
+
+ghost use Rattle.std.specs.Prelude.{◌≡◌, ◌≤◌, ◌⊎◌, length, take, IfOk, IfSome, IsNone, OnErr};
+ghost use Rattle.std.specs.declared.net.SocketAddr.{SocketAddr};
+ghost use Rattle.dns_sockets.specs.declared.lengths.TheConstants.{MOST_MESSAGE};
+ghost use Rattle.dns_sockets.specs.Fits.{Fits};
+ghost use Rattle.dns_sockets.specs.Own.{IsOwn};
+
+use crate::lengths::MOST_MESSAGE;
+use crate::name_servers::fitting::fits;
+use crate::name_servers::own::is_own;
+use crate::name_servers::ready_net::{ReadyNet, ReadySocket};
+use crate::waiting::would_wait;
+use mio::{Registry, Token};
+use std::io;
+use std::io::ErrorKind;
+use std::marker::Model;
+use std::net::SocketAddr;
+
+/// So many datagrams are looked at in one look for one reply. If others wait behind them there is another look.
+const MOST_LOOKED_AT: u32 = 64;
+
+/// A socket of its own by which one query went out, and to which the reply comes, connected to the server (RFC 5452,
+/// section 9.2). Contracts see the socket.
+#[derive(Drop)]
+pub struct UdpLine<S> {
+    socket: S,
+}
+
+impl<S> Model for UdpLine<S> {
+    ghost Value = { S };
+
+    ghost view = { λ line. line.socket };
+}
+
+impl<S: ReadySocket> UdpLine<S> {
+    /// Sends a query. It fails where no descriptor is to be had, where the system knows no way to the place or cannot send
+    /// or tell from where, or where the service itself, which listens here, takes queries there.
+    pub fn begin<R: ReadyNet<Datagrams = S>>(
+        rt: &R,
+        registry: &Registry,
+        token: Token,
+        service: SocketAddr,
+        place: SocketAddr,
+        query: &[u8],
+    ) -> io::Result<UdpLine<S>>
+        ensures opened { IfOk result (λ line. S.opened line place) }
+        ensures reported { IfOk result (λ line. S.reported line token) }
+        ensures sent { IfOk result (λ line. S.sent line query.now) }
+        ensures elsewhere { IfOk result (λ line. (from : SocketAddr) × S.is_at line from × ¬ (IsOwn service from place)) }
+        ensures failed { OnErr result (R.failed ⊎ ((socket : S) × S.opened socket place × (S.failed socket ⊎ ((from : SocketAddr) × S.is_at socket from × IsOwn service from place)))) }
+    {
+        let socket = rt.open_socket(registry, token, place)?;
+        if is_own(service, socket.place()?, place) {
+            return Err(io::Error::from(ErrorKind::AddrNotAvailable));
+        }
+        socket.send_datagram(query)?;
+        Ok(UdpLine { socket })
+    }
+
+    /// Takes the datagrams that came, up to one that fits the query: how many octets of the room it fills. None where none
+    /// is there that fits, or where others wait behind many that do not.
+    pub fn hear(
+        &mut self,
+        registry: &Registry,
+        token: Token,
+        query: &[u8],
+        room: &mut [u8],
+    ) -> io::Result<Option<usize>>
+        requires { length room.old ≡ MOST_MESSAGE }
+        ensures kept { self.new ≡ self.old }
+        ensures few { IfOk result (λ heard. IfSome heard (λ count. count ≤ MOST_MESSAGE)) }
+        ensures fits { IfOk result (λ heard. IfSome heard (λ count. Fits query.now (take count room.new))) }
+        ensures came { IfOk result (λ heard. IfSome heard (λ count. S.came self.old (take count room.new))) }
+        ensures none { IfOk result (λ heard. IsNone heard → S.drained self.old ⊎ S.reported_again self.old token) }
+        ensures failed { OnErr result (S.failed self.old) }
+    {
+        for _ in 0..MOST_LOOKED_AT {
+            match self.socket.take_datagram(room) {
+                Ok(count) => {
+                    if fits(query, &room[..count]) {
+                        return Ok(Some(count));
+                    }
+                }
+                Err(error) => {
+                    if would_wait(error)? {
+                        return Ok(None);
+                    }
+                }
+            }
+        }
+        // What waits behind these is reported once more.
+        self.socket.report_again(registry, token)?;
+        Ok(None)
+    }
+}
