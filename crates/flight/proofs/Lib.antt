@@ -7,3 +7,4 @@ mod Accounting
 mod Flights
 mod Looking
 mod Keeping
+mod Settling

@@ -1,9 +1,9 @@
 -- How a question begins.
 use Rattle.std.proofs.Common.{◌≡◌, ℕ, List, [], ◌∷◌, Option, Some, MatchOption, refl, subst}
 use Rattle.dns_text.specs.declared.record.Question.{Question}
-use Rattle.undo_book.specs.declared.event.Ask.TheVariants.{Answer as Asked}
-use Rattle.undo_book.specs.declared.event.Event.{Event}
-use Rattle.undo_book.specs.declared.event.Event.TheVariants.{Look}
+use Rattle.history.specs.declared.event.Ask.TheVariants.{Answer as Asked}
+use Rattle.history.specs.declared.event.Event.{Event}
+use Rattle.history.specs.declared.event.Event.TheVariants.{Look}
 use Rattle.iterate.specs.declared.answer.Answer.{Answer}
 use Rattle.iterate.specs.declared.want.Input.{Input}
 use Rattle.iterate.specs.declared.want.Input.TheVariants.{Begin}

@@ -8,10 +8,10 @@ use Rattle.iterate.specs.declared.task.State.{State}
 use Rattle.iterate.specs.declared.want.Input.{Input}
 use Rattle.iterate.specs.declared.want.Step.{Step}
 use Rattle.iterate.specs.declared.want.Want.TheVariants.{Book}
-use Rattle.undo_book.specs.declared.event.Ask.TheVariants.{Answer as Asked}
-use Rattle.undo_book.specs.declared.event.Event.TheVariants.{Look}
+use Rattle.history.specs.declared.event.Ask.TheVariants.{Answer as Asked}
+use Rattle.history.specs.declared.event.Event.TheVariants.{Look}
 use Rattle.front_workers.specs.Leads.{Calls, Ticks}
-use Rattle.flight.specs.declared.world.Heard.{Heard}
+use Rattle.flight.specs.declared.outside.Heard.{Heard}
 use Rattle.flight.specs.Flight.{Sent, Hears, Answered, Awaits}
 use Rattle.flight.specs.Told.{IsHeard}
 

@@ -2,8 +2,8 @@
 use Rattle.std.specs.Prelude.{◌≡◌, ◌⊎◌, ◌≤◌, ℕ, ◌-◌, ◌^◌}
 use Rattle.front_workers.specs.Counts.{Rises}
 use Rattle.flight.specs.declared.counts.Counts.{Counts}
-use Rattle.flight.specs.declared.world.Heard.{Heard}
-use Rattle.flight.specs.declared.world.Heard.TheVariants.{Nothing}
+use Rattle.flight.specs.declared.outside.Heard.{Heard}
+use Rattle.flight.specs.declared.outside.Heard.TheVariants.{Nothing}
 
 -- One client more was settled, and nothing else happened.
 pub record CountsSettled (old new : Counts) : Type 0 where

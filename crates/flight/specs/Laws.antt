@@ -1,8 +1,8 @@
 -- What the definitions come to at a seat of a shared book.
 use Rattle.std.specs.Prelude.{◌≤◌, ◌<◌, ℕ}
-use Rattle.undo_book.specs.declared.event.Event.{Event}
-use Rattle.undo_book.specs.declared.event.Reply.{Reply}
-use Rattle.undo_book.specs.declared.event.Settings.{Settings}
+use Rattle.history.specs.declared.event.Event.{Event}
+use Rattle.history.specs.declared.event.Reply.{Reply}
+use Rattle.history.specs.declared.event.Settings.{Settings}
 use Rattle.iterate.specs.declared.want.Input.{Input}
 use Rattle.iterate.specs.declared.want.Input.TheVariants.{Reply as Replied}
 use Rattle.iterate.specs.declared.want.Want.{Want}

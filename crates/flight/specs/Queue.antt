@@ -1,5 +1,5 @@
 -- The queue of exchanges, for contracts inside the crate.
-use Rattle.std.specs.Prelude.{◌≡◌, ◌≤◌, ◌==◌, ◌&&◌, ℕ, Bool, IsTrue, Option, Some, None, slice_index_or, List, ◌∷◌}
+use Rattle.std.specs.Prelude.{◌≡◌, ◌≤◌, ◌+◌, ◌==◌, ◌&&◌, ℕ, Bool, IsTrue, Option, Some, None, slice_index_or, List, ◌∷◌}
 use Rattle.std.specs.List.{All, list_any}
 use Rattle.std.specs.List.Sorted.{IsNonDecreasingBy}
 use Rattle.flight.specs.declared.table.Wait.{Wait}
@@ -18,3 +18,8 @@ pub record IsQueue (exchanges : List (Option ℕ)) (waits : List Wait) (latest :
 pub record FirstIs (waits : List Wait) (wait : Wait) : Type 0 where
   pub rest : List Wait
   pub is : waits ≡ wait ∷ rest
+
+-- This is the first, and began so many milliseconds ago or more.
+pub record IsFirstDue (patience now : ℕ) (waits : List Wait) (wait : Wait) : Type 0 where
+  pub first : FirstIs waits wait
+  pub due : wait.since + patience ≤ now

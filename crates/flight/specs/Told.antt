@@ -1,10 +1,9 @@
 -- What a client is told over UDP.
-use Rattle.std.specs.Prelude.{◌≡◌, ℕ, Option, Some, None, Bool, List}
+use Rattle.std.specs.Prelude.{◌≡◌, ℕ, Option, Bool, List}
 use Rattle.dns_query.specs.declared.over.Over.TheVariants.{Udp}
 use Rattle.dns_wire.specs.declared.server.query.Query.{Query}
 use Rattle.dns_wire.specs.declared.server.query.Asked.TheVariants.{Drop, Fault, Good}
 use Rattle.dns_wire.specs.Server.Asking.{AsksFor}
-use Rattle.iterate.specs.declared.answer.Answer.{Answer}
 use Rattle.iterate.specs.declared.answer.Answer.TheVariants.{Reply as Replies, Silent}
 use Rattle.iterate.specs.declared.answer.Soa.{Soa}
 use Rattle.iterate.specs.declared.answer.Told.{Told}
@@ -12,8 +11,8 @@ use Rattle.front_workers.specs.Leads.{Calls, Ticks}
 use Rattle.front_workers.specs.Serves.{fault_octets, reply_told, Written}
 use Rattle.flight.specs.declared.reply.ReplyOctets.{ReplyOctets}
 use Rattle.flight.specs.declared.reply.ReplyOctets.TheVariants.{Header, Message}
-use Rattle.flight.specs.declared.world.Heard.{Heard}
-use Rattle.flight.specs.declared.world.Heard.TheVariants.{Came}
+use Rattle.flight.specs.declared.outside.Heard.{Heard}
+use Rattle.flight.specs.declared.outside.Heard.TheVariants.{Came}
 use Rattle.flight.specs.Flight.{Hears, Lands}
 
 -- Octets may be told this reply: that of their fault, or that of an answer in which their question ended.
@@ -39,6 +38,7 @@ abbrev pub octets_of : ReplyOctets → List ℕ
 octets_of (Header octets) = octets
 octets_of (Message octets) = octets.items
 
--- Whatever a client was told between two states of a world stays told.
-pub record Keeps {W K : Type 0} (told : W → K → List ℕ → Type 0) (old new : W) : Type 0 where
+-- Between two states of a worker's sockets the port of name servers is the same, and whatever a client was told stays told.
+pub record Keeps {W K : Type 0} (server_port : W → ℕ) (told : W → K → List ℕ → Type 0) (old new : W) : Type 0 where
+  pub port : server_port new ≡ server_port old
   pub kept : (client : K) (octets : List ℕ) → told old client octets → told new client octets

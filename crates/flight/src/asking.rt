@@ -7,8 +7,8 @@ ghost use Rattle.flight.specs.Flight.{Answered};
 use crate::line::Line;
 use crate::numbered::Numbered;
 use dns_wire::Query;
+use history::Event;
 use iterate::{Input, Task};
-use undo_book::Event;
 
 /// A question on its way, and whose it is.
 #[derive(Drop)]

@@ -3,10 +3,10 @@
 ghost use Rattle.std.specs.Prelude.{◌≡◌};
 ghost use Rattle.flight.specs.Counted.{CountsExpired, CountsListened, CountsOpened, CountsSettled};
 
-use crate::world::Heard;
+use crate::outside::Heard;
 
 /// What a worker counted. Each count ends at 2^64 - 1.
-#[derive(Clone, Copy, Debug, PartialEq, Eq)]
+#[derive(Clone, Copy, PartialEq, Eq)]
 pub struct Counts {
     /// Clients that were told a reply, told that the server failed, or owed none.
     pub settled: u64,

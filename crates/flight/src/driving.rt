@@ -5,6 +5,7 @@ ghost use Rattle.front_workers.specs.Counts.{Rises};
 ghost use Rattle.flight.specs.Asking.{HasHeard, IsAskedBy};
 ghost use Rattle.flight.specs.Flight.{Flies, IsOpen, query_to};
 ghost use Rattle.flight.specs.Told.{Keeps};
+ghost use Rattle.flight.specs.Clients.{SettlesOrWaits};
 ghost use Rattle.flight.specs.Waiting.{IsAccounted, WaitsFrom, outstanding};
 ghost use Rattle.iterate.specs.declared.want.Want.{Want};
 
@@ -13,8 +14,8 @@ use crate::engine::Flight;
 use crate::job::Job;
 use crate::line::Line;
 use crate::numbered::Numbered;
+use crate::outside::{Client, Heard, Outside, Unserved};
 use crate::telling::{refuse, tell};
-use crate::world::{Client, Heard, Unserved, World};
 use command_text::Clock;
 use dns_text::Octets;
 use iterate::{Input, Want, due_law};
@@ -23,17 +24,16 @@ use std::marker::PhantomData;
 
 impl<D: Numbered, L: Line, C: Clock, G: Rng, K: Client> Flight<D, L, C, G, K> {
     /// Ends the exchange of a question that waited, whose time is up, unless its reply is there by now.
-    pub(crate) fn end<W: World<D, L, C, K>>(
+    pub(crate) fn end<O: Outside<D, L, C, K>>(
         &mut self,
         desk: &mut D,
-        world: &mut W,
+        outside: &mut O,
         now: u64,
         job: Job<D, L, C, K>,
     )
-        ensures port { W.server_port world.new ≡ W.server_port world.old }
-        ensures kept { Keeps W.told world.old world.new }
-        ensures accounted { IsAccounted 0 (outstanding self.old + 1) (W.counts world.old) (outstanding self.new) (W.counts world.new) }
-        ensures heard { Rises (W.counts world.old).listened (W.counts world.new).listened }
+        ensures keeps { Keeps O.server_port O.told outside.old outside.new }
+        ensures accounted { IsAccounted 0 (outstanding self.old + 1) (O.counts outside.old) (outstanding self.new) (O.counts outside.new) }
+        ensures heard { Rises (O.counts outside.old).listened (O.counts outside.new).listened }
         ensures waits { WaitsFrom now self.old self.new }
         ensures limit { self.new.limit ≡ self.old.limit }
     {
@@ -43,55 +43,50 @@ impl<D: Numbered, L: Line, C: Clock, G: Rng, K: Client> Flight<D, L, C, G, K> {
             mut line,
             ..
         } = job;
-        let heard = world.hear(&mut line);
+        let heard = outside.hear(&mut line);
         match &heard {
-            Heard::Nothing => world.expire(line),
+            Heard::Nothing => outside.expire(line),
             _ => drop(line),
         }
-        self.go_on(desk, world, now, asking, octets, heard);
+        self.go_on(desk, outside, now, asking, octets, heard);
     }
 
     /// Goes on with a question whose exchange ended, by what was heard of it: nothing where its time was up. What the
     /// question began with is where it began, unless the caller mixed two.
-    pub(crate) fn go_on<W: World<D, L, C, K>>(
+    pub(crate) fn go_on<O: Outside<D, L, C, K>>(
         &mut self,
         desk: &mut D,
-        world: &mut W,
+        outside: &mut O,
         now: u64,
         asking: Asking<K>,
         octets: Octets,
         heard: Heard,
     )
         requires asked { IsAskedBy K.sent asking.port octets asking.client asking.query asking.task }
-        requires heard { HasHeard D.calls D.seen L.hears C.ticks asking.port asking.query.question asking.task.steps.items heard asking.seen }
-        ensures port { W.server_port world.new ≡ W.server_port world.old }
-        ensures kept { Keeps W.told world.old world.new }
-        ensures accounted { IsAccounted 1 (outstanding self.old) (W.counts world.old) (outstanding self.new) (W.counts world.new) }
-        ensures unheard { (W.counts world.new).listened ≡ (W.counts world.old).listened }
-        ensures unexpired { (W.counts world.new).expired ≡ (W.counts world.old).expired }
-        ensures waits { WaitsFrom now self.old self.new }
-        ensures limit { self.new.limit ≡ self.old.limit }
+        requires heard { HasHeard D.calls D.seen L.hears C.ticks asking.port asking.query.question asking.task.steps.items
+            heard asking.seen }
+        ensures { SettlesOrWaits O.server_port O.counts O.told now self.old outside.old self.new outside.new }
     {
         let input = match heard {
             Heard::Came(reply) => Input::Came(reply),
             Heard::Nothing | Heard::Broken => Input::Failed,
             Heard::NoMemory => {
-                refuse::<D, L, C, K, W>(world, asking, octets.as_slice(), Unserved::NoMemory);
+                refuse::<D, L, C, K, O>(outside, asking, octets.as_slice(), Unserved::NoMemory);
                 return;
             }
         };
-        if desk.seen() < asking.seen || world.server_port() != asking.port {
-            refuse::<D, L, C, K, W>(world, asking, octets.as_slice(), Unserved::Elsewhere);
+        if desk.seen() < asking.seen || outside.server_port() != asking.port {
+            refuse::<D, L, C, K, O>(outside, asking, octets.as_slice(), Unserved::Elsewhere);
             return;
         }
-        self.drive(desk, world, now, asking, octets.as_slice(), input);
+        self.drive(desk, outside, now, asking, octets.as_slice(), input);
     }
 
     /// Goes on with a question until it waits for an exchange or its client is settled.
-    pub(crate) fn drive<W: World<D, L, C, K>>(
+    pub(crate) fn drive<O: Outside<D, L, C, K>>(
         &mut self,
         desk: &mut D,
-        world: &mut W,
+        outside: &mut O,
         now: u64,
         asking: Asking<K>,
         octets: &[u8],
@@ -99,16 +94,9 @@ impl<D: Numbered, L: Line, C: Clock, G: Rng, K: Client> Flight<D, L, C, G, K> {
     )
         requires asked { IsAskedBy K.sent asking.port octets.now asking.client asking.query asking.task }
         requires flies { Flies D.calls D.seen L.hears C.ticks asking.port asking.query.question asking.task.steps.items first asking.seen }
-        requires port { asking.port ≡ W.server_port world.old }
+        requires port { asking.port ≡ O.server_port outside.old }
         requires known { asking.seen ≤ D.seen desk.old }
-        ensures port { W.server_port world.new ≡ W.server_port world.old }
-        ensures kept { Keeps W.told world.old world.new }
-        ensures accounted { IsAccounted 1 (outstanding self.old) (W.counts world.old) (outstanding self.new) (W.counts world.new) }
-        ensures unheard { (W.counts world.new).listened ≡ (W.counts world.old).listened }
-        ensures unexpired { (W.counts world.new).expired ≡ (W.counts world.old).expired }
-        ensures waits { WaitsFrom now self.old self.new }
-        ensures within { outstanding self.old ≤ self.old.limit → outstanding self.new ≤ self.old.limit }
-        ensures limit { self.new.limit ≡ self.old.limit }
+        ensures { SettlesOrWaits O.server_port O.counts O.told now self.old outside.old self.new outside.new }
     {
         due_law();
         let mut asking = asking;
@@ -116,14 +104,23 @@ impl<D: Numbered, L: Line, C: Clock, G: Rng, K: Client> Flight<D, L, C, G, K> {
         loop {
             let moment = self.clock.now();
             let Ok(want) = asking.task.step(moment, &mut self.ids, input) else {
-                refuse::<D, L, C, K, W>(world, asking, octets, Unserved::NoMemory);
+                refuse::<D, L, C, K, O>(outside, asking, octets, Unserved::NoMemory);
                 return;
             };
             match want {
                 Want::Book(event) => input = ask::<D, L>(desk, &mut asking.seen, event),
                 Want::Finish(answer) => {
-                    let Asking { client, query, .. } = asking;
-                    tell::<D, L, C, K, W>(self.alloc, world, client, &query, octets, &answer);
+                    let Asking {
+                        client,
+                        query,
+                        task,
+                        ..
+                    } = asking;
+                    tell::<D, L, C, K, O>(self.alloc, outside, client, &query, octets, &answer);
+                    // Dropped by calls, since the proof then does not follow what they may hold.
+                    drop(answer);
+                    drop(query);
+                    drop(task);
                     return;
                 }
                 Want::Send {
@@ -134,12 +131,12 @@ impl<D: Numbered, L: Line, C: Clock, G: Rng, K: Client> Flight<D, L, C, G, K> {
                     let copy = match self.table.make_room(octets) {
                         Ok(copy) => copy,
                         Err(why) => {
-                            refuse::<D, L, C, K, W>(world, asking, octets, why);
+                            refuse::<D, L, C, K, O>(outside, asking, octets, why);
                             return;
                         }
                     };
                     let key = self.table.vacant_key();
-                    if let Some(line) = world.open(key, &server, over, bytes) {
+                    if let Some(line) = outside.open(key, &server, over, bytes) {
                         let since = self.table.since(now);
                         self.table.keep(Job {
                             asking,

@@ -1,19 +1,19 @@
 //! Questions in flight.
 
-ghost use Rattle.std.specs.Prelude.{◌≡◌, ◌⊎◌, ◌≤◌, ◌+◌, [], None, IfSome};
+ghost use Rattle.std.specs.Prelude.{◌≡◌, ◌⊎◌, ◌+◌, [], None, IfSome};
 ghost use Rattle.dns_wire.specs.declared.server.query.Asked.TheVariants.{Good};
 ghost use Rattle.dns_wire.specs.Server.Asking.{AsksFor};
 ghost use Rattle.front_workers.specs.Counts.{Rises};
-ghost use Rattle.flight.specs.Told.{Keeps};
-ghost use Rattle.flight.specs.Waiting.{EarlyGoOn, GoesOnOrBegins, IsAccounted, IsPatient, IsPatientUntil, OthersGoOn, WaitsFrom, outstanding, since_at, time_left};
+ghost use Rattle.flight.specs.Clients.{LosesNone, SettlesOrWaits};
+ghost use Rattle.flight.specs.Waiting.{EarlyGoOn, IsPatient, IsPatientUntil, OthersGoOn, outstanding, since_at, time_left};
 
 use crate::job::Job;
 use crate::line::Line;
 use crate::numbered::Numbered;
+use crate::outside::{Client, Heard, Outside, Unserved};
 use crate::reply::ReplyOctets;
 use crate::table::{PATIENCE, Table};
 use crate::telling::fault_of;
-use crate::world::{Client, Heard, Unserved, World};
 use command_text::Clock;
 use dns_wire::{Asked, read_question};
 use rand_core::Rng;
@@ -71,51 +71,45 @@ impl<D: Numbered, L: Line, C: Clock, G: Rng, K: Client> Flight<D, L, C, G, K> {
     }
 
     /// Takes octets that came from a client: it is told at once, or waits for an exchange. `now` is in milliseconds.
-    pub fn begin<W: World<D, L, C, K>>(
+    pub fn begin<O: Outside<D, L, C, K>>(
         &mut self,
         desk: &mut D,
-        world: &mut W,
+        outside: &mut O,
         now: u64,
         client: K,
         octets: &[u8],
     )
         requires own { K.sent client octets.now }
-        ensures port { W.server_port world.new ≡ W.server_port world.old }
-        ensures kept { Keeps W.told world.old world.new }
-        ensures accounted { IsAccounted 1 (outstanding self.old) (W.counts world.old) (outstanding self.new) (W.counts world.new) }
-        ensures unheard { (W.counts world.new).listened ≡ (W.counts world.old).listened }
-        ensures unexpired { (W.counts world.new).expired ≡ (W.counts world.old).expired }
-        ensures waits { WaitsFrom now self.old self.new }
-        ensures within { outstanding self.old ≤ self.old.limit → outstanding self.new ≤ self.old.limit }
-        ensures limit { self.new.limit ≡ self.old.limit }
+        ensures { SettlesOrWaits O.server_port O.counts O.told now self.old outside.old self.new outside.new }
     {
         let Ok(asked) = read_question(self.alloc, octets) else {
-            world.fail(client, octets, Unserved::NoMemory);
+            outside.fail(client, octets, Unserved::NoMemory);
             return;
         };
         match asked {
-            Asked::Drop => world.pass_over(client, octets),
+            Asked::Drop => outside.pass_over(client, octets),
             Asked::Fault(rcode) => {
                 let reply = ReplyOctets::Header(fault_of(octets, rcode));
-                world.give(client, octets, reply);
+                outside.give(client, octets, reply);
             }
-            Asked::Good(query) => self.begin_query(desk, world, now, client, octets, query),
+            Asked::Good(query) => self.begin_query(desk, outside, now, client, octets, query),
         }
     }
 
     /// Listens on the line under a key, and ends its exchange where something came. There may be nothing yet, and no line: an
     /// event of readiness is only a hint.
-    pub fn look<W: World<D, L, C, K>>(&mut self, desk: &mut D, world: &mut W, now: u64, key: usize)
-        ensures listens { IfSome (since_at self.old key) (λ _. Rises (W.counts world.old).listened (W.counts world.new).listened) }
-        ensures hint { since_at self.old key ≡ None → (self.new ≡ self.old) × (world.new ≡ world.old) }
+    pub fn look<O: Outside<D, L, C, K>>(
+        &mut self,
+        desk: &mut D,
+        outside: &mut O,
+        now: u64,
+        key: usize,
+    )
+        ensures listens { IfSome (since_at self.old key) (λ _. Rises (O.counts outside.old).listened (O.counts outside.new).listened) }
+        ensures hint { since_at self.old key ≡ None → (self.new ≡ self.old) × (outside.new ≡ outside.old) }
         ensures others { OthersGoOn key self.old self.new }
-        ensures begins { GoesOnOrBegins now self.old self.new }
-        ensures port { W.server_port world.new ≡ W.server_port world.old }
-        ensures kept { Keeps W.told world.old world.new }
-        ensures accounted { IsAccounted 0 (outstanding self.old) (W.counts world.old) (outstanding self.new) (W.counts world.new) }
-        ensures unexpired { (W.counts world.new).expired ≡ (W.counts world.old).expired }
-        ensures no_more { outstanding self.new ≤ outstanding self.old }
-        ensures limit { self.new.limit ≡ self.old.limit }
+        ensures unexpired { (O.counts outside.new).expired ≡ (O.counts outside.old).expired }
+        ensures loses_none { LosesNone O.server_port O.counts O.told now self.old outside.old self.new outside.new }
     {
         let Some(job) = self.table.take(key) else {
             return;
@@ -128,7 +122,7 @@ impl<D: Numbered, L: Line, C: Clock, G: Rng, K: Client> Flight<D, L, C, G, K> {
             desk: of,
             clock,
         } = job;
-        match world.hear(&mut line) {
+        match outside.hear(&mut line) {
             Heard::Nothing => self.table.put_back(Job {
                 asking,
                 octets,
@@ -139,25 +133,20 @@ impl<D: Numbered, L: Line, C: Clock, G: Rng, K: Client> Flight<D, L, C, G, K> {
             }),
             heard => {
                 drop(line);
-                self.go_on(desk, world, now, asking, octets, heard);
+                self.go_on(desk, outside, now, asking, octets, heard);
             }
         }
     }
 
     /// Ends each exchange that has taken `PATIENCE` milliseconds, and whose reply is not there by now.
-    pub fn expire<W: World<D, L, C, K>>(&mut self, desk: &mut D, world: &mut W, now: u64)
+    pub fn expire<O: Outside<D, L, C, K>>(&mut self, desk: &mut D, outside: &mut O, now: u64)
         ensures patient { IsPatient PATIENCE now self.new }
         ensures early { EarlyGoOn PATIENCE now self.old self.new }
-        ensures begins { GoesOnOrBegins now self.old self.new }
-        ensures port { W.server_port world.new ≡ W.server_port world.old }
-        ensures kept { Keeps W.told world.old world.new }
-        ensures accounted { IsAccounted 0 (outstanding self.old) (W.counts world.old) (outstanding self.new) (W.counts world.new) }
-        ensures no_more { outstanding self.new ≤ outstanding self.old }
-        ensures limit { self.new.limit ≡ self.old.limit }
+        ensures loses_none { LosesNone O.server_port O.counts O.told now self.old outside.old self.new outside.new }
     {
         while let Some(wait) = self.table.next_due(now) {
             if let Some(job) = self.table.pass(wait, now) {
-                self.end(desk, world, now, job);
+                self.end(desk, outside, now, job);
             }
         }
     }

@@ -3,7 +3,7 @@
 use crate::asking::Asking;
 use crate::line::Line;
 use crate::numbered::Numbered;
-use crate::world::Client;
+use crate::outside::Client;
 use command_text::Clock;
 use dns_text::Octets;
 use std::marker::{Model, PhantomData};

@@ -4,9 +4,9 @@ ghost use Rattle.flight.specs.Laws.{NumbersNeverFall, ReceiptsRise};
 
 use crate::line::Line;
 use crate::numbered::Numbered;
+use history::{Book, Desk};
 use shared_book::{CallLedger, Seat};
 use std::sync::Wait;
-use undo_book::{Book, Desk};
 
 /// The number of the latest call that a question knows of never falls.
 #[tactic(auto, using(crate::proofs::Seats::never_falls))]

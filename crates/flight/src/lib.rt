@@ -13,7 +13,7 @@ mod counts;
 // The octets of a reply.
 mod reply;
 // Clients and the sockets of a worker.
-mod world;
+mod outside;
 // A question on its way.
 mod asking;
 // A question that waits for the reply to a query.
@@ -37,6 +37,6 @@ pub use engine::Flight;
 pub use laws::{fall_law, rise_law};
 pub use line::Line;
 pub use numbered::Numbered;
+pub use outside::{Client, Heard, Outside, Unserved};
 pub use reply::ReplyOctets;
 pub use table::PATIENCE;
-pub use world::{Client, Heard, Unserved, World};

@@ -2,9 +2,9 @@
 
 ghost use Rattle.std.specs.Prelude.{◌≡◌, ℕ};
 
+use history::{Book, Desk};
 use shared_book::{CallLedger, Seat};
 use std::sync::Wait;
-use undo_book::{Book, Desk};
 
 /// A desk whose calls are numbered, as those of a seat at a shared book.
 pub trait Numbered: Desk {

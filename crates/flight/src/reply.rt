@@ -4,7 +4,7 @@ ghost use Rattle.std.specs.Prelude.{◌≡◌};
 ghost use Rattle.flight.specs.Told.{octets_of};
 
 /// The octets of a reply, which keep until they are sent.
-#[derive(Debug, Drop)]
+#[derive(Drop)]
 pub enum ReplyOctets {
     /// A header alone, which takes no memory.
     Header([u8; 12]),

@@ -3,13 +3,14 @@
 ghost use Rattle.std.specs.Prelude.{◌≡◌, ◌⊎◌, ◌<◌, ◌≤◌, ◌+◌, ◌∷◌, ◌++◌, [], ℕ, map, max, None, Some, IfOk, IfSome, IsTrue, OnOk, OnSome};
 ghost use Rattle.slab.specs.Slab.{HasRoomFor, Updates, get, slab_len};
 ghost use Rattle.std.specs.VecDeque.{deque_capacity, deque_len};
-ghost use Rattle.flight.specs.Queue.{FirstIs, IsQueue, is_queued};
+ghost use Rattle.flight.specs.Queue.{IsFirstDue, IsQueue, is_queued};
+ghost use Rattle.flight.specs.Table.{FreesKey, OneMore};
 ghost use Rattle.flight.specs.Waiting.{time_left};
 
 use crate::job::Job;
 use crate::line::Line;
 use crate::numbered::Numbered;
-use crate::world::{Client, Unserved};
+use crate::outside::{Client, Unserved};
 use command_text::Clock;
 use dns_text::Octets;
 use slab::Slab;
@@ -97,8 +98,7 @@ impl<D: Numbered, L: Line, C: Clock, K: Client> Table<D, L, C, K> {
         requires queue_room { deque_len self.old.waits < deque_capacity self.old.waits }
         requires later { self.old.latest ≤ job }
         ensures vacant { get self.old.jobs self.old.jobs.vacant_key ≡ None }
-        ensures updates { Updates self.old.jobs self.new.jobs self.old.jobs.vacant_key (Some job) }
-        ensures len { slab_len self.new.jobs ≡ slab_len self.old.jobs + 1 }
+        ensures one_more { OneMore self.old.jobs self.new.jobs self.old.jobs.vacant_key job }
         ensures waits { self.new.waits.items ≡ self.old.waits.items ++ record { key = self.old.jobs.vacant_key; since = job } ∷ [] }
         ensures latest { self.new.latest ≡ job }
         ensures limit { self.new.limit ≡ self.old.limit }
@@ -113,9 +113,7 @@ impl<D: Numbered, L: Line, C: Clock, K: Client> Table<D, L, C, K> {
     pub(crate) fn take(&mut self, key: usize) -> Option<Job<D, L, C, K>>
         ensures job { result ≡ get self.old.jobs key }
         ensures updates { Updates self.old.jobs self.new.jobs key None }
-        ensures len { OnSome result (slab_len self.new.jobs + 1 ≡ slab_len self.old.jobs) }
-        ensures room { OnSome result (HasRoomFor self.new.jobs 1) }
-        ensures key_is_next { OnSome result (self.new.jobs.vacant_key ≡ key) }
+        ensures frees { OnSome result (FreesKey self.old.jobs self.new.jobs key) }
         ensures queued { IfSome result (λ job. IsTrue (is_queued self.new.waits.items key job)) }
         ensures none { result ≡ None → self.new.jobs ≡ self.old.jobs }
         ensures waits { self.new.waits.items ≡ self.old.waits.items }
@@ -129,8 +127,7 @@ impl<D: Numbered, L: Line, C: Clock, K: Client> Table<D, L, C, K> {
     pub(crate) fn put_back(&mut self, job: Job<D, L, C, K>)
         requires room { HasRoomFor self.old.jobs 1 }
         requires queued { IsTrue (is_queued self.old.waits.items self.old.jobs.vacant_key job) }
-        ensures updates { Updates self.old.jobs self.new.jobs self.old.jobs.vacant_key (Some job) }
-        ensures len { slab_len self.new.jobs ≡ slab_len self.old.jobs + 1 }
+        ensures one_more { OneMore self.old.jobs self.new.jobs self.old.jobs.vacant_key job }
         ensures waits { self.new.waits.items ≡ self.old.waits.items }
         ensures latest { self.new.latest ≡ self.old.latest }
         ensures limit { self.new.limit ≡ self.old.limit }
@@ -140,8 +137,7 @@ impl<D: Numbered, L: Line, C: Clock, K: Client> Table<D, L, C, K> {
 
     /// The first exchange of the queue, where its time is up.
     pub(crate) fn next_due(&self, now: u64) -> Option<Wait>
-        ensures first { IfSome result (FirstIs self.now.waits.items) }
-        ensures due { IfSome result (λ wait. wait.since + PATIENCE ≤ now) }
+        ensures first_due { IfSome result (IsFirstDue PATIENCE now self.now.waits.items) }
         ensures none { result ≡ None → (key since : ℕ) → get self.now.jobs key ≡ Some since → now < since + PATIENCE }
     {
         let wait = *self.waits.front()?;
@@ -154,8 +150,7 @@ impl<D: Numbered, L: Line, C: Clock, K: Client> Table<D, L, C, K> {
     /// Passes the first exchange of the queue, whose time is up. The question that waits under its key is taken out where
     /// its own time is up: it may be another.
     pub(crate) fn pass(&mut self, wait: Wait, now: u64) -> Option<Job<D, L, C, K>>
-        requires first { FirstIs self.old.waits.items wait }
-        requires due { wait.since + PATIENCE ≤ now }
+        requires { IsFirstDue PATIENCE now self.old.waits.items wait }
         ensures waits { self.old.waits.items ≡ wait ∷ self.new.waits.items }
         ensures due { IfSome result (λ since. (get self.old.jobs wait.key ≡ Some since) × (since + PATIENCE ≤ now)) }
         ensures taken { OnSome result (Updates self.old.jobs self.new.jobs wait.key None) }
@@ -176,7 +171,8 @@ impl<D: Numbered, L: Line, C: Clock, K: Client> Table<D, L, C, K> {
     pub(crate) fn next_expiry(&self, now: u64) -> Option<u64>
         ensures first { result ≡ time_left PATIENCE now (map (λ wait. wait.since) self.now.waits.items) }
         ensures idle { result ≡ None → slab_len self.now.jobs ≡ 0 }
-        ensures soon { IfSome result (λ left. (left ≡ 0) ⊎ ((key since : ℕ) → get self.now.jobs key ≡ Some since → now + left ≤ since + PATIENCE)) }
+        ensures soon { IfSome result (λ left. (left ≡ 0)
+            ⊎ ((key since : ℕ) → get self.now.jobs key ≡ Some since → now + left ≤ since + PATIENCE)) }
     {
         let wait = self.waits.front()?;
         Some(PATIENCE.saturating_sub(now.saturating_sub(wait.since)))

@@ -6,15 +6,14 @@ ghost use Rattle.dns_wire.specs.Server.Asking.{AsksFor};
 ghost use Rattle.front_workers.specs.Serves.{fault_octets};
 ghost use Rattle.iterate.specs.Told.{IsFit};
 ghost use Rattle.flight.specs.Asking.{IsAskedBy};
-ghost use Rattle.flight.specs.Counted.{CountsSettled};
+ghost use Rattle.flight.specs.Clients.{Settles};
 ghost use Rattle.flight.specs.Flight.{Lands};
-ghost use Rattle.flight.specs.Told.{Keeps};
 
 use crate::asking::Asking;
 use crate::line::Line;
 use crate::numbered::Numbered;
+use crate::outside::{Client, Outside, Unserved};
 use crate::reply::ReplyOctets;
-use crate::world::{Client, Unserved, World};
 use command_text::Clock;
 use dns_query::Over;
 use dns_wire::{Query, Rcode, fault_reply};
@@ -31,24 +30,22 @@ pub(crate) fn fault_of(octets: &[u8], rcode: Rcode) -> [u8; 12]
 }
 
 /// Tells a client that the server failed.
-pub(crate) fn refuse<D: Numbered, L: Line, C: Clock, K: Client, W: World<D, L, C, K>>(
-    world: &mut W,
+pub(crate) fn refuse<D: Numbered, L: Line, C: Clock, K: Client, O: Outside<D, L, C, K>>(
+    outside: &mut O,
     asking: Asking<K>,
     octets: &[u8],
     why: Unserved,
 )
     requires asked { IsAskedBy K.sent asking.port octets.now asking.client asking.query asking.task }
-    ensures port { W.server_port world.new ≡ W.server_port world.old }
-    ensures kept { Keeps W.told world.old world.new }
-    ensures settled { CountsSettled (W.counts world.old) (W.counts world.new) }
+    ensures { Settles O.server_port O.counts O.told outside.old outside.new }
 {
-    world.fail(asking.client, octets, why);
+    outside.fail(asking.client, octets, why);
 }
 
 /// Tells a client the answer to its question, or nothing where that is silence.
-pub(crate) fn tell<D: Numbered, L: Line, C: Clock, K: Client, W: World<D, L, C, K>>(
+pub(crate) fn tell<D: Numbered, L: Line, C: Clock, K: Client, O: Outside<D, L, C, K>>(
     alloc: Global,
-    world: &mut W,
+    outside: &mut O,
     client: K,
     query: &Query,
     octets: &[u8],
@@ -56,16 +53,14 @@ pub(crate) fn tell<D: Numbered, L: Line, C: Clock, K: Client, W: World<D, L, C, 
 )
     requires own { K.sent client octets.now }
     requires good { AsksFor octets.now (Good query.now) }
-    requires lands { Lands D.calls D.seen L.hears C.ticks (W.server_port world.old) query.now.question answer.now }
+    requires lands { Lands D.calls D.seen L.hears C.ticks (O.server_port outside.old) query.now.question answer.now }
     requires fit { IsFit answer.now }
-    ensures port { W.server_port world.new ≡ W.server_port world.old }
-    ensures kept { Keeps W.told world.old world.new }
-    ensures settled { CountsSettled (W.counts world.old) (W.counts world.new) }
+    ensures { Settles O.server_port O.counts O.told outside.old outside.new }
 {
-    let buffer = world.buffer();
+    let buffer = outside.buffer();
     match write_answer(alloc, buffer, Over::Udp, octets, query, answer) {
-        Ok(Some(reply)) => world.give(client, octets, ReplyOctets::Message(reply)),
-        Ok(None) => world.pass_over(client, octets),
-        Err(_) => world.fail(client, octets, Unserved::NoMemory),
+        Ok(Some(reply)) => outside.give(client, octets, ReplyOctets::Message(reply)),
+        Ok(None) => outside.pass_over(client, octets),
+        Err(_) => outside.fail(client, octets, Unserved::NoMemory),
     }
 }

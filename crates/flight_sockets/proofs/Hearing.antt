@@ -8,9 +8,9 @@ use Rattle.dns_query.specs.declared.over.Over.{Over}
 use Rattle.dns_query.specs.declared.over.Over.TheVariants.{Udp as OverUdp, Tcp as OverTcp}
 use Rattle.dns_sockets.specs.Asked.{ByStream, IsAskedAt}
 use Rattle.front_workers.specs.Framing.{framed}
-use Rattle.server_lines.specs.Line.{LineState, WentFrom}
-use Rattle.flight.specs.declared.world.Heard.{Heard}
-use Rattle.flight.specs.declared.world.Heard.TheVariants.{Nothing, Came, Broken, NoMemory}
+use Rattle.dns_sockets.specs.Line.{LineState, WentFrom}
+use Rattle.flight.specs.declared.outside.Heard.{Heard}
+use Rattle.flight.specs.declared.outside.Heard.TheVariants.{Nothing, Came, Broken, NoMemory}
 use Rattle.flight.specs.Told.{IsHeard}
 use Rattle.flight_sockets.specs.declared.way.Way.{Way}
 use Rattle.flight_sockets.specs.declared.way.Way.TheVariants.{Udp, Tcp, Closed}

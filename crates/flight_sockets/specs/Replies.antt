@@ -1,7 +1,7 @@
 -- What may be heard of a name server over a socket that is connected to it.
 use Rattle.std.specs.Prelude.{◌≤◌, ℕ, Option, List, length}
 use Rattle.std.specs.declared.net.SocketAddr.{SocketAddr}
-use Rattle.dns_sockets.specs.declared.socket_exchange.TheConstants.{MOST_MESSAGE}
+use Rattle.dns_sockets.specs.declared.lengths.TheConstants.{MOST_MESSAGE}
 use Rattle.dns_sockets.specs.Asked.{IsAskedAt}
 use Rattle.dns_sockets.specs.Fits.{Fits}
 use Rattle.dns_sockets.specs.Place.{IsPlaceOf}

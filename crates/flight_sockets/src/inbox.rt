@@ -8,10 +8,9 @@ ghost use Rattle.flight_sockets.specs.Taken.{IsTakenFrom};
 
 use crate::client::{ROOM, UdpClient};
 use crate::service_socket::ServiceSocket;
-use dns_sockets::is_answerable;
+use dns_sockets::{is_answerable, would_wait};
 use dns_text::NoMemory;
 use front_workers::{Came, MOST_DATAGRAM};
-use server_lines::would_wait;
 use std::alloc::Global;
 use std::io;
 use std::io::ErrorKind;

@@ -23,8 +23,6 @@ mod outgoing;
 mod buffers;
 // The sockets of one worker.
 mod worker_sockets;
-// How long exchanges take.
-mod millis;
 // The turns of a worker.
 mod turns;
 // A worker that keeps many questions in flight.
@@ -32,7 +30,6 @@ mod udp_worker;
 
 pub use limit::{MOST_EXCHANGES, SPARE_DESCRIPTORS, most_exchanges};
 pub use listener::{UdpListener, listen_each};
-pub use millis::Timing;
 pub use mio::Waker;
 pub use service_socket::ServiceSocket;
 pub use udp_worker::{UdpWorker, fly_udp};

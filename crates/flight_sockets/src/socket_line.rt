@@ -1,8 +1,8 @@
 //! An exchange over a socket of its own.
 
 ghost use Rattle.std.specs.Prelude.{◌≡◌, length, IfOk, OnErr};
-ghost use Rattle.dns_sockets.specs.declared.socket_exchange.TheConstants.{MOST_MESSAGE};
-ghost use Rattle.flight.specs.declared.world.Heard.TheVariants.{Nothing};
+ghost use Rattle.dns_sockets.specs.declared.lengths.TheConstants.{MOST_MESSAGE};
+ghost use Rattle.flight.specs.declared.outside.Heard.TheVariants.{Nothing};
 ghost use Rattle.flight.specs.Flight.{query_to};
 ghost use Rattle.flight.specs.Told.{IsHeard};
 ghost use Rattle.flight_sockets.specs.Exchanges.{IsNotToBeHad, IsQuiet};
@@ -10,11 +10,10 @@ ghost use Rattle.flight_sockets.specs.Replies.{IsReplyTo};
 
 use crate::way::Way;
 use dns_query::Over;
-use dns_sockets::place_of;
+use dns_sockets::{ReadyNet, TcpLine, UdpLine, place_of};
 use dns_text::{Addr, Octets, Shared};
 use flight::{Heard, Line};
 use mio::{Registry, Token};
-use server_lines::{ReadyNet, TcpLine, UdpLine};
 use std::alloc::Global;
 use std::io;
 use std::marker::Model;

@@ -1,9 +1,9 @@
 //! The turns of a worker: in each it waits, goes on with what came of exchanges, and takes datagrams.
 
-ghost use Rattle.std.specs.Prelude.{◌≡◌, ◌≤◌, ℕ, Option, false, IfOk, OnErr};
+ghost use Rattle.std.specs.Prelude.{◌≡◌, ◌≤◌, false, IfOk, OnErr};
 ghost use Rattle.std.specs.Duration.{as_nanos};
 ghost use Rattle.front_workers.specs.Counts.{Rises};
-ghost use Rattle.dns_sockets.specs.Seconds.{moment_after};
+ghost use Rattle.dns_sockets.specs.Moments.{millis_at, IsRead};
 ghost use Rattle.flight.specs.declared.table.TheConstants.{PATIENCE};
 ghost use Rattle.flight.specs.Waiting.{IsAccounted, outstanding, time_left};
 ghost use Rattle.flight_sockets.specs.Accounts.{GoesOn};
@@ -13,18 +13,16 @@ ghost use Rattle.flight_sockets.specs.Taken.{IsQuery};
 use crate::client::UdpClient;
 use crate::inbox::{BATCH, Inbox, Slot, Taken};
 use crate::listener::{SERVICE, UdpListener};
-use crate::millis::{Millis, Timing};
 use crate::service_socket::ServiceSocket;
 use crate::socket_line::SocketLine;
 use crate::worker_sockets::WorkerSockets;
 use command_text::Clock;
-use dns_sockets::glance;
+use dns_sockets::{Elapsing, MonotonicClock, ReadyNet, glance};
 use dns_text::NoMemory;
 use flight::{Flight, Numbered};
 use log::Log;
 use mio::Events;
 use rand_core::Rng;
-use server_lines::ReadyNet;
 use std::alloc::Global;
 use std::io;
 use std::marker::Model;
@@ -47,7 +45,7 @@ pub(crate) type Questions<D, C, G, R> = Flight<D, SocketLine<R>, C, G, UdpClient
 #[derive(Drop)]
 pub(crate) struct Turns<'a, R, S: ServiceSocket> {
     sockets: WorkerSockets<'a, R, S>,
-    millis: Millis<'a, R>,
+    clock: MonotonicClock<'a, R>,
     events: Events,
     taken: u64,
     failures: u64,
@@ -62,7 +60,7 @@ impl<'a, R, S: ServiceSocket> Model for Turns<'a, R, S> {
     ghost view = { λ turns. record { server_port = turns.sockets.server_port; taken = turns.taken; failures = turns.failures; unsent = length turns.sockets.waiting.items; counts = turns.sockets.counts } };
 }
 
-impl<'a, R: ReadyNet + Log + Timing, S: ServiceSocket> Turns<'a, R, S> {
+impl<'a, R: ReadyNet + Log + Elapsing, S: ServiceSocket> Turns<'a, R, S> {
     /// Takes datagrams at a listener. Name servers that are known by name are asked at this port. Exchanges are timed from
     /// the start on.
     pub fn new(
@@ -76,7 +74,7 @@ impl<'a, R: ReadyNet + Log + Timing, S: ServiceSocket> Turns<'a, R, S> {
     {
         Ok(Turns {
             sockets: WorkerSockets::new(rt, alloc, listener, server_port)?,
-            millis: Millis::new(rt, start),
+            clock: MonotonicClock::new(rt, start),
             events: Events::with_capacity(alloc, MOST_EVENTS)?,
             taken: 0,
             failures: 0,
@@ -173,13 +171,13 @@ impl<'a, R: ReadyNet + Log + Timing, S: ServiceSocket> Turns<'a, R, S> {
         ensures goes_on { GoesOn questions.old self.old questions.new self.new }
         ensures sent { self.old.unsent ≡ 0 → self.new.unsent ≡ 0 }
     {
-        let begun = self.millis.now();
+        let begun = self.clock.millis();
         let mut now = begun;
         for _ in 0..MOST_TAKEN / BATCH {
             if !self.take_batch(desk, questions, inbox, now)? {
                 return Ok(false);
             }
-            now = self.millis.now();
+            now = self.clock.millis();
             if now.saturating_sub(begun) >= MOST_TAKING {
                 return Ok(true);
             }
@@ -200,11 +198,11 @@ impl<'a, R: ReadyNet + Log + Timing, S: ServiceSocket> Turns<'a, R, S> {
         look_all(
             &self.events,
             &mut self.sockets,
-            &mut self.millis,
+            &mut self.clock,
             desk,
             questions,
         );
-        let now = self.millis.now();
+        let now = self.clock.millis();
         questions.expire(desk, &mut self.sockets, now);
         self.sockets.flush();
     }
@@ -226,7 +224,7 @@ impl<'a, R: ReadyNet + Log + Timing, S: ServiceSocket> Turns<'a, R, S> {
         let wait = if were_left {
             Duration::ZERO
         } else {
-            patience(&mut self.millis, questions, glance())
+            patience(&mut self.clock, questions, glance())
         };
         self.sockets.wait(&mut self.events, wait)?;
         self.go_on(desk, questions);
@@ -237,15 +235,15 @@ impl<'a, R: ReadyNet + Log + Timing, S: ServiceSocket> Turns<'a, R, S> {
 
 /// How long the next wait may be: so long, and no longer than until an exchange is overdue.
 #[tactic(auto, using(crate::proofs::Durations::shorter_nanos))]
-fn patience<D: Numbered, C: Clock, G: Rng, R: ReadyNet + Timing>(
-    millis: &mut Millis<'_, R>,
+fn patience<D: Numbered, C: Clock, G: Rng, R: ReadyNet + Elapsing>(
+    clock: &mut MonotonicClock<'_, R>,
     questions: &Questions<D, C, G, R>,
     most: Duration,
 ) -> Duration
-    ensures { (passed : Option ℕ) × R.passed millis.old.start passed
-        × (as_nanos result ≡ patience_of (as_nanos most) (time_left PATIENCE (moment_after millis.old.last passed) questions.now.begun)) }
+    ensures read { IsRead R.passed clock.old clock.new }
+    ensures patience { as_nanos result ≡ patience_of (as_nanos most) (time_left PATIENCE (millis_at clock.new.last) questions.now.begun) }
 {
-    let now = millis.now();
+    let now = clock.millis();
     match questions.next_expiry(now) {
         Some(left) => most.min(Duration::from_millis(left)),
         None => most,
@@ -253,10 +251,10 @@ fn patience<D: Numbered, C: Clock, G: Rng, R: ReadyNet + Timing>(
 }
 
 /// Looks at the exchanges that events name.
-fn look_all<D: Numbered, C: Clock, G: Rng, R: ReadyNet + Log + Timing, S: ServiceSocket>(
+fn look_all<D: Numbered, C: Clock, G: Rng, R: ReadyNet + Log + Elapsing, S: ServiceSocket>(
     events: &Events,
     sockets: &mut WorkerSockets<'_, R, S>,
-    millis: &mut Millis<'_, R>,
+    clock: &mut MonotonicClock<'_, R>,
     desk: &mut D,
     questions: &mut Questions<D, C, G, R>,
 )
@@ -268,7 +266,7 @@ fn look_all<D: Numbered, C: Clock, G: Rng, R: ReadyNet + Log + Timing, S: Servic
     for event in events.iter() {
         let token = event.token();
         if token != SERVICE {
-            questions.look(desk, sockets, millis.now(), token.0);
+            questions.look(desk, sockets, clock.millis(), token.0);
         }
     }
 }

@@ -8,18 +8,16 @@ ghost use Rattle.flight_sockets.specs.Accounts.{Accounts};
 
 use crate::inbox::Inbox;
 use crate::listener::UdpListener;
-use crate::millis::Timing;
 use crate::service_socket::ServiceSocket;
 use crate::turns::Turns;
 use command_text::Clock;
-use dns_sockets::StopFlag;
+use dns_sockets::{Elapsing, ReadyNet, StopFlag};
 use dns_text::NoMemory;
 use flight::{Flight, Numbered};
 use front_workers::{MOST_FAILURES, WorkEnd};
 use log::{Log, warn};
 use mio::net::UdpSocket;
 use rand_core::Rng;
-use server_lines::ReadyNet;
 use std::alloc::Global;
 use std::marker::Model;
 use std::sync::Wait;
@@ -40,7 +38,7 @@ impl<'a, R, S: ServiceSocket> Model for UdpWorker<'a, R, S> {
     ghost view = { λ worker. worker.turns };
 }
 
-impl<'a, R: ReadyNet + Log + Timing, S: ServiceSocket> UdpWorker<'a, R, S> {
+impl<'a, R: ReadyNet + Log + Elapsing, S: ServiceSocket> UdpWorker<'a, R, S> {
     /// Takes datagrams at a listener. Name servers that are known by name are asked at this port. Exchanges are timed from
     /// the start on.
     pub fn new(
@@ -70,7 +68,7 @@ pub fn fly_udp<
     D: Numbered,
     C: Clock + Drop,
     G: Rng + Drop,
-    R: Wait + ReadyNet + Log + Timing,
+    R: Wait + ReadyNet + Log + Elapsing,
     S: ServiceSocket,
     F: StopFlag,
 >(

@@ -1,19 +1,18 @@
 //! How a query goes out and its reply comes in.
 
 ghost use Rattle.std.specs.Prelude.{◌≡◌, ◌≢◌, ◌<◌, length};
-ghost use Rattle.dns_sockets.specs.declared.socket_exchange.TheConstants.{MOST_MESSAGE};
+ghost use Rattle.dns_sockets.specs.declared.lengths.TheConstants.{MOST_MESSAGE};
 ghost use Rattle.front_workers.specs.Framing.{framed};
-ghost use Rattle.server_lines.specs.Line.{WentFrom};
-ghost use Rattle.flight.specs.declared.world.Heard.TheVariants.{Nothing};
+ghost use Rattle.dns_sockets.specs.Line.{WentFrom};
+ghost use Rattle.flight.specs.declared.outside.Heard.TheVariants.{Nothing};
 ghost use Rattle.flight.specs.Told.{IsHeard};
 ghost use Rattle.flight_sockets.specs.Exchanges.{ExchangeState, HasNoneYet, IsUnderWay, OnUnbroken};
 ghost use Rattle.flight_sockets.specs.Replies.{IsReply, IsReplyTo};
 
-use dns_sockets::fits;
+use dns_sockets::{ReadyConnection, ReadySocket, TcpLine, UdpLine, fits};
 use dns_text::Octets;
 use flight::Heard;
 use mio::{Registry, Token};
-use server_lines::{ReadyConnection, ReadySocket, TcpLine, UdpLine};
 use std::alloc::Global;
 use std::io::ErrorKind;
 

@@ -4,9 +4,9 @@ ghost use Rattle.std.specs.Prelude.{◌≡◌, ◌⊎◌, ◌≤◌, [], false, 
 ghost use Rattle.std.specs.List.{All};
 ghost use Rattle.dns_wire.specs.declared.server.query.Asked.TheVariants.{Drop};
 ghost use Rattle.dns_wire.specs.Server.Asking.{AsksFor};
-ghost use Rattle.dns_sockets.specs.declared.socket_exchange.TheConstants.{MOST_MESSAGE};
+ghost use Rattle.dns_sockets.specs.declared.lengths.TheConstants.{MOST_MESSAGE};
 ghost use Rattle.front_workers.specs.Serves.{fault_octets};
-ghost use Rattle.flight.specs.declared.world.Heard.TheVariants.{Nothing};
+ghost use Rattle.flight.specs.declared.outside.Heard.TheVariants.{Nothing};
 ghost use Rattle.flight.specs.Counted.{CountsListened, CountsOpened};
 ghost use Rattle.flight.specs.Flight.{query_to};
 ghost use Rattle.flight.specs.Told.{octets_of, IsHeard, Keeps};
@@ -25,14 +25,13 @@ use crate::service_socket::ServiceSocket;
 use crate::socket_line::SocketLine;
 use command_text::Clock;
 use dns_query::Over;
-use dns_sockets::MOST_MESSAGE;
+use dns_sockets::{MOST_MESSAGE, ReadyNet};
 use dns_text::{Addr, NoMemory, Octets, Shared};
 use dns_wire::{Rcode, fault_reply};
-use flight::{Counts, Heard, Numbered, ReplyOctets, Unserved, World};
+use flight::{Counts, Heard, Numbered, Outside, ReplyOctets, Unserved};
 use front_workers::wants_reply;
 use log::{Log, warn};
 use mio::{Events, Token};
-use server_lines::ReadyNet;
 use std::alloc::Global;
 use std::io;
 use std::net::SocketAddr;
@@ -180,7 +179,7 @@ impl<'a, R: Log, S: ServiceSocket> WorkerSockets<'a, R, S> {
     }
 }
 
-impl<'a, D: Numbered, C: Clock, R: ReadyNet + Log, S: ServiceSocket> World<
+impl<'a, D: Numbered, C: Clock, R: ReadyNet + Log, S: ServiceSocket> Outside<
     D,
     SocketLine<R>,
     C,
@@ -208,14 +207,15 @@ impl<'a, D: Numbered, C: Clock, R: ReadyNet + Log, S: ServiceSocket> World<
         over: Over,
         query: Shared<Octets>,
     ) -> Option<SocketLine<R>>
-        // As of any world, and the exchange is reported under the key; over UDP there is one unless the network
+        // As of any `Outside`, and the exchange is reported under the key; over UDP there is one unless the network
         // failed, or the server is the service itself.
         ensures asked { IfSome result (λ line. line.asked ≡ query_to server.now over query) }
-        ensures port { self.new.server_port ≡ self.old.server_port }
         ensures opened { OnSome result (CountsOpened self.old.counts self.new.counts) }
         ensures unopened { IfNone result (self.new.counts ≡ self.old.counts) }
         ensures reported { IfSome result (λ line. line.token.0 ≡ key) }
-        ensures kept { Keeps (λ sockets (client : UdpClientValue) octets. IsOnItsWay S.tried sockets.waiting.items client.came.peer octets) self.old self.new }
+        ensures keeps { Keeps (λ sockets. sockets.server_port)
+            (λ sockets (client : UdpClientValue) octets. IsOnItsWay S.tried sockets.waiting.items client.came.peer octets)
+            self.old self.new }
         ensures failed { IfNone result (IsNotToBeHad R.failed R.Datagrams.opened R.Datagrams.is_at R.Datagrams.failed self.old.listener.place server.now over) }
     {
         let registry = self.listener.poll.registry();
@@ -241,12 +241,13 @@ impl<'a, D: Numbered, C: Clock, R: ReadyNet + Log, S: ServiceSocket> World<
     }
 
     fn hear(&mut self, line: &mut SocketLine<R>) -> Heard
-        // As of any world, and nothing is heard only of a quiet exchange.
+        // As of any `Outside`, and nothing is heard only of a quiet exchange.
         ensures heard { IsHeard (IsReplyTo R.Datagrams.opened R.Datagrams.sent R.Datagrams.came R.Connection.connected R.Connection.contents R.Connection.remaining line.old.asked) result }
         ensures asked { line.new.asked ≡ line.old.asked }
-        ensures port { self.new.server_port ≡ self.old.server_port }
         ensures listened { CountsListened result self.old.counts self.new.counts }
-        ensures kept { Keeps (λ sockets (client : UdpClientValue) octets. IsOnItsWay S.tried sockets.waiting.items client.came.peer octets) self.old self.new }
+        ensures keeps { Keeps (λ sockets. sockets.server_port)
+            (λ sockets (client : UdpClientValue) octets. IsOnItsWay S.tried sockets.waiting.items client.came.peer octets)
+            self.old self.new }
         ensures nothing { result ≡ Nothing → IsQuiet R.Datagrams.sent R.Datagrams.drained R.Datagrams.reported_again line.old }
     {
         let heard = line.hear(self.alloc, self.listener.poll.registry(), &mut self.room);

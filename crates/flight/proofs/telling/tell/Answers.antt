@@ -4,9 +4,9 @@ use Rattle.flight.proofs.telling.tell.Goals as goal
 pub give-requires-clause-told : goal.give-requires-clause-told
 give-requires-clause-told g c =
     let tells = rw c.in-Ok-Some.field-0-is at c.in-Ok-Some.ensures.tells in
-    rw c.buffer-buffer.ensures.port (told_by _ c.requires.good c.requires.lands tells)
+    rw c.buffer-buffer.ensures.keeps.port (told_by _ c.requires.good c.requires.lands tells)
 
 pub pass_over-requires-clause-untold : goal.pass_over-requires-clause-untold
 pass_over-requires-clause-untold g c =
     let tells = rw c.in-Ok-None.field-0-is at c.in-Ok-None.ensures.tells in
-    rw c.buffer-buffer.ensures.port (untold_by _ c.requires.good c.requires.lands tells)
+    rw c.buffer-buffer.ensures.keeps.port (untold_by _ c.requires.good c.requires.lands tells)

@@ -1,8 +1,10 @@
-use Rattle.std.proofs.Common.{◌∙◌, ℕ, ap, inr, map, max, refl, sym, arith}
+use Rattle.std.proofs.Common.{◌∙◌, ℕ, ap, inr, map, max, refl, sym, arith, rules}
 use Rattle.flight.specs.Flight.{failed}
+use Rattle.flight.specs.Waiting.{FlightState}
 use Rattle.flight.proofs.Flights.{begins, begun_behind}
 use Rattle.flight.proofs.Flying.{asked_on, awaits_at, due, flown, lands_at, open_on}
 use Rattle.flight.proofs.Keeping.{kept_on}
+use Rattle.flight.proofs.Settling.{same_state, settled_there}
 use Rattle.flight.proofs.engine.Flight.drive.Goals as goal
 
 pub step-requires : goal.step-requires
@@ -19,8 +21,7 @@ loop-want-preserved-in-Book g c =
       flies = flown is c.ask-input.ensures.answered;
       port = before.port;
       known = omega (arith, c.ask-input.ensures.known);
-      kept = before.kept;
-      port_kept = before.port_kept;
+      keeps = before.keeps;
       counts_kept = before.counts_kept;
       exchanges_kept = before.exchanges_kept;
       begun_kept = before.begun_kept;
@@ -37,10 +38,9 @@ loop-want-preserved g c =
     record {
       asked = asked_on before.asked c.step.ensures.question c.step.ensures.port;
       flies = flown is failed;
-      port = before.port ∙ sym c.open.ensures.port;
+      port = before.port ∙ sym c.open.ensures.keeps.port;
       known = before.known;
-      kept = kept_on before.kept c.open.ensures.kept;
-      port_kept = c.open.ensures.port ∙ before.port_kept;
+      keeps = kept_on before.keeps c.open.ensures.keeps;
       counts_kept = c.in_default-open.ensures.unopened ∙ before.counts_kept;
       exchanges_kept = c.make_room.ensures.jobs ∙ before.exchanges_kept;
       begun_kept = ap (map (λ wait. wait.since)) c.make_room.ensures.waits ∙ before.begun_kept;
@@ -64,10 +64,32 @@ invariant_of-keep g c =
     before.flies c.now-moment.ensures c.in-Ok.ensures.steps c.in-Ok.ensures.wants c.in-Ok.ensures.drawn c.in-Send.is in
     (asked_on (rw (sym c.in-Ok-make_room.ensures.octets) at before.asked) c.step.ensures.question c.step.ensures.port, awaits_at c.in-Some.ensures.asked is)
 
-pub returns-in-Some-clause-waits : goal.returns-in-Some-clause-waits
-returns-in-Some-clause-waits g c =
+pub returns-in-Finish : goal.returns-in-Finish
+returns-in-Finish g c =
     let before = c.loop-want.invariant in
+    let table = c.loop-want.self-inside.table in
+    let state : FlightState = record { exchanges = table.jobs.slots; begun = map (λ wait. wait.since) table.waits.items; latest = table.latest; limit = table.limit } in
+    settled_there c.args.now c.args.self.now state c.args.outside.now c.loop-want.outside c.tell.new.outside before.keeps before.counts_kept
+    (same_state c.args.self.now state before.exchanges_kept before.begun_kept before.latest_kept before.limit_kept) c.tell.ensures
+
+pub returns-in-Some : goal.returns-in-Some
+returns-in-Some g c =
+    let before = c.loop-want.invariant in
+    let table = c.make_room.new.self in
+    let kept = c.keep.new.self in
+    let limit = c.keep.ensures.limit ∙ c.make_room.ensures.limit ∙ before.limit_kept in
     let now_is = c.since-since.ensures ∙ ap (λ (latest : ℕ). max c.args.now latest) (c.make_room.ensures.latest ∙ before.latest_kept) in
-    let begun = begun_behind _ _ _ _ c.keep.ensures.waits (ap (map (λ wait. wait.since)) c.make_room.ensures.waits ∙ before.begun_kept) in
-    inr (begins c.args.now _ _ c.make_room.new.self.jobs c.keep.new.self.jobs c.since-since.result (c.make_room.ensures.jobs ∙ before.exchanges_kept) refl c.keep.ensures.vacant c.keep.ensures.updates c.keep.ensures.len
-    now_is begun c.keep.ensures.latest (c.keep.ensures.limit ∙ c.make_room.ensures.limit ∙ before.limit_kept))
+    let begun = begun_behind table.waits.items kept.waits.items (record { key = table.jobs.vacant_key; since = c.since-since.result }) c.args.self.now.begun c.keep.ensures.waits
+    (ap (map (λ wait. wait.since)) c.make_room.ensures.waits ∙ before.begun_kept)
+    in
+    record {
+      keeps = kept_on before.keeps c.open.ensures.keeps;
+      accounted = search rules;
+      unheard = search rules;
+      unexpired = search rules;
+      waits = inr (begins c.args.now c.args.self.now (record { exchanges = kept.jobs.slots; begun = map (λ wait. wait.since) kept.waits.items; latest = kept.latest; limit = kept.limit })
+          table.jobs kept.jobs c.since-since.result (c.make_room.ensures.jobs ∙ before.exchanges_kept) refl c.keep.ensures.vacant c.keep.ensures.one_more.updates c.keep.ensures.one_more.len
+          now_is begun c.keep.ensures.latest limit);
+      within = search rules;
+      limit = limit;
+    }

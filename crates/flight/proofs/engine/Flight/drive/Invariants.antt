@@ -10,11 +10,10 @@ abbrev pub invariant-loop-want : goal.invariant-loop-want
 invariant-loop-want g l = record {
   asked : IsAskedBy g.K.Client.sent l.asking.port l.octets l.asking.client l.asking.query l.asking.task;
   flies : Flies g.D.Desk.calls g.D.Numbered.seen g.L.Line.hears g.C.Clock.ticks l.asking.port l.asking.query.question l.asking.task.steps.items l.input l.asking.seen;
-  port : l.asking.port ≡ g.W.World.server_port l.world;
+  port : l.asking.port ≡ g.O.Outside.server_port l.outside;
   known : l.asking.seen ≤ g.D.Numbered.seen l.desk;
-  kept : Keeps g.W.World.told l.fn.world l.world;
-  port_kept : g.W.World.server_port l.world ≡ g.W.World.server_port l.fn.world;
-  counts_kept : g.W.World.counts l.world ≡ g.W.World.counts l.fn.world;
+  keeps : Keeps g.O.Outside.server_port g.O.Outside.told l.fn.outside l.outside;
+  counts_kept : g.O.Outside.counts l.outside ≡ g.O.Outside.counts l.fn.outside;
   exchanges_kept : l.self-inside.table.jobs.slots ≡ l.fn.self.exchanges;
   begun_kept : map (λ wait. wait.since) l.self-inside.table.waits.items ≡ l.fn.self.begun;
   latest_kept : l.self-inside.table.latest ≡ l.fn.self.latest;

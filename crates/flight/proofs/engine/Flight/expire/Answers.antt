@@ -8,7 +8,7 @@ use Rattle.flight.proofs.engine.Flight.expire.Goals as goal
 pub loop-wait-smaller-in-Some-pass : goal.loop-wait-smaller-in-Some-pass
 loop-wait-smaller-in-Some-pass g c =
     let first = ap (λ (state : FlightState). state.begun) (sym c.self.view_is) ∙ ap (map (λ wait. wait.since)) c.in-Some-pass.ensures.waits in
-    less_over c.args.now c.in-Some.wait.since c.loop-wait.self _ c.end.new.self first c.in-Some.ensures.due c.end.ensures.waits
+    less_over c.args.now c.in-Some.wait.since c.loop-wait.self _ c.end.new.self first c.in-Some.ensures.first_due.due c.end.ensures.waits
 
 pub loop-wait-preserved-in-Some-pass : goal.loop-wait-preserved-in-Some-pass
 loop-wait-preserved-in-Some-pass g c =
@@ -17,18 +17,19 @@ loop-wait-preserved-in-Some-pass g c =
     let key = c.in-Some.wait.key in
     let due = c.in-Some-pass.ensures.due in
     let fewer = c.in-Some-pass.ensures.len ∙ ap outstanding was in
-    let after = subst (λ (waiting : ℕ). IsAccounted 0 waiting (g.W.World.counts c.loop-wait.world) (outstanding c.end.new.self) (g.W.World.counts c.end.new.world)) fewer c.end.ensures.accounted in
+    let after = subst (λ (waiting : ℕ). IsAccounted 0 waiting (g.O.Outside.counts c.loop-wait.outside) (outstanding c.end.new.self) (g.O.Outside.counts c.end.new.outside)) fewer c.end.ensures.accounted in
     let out = taken_out c.args.now key c.loop-wait.self _ c.in-Some-pass.ensures.taken.changed (λ other differs. c.in-Some-pass.ensures.taken.others other differs ∙ ap (λ (state : FlightState). since_at state other) was)
     (c.in-Some-pass.ensures.latest ∙ ap (λ (state : FlightState). state.latest) was)
     in
     record {
       early = early_then 2000 c.args.now key c.in-Some-pass.job c.args.self.now c.loop-wait.self _ c.end.new.self before.early (ap (λ (state : FlightState). since_at state key) (sym was) ∙ due.0) due.1
           (λ other differs. c.in-Some-pass.ensures.taken.others other differs ∙ ap (λ (state : FlightState). since_at state other) was) c.end.ensures.waits;
-      begins = on_or_begun_then c.args.now c.args.self.now c.loop-wait.self c.end.new.self before.begins
-          (on_or_begun_then c.args.now c.loop-wait.self _ c.end.new.self out (begun_or_not c.args.now _ c.end.new.self c.end.ensures.waits));
-      port = c.end.ensures.port ∙ before.port;
-      kept = kept_on before.kept c.end.ensures.kept;
-      accounted = accounted_then 0 0 _ _ _ _ _ _ before.accounted after;
-      no_more = omega (arith, no_more_then c.args.now (outstanding c.loop-wait.self) _ c.end.new.self fewer c.end.ensures.waits, before.no_more);
-      limit = c.end.ensures.limit ∙ c.in-Some-pass.ensures.limit ∙ ap (λ (state : FlightState). state.limit) was ∙ before.limit;
+      so_far = record {
+        keeps = kept_on before.so_far.keeps c.end.ensures.keeps;
+        accounted = accounted_then 0 0 _ _ _ _ _ _ before.so_far.accounted after;
+        begins = on_or_begun_then c.args.now c.args.self.now c.loop-wait.self c.end.new.self before.so_far.begins
+            (on_or_begun_then c.args.now c.loop-wait.self _ c.end.new.self out (begun_or_not c.args.now _ c.end.new.self c.end.ensures.waits));
+        no_more = omega (arith, no_more_then c.args.now (outstanding c.loop-wait.self) _ c.end.new.self fewer c.end.ensures.waits, before.so_far.no_more);
+        limit = c.end.ensures.limit ∙ c.in-Some-pass.ensures.limit ∙ ap (λ (state : FlightState). state.limit) was ∙ before.so_far.limit;
+      };
     }

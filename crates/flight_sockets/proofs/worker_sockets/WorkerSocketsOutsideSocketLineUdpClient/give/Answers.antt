@@ -1,4 +1,4 @@
-use Rattle.flight_sockets.proofs.worker_sockets.WorkerSocketsWorldSocketLineUdpClient.give.Goals as goal
+use Rattle.flight_sockets.proofs.worker_sockets.WorkerSocketsOutsideSocketLineUdpClient.give.Goals as goal
 
 pub returns-clause-told : goal.returns-clause-told
 returns-clause-told g c = rw c.peer.ensures at c.send.ensures.sent

@@ -5,7 +5,8 @@ ghost use Rattle.dns_wire.specs.declared.server.query.Asked.TheVariants.{Drop};
 ghost use Rattle.dns_wire.specs.Server.Asking.{AsksFor};
 ghost use Rattle.front_workers.specs.Serves.{fault_octets};
 ghost use Rattle.flight.specs.declared.counts.Counts.{Counts};
-ghost use Rattle.flight.specs.Counted.{CountsExpired, CountsListened, CountsOpened, CountsSettled};
+ghost use Rattle.flight.specs.Clients.{Settles};
+ghost use Rattle.flight.specs.Counted.{CountsExpired, CountsListened, CountsOpened};
 ghost use Rattle.flight.specs.Flight.{query_to};
 ghost use Rattle.flight.specs.Told.{octets_of, IsHeard, IsTold, IsUntold, Keeps};
 
@@ -23,7 +24,7 @@ pub trait Client: Drop {
 }
 
 /// What listening gave.
-#[derive(Debug, Drop)]
+#[derive(Drop)]
 pub enum Heard {
     /// Nothing yet.
     Nothing,
@@ -36,7 +37,7 @@ pub enum Heard {
 }
 
 /// Why a client is told that the server failed.
-#[derive(Clone, Copy, Debug, PartialEq, Eq)]
+#[derive(Clone, Copy, PartialEq, Eq)]
 pub enum Unserved {
     /// There was no memory.
     NoMemory,
@@ -47,7 +48,7 @@ pub enum Unserved {
 }
 
 /// The sockets of a worker: those on which clients are told, and those of exchanges.
-pub trait World<D: Numbered, L: Line, C: Clock, K: Client> {
+pub trait Outside<D: Numbered, L: Line, C: Clock, K: Client> {
     /// The port of name servers that are known by name.
     ghost server_port: { Self → ℕ };
 
@@ -63,31 +64,27 @@ pub trait World<D: Numbered, L: Line, C: Clock, K: Client> {
 
     /// A buffer for a reply: whatever octets it holds, those of the reply take their place.
     fn buffer(&mut self) -> Vec<u8>
-        ensures port { server_port self.new ≡ server_port self.old }
         ensures counts { counts self.new ≡ counts self.old }
-        ensures kept { Keeps told self.old self.new };
+        ensures keeps { Keeps server_port told self.old self.new };
 
     /// Begins an exchange, which is watched under the key. None where it could not be begun.
     fn open(&mut self, key: usize, server: &Addr, over: Over, query: Shared<Octets>) -> Option<L>
         ensures asked { IfSome result (λ line. L.asked line ≡ query_to server.now over query) }
-        ensures port { server_port self.new ≡ server_port self.old }
         ensures opened { OnSome result (CountsOpened (counts self.old) (counts self.new)) }
         ensures unopened { IfNone result (counts self.new ≡ counts self.old) }
-        ensures kept { Keeps told self.old self.new };
+        ensures keeps { Keeps server_port told self.old self.new };
 
     /// Goes on with an exchange, without waiting.
     fn hear(&mut self, line: &mut L) -> Heard
         ensures heard { IsHeard (L.hears (L.asked line.old)) result }
         ensures asked { L.asked line.new ≡ L.asked line.old }
-        ensures port { server_port self.new ≡ server_port self.old }
         ensures listened { CountsListened result (counts self.old) (counts self.new) }
-        ensures kept { Keeps told self.old self.new };
+        ensures keeps { Keeps server_port told self.old self.new };
 
     /// Ends an exchange whose time is up.
     fn expire(&mut self, line: L)
-        ensures port { server_port self.new ≡ server_port self.old }
         ensures expired { CountsExpired (counts self.old) (counts self.new) }
-        ensures kept { Keeps told self.old self.new };
+        ensures keeps { Keeps server_port told self.old self.new };
 
     /// Tells a client the reply to its octets, now or later. Whether it reaches the client is not known.
     fn give(&mut self, client: K, octets: &[u8], reply: ReplyOctets)
@@ -95,9 +92,7 @@ pub trait World<D: Numbered, L: Line, C: Clock, K: Client> {
         requires told { IsTold D.calls D.seen L.hears C.ticks (server_port self.old) octets.now (octets_of reply) }
         requires short { length (octets_of reply) ≤ 512 }
         ensures told { told self.new client (octets_of reply) }
-        ensures kept { Keeps told self.old self.new }
-        ensures port { server_port self.new ≡ server_port self.old }
-        ensures settled { CountsSettled (counts self.old) (counts self.new) };
+        ensures settles { Settles server_port counts told self.old self.new };
 
     /// Tells a client that the server failed (RFC 1035, section 4.1.1, RCODE 2), by the header alone.
     fn fail(&mut self, client: K, octets: &[u8], why: Unserved)
@@ -105,15 +100,11 @@ pub trait World<D: Numbered, L: Line, C: Clock, K: Client> {
         requires header { 12 ≤ length octets.now }
         requires owed { ¬ (AsksFor octets.now Drop) }
         ensures told { told self.new client (fault_octets octets.now 2) }
-        ensures kept { Keeps told self.old self.new }
-        ensures port { server_port self.new ≡ server_port self.old }
-        ensures settled { CountsSettled (counts self.old) (counts self.new) };
+        ensures settles { Settles server_port counts told self.old self.new };
 
     /// Lets a client go to whom no reply is owed.
     fn pass_over(&mut self, client: K, octets: &[u8])
         requires own { K.sent client octets.now }
         requires untold { IsUntold D.calls D.seen L.hears C.ticks (server_port self.old) octets.now }
-        ensures kept { Keeps told self.old self.new }
-        ensures port { server_port self.new ≡ server_port self.old }
-        ensures settled { CountsSettled (counts self.old) (counts self.new) };
+        ensures settles { Settles server_port counts told self.old self.new };
 }
