@@ -14,7 +14,7 @@ use Rattle.resolver_args.specs.Given.{AreAddrs, GivesAddr, GivesAddrs, GivesNumb
 use Rattle.resolver_args.specs.Says.{GivesService, GivesSettings, RefusedFor}
 use Rattle.resolver_args.specs.declared.fault.ArgsFault.{ArgsFault}
 use Rattle.resolver_args.specs.declared.mode.Service.{Service}
-use Rattle.undo_book.specs.declared.event.Settings.{Settings}
+use Rattle.history.specs.declared.event.Settings.{Settings}
 
 same_text : (a b : Text) (o : Option Text) → o ≡ Some a → o ≡ Some b → a ≡ b
 same_text a b o first second = cc

@@ -9,7 +9,7 @@ use Rattle.clap.specs.declared.builder.command.Command.{Command}
 use Rattle.clap.specs.declared.builder.range.ValueRange.{ValueRange}
 use Rattle.clap.specs.declared.builder.value_parser.ValueParser.TheVariants.{Signed}
 use Rattle.shared_book.specs.declared.kept.TheConstants.{MOST_RECORDED}
-use Rattle.undo_book.specs.declared.limits.TheConstants.{MOST_CELLS, MOST_COMMANDS}
+use Rattle.history.specs.declared.limits.TheConstants.{MOST_CELLS, MOST_COMMANDS}
 use Rattle.resolver_args.specs.declared.mode.TheConstants.{MOST_WORKERS}
 
 -- `--name VALUE`, once at most
@@ -76,6 +76,6 @@ control_shape = record (new_shape (codes "control")) { rules = line_rules }
 -- one of three commands, which has to be there
 abbrev pub resolver_app : App
 resolver_app = record {
-  top = record (new_shape (codes "resolver")) { subcommand_required = true; is_leaf = false };
+  top = record (new_shape (codes "resolver")) { subcommand_required = true; is_leaf = false; has_version = true };
   subs = script_shape ∷ serve_shape ∷ control_shape ∷ [];
 }

@@ -2,7 +2,7 @@
 use Rattle.std.specs.Prelude.{◌≡◌, ◌≤◌, ◌+◌, ℕ, List, [], ◌∷◌, length, slice_index}
 use Rattle.dns_text.specs.declared.addr.Ip.{Ip}
 use Rattle.dns_text.specs.declared.addr.Ip.TheVariants.{V4, V6}
-use Rattle.undo_book.specs.Event.{AreSettings}
+use Rattle.history.specs.Event.{AreSettings}
 use Rattle.shared_book.specs.declared.kept.TheConstants.{MOST_RECORDED}
 use Rattle.resolver_args.specs.declared.mode.Mode.{Mode}
 use Rattle.resolver_args.specs.declared.mode.Mode.TheVariants.{Script, Serve, Control}

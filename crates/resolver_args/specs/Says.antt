@@ -3,8 +3,8 @@ use Rattle.std.specs.Prelude.{◌≡◌, ◌⊎◌, ◌<◌, ◌^◌, ℕ, List,
 use Rattle.clap.specs.Faults.{fault_of}
 use Rattle.clap.specs.Simple.{subcommand_of}
 use Rattle.clap.specs.Walk.{Row, Text}
-use Rattle.undo_book.specs.Event.{AreSettings}
-use Rattle.undo_book.specs.declared.event.Settings.{Settings}
+use Rattle.history.specs.Event.{AreSettings}
+use Rattle.history.specs.declared.event.Settings.{Settings}
 use Rattle.resolver_args.specs.CommandLine.{resolver_app}
 use Rattle.resolver_args.specs.Given.{GivesAddr, GivesAddrs, GivesLine, GivesNumber, MayGive}
 use Rattle.resolver_args.specs.Mode.{HasNumbers, IsLoopback}

@@ -6,7 +6,7 @@ ghost use Rattle.clap.specs.Simple.{subcommand_rows_of};
 ghost use Rattle.clap.specs.Values.{kind_of};
 ghost use Rattle.clap.specs.declared.error.kind.ErrorKind.TheVariants.{OutOfMemory};
 ghost use Rattle.dns_text.specs.Addr.{addr_in};
-ghost use Rattle.undo_book.specs.Event.{AreSettings};
+ghost use Rattle.history.specs.Event.{AreSettings};
 ghost use Rattle.resolver_args.specs.declared.mode.Mode.TheVariants.{Control, Serve};
 ghost use Rattle.resolver_args.specs.declared.fault.ArgsFault.TheVariants.{NoMemory};
 ghost use Rattle.resolver_args.specs.Given.{AreAddrs, GivesAddr, GivesAddrs, GivesLine, GivesNumber, rows_in};
@@ -21,8 +21,8 @@ use crate::options::{LinesHelp, command};
 use clap::error::ErrorKind;
 use clap::{ArgMatches, Error};
 use dns_text::{Addr, Items, read_addr};
+use history::Settings;
 use std::alloc::{AllocError, Global};
-use undo_book::Settings;
 
 /// What `clap` says of the arguments, a call for help included, unless memory was refused while it read them.
 fn usage(alloc: Global, error: &Error) -> ArgsFault

@@ -2,7 +2,7 @@
 
 ghost use Rattle.std.specs.Prelude.{◌≡◌, ◌∷◌, [], Some, codes, map};
 ghost use Rattle.dns_text.specs.Addr.{addr_in};
-ghost use Rattle.undo_book.specs.declared.event.Settings.{Settings};
+ghost use Rattle.history.specs.declared.event.Settings.{Settings};
 ghost use Rattle.resolver_args.specs.Says.{Says};
 ghost use Rattle.resolver_args.specs.declared.mode.Mode.TheVariants.{Script};
 

@@ -1,11 +1,16 @@
 //! What the arguments of `resolver` say: a script, a service, or lines for one.
 #![tactic(auto)]
 
-mod fault; // why the arguments say nothing
-mod mode; // what the program is to do
-mod options; // the commands of the program, as help shows them
-mod args; // what the arguments say
-mod laws; // what some command lines come to
+// Why arguments are rejected.
+mod fault;
+// The mode of the program: a script, a service, or lines for one.
+mod mode;
+// The commands of the program, as help shows them.
+mod options;
+// The mode that arguments say.
+mod args;
+// Laws of some command lines.
+mod laws;
 
 pub use args::read_args;
 pub use fault::ArgsFault;

@@ -1,17 +1,17 @@
 //! What the program is to do.
 
 ghost use Rattle.std.specs.Prelude.{◌≡◌, ◌↔◌, ◌⊎◌, ◌<◌, ◌^◌, IsTrue, IsSome, IfOk, IfErr, IfSome};
-ghost use Rattle.undo_book.specs.Event.{AreSettings};
+ghost use Rattle.history.specs.Event.{AreSettings};
 ghost use Rattle.resolver_args.specs.declared.fault.ArgsFault.TheVariants.{BadArguments, NotLoopback};
 ghost use Rattle.resolver_args.specs.Mode.{IsLoopback, HasCounts, IsService};
 
 use crate::fault::ArgsFault;
 use dns_text::{Addr, Ip, Items};
+use history::{MOST_CELLS, MOST_COMMANDS, MOST_HINTS, Settings};
 use shared_book::MOST_RECORDED;
-use undo_book::{MOST_CELLS, MOST_COMMANDS, MOST_HINTS, Settings};
 
 /// What the program is to do.
-#[derive(Debug, Drop)]
+#[derive(Drop)]
 pub enum Mode {
     /// It obeys the lines of standard input.
     Script(Settings),
@@ -22,7 +22,7 @@ pub enum Mode {
 }
 
 /// What a service is made with.
-#[derive(Debug, Drop)]
+#[derive(Drop)]
 pub struct Service {
     pub settings: Settings,
     /// Where questions come in, over UDP and TCP.

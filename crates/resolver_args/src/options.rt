@@ -12,9 +12,9 @@ use crate::mode::MOST_WORKERS;
 use clap::builder::ValueParser;
 use clap::{Arg, ArgAction, Command};
 use command_text::{Channel, help_text};
+use history::{MOST_CELLS, MOST_COMMANDS};
 use shared_book::MOST_RECORDED;
 use std::alloc::{AllocError, Global};
-use undo_book::{MOST_CELLS, MOST_COMMANDS};
 
 /// What help says last of each command: the lines that it takes.
 #[derive(Drop)]
@@ -39,6 +39,9 @@ fn lines_of(alloc: Global, channel: Channel) -> Result<String, AllocError> {
     text.push_str(lines.as_str())?;
     Ok(text)
 }
+
+/// The version of the program: CHANGELOG.md says what came with it.
+pub(crate) const VERSION: &str = "0.1.0";
 
 /// What help says last of `serve`.
 const SERVE_HELP: &str = "\
@@ -243,6 +246,7 @@ pub(crate) fn command<'a>(alloc: Global, lines: &'a LinesHelp) -> Result<Command
 {
     Command::new(alloc, "resolver")
         .bin_name("resolver")?
+        .version(VERSION)
         .subcommand_required(true)
         .subcommand(script_command(alloc, lines.script.as_str())?)?
         .subcommand(serve_command(alloc)?)?

@@ -12,8 +12,7 @@ use std::alloc::Global;
 use streams::Text;
 
 /// Why the program does not begin, or does not go on.
-#[derive(Debug, Drop, thiserror::Error)]
-#[error("the program ends with status {status}")]
+#[derive(Drop)]
 pub struct CliFault {
     /// The program's exit status.
     pub status: u8,

@@ -2,13 +2,20 @@
 //! operator stops it, and `resolver control` sends a service an operator's lines.
 #![tactic(auto)]
 
-mod fault; // why the program does not begin, or does not go on
-mod script; // standard input is obeyed
-mod client; // lines for a service
-mod sockets; // the sockets of a service
-mod worker; // one worker
-mod operators; // the control socket
-mod service; // workers over one shared book, and an operator's lines
+// Why the program does not begin, or does not go on.
+mod fault;
+// The script over standard input.
+mod script;
+// The client of a service's control socket.
+mod client;
+// The sockets of a service.
+mod sockets;
+// One worker.
+mod worker;
+// The control socket.
+mod operators;
+// The service: workers over one shared book, and an operator's lines.
+mod service;
 
 ghost use Rattle.std.specs.Prelude.{◌≡◌, map, IfOk};
 ghost use Rattle.resolver_args.specs.Mode.{HasNumbers};

@@ -2,7 +2,7 @@
 
 use crate::worker::Lent;
 use command_text::serve_control;
-use dns_sockets::SecondsClock;
+use dns_sockets::MonotonicClock;
 use log::{Log, warn};
 use shared_book::{CallLedger, Seat};
 use std::alloc::Global;
@@ -34,7 +34,7 @@ fn next_operator(listener: &TcpListener) -> io::Result<TcpStream> {
 fn obey_operator<L: CallLedger, R: Wait + Clock>(
     alloc: Global,
     desk: &mut Seat<'_, PlainBook, L, R>,
-    clock: &mut SecondsClock<'_, R>,
+    clock: &mut MonotonicClock<'_, R>,
     stream: &TcpStream,
 ) -> bool {
     let mut reader = CountedReader::new(stream);
@@ -52,7 +52,7 @@ pub(crate) fn obey_operators<L: CallLedger, R: Wait + Clock + Log>(
     lent: &Lent<'_, L>,
     mut desk: Seat<'_, PlainBook, L, R>,
 ) {
-    let mut clock = SecondsClock::new(rt, lent.terms.start);
+    let mut clock = MonotonicClock::new(rt, lent.terms.start);
     for _ in rt.forever() {
         match next_operator(&lent.sockets.control) {
             Ok(stream) => {

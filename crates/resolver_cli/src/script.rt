@@ -1,11 +1,12 @@
 //! `resolver script`: standard input is obeyed.
 
-ghost use Rattle.undo_book.specs.Event.{AreSettings};
+ghost use Rattle.history.specs.Event.{AreSettings};
 
 use crate::fault::CliFault;
 use command_text::run_script;
+use history::Settings;
 use streams::{CountedReader, CountedWriter, ScriptFault};
-use undo_book::{PlainBook, Settings};
+use undo_book::PlainBook;
 
 /// Obeys standard input.
 pub(crate) fn obey_input(rt: &HostRuntime, settings: Settings) -> Result<(), CliFault>

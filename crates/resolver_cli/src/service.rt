@@ -11,6 +11,7 @@ use crate::sockets::{Bound, hold_descriptors, wake_all};
 use crate::worker::{Lent, OverTcp, OverUdp, Terms, run_tcp, run_udp, tcp_workers, udp_workers};
 use dns_sockets::{descriptor_limit, place_of};
 use flight_sockets::{Waker, most_exchanges};
+use history::Book;
 use log::{Log, info};
 use resolver_args::Service;
 use shared_book::{Blank, CallLedger, Pass, Seat, SharedBook};
@@ -24,7 +25,7 @@ use std::sync::atomic::{AtomicBool, Ordering};
 use std::thread;
 use std::thread::Threads;
 use std::time::Instant;
-use undo_book::{Book, PlainBook};
+use undo_book::PlainBook;
 
 /// Into how many passes the first one can be split at most. Each new one takes half of its parts.
 const PARTS: u64 = 1 << 32;

@@ -5,7 +5,7 @@ ghost use Rattle.resolver_args.specs.declared.mode.TheConstants.{MOST_WORKERS};
 
 use crate::fault::CliFault;
 use crate::sockets::Sockets;
-use dns_sockets::{Connections, SecondsClock, SocketExchange};
+use dns_sockets::{Connections, MonotonicClock, SocketExchange};
 use flight_sockets::{UdpListener, UdpWorker, fly_udp};
 use front_workers::{Tools, work_tcp};
 use log::Log;
@@ -161,7 +161,7 @@ where
         mut worker,
     } = over;
     let mut desk = Seat::new(rt, alloc, lent.book, pass);
-    let clock = SecondsClock::new(rt, lent.terms.start);
+    let clock = MonotonicClock::new(rt, lent.terms.start);
     fly_udp(
         rt,
         alloc,
@@ -192,7 +192,7 @@ where
     let mut desk = Seat::new(rt, alloc, lent.book, pass);
     let mut tools = Tools {
         exchange,
-        clock: SecondsClock::new(rt, lent.terms.start),
+        clock: MonotonicClock::new(rt, lent.terms.start),
         ids,
         server_port: lent.terms.server_port,
     };

@@ -2,7 +2,7 @@ use Rattle.std.proofs.Common.{rules, arith, codes, refl, sym, subst, inl, inr, â
 use Rattle.std.specs.Prelude.{IfErr, IfOk}
 use Rattle.std.proofs.lemmas.Result.{IfErr-weaker}
 use Rattle.std.proofs.lemmas.Result.{IfOk-weaker}
-use Rattle.undo_book.specs.Event.{AreSettings}
+use Rattle.history.specs.Event.{AreSettings}
 use Rattle.resolver_args.specs.Given.{LacksAddr, LacksNumber, LacksOption, rows_in}
 use Rattle.resolver_args.specs.Mode.{HasCounts}
 use Rattle.resolver_args.specs.Says.{GivesService, LacksService, RefusedFor, RefusesService}

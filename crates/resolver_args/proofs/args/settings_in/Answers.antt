@@ -1,8 +1,8 @@
 use Rattle.std.proofs.Common.{rules, arith, codes, refl, sym, subst, inr, ℕ, ◌≡◌, ◌<◌, ◌^◌, true, false}
 use Rattle.std.specs.Prelude.{IfErr}
 use Rattle.std.proofs.lemmas.Result.{IfErr-weaker}
-use Rattle.undo_book.specs.Event.{AreSettings}
-use Rattle.undo_book.specs.declared.event.Settings.{Settings}
+use Rattle.history.specs.Event.{AreSettings}
+use Rattle.history.specs.declared.event.Settings.{Settings}
 use Rattle.resolver_args.specs.Given.{LacksNumber, rows_in}
 use Rattle.resolver_args.specs.Says.{GivesSettings, LacksSettings, RefusedFor}
 use Rattle.resolver_args.proofs.Giving.{for_reason, one_addrs, one_number, same_settings}

@@ -2,7 +2,7 @@ use Rattle.std.proofs.Common.{rules, ◌≡◌, codes, false}
 use Rattle.std.proofs.lemmas.Result.{IfOk-weaker}
 use Rattle.clap.specs.Walk.{rule_of}
 use Rattle.resolver_args.specs.CommandLine.{count_rule}
-use Rattle.undo_book.specs.declared.limits.TheConstants.{MOST_CELLS, MOST_COMMANDS}
+use Rattle.history.specs.declared.limits.TheConstants.{MOST_CELLS, MOST_COMMANDS}
 use Rattle.resolver_args.proofs.Adding.{two_added}
 use Rattle.resolver_args.proofs.options.with_limits.Goals as goal
 
