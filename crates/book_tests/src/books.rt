@@ -3,13 +3,14 @@
 use crate::cells::one;
 use dns_name::Name;
 use dns_text::{Items, Question};
+use history::{
+    Ask, Book, Command, Event, Look, MOMENT_END, MOST_CELLS, MOST_COMMANDS, MakeFault, Reply,
+    RunFault, Seen, Settings, StepFault, run,
+};
 use ranked::{Rank, SharedFind};
 use std::alloc::Global;
 use std::test::*;
-use undo_book::{
-    Ask, Book, Command, Event, Look, MOMENT_END, MOST_CELLS, MOST_COMMANDS, MakeFault, PlainBook,
-    Reply, RunFault, Seen, Settings, StepFault, run,
-};
+use undo_book::PlainBook;
 
 fn question(alloc: Global) -> Result<Question, Fail> {
     Ok(Question {
@@ -95,11 +96,11 @@ fn redo_puts_back(rt: HostRuntime) -> Result<(), Fail> {
     let mut book = book(alloc, 64, 100)?;
     book.step(admit(alloc, 0, Rank::AuthoritativeAnswer, 60)?)?;
     assert!(rt; flushes(&mut book, alloc, 1, 1)?);
-    assert_eq!(rt; left(&book, &asked, 1), None);
+    assert!(rt; left(&book, &asked, 1) == None);
     assert!(rt; undoes(&mut book, 1, 1)?);
-    assert_eq!(rt; left(&book, &asked, 1), Some(59));
+    assert!(rt; left(&book, &asked, 1) == Some(59));
     assert!(rt; redoes(&mut book, 1, 1)?);
-    assert_eq!(rt; left(&book, &asked, 1), None);
+    assert!(rt; left(&book, &asked, 1) == None);
     Ok(())
 }
 
@@ -123,8 +124,8 @@ fn looks_take_every_moment(rt: HostRuntime) -> Result<(), Fail> {
     let asked = question(alloc)?;
     let mut book = book(alloc, 64, 100)?;
     book.step(admit(alloc, 5, Rank::AuthoritativeAnswer, 9)?)?;
-    assert_eq!(rt; left(&book, &asked, u64::MAX), None);
-    assert_eq!(rt; left(&book, &asked, 0), Some(9));
+    assert!(rt; left(&book, &asked, u64::MAX) == None);
+    assert!(rt; left(&book, &asked, 0) == Some(9));
     let ask = Ask::Answer(asked);
     assert!(rt; book.seen(&ask, u64::MAX)? == Seen::Unknown);
     assert!(rt; book.seen(&ask, 0)? != Seen::Unknown);
@@ -141,7 +142,7 @@ fn stored_counts(rt: HostRuntime) -> Result<(), Fail> {
     assert!(rt; matches!(second, Reply::Outranked));
     let third = book.step(admit(alloc, 0, Rank::AuthoritativeAnswer, 60)?);
     assert!(rt; matches!(third, Err(StepFault::Full { stored: 2 })));
-    assert_eq!(rt; book.stored(), 2);
+    assert!(rt; book.stored() == 2);
     Ok(())
 }
 
@@ -155,7 +156,7 @@ fn run_stops_at_a_fault(rt: HostRuntime) -> Result<(), Fail> {
     let mut replies = Vec::new(alloc);
     let stopped = run(&mut book, events, &mut replies);
     assert!(rt; matches!(stopped, Err(RunFault::Step(StepFault::BadMoment))));
-    assert_eq!(rt; replies.len(), 1);
+    assert!(rt; replies.len() == 1);
     assert!(rt; matches!(replies[0], Reply::Done { ticket: 1 }));
     Ok(())
 }

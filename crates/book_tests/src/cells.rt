@@ -24,7 +24,7 @@ fn times_to_live(rt: HostRuntime) -> Result<(), Fail> {
         (u32::MAX, Some(LONGEST_TTL)),
     ] {
         let find = one(rt.alloc(), Rank::Answer, ttl)?;
-        assert_eq!(rt; find.map(|f| f.ttl), held);
+        assert!(rt; find.map(|f| f.ttl) == held);
     }
     Ok(())
 }
@@ -42,10 +42,10 @@ fn last_moment(rt: HostRuntime) -> Result<(), Fail> {
     let high = one(rt.alloc(), Rank::Answer, 60)?.ok_or("a find")?;
     let low = one(rt.alloc(), Rank::Additional, 60)?.ok_or("a find")?;
     let mut cell = Cell::empty();
-    assert_eq!(rt; cell.admit(&high, 7, u64::MAX), Fate::Taken);
-    assert_eq!(rt; cell.at(u64::MAX).map(|s| s.left), Some(60));
-    assert_eq!(rt; cell.at(0).map(|s| s.body), Some(7));
-    assert_eq!(rt; cell.admit(&low, 8, u64::MAX), Fate::Outranked);
+    assert!(rt; cell.admit(&high, 7, u64::MAX) == Fate::Taken);
+    assert!(rt; cell.at(u64::MAX).map(|s| s.left) == Some(60));
+    assert!(rt; cell.at(0).map(|s| s.body) == Some(7));
+    assert!(rt; cell.admit(&low, 8, u64::MAX) == Fate::Outranked);
     Ok(())
 }
 
@@ -53,9 +53,9 @@ fn last_moment(rt: HostRuntime) -> Result<(), Fail> {
 fn end_of_life(rt: HostRuntime) -> Result<(), Fail> {
     let find = one(rt.alloc(), Rank::Answer, 60)?.ok_or("a find")?;
     let mut cell = Cell::empty();
-    assert_eq!(rt; cell.admit(&find, 7, 0), Fate::Taken);
+    assert!(rt; cell.admit(&find, 7, 0) == Fate::Taken);
     for (moment, left) in [(0, Some(60)), (59, Some(1)), (60, None), (u64::MAX, None)] {
-        assert_eq!(rt; cell.at(moment).map(|s| s.left), left, "at {moment}");
+        assert!(rt; cell.at(moment).map(|s| s.left) == left, "at {moment}");
     }
     Ok(())
 }
@@ -67,7 +67,7 @@ fn owners(rt: HostRuntime) -> Result<(), Fail> {
     let other = shared.share()?;
     let again = SharedFind::from(shared.into_arc());
     assert!(rt; other == again);
-    assert_eq!(rt; again.find().ttl, 60);
+    assert!(rt; again.find().ttl == 60);
     assert!(rt; !again.find().touches(&Name::root(rt.alloc()), 1));
     let made = SharedFind::from(Arc::new(
         rt.alloc(),

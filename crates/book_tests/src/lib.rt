@@ -2,6 +2,10 @@
 #![tactic(auto)]
 
 #[cfg(test)]
-mod books;
+mod cells; // finds and cells at their edges
 #[cfg(test)]
-mod cells;
+mod shelves; // the cache without a history
+#[cfg(test)]
+mod books; // the plain book
+#[cfg(test)]
+mod shared; // one book for two callers

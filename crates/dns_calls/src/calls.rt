@@ -1,6 +1,8 @@
 //! The calls by their words.
 
+use crate::arguments::arguments_in;
 use crate::denials::denial_in;
+use crate::drawn::drawn_words;
 use crate::fault::CallFault;
 use crate::harvests::harvest_in;
 use crate::lent::lent_octets;
@@ -14,7 +16,6 @@ use crate::texts::{addr_text, data_text, record_text, type_text};
 use crate::verdicts::{query_octets, verdict_in};
 use dns_text::next_word;
 use std::alloc::Global;
-use talk_lines::pieces_in;
 
 /// What a call gives.
 fn answer(alloc: Global, word: &[u8], arguments: &[Vec<u8>]) -> Result<Vec<u8>, CallFault> {
@@ -47,14 +48,15 @@ fn answer(alloc: Global, word: &[u8], arguments: &[Vec<u8>]) -> Result<Vec<u8>, 
         (b"judge", [octets, over, id, zone, owner, kind]) => {
             verdict_in(alloc, octets, (over, id), zone, owner, kind)
         }
+        (b"drawn", []) => drawn_words(alloc),
         _ => Err(CallFault::NoCall),
     }
 }
 
-/// The line that tells what the call of a line gives, with its end.
+/// The text that the call of a line gives, with its end.
 pub fn call(alloc: Global, line: &[u8]) -> Result<Vec<u8>, CallFault> {
     let (word, rest) = next_word(line).ok_or(CallFault::NoCall)?;
-    let arguments = pieces_in(alloc, rest)?;
+    let arguments = arguments_in(alloc, rest)?;
     let mut told = answer(alloc, word, arguments.as_slice())?;
     told.push(b'\n')?;
     Ok(told)

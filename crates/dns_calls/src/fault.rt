@@ -3,8 +3,6 @@
 use dns_name::{NameFault, NoMemory};
 use dns_text::TextFault;
 use dns_wire::{EncodeFault, WireFault};
-use std::alloc::AllocError;
-use talk_lines::Stop;
 use thiserror::Error;
 
 /// The fault that the call tells, or what is wrong with its line.
@@ -23,13 +21,4 @@ pub enum CallFault {
     /// The line has no such word with so many arguments, or an argument is not what the call takes.
     #[error("NoCall")]
     NoCall,
-}
-
-impl From<Stop> for CallFault {
-    fn from(stop: Stop) -> CallFault {
-        match stop {
-            Stop::Device => CallFault::NoCall,
-            Stop::NoMemory => CallFault::NoMemory(AllocError),
-        }
-    }
 }

@@ -4,8 +4,10 @@
 //! A call is a word and its arguments, `calls` has them all. An argument is octets as hexadecimal digits, or `-` for none.
 #![tactic(auto)]
 
+mod arguments; // the arguments of a call
 mod calls; // each call by its word
 mod denials; // what a message denies
+mod drawn; // messages by chance
 mod fault; // why a call gives nothing
 mod harvests; // what a message is believed to say
 mod lent; // replies whose records are lent
@@ -17,8 +19,7 @@ mod words; // a message in words
 
 use calls::call;
 use std::io;
-use std::io::{Input, Write};
-use talk_lines::{Stop, next_line};
+use std::io::{BufRead, Input, Write};
 
 /// Writes what the call of a line gives.
 fn tell(rt: &HostRuntime, line: &[u8]) -> io::Result<()> {
@@ -28,14 +29,15 @@ fn tell(rt: &HostRuntime, line: &[u8]) -> io::Result<()> {
     }
 }
 
-fn main(rt: HostRuntime) -> Result<(), Stop> {
+fn main(rt: HostRuntime) -> io::Result<()> {
     let mut input = rt.reader();
     let mut line = Vec::new(rt.alloc());
     for _ in 0..u64::MAX {
-        if !next_line(&mut input, &mut line)? {
+        if input.read_until(b'\n', &mut line)? == 0 {
             break;
         }
-        tell(&rt, &line)?;
+        tell(&rt, line.trim_ascii_end())?;
+        line.clear();
     }
     Ok(())
 }

@@ -3,15 +3,15 @@
 ghost use Rattle.std.specs.Prelude.{◌<◌};
 
 use dns_name::Name;
-use dns_text::types::A;
+use dns_text::types::{A, SOA};
 use dns_text::{Addr, Ip, Items, Question, Shared, read_record};
+use history::{Ask, Command, Event};
 use local_zone::ZoneType;
 use rand_core::Rng;
 use rand_pcg::Pcg32;
 use ranked::{Find, Rank, SharedFind};
 use std::alloc::{AllocError, Global};
 use stub_table::Stub;
-use undo_book::{Ask, Command, Event};
 
 const NAMES: [&[u8]; 4] = [b"a", b"b.a", b"c", b"d.c"];
 
@@ -72,6 +72,22 @@ fn find(rng: &mut Pcg32, alloc: Global) -> Result<SharedFind, AllocError> {
     let rank = RANKS[place(rng)];
     let ttl = below(rng, 30) + 1;
     match Find::new(record.owner, record.kind, rank, ttl, Items::new(data)) {
+        Some(find) => SharedFind::new(alloc, find),
+        None => Err(AllocError),
+    }
+}
+
+/// That there is no such name.
+fn denial(rng: &mut Pcg32, alloc: Global) -> Result<SharedFind, AllocError> {
+    let owner = name(rng, alloc)?;
+    let ttl = below(rng, 30) + 1;
+    let Ok(soa) = read_record(alloc, b". 60 SOA . . 1 60 60 60 60") else {
+        return Err(AllocError);
+    };
+    if soa.kind != SOA {
+        return Err(AllocError);
+    }
+    match Find::no_name(owner, ttl, soa) {
         Some(find) => SharedFind::new(alloc, find),
         None => Err(AllocError),
     }
@@ -175,5 +191,21 @@ pub fn event(rng: &mut Pcg32, alloc: Global) -> Result<Event, AllocError> {
             moment,
             ask: ask(rng, alloc)?,
         }),
+    }
+}
+
+/// An event of any kind, more often an admission, and at times that of a denial.
+pub fn event_or_denial(rng: &mut Pcg32, alloc: Global) -> Result<Event, AllocError> {
+    let moment = u64::from(below(rng, 100));
+    match below(rng, 12) {
+        0 => Ok(Event::Admit {
+            moment,
+            find: denial(rng, alloc)?,
+        }),
+        1 | 2 => Ok(Event::Admit {
+            moment,
+            find: find(rng, alloc)?,
+        }),
+        _ => event(rng, alloc),
     }
 }

@@ -2,7 +2,10 @@
 //! before and joined after. The book is closed with their receipts, and the record's events are given to a fresh book, whose
 //! replies are counted where they are those of the record. That is done with 40 books.
 //!
-//! With the argument `steps` one caller makes such calls of a book that lies under no lock, for tests/check_memory.py.
+//! Then 60 pairs of a book that replays and a book that keeps no history are given 1,000 drawn events each, with journals of
+//! 1, 3 and 64 commands, and the events to which both reply the same are counted.
+//!
+//! With the argument `steps` one caller makes such calls of a book that lies under no lock, for tests/cli_memory.py.
 #![tactic(auto)]
 
 ghost use Rattle.std.specs.Prelude.{◌≡◌, []};
@@ -10,9 +13,13 @@ ghost use Rattle.std.specs.Prelude.{◌≡◌, []};
 mod callers; // eight callers of one book
 mod draws; // events by chance
 mod replayed; // the record, given to a fresh book
+mod both; // drawn events, given to both books
+mod texts; // events and replies as text
 mod steps; // one caller, and calls that find no memory
 
+use both::both;
 use callers::{Handed, Stop, eight};
+use history::Book;
 use replayed::{plain, replayed};
 use shared_book::{Blank, CallLedger, SharedBook};
 use std::alloc::Global;
@@ -21,7 +28,7 @@ use std::sync::Wait;
 use std::thread::Threads;
 use std::{env, io};
 use steps::steps;
-use undo_book::{Book, PlainBook};
+use undo_book::PlainBook;
 
 /// How many entries a book's record has, and to how many of them a fresh book replies the same. None where it is not closed.
 fn one_book<L: CallLedger + Send + Sync, R: Threads + Wait + Sync>(
@@ -77,6 +84,23 @@ fn books<R: Print + Threads + Wait + Sync>(rt: &R, alloc: Global) -> io::Result<
     println!(rt; "calls {}, replied alike {}", calls, same)
 }
 
+/// How long the journals of the compared books are.
+const JOURNALS: [usize; 3] = [1, 3, 64];
+
+fn compared<R: Print>(rt: &R, alloc: Global) -> io::Result<()> {
+    let mut events = 0u64;
+    let mut same = 0u64;
+    for journal in JOURNALS {
+        for seed in 0..20u64 {
+            if let Ok((given, alike)) = both(alloc, seed, journal) {
+                events = events.wrapping_add(given);
+                same = same.wrapping_add(alike);
+            }
+        }
+    }
+    println!(rt; "events {}, both books replied alike {}", events, same)
+}
+
 fn steps_as<R: Print>(rt: &R, alloc: Global) -> Result<(), Stop> {
     let Ok(book) = plain(alloc) else {
         return Err(Stop);
@@ -88,6 +112,9 @@ fn main(rt: HostRuntime) -> anyhow::Result<()> {
     let words: Vec<String> = env::args(&rt)?.collect(rt.alloc())?;
     match words.as_slice() {
         [_, word] if word.as_str() == "steps" => Ok(steps_as(&rt, rt.alloc())?),
-        _ => Ok(books(&rt, rt.alloc())?),
+        _ => {
+            books(&rt, rt.alloc())?;
+            Ok(compared(&rt, rt.alloc())?)
+        }
     }
 }

@@ -4,9 +4,10 @@ ghost use Rattle.std.specs.Prelude.{◌≡◌, [], IfOk};
 
 use crate::callers::Stop;
 use dns_text::Items;
+use history::{Book, MakeFault, Settings};
 use shared_book::Receipt;
 use std::alloc::Global;
-use undo_book::{Book, MakeFault, PlainBook, Settings};
+use undo_book::PlainBook;
 
 pub fn plain(alloc: Global) -> Result<PlainBook, MakeFault>
     ensures { IfOk result (λ b. ⟦<PlainBook as Book>⟧.stands_for b []) }

@@ -4,13 +4,14 @@ ghost use Rattle.std.specs.Prelude.{◌≡◌, []};
 
 use crate::callers::Stop;
 use crate::draws::event;
+use crate::texts::{entry_shown, fault_shown, reply_shown};
 use dns_text::Shared;
+use history::{Book, Event, Reply, StepFault};
 use rand_core::SeedableRng;
 use rand_pcg::Pcg32;
 use shared_book::{Blank, CallLedger, Kept, Pass};
 use std::alloc::Global;
-use std::io;
-use undo_book::{Book, Event, PlainBook, Reply, StepFault};
+use undo_book::PlainBook;
 
 /// How many calls are made, and how many of them are recorded.
 const CALLS: u32 = 80;
@@ -35,29 +36,35 @@ fn events(alloc: Global) -> Result<Vec<Shared<Event>>, Stop> {
     Ok(events)
 }
 
-/// What there is after a call, and what it was told.
+/// Prints the numbers after a call, and what the call gave.
 fn show<L: CallLedger, R: Print>(
     rt: &R,
+    alloc: Global,
     kept: &Kept<PlainBook, L>,
     pass: &Pass<L>,
     told: &Result<Reply, StepFault>,
-) -> io::Result<()> {
-    print!(rt;
-        "{} entries, {} calls, {} cells, seen {}, made {}: ",
+) -> Result<(), Stop> {
+    let text = match told {
+        Ok(reply) => reply_shown(alloc, reply)?,
+        Err(fault) => fault_shown(alloc, fault)?,
+    };
+    let shown = println!(rt;
+        "{} entries, {} calls, {} cells, seen {}, made {}: {text}",
         kept.entries().len(),
         kept.total(),
         kept.book().stored(),
         pass.seen(),
         pass.made()
-    )?;
-    match told {
-        Ok(reply) => println!(rt; "{reply:?}"),
-        Err(fault) => println!(rt; "{fault}"),
+    );
+    match shown {
+        Ok(()) => Ok(()),
+        Err(_) => Err(Stop),
     }
 }
 
 fn step<L: CallLedger, R: Print>(
     rt: &R,
+    alloc: Global,
     kept: &mut Kept<PlainBook, L>,
     pass: &mut Pass<L>,
     event: &Shared<Event>,
@@ -66,10 +73,8 @@ fn step<L: CallLedger, R: Print>(
         return Err(Stop);
     };
     let told = kept.step(pass, event);
-    match show(rt, kept, pass, &told) {
-        Ok(()) => Ok(told),
-        Err(_) => Err(Stop),
-    }
+    show(rt, alloc, kept, pass, &told)?;
+    Ok(told)
 }
 
 /// Makes the calls, and shows the record.
@@ -90,12 +95,13 @@ pub fn steps<L: CallLedger, R: Print>(
         return Err(Stop);
     };
     for event in events.iter() {
-        if let Err(StepFault::NoMemory) = step(rt, &mut kept, &mut pass, event)? {
-            let _ = step(rt, &mut kept, &mut pass, event)?;
+        if let Err(StepFault::NoMemory) = step(rt, alloc, &mut kept, &mut pass, event)? {
+            let _ = step(rt, alloc, &mut kept, &mut pass, event)?;
         }
     }
     for entry in kept.entries() {
-        if rt.println(format_args!("{entry:?}")).is_err() {
+        let text = entry_shown(alloc, entry)?;
+        if rt.println(format_args!("{text}")).is_err() {
             return Err(Stop);
         }
     }

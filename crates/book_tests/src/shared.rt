@@ -1,0 +1,6 @@
+//! Shared books: two callers in threads of their own, and what closing says of the receipts that are handed in.
+
+pub mod events; // what the callers hand in
+pub mod callers; // two callers of one book, and their receipts
+pub mod closing; // whole, and with something wrong
+pub mod limits; // what a book is made with, and a record that is full

@@ -1,0 +1,59 @@
+//! What the callers hand in. Each event gives the moment 0.
+
+use dns_name::Name;
+use dns_text::types::A;
+use dns_text::{Items, Question, Shared, read_record};
+use history::{Ask, Command, Event};
+use local_zone::ZoneType;
+use ranked::{Find, Rank, SharedFind};
+use std::alloc::Global;
+use std::test::*;
+
+fn share(alloc: Global, event: Event) -> Result<Shared<Event>, Fail> {
+    Ok(Shared::new(alloc, event)?)
+}
+
+fn look(alloc: Global, ask: Ask) -> Result<Shared<Event>, Fail> {
+    share(alloc, Event::Look { moment: 0, ask })
+}
+
+/// The address 192.0.2.1 of `b.test.`, of rank 4, for a minute.
+fn address(alloc: Global) -> Result<SharedFind, Fail> {
+    let record = read_record(alloc, b"b.test A 192.0.2.1")?;
+    let data = Items::new(vec![in alloc; record.body]?);
+    let rank = Rank::AuthoritativeAnswer;
+    let find = Find::new(record.owner, record.kind, rank, 60, data).ok_or("a find")?;
+    Ok(SharedFind::new(alloc, find)?)
+}
+
+pub fn admit(alloc: Global) -> Result<Shared<Event>, Fail> {
+    let find = address(alloc)?;
+    share(alloc, Event::Admit { moment: 0, find })
+}
+
+pub fn look_address(alloc: Global) -> Result<Shared<Event>, Fail> {
+    let owner = Name::from_text(alloc, b"b.test")?;
+    look(alloc, Ask::Answer(Question { owner, kind: A }))
+}
+
+fn set_zone(alloc: Global) -> Result<Shared<Event>, Fail> {
+    let name = Name::from_text(alloc, b"c")?;
+    let kind = ZoneType::Static;
+    let command = Command::SetZone { name, kind };
+    share(alloc, Event::Do { moment: 0, command })
+}
+
+/// The first caller sets a zone and takes it back, and looks after each.
+pub fn of_the_first(alloc: Global) -> Result<Vec<Shared<Event>>, Fail> {
+    Ok(vec![in alloc;
+        set_zone(alloc)?,
+        look(alloc, Ask::Zones)?,
+        share(alloc, Event::Undo { moment: 0 })?,
+        look(alloc, Ask::Zones)?,
+    ]?)
+}
+
+/// The second brings an address, and looks at it.
+pub fn of_the_second(alloc: Global) -> Result<Vec<Shared<Event>>, Fail> {
+    Ok(vec![in alloc; admit(alloc)?, look_address(alloc)?]?)
+}

@@ -1,0 +1,63 @@
+//! Makes a call many times, so that its time and its memory can be measured: `measure WORD CALL COUNT` makes one call so many
+//! times, and prints a number that depends on each, so that no compiler leaves one out. `measure WORD` makes each call of that
+//! word, and `measure` alone those of all words.
+//!
+//! | Word | Call | What it does |
+//! |---|---|---|
+//! | `front` | `question` | reads the question of a query, and nothing more |
+//! | | `held`, `local`, `refused` | serves a query from octets to octets: a cached set, local data, RCODE 5 |
+//! | `tasks` | `held`, `local`, `refused` | runs a task from its beginning to its answer |
+//! | | `held_look`, `local_look`, `refused_look` | the look of such a task alone |
+//! | `messages` | `decode_query`, .. | reads or writes a message or a name; bench/README.md has them all |
+//! | `book` | `alone`, `shared`, `recorded` | looks at a book of one caller, through the lock of a shared one, and with each look recorded |
+#![tactic(auto)]
+
+mod calls; // calls by their names
+mod books; // a book that has something of each kind
+mod messages; // calls on names and messages
+mod book; // looks at a book
+mod tasks; // tasks and looks
+mod front; // queries from octets to octets
+
+use anyhow::anyhow;
+use book::measure_book;
+use front::measure_front;
+use messages::measure_messages;
+use std::alloc::Global;
+use std::env;
+use std::sync::Wait;
+use tasks::measure_tasks;
+
+/// Every word, in the order in which it is shown.
+const WORDS: [&str; 4] = ["front", "tasks", "messages", "book"];
+
+/// Makes the calls of a word: the one that the next words name, or each.
+fn measure<R: Print + Wait>(
+    rt: &R,
+    alloc: Global,
+    word: &str,
+    words: &[String],
+) -> anyhow::Result<()> {
+    match word {
+        "front" => measure_front(rt, alloc, words),
+        "tasks" => measure_tasks(rt, alloc, words),
+        "messages" => measure_messages(rt, alloc, words),
+        "book" => measure_book(rt, alloc, words),
+        _ => Err(anyhow!("there is no such word")),
+    }
+}
+
+fn measure_all<R: Print + Wait>(rt: &R, alloc: Global) -> anyhow::Result<()> {
+    for word in WORDS {
+        measure(rt, alloc, word, &[])?;
+    }
+    Ok(())
+}
+
+fn main(rt: HostRuntime) -> anyhow::Result<()> {
+    let words: Vec<String> = env::args(&rt)?.collect(rt.alloc())?;
+    match words.as_slice() {
+        [_, word, words @ ..] => measure(&rt, rt.alloc(), word.as_str(), words),
+        _ => measure_all(&rt, rt.alloc()),
+    }
+}

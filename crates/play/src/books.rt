@@ -1,0 +1,43 @@
+//! A book, and lines of a script for it.
+
+use crate::stop::Stop;
+use command_text::run_script;
+use dns_text::{Addr, Items};
+use history::Settings;
+use std::alloc::Global;
+use streams::{CountedReader, CountedWriter};
+use undo_book::PlainBook;
+
+/// Where servers listen whose addresses come from records (RFC 1035, section 4.2), unless a line says otherwise.
+pub const DNS_PORT: u16 = 53;
+
+/// An empty book whose root has these servers, and the port of servers whose addresses come from records.
+pub fn book_with(alloc: Global, hints: Vec<Addr>, port: u16) -> Result<PlainBook, Stop> {
+    let settings = Settings {
+        journal: 64,
+        cells: 100_000,
+        hints: Items::new(hints),
+        server_port: port,
+    };
+    match PlainBook::new(alloc, settings) {
+        Ok(book) => Ok(book),
+        Err(_) => Err(Stop::NoMemory),
+    }
+}
+
+/// Hands a line of a script to a book behind a line with the moment, and writes the replies to both.
+pub fn obey_line(
+    rt: &HostRuntime,
+    book: &mut PlainBook,
+    moment: u64,
+    line: &[u8],
+) -> Result<(), Stop> {
+    let mut script = format!(in rt.alloc(); "at {moment}\n")?.into_bytes();
+    script.extend_from_slice(line)?;
+    let mut reader = CountedReader::new(script.as_slice());
+    let mut writer = CountedWriter::new(rt.stdout());
+    match run_script(rt.alloc(), book, &mut reader, &mut writer) {
+        Ok(()) => Ok(()),
+        Err(_) => Err(Stop::Device),
+    }
+}

@@ -1,0 +1,86 @@
+//! Drives a part of the resolver by lines, so that tests can play all that lies around it: `play WORD` reads lines from standard
+//! input, and writes the result of each.
+//!
+//! | Word | What the lines drive |
+//! |---|---|
+//! | `zones` | local zones and local data |
+//! | `stubs` | stubs |
+//! | `control` | a book, as an operator does over control; `control behind` a desk that is behind |
+//! | `resolve` | the resolution of questions, at name servers that the lines play |
+//! | `serve` | queries, streams and workers, at name servers that the lines play |
+//! | `flight` | many questions in flight, at clients, name servers and sockets that the lines play |
+//!
+//! The file of each word says which lines it takes. `play` ends with status 0 at the end of the input, with 1 if a read or a
+//! write fails or a line is malformed, and with 3 if there is no memory; `control` has statuses of its own besides.
+#![tactic(auto)]
+
+mod stop; // why the program ends
+mod words; // lines, and what their words say
+mod questions; // names and questions in a line
+mod books; // a book, and lines of a script for it
+mod queries; // queries to name servers, as they are written
+mod said; // what a line says that comes of one
+mod records; // a record, as it is written
+mod zones; // local zones and local data
+mod stubs; // stubs
+mod control; // lines of control
+mod resolve; // one question at a time
+mod serve; // queries and streams
+mod in_flight; // many questions at once
+
+use control::play_control;
+use in_flight::play_flight;
+use log::Log;
+use resolve::play_resolve;
+use serve::play_serve;
+use std::env;
+use std::process::ExitCode;
+use std::sync::Wait;
+use stop::Stop;
+use stubs::play_stubs;
+use zones::play_zones;
+
+/// The program's name and its arguments. An argument that cannot be read counts as one for which there is no memory.
+fn arguments(rt: &HostRuntime) -> Result<Vec<String>, Stop> {
+    let Ok(words) = env::args(rt) else {
+        return Err(Stop::NoMemory);
+    };
+    match words.collect(rt.alloc()) {
+        Ok(words) => Ok(words),
+        Err(_) => Err(Stop::NoMemory),
+    }
+}
+
+/// Plays what a word says, and gives the status to end with.
+fn play<W: Wait + Log>(
+    rt: &HostRuntime,
+    waiting: &W,
+    word: &str,
+    words: &[String],
+) -> Result<u8, Stop> {
+    match word {
+        "zones" => play_zones(rt)?,
+        "stubs" => play_stubs(rt)?,
+        "control" => return play_control(rt, words),
+        "resolve" => play_resolve(rt)?,
+        "serve" => play_serve(rt, waiting)?,
+        "flight" => play_flight(rt)?,
+        _ => return Err(Stop::Device),
+    }
+    Ok(0)
+}
+
+fn status<W: Wait + Log>(rt: &HostRuntime, waiting: &W) -> Result<u8, Stop> {
+    match arguments(rt)?.as_slice() {
+        [_, word, words @ ..] => play(rt, waiting, word.as_str(), words),
+        _ => Err(Stop::Device),
+    }
+}
+
+fn main(rt: HostRuntime) -> ExitCode {
+    match status(&rt, &rt) {
+        Ok(status) => ExitCode::from(status),
+        Err(Stop::Device) => ExitCode::from(1),
+        Err(Stop::NoMemory) => ExitCode::from(3),
+    }
+}

@@ -1,0 +1,77 @@
+//! The book, and how it is asked.
+
+ghost use Rattle.iterate.specs.Phase.{Suits};
+ghost use Rattle.iterate.specs.declared.want.Want.TheVariants.{Book as BookWant};
+
+use crate::books::{DNS_PORT, book_with};
+use crate::stop::Stop;
+use history::{Desk, DeskFault, Event, Reply, StepFault};
+use iterate::Input;
+use rand_pcg::Pcg32;
+use std::alloc::Global;
+use std::mem;
+use undo_book::PlainBook;
+
+/// A book, and how the next task is answered.
+#[derive(Drop)]
+pub struct World {
+    pub book: PlainBook,
+    /// Where servers listen whose addresses come from records.
+    pub port: u16,
+    /// In seconds.
+    pub moment: u64,
+    pub ids: Pcg32,
+    /// How many events the task gave so far.
+    pub calls: u64,
+    /// Which of them is not taken; 0 for none.
+    pub refused: u64,
+    /// Which of them gets a reply of another kind; 0 for none.
+    pub confused: u64,
+    /// Which of them gets the reply in `lie`; 0 for none.
+    pub lied: u64,
+    pub lie: Reply,
+}
+
+impl World {
+    pub fn new(alloc: Global) -> Result<World, Stop> {
+        Ok(World {
+            book: book_with(alloc, Vec::new(alloc), DNS_PORT)?,
+            port: DNS_PORT,
+            moment: 0,
+            ids: Pcg32::new(1, 1),
+            calls: 0,
+            refused: 0,
+            confused: 0,
+            lied: 0,
+            lie: Reply::Swept,
+        })
+    }
+
+    /// What comes of an event.
+    pub fn call(&mut self, event: Event) -> Input
+        ensures { Suits (BookWant event) result }
+    {
+        self.calls = self.calls.wrapping_add(1);
+        if self.calls == self.refused {
+            return Input::Refused(DeskFault::Step(StepFault::NoMemory));
+        }
+        if self.calls == self.confused {
+            return Input::Reply(Reply::Swept);
+        }
+        if self.calls == self.lied {
+            return Input::Reply(mem::replace(&mut self.lie, Reply::Swept));
+        }
+        match self.book.call(event) {
+            Ok(reply) => Input::Reply(reply),
+            Err(fault) => Input::Refused(fault),
+        }
+    }
+
+    /// The next task is answered by the book alone.
+    pub fn forget(&mut self) {
+        self.calls = 0;
+        self.refused = 0;
+        self.confused = 0;
+        self.lied = 0;
+    }
+}
