@@ -1,4 +1,4 @@
-// The calls of crates/dns_bench over libknot (Knot DNS; Debian's libknot-dev): `knot CALL COUNT`.
+// The calls of `measure messages` over libknot (Knot DNS; Debian's libknot-dev): `knot CALL COUNT`.
 #include <libknot/libknot.h>
 #include <stdio.h>
 #include <stdlib.h>

@@ -1,4 +1,4 @@
-// The calls of crates/dns_bench over ldns (NLnet Labs; Debian's libldns-dev): `ldns CALL COUNT`.
+// The calls of `measure messages` over ldns (NLnet Labs; Debian's libldns-dev): `ldns CALL COUNT`.
 #include <ldns/ldns.h>
 #include <stdio.h>
 #include <stdlib.h>

@@ -1,0 +1,93 @@
+"""With which status the program ends, and what it then says: arguments, help, faults of reading and writing."""
+
+import os
+import re
+import subprocess
+
+from lib.checks import Checks
+from lib.programs import PATIENCE, RESOLVER, TOP, read, run
+
+RANKS = os.path.join(TOP, "examples/ranks.script")
+
+
+def check_arguments(checks):
+    """Numbers at the ends of their ranges and outside them; a fault is told in its first line, by the option's name."""
+    for arguments, word in [
+        (["--journal", "0"], b"journal"),
+        (["--journal", "257"], b"journal"),
+        (["--journal", "1x"], b"journal"),
+        (["--cells", "0"], b"cells"),
+        (["--cells", "1000001"], b"cells"),
+        (["--server-port", "0"], b"server-port"),
+        (["--server-port", "65536"], b"server-port"),
+    ]:
+        done = run([RESOLVER, "script", *arguments])
+        first = done.err.split(b"\n")[0]
+        is_told = first.startswith(b"error: ") and word in first
+        checks.check(" ".join(arguments), None if (done.status, done.out, is_told) == (2, b"", True) else f"{done}")
+    for arguments in (["--journal", "256"], ["--cells", "1000000"], ["--journal=1", "--cells=1"], ["--server-port", "1"], ["--server-port=65535"]):
+        done = run([RESOLVER, "script", *arguments], b"undo\n")
+        checks.equal(" ".join(arguments), (done.status, done.out, done.err), (0, b"error nothing_to_undo\n", b""))
+
+
+def check_hints(checks):
+    """Up to 16 addresses of root servers, before and behind options."""
+    hints = [f"198.51.100.{place}" for place in range(17)]
+    told = "".join(f" {hint}@53" for hint in hints[:16])
+    for name, arguments in (("16 hints", hints[:16]), ("hints round an option", [*hints[:3], "--journal", "1", *hints[3:16]])):
+        done = run([RESOLVER, "script", *arguments], b"servers a.\n")
+        checks.equal(name, (done.status, done.out, done.err), (0, f"servers . hints{told}\n".encode(), b""))
+    for arguments in (hints, [*hints[:2], "ns.test."], ["1.2.3@53"], ["::1@0"], ["192.0.2.1@65536"], ["192.0.2.01"], [""]):
+        done = run([RESOLVER, "script", *arguments], b"servers a.\n")
+        checks.equal(f"hints {' '.join(arguments)}", (done.status, done.out, done.err), (2, b"", b"resolver: bad arguments\n"))
+
+
+def check_help(checks):
+    """The whole text of help and of faults of the mode, on standard error, with status 2."""
+    for arguments, file in [
+        (["--help"], "resolver.txt"),
+        (["help"], "resolver.txt"),
+        (["script", "--help"], "script.txt"),
+        (["help", "script"], "script.txt"),
+        (["serve", "--help"], "serve.txt"),
+        (["help", "serve"], "serve.txt"),
+        (["control", "--help"], "control.txt"),
+        (["help", "control"], "control.txt"),
+        ([], "no_mode.txt"),
+        (["bogus"], "another_mode.txt"),
+    ]:
+        done = run([RESOLVER, *arguments])
+        name = " ".join(["resolver", *arguments])
+        checks.equal(name, done.err, read(os.path.join(TOP, "tests/help", file)))
+        checks.equal(f"{name}, its end", (done.status, done.out), (2, b""))
+
+
+def check_version(checks):
+    """The version, as help is: on standard error, with status 2. It is the newest of CHANGELOG.md."""
+    newest = re.search(r"^## (\S+)", read(os.path.join(TOP, "CHANGELOG.md")).decode(), re.MULTILINE)[1]
+    done = run([RESOLVER, "--version"])
+    checks.equal("the version", (done.status, done.out, done.err), (2, b"", f"resolver {newest}\n".encode()))
+
+
+def check_faults(checks):
+    """A device that takes no octet, and an input that cannot be read."""
+    with open(RANKS, "rb") as text, open("/dev/full", "wb") as full:
+        done = subprocess.run([RESOLVER, "script"], stdin=text, stdout=full, stderr=subprocess.PIPE, timeout=PATIENCE)
+    checks.equal("a device that is full", (done.returncode, done.stderr), (1, b"resolver: write failed\n"))
+    folder = os.open("/", os.O_RDONLY)
+    done = subprocess.run([RESOLVER, "script"], stdin=folder, capture_output=True, timeout=PATIENCE)
+    os.close(folder)
+    checks.equal("an input that is a folder", (done.returncode, done.stderr), (1, b"resolver: read failed\n"))
+
+
+def main():
+    checks = Checks()
+    check_arguments(checks)
+    check_hints(checks)
+    check_help(checks)
+    check_version(checks)
+    check_faults(checks)
+    checks.end()
+
+
+main()

@@ -1,0 +1,263 @@
+"""Every growth of memory is refused in turn: want of memory is told, only where memory was refused, and does no harm."""
+
+import os
+import re
+
+from lib.checks import Checks, difference, short
+from lib.made_rows import every_octet
+from lib.programs import BOOKS, CALLS, PLAY, RESOLVER, TABLES, read, run, scripts
+from lib.rows import ROWS, call, read_rows
+
+# More growths than this have no run and no call here.
+MOST = 100_000
+
+
+def refusals(done):
+    return done.told.count("refused")
+
+
+# ---- scripts: one growth of the run is refused
+
+NO_MEMORY = {b"error no_memory", b"fault no_memory"}
+LOST = b"fault reply_lost"
+
+
+def replied_lines(text):
+    """The lines that get a reply."""
+    lines = text.split(b"\n")
+    if lines[-1] == b"":
+        lines.pop()
+    return [line for line in lines if line.rstrip(b"\r") and not line.startswith(b"#")]
+
+
+# A list is told on a line each, up to this one.
+LISTS = (b"list_local_zones", b"list_local_data", b"list_stubs", b"list_commands")
+LIST_END = b"end"
+
+
+def replies_to(lines, told):
+    """The reply to each line, or `None` where that is not so many replies: a list is one reply, and any other is one line."""
+    replies = []
+    rest = told.split(b"\n")[:-1]
+    for line in lines:
+        size = 1
+        if line in LISTS and rest and not rest[0].startswith((b"error ", b"fault ")):
+            size = rest.index(LIST_END) + 1 if LIST_END in rest else 0
+        if not 0 < size <= len(rest):
+            return None
+        replies.append(b"\n".join(rest[:size]))
+        rest = rest[size:]
+    return None if rest else replies
+
+
+def fault_of_script(command, lines, done, start):
+    """What is wrong with a run of a script in which a growth was refused.
+
+    Memory was refused at the start: no reply, and the status and the words that say so. Or the script ran to its end, and is
+    answered as though the lines that found no memory had not been given, while those whose reply was lost stand.
+    """
+    if not done.out and (done.status, done.err) == start:
+        return None
+    if done.status != 0:
+        return f"status {done.status}, {done.err!r}"
+    replies = replies_to(lines, done.out)
+    if replies is None:
+        return f"{done.out!r} are not the replies to {len(lines)} lines"
+    wants = sum(reply in NO_MEMORY or reply == LOST for reply in replies)
+    if wants > refusals(done):
+        return f"{wants} lines want memory, {refusals(done)} growths were refused"
+    kept = [(line, reply) for line, reply in zip(lines, replies) if reply not in NO_MEMORY]
+    again = run(command, b"".join(line + b"\n" for line, _ in kept))
+    wanted = replies_to([line for line, _ in kept], again.out)
+    if wanted is None:
+        return f"{again.out!r} are not the replies to {len(kept)} lines"
+    for (line, reply), want in zip(kept, wanted):
+        if reply not in (LOST, want):
+            return f"{line[:60]!r} is answered {reply!r}, without the lines that found no memory {want!r}"
+    return None
+
+
+# Lines of control, which end at the end of the input.
+CONTROL_TEXT = b"""at 5
+local_zone a. static
+local_data b.a. 60 A 192.0.2.1
+look b.a. A
+stub_add a. 192.0.2.1 192.0.2.2
+servers b.a.
+flush_type a. A
+undo
+list_commands
+list_local_zones
+redo
+stop now
+undo
+list_stubs
+"""
+
+
+def check_script(checks, name, command, text, start):
+    lines = replied_lines(text)
+    for nth in range(1, MOST):
+        done = run(command, text, preload="refuse", REFUSE_NTH=nth)
+        if not refusals(done):
+            break
+        checks.check(f"{name}, growth {nth} refused", fault_of_script(command, lines, done, start))
+    checks.check(f"{name}, growths refused", None if nth > 1 else "none was")
+
+
+# ---- rows: a growth of each call is refused in one run
+
+def check_rows(checks, name, rows):
+    """The longest call goes first and is not compared: the line's buffer has its size before growths are refused."""
+    longest = max((line for line, _ in rows), key=len)
+    text = b"".join(line + b"\n" for line in [longest] + [line for line, _ in rows])
+    for nth in range(1, MOST):
+        done = run([CALLS], text, preload="refuse", REFUSE_EACH=nth)
+        told = done.out.split(b"\n")[1:-1]
+        wants = told.count(b"fault NoMemory")
+        wrong = [
+            f"{short(line)} gives {difference(found, wanted)}"
+            for (line, wanted), found in zip(rows, told)
+            if found not in (wanted, b"fault NoMemory")
+        ]
+        if done.status != 0 or len(told) != len(rows):
+            wrong.append(f"status {done.status}, {len(told)} lines to {len(rows)} calls")
+        if wants != refusals(done):
+            wrong.append(f"{refusals(done)} growths refused, {wants} calls want memory")
+        checks.check(f"{name}, growth {nth} of each call refused", "; ".join(wrong[:3]))
+        if not refusals(done):
+            break
+    checks.check(f"{name}, growths refused", None if nth > 1 else "none was")
+
+
+def check_start_of_rows(checks):
+    """Where the first line cannot be held, the program ends with a failure."""
+    done = run([CALLS], call("name", b"a") + b"\n", preload="refuse", REFUSE_NTH=1)
+    checks.equal("the first growth of the calls", (refusals(done), done.status, done.out), (1, 1, b""))
+
+
+# ---- changes of local zones and of stubs, each with its way back
+
+def table_runs(word, lines):
+    """What may be written where one growth is refused: all, or all without one line, which finds no memory or is not read."""
+    def written(some):
+        return run([PLAY, word], b"".join(line + b"\n" for line in some)).out
+
+    may = {written(lines)}
+    for place in range(len(lines)):
+        before = written(lines[:place])
+        behind = written(lines[:place] + lines[place + 1 :])[len(before) :]
+        may.update(before + told + behind for told in (b"out of memory\n", b"what?\n"))
+    return may
+
+
+def check_table(checks, word):
+    """A refused growth leaves the lists as they were, or ends the program behind a whole line."""
+    text = read(TABLES[word][0])
+    lines = [line for line in text.splitlines() if not line.startswith((b"fill", b"#"))]
+    text = b"".join(line + b"\n" for line in lines)
+    whole = run([PLAY, word], text).out
+    may = table_runs(word, lines)
+    for nth in range(1, MOST):
+        done = run([PLAY, word], text, preload="refuse", REFUSE_NTH=nth)
+        if not refusals(done):
+            break
+        good = done.out in may if done.status == 0 else whole.startswith(done.out)
+        checks.check(f"{word}, growth {nth} refused", None if good else f"status {done.status}, {short(done.out)}")
+    checks.check(f"{word}, growths refused", None if nth > 1 else "none was")
+
+
+# ---- calls of a book, each recorded
+
+# Every kind of event, of command and of what is asked has to occur in the record, where an event stands behind its moment.
+KINDS = """
+admit undo redo sweep
+flush_type flush flush_zone local_zone local_data stub_add local_zone_remove local_data_remove stub_remove
+look list_local_zones list_local_data list_stubs list_commands servers
+""".split()
+
+UNTOUCHED = b"0 entries, 0 calls, 0 cells, seen 0, made 0"
+WANT = b"out of memory"
+
+
+def fault_of_steps(whole, done):
+    """What is wrong with a run in which a growth was refused.
+
+    The program ended before its first call. Or one call found no memory and left what there was, and all else is as though
+    it had not been made.
+    """
+    if done.status == 1 and not done.out:
+        return None
+    lines = done.out.split(b"\n")
+    wants = [place for place, line in enumerate(lines) if line.endswith(b": " + WANT)]
+    if done.status != 0 or len(wants) > refusals(done):
+        return f"status {done.status}, {refusals(done)} growths refused, {len(wants)} calls want memory"
+    for place in wants:
+        before = lines[place - 1].split(b": ")[0] if place else UNTOUCHED
+        after = lines.pop(place).split(b": ")[0]
+        if after != before:
+            return f"after {before!r} a call finds no memory, and leaves {after!r}"
+    again = b"\n".join(lines)
+    return None if again == whole else difference(again, whole)
+
+
+def check_steps(checks):
+    """A call that finds no memory leaves the record, the totals and the pass as they were, and is made again."""
+    whole = run([BOOKS, "steps"]).out
+    for kind in KINDS:
+        checks.check(f"the kind {kind}", None if re.search(rb" at \d+ %s\b" % kind.encode(), whole) else "was never drawn")
+    wants = 0
+    for nth in range(1, MOST):
+        done = run([BOOKS, "steps"], preload="refuse", REFUSE_NTH=nth)
+        if not refusals(done):
+            break
+        wants += done.out.count(b": " + WANT + b"\n")
+        checks.check(f"recorded calls, growth {nth} refused", fault_of_steps(whole, done))
+    checks.check("recorded calls that find no memory", None if wants > 60 else f"are {wants}")
+
+
+# ---- messages that are drawn
+
+def check_drawn(checks):
+    """The first growths: the first line cannot be held, and the program ends with a failure; or the call finds no memory, and tells
+    nothing else."""
+    ended = 0
+    for nth in range(1, 401):
+        done = run([CALLS], b"drawn\n", preload="refuse", REFUSE_NTH=nth)
+        ended += done.status == 1
+        wanted = (1, 1, b"") if done.status else (1, 0, b"fault NoMemory\n")
+        checks.equal(f"drawn messages, growth {nth} refused", (refusals(done), done.status, done.out), wanted)
+    checks.check("growths before the first call", None if ended < 9 else f"{ended} ended the program")
+
+
+# ---- how much is asked for
+
+def check_counts(checks):
+    """A header that counts 65,535 of each, and has none, takes no memory for them."""
+    header = bytes.fromhex("12340100ffffffffffffffff")
+    one_question = bytes.fromhex("123401000001ffffffffffff0000010001")
+    first = call("decode", bytes(40))
+    for line in [call(word, octets) for word in ("decode", "ask") for octets in (header, one_question)]:
+        done = run([CALLS], first + b"\n" + line + b"\n", preload="refuse")
+        largest = [int(told.split()[1]) for told in done.told if told.startswith("largest ")]
+        checks.check(f"{line.decode()}, growth", None if largest and largest[0] <= 1_024 else f"as much as {largest}")
+
+
+def main():
+    checks = Checks()
+    for name, arguments, text, _ in scripts():
+        check_script(checks, name, [RESOLVER, "script"] + arguments, text, (1, b"resolver: no memory\n"))
+    check_script(checks, "control", [PLAY, "control"], CONTROL_TEXT, (3, b""))
+    for file in sorted(os.listdir(ROWS)):
+        check_rows(checks, file, read_rows(os.path.join(ROWS, file))[0])
+    check_rows(checks, "every octet", list(every_octet()))
+    check_start_of_rows(checks)
+    for word in TABLES:
+        check_table(checks, word)
+    check_steps(checks)
+    check_drawn(checks)
+    check_counts(checks)
+    checks.end()
+
+
+main()

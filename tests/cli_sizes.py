@@ -1,0 +1,212 @@
+"""Scripts above every size that a program may have in mind. Each reply is worked out here, by what the lines mean."""
+
+import subprocess
+import time
+
+from lib.checks import Checks
+from lib.programs import RESOLVER, run
+from lib.made_rows import name_text
+
+
+def address(place):
+    return f"192.{place // 65536}.{place // 256 % 256}.{place % 256}"
+
+
+def flushes_undone():
+    """300 sets are emptied. Of these commands the newest 256 can be undone, the newest first, and then redone."""
+    for place in range(300):
+        yield f"admit 4 n{place}.test. 60 A {address(place)}", "taken"
+    for place in range(300):
+        yield f"flush_type n{place}.test. A", f"ok {place + 1}"
+    for ticket in range(300, 44, -1):
+        yield "undo", f"undone {ticket}"
+    for _ in range(44):
+        yield "undo", "error nothing_to_undo"
+    for place in range(300):
+        shown = f"found 4 60 n{place}.test. A {address(place)}" if place >= 44 else "unknown"
+        yield f"look n{place}.test. A", shown
+    for ticket in range(45, 301):
+        yield "redo", f"redone {ticket}"
+    yield "redo", "error nothing_to_redo"
+    for place in range(300):
+        yield f"look n{place}.test. A", "unknown"
+
+
+def admissions():
+    """4,200 sets of as many names, of 30 of which the types are emptied and come back."""
+    for place in range(4_200):
+        yield f"admit 3 n{place}.test. 60 A {address(place)}", "taken"
+    for place in range(0, 4_200, 140):
+        yield f"flush_type n{place}.test. A", f"ok {place // 140 + 1}"
+    for place in range(4_200):
+        shown = "unknown" if place % 140 == 0 else f"found 3 60 n{place}.test. A {address(place)}"
+        yield f"look n{place}.test. A", shown
+    for ticket in range(30, 0, -1):
+        yield "undo", f"undone {ticket}"
+    for place in range(0, 4_200, 140):
+        yield f"look n{place}.test. A", f"found 3 60 n{place}.test. A {address(place)}"
+
+
+def admissions_of_one_name():
+    """4,200 sets of one name, each in the place of the one before."""
+    for place in range(4_200):
+        yield f"admit 4 a.test. 60 A {address(place)}", "taken"
+    yield "look a.test. A", f"found 4 60 a.test. A {address(4_199)}"
+    yield "flush_type a.test. A", "ok 1"
+    yield "look a.test. A", "unknown"
+    yield "undo", "undone 1"
+    yield "look a.test. A", f"found 4 60 a.test. A {address(4_199)}"
+
+
+def many_strings():
+    """A TXT of 40 strings, and one of so many octets as a line has room for."""
+    short = [f"s{place}" for place in range(40)]
+    long = [chr(97 + place % 26) * 23 for place in range(38)]
+    for name, strings in (("a.", short), ("b.", long)):
+        text = " ".join(f'"{string}"' for string in strings)
+        yield f"admit 4 {name} 60 TXT {text}", "taken"
+        yield f"look {name} TXT", f"found 4 60 {name} TXT {text}"
+
+
+def many_data():
+    """Sets of 40 data, of which one repeats and is kept once."""
+    addresses = [address(place) for place in range(40)]
+    yield "admit 4 a. 60 A " + " | ".join(addresses), "taken"
+    yield "look a. A", "found 4 60 a. A " + " | ".join(addresses)
+    yield "admit 4 a. 60 A " + " | ".join(addresses + addresses[:20]), "taken"
+    yield "look a. A", "found 4 60 a. A " + " | ".join(addresses)
+    texts = [f'"{place:02} {"x" * 12}"' for place in range(40)]
+    yield "admit 4 a. 60 TXT " + " | ".join(texts), "taken"
+    yield "look a. TXT", "found 4 60 a. TXT " + " | ".join(texts)
+
+
+def escaped_names():
+    """Names of 255 octets, each of them escaped: 1,004 octets of text, in lines that have room for 1,024."""
+    octets = [*range(128, 256), *range(33), *range(127, 216)]
+    name = name_text(octets[at : at + 63] for at in range(0, 250, 63))
+    yield f"look {name} A", "unknown"
+    yield f"admit 4 {name[:-1]} 6 A 1.2.3.4", "taken"
+    yield f"look {name} A", f"found 4 6 {name} A 1.2.3.4"
+    yield f"flush_type {name} A", "ok 1"
+    yield f"look {name} A", "unknown"
+    yield "undo", "undone 1"
+    yield f"look {name} A", f"found 4 6 {name} A 1.2.3.4"
+    yield f"look \\000{name} A", "error bad_name"
+
+
+def flushed_and_undone_again():
+    """4,000 times one name is emptied, restored and looked at."""
+    yield "admit 4 a.test. 60 A 192.0.2.1", "taken"
+    for ticket in range(1, 4_001):
+        yield "flush_type a.test. A", f"ok {ticket}"
+        yield "undo", f"undone {ticket}"
+        yield "look a.test. A", "found 4 60 a.test. A 192.0.2.1"
+
+
+def full_zones():
+    """4,096 zones and no more: neither one that is set nor one that a record would make. The last is taken back and put back."""
+    zones = [f"z{place}. static" for place in range(4_096)]
+    for place, zone in enumerate(zones):
+        yield f"local_zone {zone}", f"ok {place + 1}"
+    yield "local_zone more. static", "error too_many"
+    yield "local_data more. A 192.0.2.1", "error too_many"
+    yield "list_local_data", "end"
+    yield "local_data a.z0. A 192.0.2.1", "ok 4097"
+    yield "local_zone z7. deny", "ok 4098"
+    zones[7] = "z7. deny"
+    yield "list_local_zones", "\n".join(zones + ["end"])
+    yield "undo", "undone 4098"
+    yield "undo", "undone 4097"
+    yield "undo", "undone 4096"
+    zones[7] = "z7. static"
+    yield "list_local_zones", "\n".join(zones[:-1] + ["end"])
+    yield "redo", "redone 4096"
+    yield "list_local_zones", "\n".join(zones + ["end"])
+    yield "list_local_data", "end"
+
+
+def full_stubs():
+    """1,024 stubs and no more. One that is there takes its new addresses; the last is taken back, and another comes."""
+    stubs = [f"s{place}. 127.0.0.1@53" for place in range(1_024)]
+    for place in range(1_024):
+        yield f"stub_add s{place}. 127.0.0.1", f"ok {place + 1}"
+    yield "stub_add more. 127.0.0.1", "error too_many"
+    yield "servers more.", "servers . hints"
+    yield "stub_add s7. 127.0.0.2 127.0.0.3", "ok 1025"
+    stubs[7] = "s7. 127.0.0.2@53 127.0.0.3@53"
+    yield "list_stubs", "\n".join(stubs + ["end"])
+    yield "undo", "undone 1025"
+    yield "undo", "undone 1024"
+    stubs[7] = "s7. 127.0.0.1@53"
+    yield "servers a.s1023.", "servers . hints"
+    yield "list_stubs", "\n".join(stubs[:-1] + ["end"])
+    yield "redo", "redone 1024"
+    yield "stub_add more. 127.0.0.1", "error too_many"
+    yield "stub_remove s0.", "ok 1026"
+    yield "stub_add more. 127.0.0.1", "ok 1027"
+    yield "list_stubs", "\n".join(stubs[1:] + ["more. 127.0.0.1@53", "end"])
+
+
+def full_records():
+    """65,536 records and no more, removed with their zone and taken back. One that is there already is no more."""
+    yield "local_zone z. static", "ok 1"
+    for place in range(65_536):
+        yield f"local_data n{place}.z. 60 A {address(place)}", f"ok {place + 2}"
+    records = [f"n{place}.z. 60 A {address(place)}" for place in range(65_536)]
+    yield "local_data more.z. 60 A 192.0.2.1", "error too_many"
+    yield f"local_data n7.z. 60 A {address(7)}", "ok 65538"
+    yield "local_zone_remove z.", "ok 65539"
+    yield "list_local_data", "end"
+    yield "undo", "undone 65539"
+    yield "list_local_data", "\n".join(records + ["end"])
+
+
+def records_taken_back():
+    """4,096 records, of which many are removed with their zone and come back, each in its place."""
+    yield "local_zone z. static", "ok 1"
+    yield "local_zone y. static", "ok 2"
+    for place in range(4_096):
+        yield f"local_data n{place}.{'zy'[place % 2]}. 60 A {address(place)}", f"ok {place + 3}"
+    records = [f"n{place}.{'zy'[place % 2]}. 60 A {address(place)}" for place in range(4_096)]
+    yield "local_zone_remove z.", "ok 4099"
+    yield "list_local_zones", "y. static\nend"
+    yield "list_local_data", "\n".join(records[1::2] + ["end"])
+    yield "undo", "undone 4099"
+    yield "list_local_zones", "z. static\ny. static\nend"
+    yield "list_local_data", "\n".join(records + ["end"])
+    yield "undo", "undone 4098"
+    yield "list_local_data", "\n".join(records[:-1] + ["end"])
+
+
+def check(checks, rows, *arguments):
+    """A script of these lines gets these replies."""
+    lines, replies = zip(*rows())
+    text = "".join(line + "\n" for line in lines).encode()
+    wanted = "".join(reply + "\n" for reply in replies).encode()
+    began = time.monotonic()
+    try:
+        done = run([RESOLVER, "script", *arguments], text)
+    except subprocess.TimeoutExpired:
+        checks.check(rows.__name__, f"no end within {time.monotonic() - began:.0f} s")
+        return
+    checks.equal(rows.__name__, done.out, wanted)
+    checks.equal(f"{rows.__name__}, its end", (done.status, done.err), (0, b""))
+
+
+def main():
+    checks = Checks()
+    check(checks, flushes_undone, "--journal", "256")
+    check(checks, admissions)
+    check(checks, admissions_of_one_name)
+    check(checks, many_strings)
+    check(checks, many_data)
+    check(checks, escaped_names)
+    check(checks, flushed_and_undone_again)
+    check(checks, full_zones)
+    check(checks, full_stubs)
+    check(checks, full_records)
+    check(checks, records_taken_back)
+    checks.end()
+
+
+main()

@@ -1,0 +1,339 @@
+"""What the lines of a script come to, by what they mean: each reply is worked out from the events before it.
+
+Nothing is kept but the list of events. For each line the marks, what stands, the tables and the cells are replayed from
+nothing.
+"""
+
+from dataclasses import dataclass
+
+from lib.reading import TYPES, Event, Fault, addr_in, name_in, name_text, said_by, type_text
+
+MOST_ZONES, MOST_RECORDS, MOST_STUBS, MOST_ADDRS = 4_096, 65_536, 1_024, 8
+FIRST_BAD_MOMENT = 2**40
+FLUSHED = {TYPES[name] for name in "A NS SOA CNAME PTR MX AAAA SRV NAPTR DNAME".split()}
+
+
+@dataclass(frozen=True)
+class Entry:
+    """An event of the history, with the greatest moment so far and the ticket that it took."""
+
+    event: Event
+    moment: int
+    ticket: int | None
+
+
+# ---- what a history comes to
+
+def now(history):
+    return history[-1].moment if history else 0
+
+
+def tickets(history):
+    return sum(entry.ticket is not None for entry in history)
+
+
+def marks(bound, history):
+    """What can be undone, what can be redone, and what is struck."""
+    done, undone, struck = [], [], set()
+    for entry in history:
+        verb = entry.event.verb
+        if entry.ticket is not None:
+            done = (done + [entry.ticket])[-bound:]
+            undone = []
+        elif verb == "undo" and done:
+            undone.append(done.pop())
+            struck.add(undone[-1])
+        elif verb == "redo" and undone:
+            done.append(undone.pop())
+            struck.remove(done[-1])
+    return done, undone, struck
+
+
+def standing(bound, history):
+    """The admissions, and the accepted commands that are not struck."""
+    struck = marks(bound, history)[2]
+    return [
+        entry for entry in history
+        if entry.event.verb == "admit" or (entry.ticket is not None and entry.ticket not in struck)
+    ]
+
+
+def is_at_or_below(name, zone):
+    return name[len(name) - len(zone) :] == zone if len(name) >= len(zone) else False
+
+
+def touches(find, question):
+    return find.owner == question[0] and find.kind in (None, question[1])
+
+
+def covers(command, question):
+    word, name, *rest = command
+    owner, kind = question
+    if word == "flush":
+        return owner == name and kind in FLUSHED
+    if word == "flush_type":
+        return owner == name and kind == rest[0]
+    return word == "flush_zone" and is_at_or_below(owner, name)
+
+
+def is_alive(cell, moment):
+    return cell is not None and moment < cell[1] + cell[0].ttl
+
+
+def cell_of(entries, question):
+    """The find that is held of a question, and the moment at which it came."""
+    cell = None
+    for entry in entries:
+        what = entry.event.what
+        if entry.event.verb == "do":
+            if covers(what, question):
+                cell = None
+        elif touches(what, question) and not (is_alive(cell, entry.moment) and cell[0].rank > what.rank):
+            cell = (what, entry.moment)
+    return cell
+
+
+def shown(entries, question, moment):
+    """The find of a living cell, and the seconds left."""
+    cell = cell_of(entries, question)
+    return (cell[0], cell[1] + cell[0].ttl - moment) if is_alive(cell, moment) else None
+
+
+# ---- local zones, local data and stubs
+
+@dataclass(frozen=True)
+class Tables:
+    zones: tuple = ()  # (name, type)
+    records: tuple = ()  # (owner, type, time to live, data)
+    stubs: tuple = ()  # (name, addresses)
+
+
+def put(items, new):
+    """In the place of the item of that name, or last."""
+    if any(item[0] == new[0] for item in items):
+        return tuple(new if item[0] == new[0] else item for item in items)
+    return items + (new,)
+
+
+def closest(zones, name):
+    """The longest zone at or above a name."""
+    return max((zone for zone in zones if is_at_or_below(name, zone[0])), key=lambda zone: len(zone[0]), default=None)
+
+
+def lies_in(zones, owner, name):
+    zone = closest(zones, owner)
+    return zone is not None and zone[0] == name
+
+
+def with_record(tables, record):
+    owner, kind, ttl, data = record
+    zones = tables.zones if closest(tables.zones, owner) else tables.zones + ((owner, "transparent"),)
+    records = tuple((o, k, ttl if (o, k) == (owner, kind) else t, d) for o, k, t, d in tables.records)
+    return Tables(zones, records if record in records else records + (record,), tables.stubs)
+
+
+def after(tables, command):
+    """The tables after a command."""
+    zones, records, stubs = tables.zones, tables.records, tables.stubs
+    word, *rest = command
+    if word == "local_zone":
+        return Tables(put(zones, tuple(rest)), records, stubs)
+    if word == "local_zone_remove":
+        kept = tuple(record for record in records if not lies_in(zones, record[0], rest[0]))
+        return Tables(tuple(zone for zone in zones if zone[0] != rest[0]), kept, stubs)
+    if word == "local_data":
+        return with_record(tables, tuple(rest))
+    if word == "local_data_remove":
+        return Tables(zones, tuple(record for record in records if record[0] != rest[0]), stubs)
+    if word == "stub_add":
+        return Tables(zones, records, put(stubs, tuple(rest)))
+    if word == "stub_remove":
+        return Tables(zones, records, tuple(stub for stub in stubs if stub[0] != rest[0]))
+    return tables
+
+
+def tables_of(entries):
+    tables = Tables()
+    for entry in entries:
+        if entry.event.verb == "do":
+            tables = after(tables, entry.event.what)
+    return tables
+
+
+def reason(tables, command):
+    """Why a command is refused: the first reason that there is."""
+    word, *rest = command
+    then = after(tables, command)
+    if word == "local_data":
+        owner, kind = rest[:2]
+        zone = closest(tables.zones, owner)
+        if zone and zone[1] == "redirect" and zone[0] != owner:
+            return "below_redirect"
+        cname = TYPES["CNAME"]
+        if any(r[0] == owner and (r[1] == cname) != (kind == cname) for r in tables.records):
+            return "cname_clash"
+    if word == "local_zone" and rest[1] == "redirect":
+        if any(lies_in(then.zones, r[0], rest[0]) and r[0] != rest[0] for r in tables.records):
+            return "data_below"
+    if word == "stub_add" and not 1 <= len(rest[1]) <= MOST_ADDRS:
+        return "too_many"
+    most = ((then.zones, MOST_ZONES), (then.records, MOST_RECORDS), (then.stubs, MOST_STUBS))
+    return "too_many" if any(len(items) > limit for items, limit in most) else None
+
+
+def local(tables, question):
+    """What a question is answered from the tables, or `None` where they pass it."""
+    name, kind = question
+    zone = closest(tables.zones, name)
+    if zone is None:
+        return None
+    apex, zone_type = zone
+    always = {"always_transparent": None, "always_refuse": "refuse", "always_nxdomain": "noname", "always_nodata": "nodata"}
+    if zone_type in always:
+        return always[zone_type]
+    source = apex if zone_type == "redirect" else name
+    sets = [[r for r in tables.records if r[0] == source and r[1] == k] for k in (TYPES["CNAME"], kind)]
+    data = sets[0] or sets[1]
+    if data:
+        return f"{data[0][2]} {name_text(name)} {type_text(data[0][1])} " + " | ".join(r[3] for r in data)
+    if zone_type == "static":
+        below = any(is_at_or_below(r[0], name) and lies_in(tables.zones, r[0], apex) for r in tables.records)
+        return "nodata" if below else "noname"
+    if zone_type == "transparent":
+        return "nodata" if any(r[0] == name for r in tables.records) else None
+    return {"deny": "drop", "refuse": "refuse", "typetransparent": None, "redirect": "nodata"}[zone_type]
+
+
+# ---- servers
+
+def set_at(entries, name, kind, moment):
+    """The data of a living set of any rank."""
+    found = shown(entries, (name, kind), moment)
+    return found[0].body if found and isinstance(found[0].body, tuple) else ()
+
+
+def servers_at(settings, entries, zone, moment):
+    """The addresses and the missing targets of a zone with a usable name server set, or `None`."""
+    addrs, missing, is_usable = [], [], False
+    for target in set_at(entries, zone, TYPES["NS"], moment):
+        name = name_in(target)
+        ips = [ip for kind in ("A", "AAAA") for ip in set_at(entries, name, TYPES[kind], moment)]
+        addrs += [f"{ip}@{settings.port}" for ip in ips]
+        missing += [] if ips else [target]
+        is_usable = is_usable or bool(ips) or not is_at_or_below(name, zone)
+    return (addrs, missing) if is_usable else None
+
+
+def servers(settings, entries, name, moment):
+    """The zone closest to a name that has a stub or a usable set, where it comes from, and its servers."""
+    stubs = dict(tables_of(entries).stubs)
+    for start in range(len(name) + 1):
+        zone = name[start:]
+        if zone in stubs:
+            return zone, "stub", stubs[zone], ()
+        found = servers_at(settings, entries, zone, moment)
+        if found:
+            return zone, "cache", *found
+    return (), "hints", settings.hints, ()
+
+
+# ---- replies
+
+def find_text(find, left):
+    if isinstance(find.body, str):
+        return f"{find.body} {left}"
+    return f"found {find.rank} {left} {name_text(find.owner)} {type_text(find.kind)} " + " | ".join(find.body)
+
+
+def command_text(command):
+    """The words that give a command again."""
+    word, name, *rest = command
+    if word == "local_data":
+        rest = [str(rest[1]), type_text(rest[0]), rest[2]]
+    if word == "flush_type":
+        rest = [type_text(rest[0])]
+    if word == "stub_add":
+        rest = rest[0]
+    return " ".join([word, name_text(name), *rest])
+
+
+def commands_text(settings, history):
+    done, undone, _ = marks(settings.journal, history)
+    given = {entry.ticket: entry.event.what for entry in history}
+    told = {**{ticket: "done" for ticket in done}, **{ticket: "undone" for ticket in undone}}
+    return [f"{ticket} {told[ticket]} {command_text(given[ticket])}" for ticket in sorted(told)]
+
+
+def seen_text(settings, history, entries, ask, moment):
+    """What a look sees, line by line."""
+    word, *rest = ask
+    tables = tables_of(entries)
+    if word == "look":
+        answer = local(tables, rest)
+        if answer is not None:
+            return [f"local {answer}"]
+        found = shown(entries, rest, moment)
+        return [find_text(*found) if found and found[0].rank >= 2 else "unknown"]
+    if word == "servers":
+        zone, source, addrs, missing = servers(settings, entries, rest[0], moment)
+        return [" ".join(["servers", name_text(zone), source, *addrs, *(["|", *missing] if missing else [])])]
+    lists = {
+        "list_local_zones": [f"{name_text(name)} {kind}" for name, kind in tables.zones],
+        "list_local_data": [f"{name_text(o)} {ttl} {type_text(k)} {data}" for o, k, ttl, data in tables.records],
+        "list_stubs": [" ".join([name_text(name), *addrs]) for name, addrs in tables.stubs],
+        "list_commands": commands_text(settings, history) if word == "list_commands" else [],
+    }
+    return lists[word] + ["end"]
+
+
+def reply_text(settings, history, event):
+    """The lines that an event is answered with, and the ticket that it takes."""
+    moment = max(now(history), event.moment)
+    if event.verb == "sweep":
+        return ["swept"], None
+    if event.verb in ("undo", "redo"):
+        reached = marks(settings.journal, history)[event.verb == "redo"]
+        return [f"{event.verb.replace('do', 'done')} {reached[-1]}" if reached else f"error nothing_to_{event.verb}"], None
+    entries = standing(settings.journal, history)
+    if event.verb == "look":
+        return seen_text(settings, history, entries, event.what, moment), None
+    if event.verb == "do":
+        why = reason(tables_of(entries), event.what)
+        return ([f"error {why}"], None) if why else ([f"ok {tickets(history) + 1}"], tickets(history) + 1)
+    find = event.what
+    cell = cell_of(entries, (find.owner, find.kind)) if isinstance(find.body, tuple) else None
+    return ["outranked" if is_alive(cell, moment) and cell[0].rank > find.rank else "taken"], None
+
+
+class Model:
+    """A script that is obeyed line by line."""
+
+    def __init__(self, journal=64, cells=100_000, hints=(), port=53):
+        self.journal, self.cells, self.port = journal, cells, port
+        self.hints = [addr_in(hint) for hint in hints]
+        self.moment = 0
+        self.history = []
+
+    def take(self, event):
+        """A fault and nothing else, or the reply, and then the event is in the history."""
+        if event.moment >= FIRST_BAD_MOMENT:
+            return ["fault bad_moment"]
+        stored = sum(entry.event.verb == "admit" for entry in self.history)
+        if event.verb == "admit" and stored == self.cells:
+            return [f"fault full {stored}"]
+        told, ticket = reply_text(self, self.history, event)
+        self.history.append(Entry(event, max(now(self.history), event.moment), ticket))
+        return told
+
+    def obey(self, line):
+        """The lines of the reply to a line."""
+        if not line or line.startswith("#"):
+            return []
+        try:
+            said = said_by(line, self.moment)
+        except Fault as fault:
+            return [f"error {fault}"]
+        if isinstance(said, Event):
+            return self.take(said)
+        self.moment = said
+        return ["ok"]

@@ -1,0 +1,105 @@
+"""Runs the finished programs, with a library in front of the C library where that is wanted."""
+
+import os
+import pty
+import resource
+import subprocess
+import tempfile
+import tty
+from dataclasses import dataclass
+
+TOP = os.path.dirname(os.path.dirname(os.path.dirname(os.path.abspath(__file__))))
+RESOLVER = os.path.join(TOP, "crates/resolver_cli/out/resolver_cli")
+CALLS = os.path.join(TOP, "crates/dns_calls/out/dns_calls")
+BOOKS = os.path.join(TOP, "crates/shared_book_drawn/out/shared_book_drawn")
+PLAY = os.path.join(TOP, "crates/play/out/play")
+MEASURE = os.path.join(TOP, "crates/measure/out/measure")
+
+# A table's lines, and what they come to: local zones are what the gate runs the program on.
+TABLES = {
+    "zones": (os.path.join(TOP, "crates/play/stdin"), os.path.join(TOP, "crates/play/stdout")),
+    "stubs": (os.path.join(TOP, "tests/tables/stubs.lines"), os.path.join(TOP, "tests/tables/stubs.out")),
+}
+
+# No run takes longer than this many seconds.
+PATIENCE = 600
+
+_folder = tempfile.TemporaryDirectory()
+
+
+@dataclass
+class Run:
+    status: int
+    out: bytes
+    err: bytes
+    # What the library told, line by line.
+    told: list
+
+
+def library(name):
+    """The library of tests/lib/NAME.c, compiled once."""
+    made = os.path.join(_folder.name, name + ".so")
+    if not os.path.exists(made):
+        source = os.path.join(TOP, "tests/lib", name + ".c")
+        compiler = os.environ.get("CC", "cc").split()
+        subprocess.run(compiler + ["-shared", "-fPIC", "-O2", "-o", made, source], check=True)
+    return made
+
+
+def run(command, text=b"", preload=None, **settings):
+    """Runs a command over a text or a file. With a library it tells on a pipe, and takes settings from the environment."""
+    given = {"input": text} if isinstance(text, bytes) else {"stdin": text}
+    environment = {name: str(value) for name, value in settings.items()}
+    reading, writing = os.pipe()
+    if preload:
+        environment.update(LD_PRELOAD=library(preload), TELL=str(writing))
+    try:
+        done = subprocess.run(
+            command, capture_output=True, env=environment, pass_fds=(writing,), timeout=PATIENCE, **given
+        )
+    finally:
+        os.close(writing)
+        with os.fdopen(reading, "rb") as pipe:
+            told = pipe.read().decode().splitlines()
+    return Run(done.returncode, done.stdout, done.stderr, told)
+
+
+def run_to_most(command, text, most):
+    """Runs a command over a text, where its output is a file that takes so many octets and no more. What the file has, and how it ended."""
+    with tempfile.TemporaryFile() as file:
+        done = subprocess.run(
+            command, input=text, stdout=file, stderr=subprocess.PIPE, timeout=PATIENCE,
+            restore_signals=False, preexec_fn=lambda: resource.setrlimit(resource.RLIMIT_FSIZE, (most, most)),
+        )
+        file.seek(0)
+        return file.read(), done.stderr, done.returncode
+
+
+def run_to_hangup(command, text):
+    """Runs a command over a terminal that gives a text and then hangs up, so that the next read fails. What it wrote, and how it ended."""
+    reader, terminal = pty.openpty()
+    try:
+        tty.setraw(terminal)
+        os.write(terminal, text)
+        os.close(terminal)
+        done = subprocess.run(command, stdin=reader, capture_output=True, timeout=PATIENCE)
+    finally:
+        os.close(reader)
+    return done.stdout, done.stderr, done.returncode
+
+
+def scripts():
+    """Each worked script: its name, arguments, text and the replies that it must get."""
+    found = []
+    for folder in ("examples", "tests/scripts"):
+        for name in sorted(os.listdir(os.path.join(TOP, folder))):
+            if name.endswith(".script"):
+                base = os.path.join(TOP, folder, name[: -len(".script")])
+                arguments = read(base + ".args").decode().split() if os.path.exists(base + ".args") else []
+                found.append((f"{folder}/{name}", arguments, read(base + ".script"), read(base + ".out")))
+    return found
+
+
+def read(path):
+    with open(path, "rb") as file:
+        return file.read()

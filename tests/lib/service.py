@@ -1,0 +1,259 @@
+"""Starts `resolver serve` on loopback, at ports that are free, and asks and commands it."""
+
+import os
+import random
+import resource
+import select
+import socket
+import subprocess
+import tempfile
+import time
+
+from lib.messages import number, question_octets
+from lib.nameserver import PATIENCE, bound_at, framed, receive, PORTS
+from lib.programs import RESOLVER
+from lib.replies import reply_in
+
+HOST = "127.0.0.1"
+CANNOT_LISTEN = b"resolver: cannot listen on "
+
+
+def free_port(host=HOST):
+    """A port that is free over UDP and TCP."""
+    for port in random.sample(PORTS, 1_000):
+        sockets = bound_at([host], port)
+        if sockets is not None:
+            for sock, _ in sockets:
+                sock.close()
+            return port
+    raise OSError("no port is free")
+
+
+def query(name, kind, identifier=None):
+    """A query in octets, with RD."""
+    identifier = random.randrange(0x10000) if identifier is None else identifier
+    return number(identifier) + number(0x0100) + number(1) + bytes(6) + question_octets(name, kind)
+
+
+class Client:
+    """Who asks the service, over one socket."""
+
+    def __init__(self, over, port, host=HOST, room=None):
+        """With room for so many octets that are not read yet, where that is given."""
+        self.over = over
+        kind = socket.SOCK_DGRAM if over == "udp" else socket.SOCK_STREAM
+        self.sock = socket.socket(socket.AF_INET6 if ":" in host else socket.AF_INET, kind)
+        self.sock.settimeout(PATIENCE)
+        if room:
+            self.sock.setsockopt(socket.SOL_SOCKET, socket.SO_RCVBUF, room)
+        try:
+            self.sock.connect((host, port))
+        except OSError:
+            self.sock.close()
+            raise
+
+    def __enter__(self):
+        return self
+
+    def __exit__(self, *_):
+        self.sock.close()
+
+    def send(self, octets):
+        if self.over == "udp":
+            self.sock.send(octets)
+        else:
+            self.sock.sendall(framed(octets))
+
+    def octets(self):
+        """The next reply as octets; None where the service has ended the connection."""
+        if self.over == "udp":
+            return self.sock.recv(65_535)
+        length = receive(self.sock, 2)
+        return length and receive(self.sock, int.from_bytes(length, "big"))
+
+    def has_reply(self, seconds=0):
+        """Whether a reply, or the end, has come by now, or comes in so many seconds."""
+        return bool(select.select([self.sock], [], [], seconds)[0])
+
+    def ask(self, name, kind):
+        """The reply to a question, whose identifier and question have to be the query's."""
+        asked = query(name, kind)
+        self.send(asked)
+        octets = self.octets()
+        if octets is None:
+            raise EOFError("the service ended the connection")
+        if octets[:2] != asked[:2] or octets[12 : len(asked)] != asked[12:]:
+            raise ValueError(f"{octets.hex()} is no reply to {asked.hex()}")
+        return reply_in(octets)
+
+    def ended(self):
+        """Whether the service ends the connection before it says more."""
+        try:
+            return self.sock.recv(1) == b""
+        except ConnectionError:
+            return True
+
+
+class Control:
+    """An operator's connection."""
+
+    def __init__(self, port, host=HOST):
+        self.sock = socket.create_connection((host, port), timeout=PATIENCE)
+        self.file = self.sock.makefile("rb")
+
+    def __enter__(self):
+        return self
+
+    def __exit__(self, *_):
+        self.file.close()
+        self.sock.close()
+
+    def tell(self, line):
+        """The reply to a line, without its end; lists have their lines joined by ` / `."""
+        self.sock.sendall(line.encode() + b"\n")
+        told = [self.line()]
+        while line.startswith("list_") and told[-1] != "end" and not told[-1].startswith(("error", "fault")):
+            told.append(self.line())
+        return " / ".join(told)
+
+    def line(self):
+        line = self.file.readline()
+        if not line.endswith(b"\n"):
+            raise EOFError(f"control ended with {line!r}")
+        return line[:-1].decode()
+
+
+class NotReady(RuntimeError):
+    """A service ended before it was ready, with this status and these octets on standard error."""
+
+    def __init__(self, status, told):
+        super().__init__(f"the service is not ready: status {status}, {told!r}")
+        self.status, self.told = status, told
+
+
+class Service:
+    """A service that is ready, until it is stopped; at the end of a `with` it is ended whatever it does."""
+
+    def __init__(self, hints, *options, host=HOST, listens=None, environment=None, most_descriptors=None, program=RESOLVER):
+        """It is asked and commanded at `host`, and listens there, or else at `listens`."""
+        self.host, self.listens = host, listens or host
+        self.command = [program, "serve"]
+        if most_descriptors:
+            self.command = ["prlimit", f"--nofile={most_descriptors}", *self.command]
+        for _ in range(20):
+            self.port, self.control_port = free_port(host), free_port(host)
+            self.errors = tempfile.TemporaryFile()
+            self._start([*options, *hints], environment or {})
+            if self._is_ready():
+                return
+            self._end()
+            told = self.log()
+            self.errors.close()
+            if CANNOT_LISTEN not in told:
+                break
+        raise NotReady(self.process.returncode, told)
+
+    def _start(self, arguments, environment):
+        places = ["--listen", f"{self.listens}@{self.port}", "--control", f"{self.host}@{self.control_port}"]
+        self.process = subprocess.Popen(
+            self.command + places + arguments, stdin=subprocess.DEVNULL, stdout=subprocess.PIPE, stderr=self.errors, env=environment,
+        )
+
+    def _is_ready(self):
+        """Whether it says so, and not that it has ended. One that says neither is killed."""
+        came, _, _ = select.select([self.process.stdout], [], [], PATIENCE)
+        line = self.process.stdout.readline() if came else None
+        if line == b"":
+            self.process.wait(PATIENCE)
+        return line == b"ready\n"
+
+    def _end(self):
+        if self.process.poll() is None:
+            self.process.kill()
+        self.process.wait(PATIENCE)
+        self.process.stdout.close()
+
+    def __enter__(self):
+        return self
+
+    def __exit__(self, *_):
+        self._end()
+        self.errors.close()
+
+    def client(self, over="udp", room=None):
+        return Client(over, self.port, self.host, room)
+
+    def control(self):
+        return Control(self.control_port, self.host)
+
+    def ask(self, name, kind="A", over="udp"):
+        """The reply to one question over a socket of its own."""
+        with self.client(over) as client:
+            return client.ask(name, kind)
+
+    def obey(self, *lines):
+        """What the lines are told, over a connection of their own: a reply for each."""
+        with self.control() as control:
+            return [control.tell(line) for line in lines]
+
+    def log(self):
+        """What standard error got so far."""
+        size = os.fstat(self.errors.fileno()).st_size
+        return os.pread(self.errors.fileno(), size, 0)
+
+    def logged(self, words, count=1):
+        """Waits until so many lines of standard error have the words; whether they came."""
+        return until(lambda: sum(words in line for line in self.log().splitlines()) >= count)
+
+    def wait(self):
+        """How it ended by itself: the status, and what standard output got behind `ready`."""
+        status = self.process.wait(PATIENCE)
+        return status, self.process.stdout.read()
+
+    def stop(self):
+        """Stops it by control: the reply to `stop`, and how it ended."""
+        return self.obey("stop")[0], *self.wait()
+
+    def threads(self):
+        return len(os.listdir(f"/proc/{self.process.pid}/task"))
+
+    def processor(self):
+        """The seconds of a processor that it has had."""
+        with open(f"/proc/{self.process.pid}/stat", encoding="ascii") as file:
+            fields = file.read().rpartition(")")[2].split()
+        return (int(fields[11]) + int(fields[12])) / os.sysconf("SC_CLK_TCK")
+
+    def descriptors(self):
+        return len(os.listdir(f"/proc/{self.process.pid}/fd"))
+
+    def first_free(self):
+        """The descriptor that it would get next."""
+        used = {int(name) for name in os.listdir(f"/proc/{self.process.pid}/fd")}
+        return next(place for place in range(len(used) + 1) if place not in used)
+
+    def limit(self, most):
+        """Lets it get descriptors below this one alone."""
+        _, hard = resource.prlimit(self.process.pid, resource.RLIMIT_NOFILE)
+        resource.prlimit(self.process.pid, resource.RLIMIT_NOFILE, (most, hard))
+
+    def idle_descriptors(self):
+        """How many descriptors it has, once they have been as many for a while."""
+        found, since = self.descriptors(), time.monotonic()
+        while time.monotonic() < since + 0.3:
+            time.sleep(0.02)
+            if self.descriptors() != found:
+                found, since = self.descriptors(), time.monotonic()
+        return found
+
+
+STOPPED = ("ok stopping", 0, b"")
+
+
+def until(holds):
+    """Whether it comes to hold, within what is awaited here."""
+    end = time.monotonic() + PATIENCE
+    while not holds():
+        if time.monotonic() > end:
+            return False
+        time.sleep(0.02)
+    return True

@@ -1,0 +1,312 @@
+"""`resolver serve` against servers and clients that lie, keep silent, go slowly or go away, and where descriptors are wanting."""
+
+import socket
+import threading
+import time
+from concurrent.futures import ThreadPoolExecutor
+
+from lib.checks import Checks
+from lib.messages import number
+from lib.nameserver import NameServers, Piece, framed
+from lib.replies import reply_in
+from lib.service import STOPPED, Service, query, until
+
+HOST = "127.0.0.1"
+GOOD = "aa | answer {name} 60 A 192.0.2.1"
+
+
+def good(asked):
+    return asked.response(GOOD.format(name=asked.question.split()[0]))
+
+
+def lies_first(asked):
+    """What fits another query, and what is no message, before the response."""
+    right = good(asked)
+    yield bytes([right[0] ^ 1]) + right[1:]
+    yield asked.response(f"aa asks other.test. A | answer {asked.question.split()[0]} 60 A 192.0.2.66")
+    yield asked.response(f"aa questions 2 | answer {asked.question.split()[0]} 60 A 192.0.2.66")
+    yield b"x"
+    yield b""
+    yield right
+
+
+def lies_on(asked):
+    """Wrong datagrams, one each 100 ms, until the servers close: far longer than an exchange may take."""
+    while True:
+        yield asked.response("id 1 aa | answer lies-on.test. 60 A 192.0.2.66")
+        asked.pause(0.1)
+
+
+def in_capitals(asked):
+    yield asked.response("aa asks CAPITALS.tEst. A | answer capitals.test. 60 A 192.0.2.1")
+
+
+def cut(does_over_tcp):
+    """Truncated over UDP, and over TCP as it is said."""
+
+    def does(asked):
+        if asked.over == "udp":
+            yield asked.response("aa tc")
+        else:
+            yield from does_over_tcp(asked)
+
+    return does
+
+
+def drips(asked):
+    """The length and the front of the header octet by octet, each sent by itself, and then the rest."""
+    octets = framed(good(asked))
+    for octet in octets[:6]:
+        yield Piece([octet])
+        asked.pause(0.01)
+    yield Piece(octets[6:])
+
+
+def breaks_off(asked):
+    yield Piece(framed(good(asked))[:20])
+
+
+def is_silent(asked):
+    asked.wait(threading.Event())
+    yield b""
+
+
+def is_another(asked):
+    octets = good(asked)
+    yield bytes([octets[0] ^ 1]) + octets[1:]
+
+
+LONG = " | ".join(f"answer big.test. 60 TXT {place:03}{'x' * 250}" for place in range(230))
+
+# What the only name server does on a question, and what the client is told.
+SERVED = {
+    "good.test. A": (GOOD.format(name="good.test."), "good"),
+    "lies-first.test. A": (lies_first, "good"),
+    "lies-on.test. A": (lies_on, "failed"),
+    "capitals.test. A": (in_capitals, "good"),
+    "silent.test. A": (None, "failed"),
+    "cut.test. A": (cut(lambda asked: [good(asked)]), "good"),
+    "cut-twice.test. A": (cut(lambda asked: [asked.response("aa tc")]), "failed"),
+    "cut-drips.test. A": (cut(drips), "good"),
+    "cut-breaks.test. A": (cut(breaks_off), "failed"),
+    "cut-silent.test. A": (cut(is_silent), "failed"),
+    "cut-another.test. A": (cut(is_another), "failed"),
+    "refuses.test. A": ("rcode 5", "failed"),
+    "fails.test. A": ("rcode 2", "failed"),
+    "nothing.test. A": ("aa", "nothing"),
+    "nobody.test. A": ("aa rcode 3", "nobody"),
+}
+MEANT = {"good": "- | answer {name} A 192.0.2.1", "failed": "rcode 2", "nothing": "-", "nobody": "rcode 3"}
+
+
+def check_servers(checks):
+    """All at once, over UDP and TCP: the liars have not ended when the reply comes."""
+    zone = {question: does for question, (does, _) in SERVED.items()}
+    with NameServers({HOST: zone}) as servers, Service([f"{HOST}@{servers.port}"], "--udp", "8", "--tcp", "8") as service:
+        for over in ("udp", "tcp"):
+            with ThreadPoolExecutor(len(SERVED)) as pool:
+                asking = {question: pool.submit(service.ask, *question.split(), over) for question in SERVED}
+                for question, (_, meaning) in SERVED.items():
+                    wanted = MEANT[meaning].format(name=question.split()[0])
+                    checks.equal(f"{question} over {over}", asking[question].result().words(), wanted)
+        for question in ("cut.test. A", "cut-drips.test. A"):
+            counts = servers.count(question, "udp"), servers.count(question, "tcp")
+            checks.equal(f"{question}: asked over UDP, then over TCP, then held", counts, (1, 1))
+        for question in ("refuses.test. A", "silent.test. A"):
+            checks.equal(f"{question}: a failure is not held", servers.count(question), 2)
+        checks.equal("behind liars: stopped", service.stop(), STOPPED)
+
+
+def check_large(checks):
+    """A response of 59 KiB, over TCP on both sides; to who asks over UDP it is cut."""
+    does = cut(lambda asked: [asked.response(f"aa | {LONG}")])
+    with NameServers({HOST: {"big.test. TXT": does}}) as servers, Service([f"{HOST}@{servers.port}"]) as service:
+        checks.equal("59 KiB over UDP", service.ask("big.test.", "TXT").words(), "tc")
+        reply = service.ask("big.test.", "TXT", "tcp")
+        wanted = [f'"{place:03}{"x" * 250}"' for place in range(230)]
+        checks.equal("59 KiB over TCP", [record.data for record in reply.records], wanted)
+        checks.equal("59 KiB: asked once", len(servers.asked), 2)
+
+
+def check_dead_ports(checks):
+    """Hints where nobody listens are passed over; where there is none but those the question fails."""
+    zone = {"good.test. A": GOOD.format(name="good.test.")}
+    with NameServers({HOST: zone}) as servers:
+        dead = [f"127.0.0.{place}@{servers.port}" for place in (2, 3)]
+        with Service([*dead, f"{HOST}@{servers.port}"]) as service:
+            checks.equal("two dead ports, and a server", service.ask("good.test.").words(), "- | answer good.test. A 192.0.2.1")
+        with Service(dead) as service:
+            checks.equal("two dead ports", service.ask("good.test.").words(), "rcode 2")
+
+
+def check_pipelined(checks):
+    """300 queries in one write, five of them not held: 300 replies in order."""
+    zone = {"*": lambda asked: [good(asked)]}
+    with NameServers({HOST: zone}) as servers, Service([f"{HOST}@{servers.port}"]) as service:
+        service.obey("local_data held.test. 60 A 192.0.2.1")
+        names = [f"asked{place}.test." if place % 60 == 0 else "held.test." for place in range(300)]
+        with service.client("tcp") as client:
+            client.sock.sendall(b"".join(framed(query(name, "A", place)) for place, name in enumerate(names)))
+            replies = [reply_in(client.octets()) for _ in names]
+        checks.equal("300 queries: identifiers", [reply.id for reply in replies], list(range(300)))
+        checks.equal("300 queries: questions", [reply.question for reply in replies], [f"{name} A" for name in names])
+        checks.equal("300 queries: addresses", {record.data for reply in replies for record in reply.records}, {"192.0.2.1"})
+        with service.client("tcp") as client:
+            for octet in framed(query("held.test.", "A", 9)):
+                client.sock.sendall(bytes([octet]))
+            checks.equal("octet by octet", reply_in(client.octets()).words(), "aa | answer held.test. A 192.0.2.1")
+            client.sock.sendall(framed(query("held.test.", "A", 9)) + framed(query("held.test.", "A", 10))[:9])
+            client.sock.shutdown(socket.SHUT_WR)
+            checks.equal("a message, and the front of one", (client.octets() or b"")[:2], number(9))
+            checks.equal("a message, and the front of one: the end", client.ended(), True)
+
+
+def never_reads(client):
+    """Asks and asks and reads nothing, until the service ends the connection; whether it did."""
+    many = b"".join(framed(query("held.test.", "TXT", place)) for place in range(100))
+    try:
+        for _ in range(100_000):
+            client.sock.sendall(many)
+    except ConnectionError:
+        return True
+    return False
+
+
+def check_slow_clients(checks):
+    """The only TCP worker is held by a client that does nothing more; it lets go by itself, and serves the next."""
+    with Service(["192.0.2.1"]) as service:
+        service.obey(*(f"local_data held.test. 60 TXT {'x' * 240} {'y' * 240} {'z' * 240} {place}" for place in range(20)))
+        service.obey("local_data held.test. 60 A 192.0.2.1")
+        for name, does in [
+            ("an idle client", lambda client: client.ended()),
+            ("half a length", lambda client: client.sock.sendall(b"\0") or client.ended()),
+            ("half a message", lambda client: client.sock.sendall(framed(query("held.test.", "A"))[:9]) or client.ended()),
+            ("a client that never reads", never_reads),
+        ]:
+            with service.client("tcp", room=4_096) as client:
+                checks.equal(name, does(client), True)
+                reply = service.ask("held.test.", "A", "tcp").words()
+                checks.equal(f"behind {name}", reply, "aa | answer held.test. A 192.0.2.1")
+        checks.equal("behind slow clients: stopped", service.stop(), STOPPED)
+
+
+def check_gone_clients(checks):
+    """Clients that go before their reply comes end no worker: more of them than failures would."""
+    with NameServers({HOST: {"*": lambda asked: [good(asked)]}}) as servers, Service([f"{HOST}@{servers.port}"]) as service:
+        for over in ("udp", "tcp"):
+            for place in range(40):
+                with service.client(over) as client:
+                    client.send(query(f"gone{place}-{over}.test.", "A"))
+            checks.equal(f"behind clients that went, over {over}", service.ask("stays.test.", "A", over).words(), "- | answer stays.test. A 192.0.2.1")
+        checks.equal("behind clients that went: stopped", service.stop(), STOPPED)
+
+
+def check_no_port(checks):
+    """Queries from port 0, to which no reply can go: more of them than failures would end a worker."""
+    try:
+        sender = socket.socket(socket.AF_INET, socket.SOCK_RAW, socket.IPPROTO_UDP)
+    except PermissionError:
+        return checks.skip("queries from port 0", "they want a raw socket")
+    with sender, Service(["192.0.2.1"]) as service:
+        service.obey("local_data held.test. 60 A 192.0.2.1")
+        for place in range(40):
+            octets = query("held.test.", "A", place)
+            sender.sendto(number(0) + number(service.port) + number(8 + len(octets)) + number(0) + octets, (HOST, service.port))
+        checks.equal("behind queries from port 0", service.ask("held.test.").words(), "aa | answer held.test. A 192.0.2.1")
+        checks.equal("behind queries from port 0: stopped", service.stop(), STOPPED)
+
+
+def check_crowd(checks):
+    """Fifty clients at once over TCP, for two workers: each has its turn."""
+    with Service(["192.0.2.1"], "--tcp", "2") as service, ThreadPoolExecutor(50) as pool:
+        service.obey("local_data held.test. 60 A 192.0.2.1")
+        replies = list(pool.map(lambda _: service.ask("held.test.", "A", "tcp").words(), range(50)))
+        checks.equal("a crowd", replies, ["aa | answer held.test. A 192.0.2.1"] * 50)
+
+
+def check_ipv6_servers(checks):
+    """A name server at an IPv6 address, over UDP and then over TCP."""
+    try:
+        servers = NameServers({"::1": {"cut.test. A": cut(lambda asked: [good(asked)])}})
+    except OSError:
+        return checks.skip("a name server at ::1", "this machine has no ::1")
+    with servers, Service([f"::1@{servers.port}"]) as service:
+        checks.equal("a name server at ::1", service.ask("cut.test.").words(), "- | answer cut.test. A 192.0.2.1")
+        checks.equal("a name server at ::1: asked", [over for _, over, _ in servers.asked], ["udp", "tcp"])
+
+
+def check_burst(checks):
+    """200 datagrams at once are all answered, while the first waits for its name server."""
+    gate = threading.Event()
+
+    def held(asked):
+        asked.wait(gate)
+        yield good(asked)
+
+    names = ["slow.test.", *["held.test."] * 200]
+    with NameServers({HOST: {"slow.test. A": held}}) as servers, Service([f"{HOST}@{servers.port}"] * 8) as service:
+        service.obey("local_data held.test. 60 A 192.0.2.1")
+        with service.client() as client:
+            client.sock.setsockopt(socket.SOL_SOCKET, socket.SO_RCVBUF, 1 << 20)
+            for place, name in enumerate(names):
+                client.send(query(name, "A", place))
+            gate.set()
+            found = sorted(reply_in(client.octets()).id for _ in names)
+        checks.equal("a burst", found, list(range(201)))
+
+
+def check_descriptors(checks):
+    """Where no descriptor is to be had questions fail and connections wait; with descriptors again all goes on."""
+    with NameServers({HOST: {"*": lambda asked: [good(asked)]}}) as servers, Service([f"{HOST}@{servers.port}"]) as service:
+        service.obey("local_data held.test. 60 A 192.0.2.1")
+        until(lambda: service.threads() == 3)
+        service.idle_descriptors()
+        service.limit(service.first_free())
+        replies = {service.ask(f"asked{place}.test.").words() for place in range(40)}
+        checks.equal("no descriptors: 40 questions", replies, {"rcode 2"})
+        checks.equal("no descriptors: what is held", service.ask("held.test.").words(), "aa | answer held.test. A 192.0.2.1")
+        faults = service.log().count(b"resolver: device fault")
+        began = time.monotonic()
+        with service.client("tcp") as client:
+            # The operators' listener may fail beside the worker's, so seven faults are of three seconds at least.
+            checks.equal("no descriptors: a failed accept is logged", service.logged(b"resolver: device fault", faults + 7), True)
+            checks.check("no descriptors: a failed accept waits a second", None if time.monotonic() - began >= 3 else "it does not")
+            service.limit(1_024)
+            # The connection that waited may have been ended meanwhile; the next is served.
+            client.sock.close()
+        for over in ("udp", "tcp"):
+            reply = service.ask(f"later-{over}.test.", "A", over).words()
+            checks.equal(f"descriptors again, over {over}", reply, f"- | answer later-{over}.test. A 192.0.2.1")
+        checks.equal("descriptors again: stopped", service.stop(), STOPPED)
+
+
+def check_idle_operator(service, first):
+    """What comes of an operator behind one who says nothing."""
+    with service.control() as second:
+        second.sock.settimeout(180)
+        second.sock.sendall(b"stop\n")
+        told = second.line()
+    first.close()
+    return told, *service.wait()
+
+
+def main():
+    checks = Checks()
+    with Service(["192.0.2.1"]) as service, ThreadPoolExecutor(1) as pool:
+        waiting = pool.submit(check_idle_operator, service, service.control().sock)
+        checks.make(check_servers)
+        checks.make(check_large)
+        checks.make(check_dead_ports)
+        checks.make(check_pipelined)
+        checks.make(check_slow_clients)
+        checks.make(check_gone_clients)
+        checks.make(check_no_port)
+        checks.make(check_crowd)
+        checks.make(check_ipv6_servers)
+        checks.make(check_burst)
+        checks.make(check_descriptors)
+        checks.equal("an operator behind an idle one", waiting.result(), STOPPED)
+    checks.end()
+
+
+main()

@@ -1,0 +1,340 @@
+"""With which status `resolver serve` and `resolver control` end, and what they then tell: arguments, binding, refused memory, log,
+how soon `stop` ends it, and the lines that `resolver control` sends."""
+
+import signal
+import socket
+import threading
+import time
+from concurrent.futures import ThreadPoolExecutor
+
+from lib.checks import Checks
+from lib.nameserver import NameServers, bound
+from lib.programs import RESOLVER, library, run
+from lib.service import CANNOT_LISTEN, HOST, STOPPED, NotReady, Service, free_port, query, until
+
+BAD = b"resolver: bad arguments\n"
+NOT_LOOPBACK = b"resolver: control must be loopback\n"
+
+
+def serve(*arguments):
+    return run([RESOLVER, "serve", *arguments])
+
+
+def check_usage(checks):
+    """What `clap` refuses is told in its first line by the argument's name."""
+    both = ["--listen", "127.0.0.1@1", "--control", "127.0.0.1@2"]
+    for arguments, word in [
+        (["--control", "127.0.0.1@2", "192.0.2.1"], b"--listen"),
+        (["--listen", "127.0.0.1@1", "192.0.2.1"], b"--control"),
+        ([*both, "--udp", "0", "192.0.2.1"], b"--udp"),
+        ([*both, "--udp", "17", "192.0.2.1"], b"--udp"),
+        ([*both, "--tcp", "0", "192.0.2.1"], b"--tcp"),
+        ([*both, "--tcp", "x", "192.0.2.1"], b"--tcp"),
+        ([*both, "--journal", "0", "192.0.2.1"], b"--journal"),
+        ([*both, "--journal", "257", "192.0.2.1"], b"--journal"),
+        ([*both, "--cells", "1000001", "192.0.2.1"], b"--cells"),
+        ([*both, "--record", "0", "192.0.2.1"], b"--record"),
+        ([*both, "--record", "1000001", "192.0.2.1"], b"--record"),
+        ([*both, "--server-port", "0", "192.0.2.1"], b"--server-port"),
+        ([*both, "--server-port", "65536", "192.0.2.1"], b"--server-port"),
+        ([*both, "--seed", "4294967296", "192.0.2.1"], b"--seed"),
+        ([*both, "--seed", "-1", "192.0.2.1"], b""),
+        ([*both, "--frob", "192.0.2.1"], b"--frob"),
+        ([*both, "--listen", "127.0.0.1@3", "192.0.2.1"], b"--listen"),
+    ]:
+        done = serve(*arguments)
+        told = done.err.partition(b"\nUsage:")[0]
+        is_told = told.startswith(b"error: ") and word in told
+        checks.check(f"serve {' '.join(arguments)}", None if (done.status, done.out, is_told) == (2, b"", True) else f"{done}")
+
+
+def check_addresses(checks):
+    """Addresses and counts, then the control address: the fault that is found first is told."""
+    listen, control, hint = "127.0.0.1@1", "127.0.0.1@2", "192.0.2.1"
+    for listen_at, control_at, rest, wanted in [
+        ("127.0.0.1:1", control, [hint], BAD),
+        ("localhost", control, [hint], BAD),
+        ("127.0.0.1@0", control, [hint], BAD),
+        (listen, "127.0.0.1@65536", [hint], BAD),
+        (listen, control, ["ns.test."], BAD),
+        (listen, control, [], BAD),
+        (listen, control, [hint] * 17, BAD),
+        (listen, control, ["--udp", "16", hint], BAD),
+        (listen, control, ["--udp", "8", "--tcp", "9", hint], BAD),
+        (listen, "192.0.2.1@2", ["--udp", "16", hint], BAD),
+        (listen, "192.0.2.1@2", [], BAD),
+        (listen, "192.0.2.1@2", [hint], NOT_LOOPBACK),
+        (listen, "0.0.0.0@2", [hint], NOT_LOOPBACK),
+        (listen, "128.0.0.1@2", [hint], NOT_LOOPBACK),
+        (listen, "::2@2", [hint], NOT_LOOPBACK),
+        (listen, "::@2", [hint], NOT_LOOPBACK),
+    ]:
+        done = serve("--listen", listen_at, "--control", control_at, *rest)
+        checks.equal(f"serve {listen_at} {control_at} {' '.join(rest)}", (done.status, done.out, done.err), (2, b"", wanted))
+
+
+def check_binding(checks):
+    """A port in use, over UDP or TCP, for questions or for control; and an address that is not this machine's."""
+    free = f"{HOST}@{free_port()}"
+    for kind, name in ((socket.SOCK_DGRAM, "UDP"), (socket.SOCK_STREAM, "TCP")):
+        port = free_port()
+        with bound(kind, HOST, port) as sock:
+            if kind == socket.SOCK_STREAM:
+                sock.listen()
+            used = f"{HOST}@{port}"
+            done = serve("--listen", used, "--control", free, "192.0.2.1")
+            checks.equal(f"listen in use over {name}", (done.status, done.out, done.err), (1, b"", CANNOT_LISTEN + used.encode() + b"\n"))
+            if kind == socket.SOCK_STREAM:
+                done = serve("--listen", free, "--control", used, "192.0.2.1")
+                wanted = (1, b"", CANNOT_LISTEN + used.encode() + b"\n")
+                checks.equal("control in use", (done.status, done.out, done.err), wanted)
+    done = serve("--listen", "192.0.2.1@5300", "--control", free, "192.0.2.1")
+    checks.equal("another's address", (done.status, done.out, done.err), (1, b"", CANNOT_LISTEN + b"192.0.2.1@5300\n"))
+    with Service(["192.0.2.1"]) as service:
+        used = f"{HOST}@{service.port}"
+        done = serve("--listen", used, "--control", free, "192.0.2.1")
+        checks.equal("a second service", (done.status, done.err), (1, CANNOT_LISTEN + used.encode() + b"\n"))
+        checks.equal("beside a second service: stopped", service.stop(), STOPPED)
+
+
+def has_ipv6():
+    try:
+        bound(socket.SOCK_DGRAM, "::1", 0).close()
+    except OSError:
+        return False
+    return True
+
+
+def check_ranges(checks):
+    """Numbers at the ends of their ranges serve."""
+    for options in (
+        ["--udp", "15", "--tcp", "1"],
+        ["--udp=1", "--tcp=15", "--journal", "256", "--cells", "1000000", "--record", "1000000"],
+        ["--journal", "1", "--cells", "1", "--record", "1", "--server-port", "1", "--seed", "0"],
+        ["--server-port", "65535", "--seed", "4294967295"],
+    ):
+        with Service(["192.0.2.1"], *options) as service:
+            service.obey("local_data a. 60 A 192.0.2.1")
+            checks.equal(f"serve {' '.join(options)}", service.ask("a.").words(), "aa | answer a. A 192.0.2.1")
+            checks.equal(f"serve {' '.join(options)}: stopped", service.stop(), STOPPED)
+    with Service([f"192.0.2.{place}" for place in range(16)]) as service:
+        checks.equal("16 hints", len(service.obey("servers a.")[0].split()), 3 + 16)
+    if not has_ipv6():
+        return checks.skip("IPv6", "this machine has no ::1")
+    with Service(["192.0.2.1"], host="::1") as service:
+        service.obey("local_data a. 60 A 192.0.2.1")
+        for over in ("udp", "tcp"):
+            checks.equal(f"IPv6 over {over}", service.ask("a.", "A", over).words(), "aa | answer a. A 192.0.2.1")
+        checks.equal("IPv6: stopped", service.stop(), STOPPED)
+
+
+def identifiers(*options):
+    """The identifiers of the first queries that a service sends."""
+    queries = []
+
+    def notes(asked):
+        queries.append(asked.query[:2])
+        yield asked.response("aa rcode 3")
+
+    with NameServers({HOST: {"*": notes}}) as servers, Service([f"{HOST}@{servers.port}"], *options) as service:
+        for place in range(4):
+            service.ask(f"a{place}.test.")
+    return queries
+
+
+def check_seed(checks):
+    """A seed fixes the identifiers of queries; without one no two runs have the same four."""
+    checks.equal("one seed", identifiers("--seed", "7"), identifiers("--seed", "7"))
+    for name, one, other in (("two seeds", ["--seed", "7"], ["--seed", "8"]), ("no seed", [], [])):
+        checks.check(name, "the same identifiers twice" if identifiers(*one) == identifiers(*other) else None)
+
+
+def control(port, *words, text=b""):
+    return run([RESOLVER, "control", f"{HOST}@{port}", *words], text)
+
+
+def check_control_program(checks):
+    """A line that is given, or each line of standard input; status 1 where one is told an error or a fault."""
+    with Service(["192.0.2.1"]) as service:
+        port = service.control_port
+        for words, text, wanted, status in [
+            (["local_zone a. deny"], b"", b"ok 1\n", 0),
+            (["local_data", "x.", "60", "A", "192.0.2.1"], b"", b"ok 2\n", 0),
+            (["list_local_zones"], b"", b"a. deny\nx. transparent\nend\n", 0),
+            (["frob"], b"", b"error unknown\n", 1),
+            ([], b"undo\nundo\n# a comment\n\nlist_local_zones\n", b"undone 2\nundone 1\nend\n", 0),
+            ([], b"undo\nredo\nlist_local_zones", b"error nothing_to_undo\nredone 1\na. deny\nend\n", 1),
+            ([], b"", b"", 0),
+            # What a list shows is no answer, whatever it begins with.
+            (["local_zone error. static"], b"", b"ok 3\n", 0),
+            (["list_local_zones"], b"", b"a. deny\nerror. static\nend\n", 0),
+            (["stop"], b"", b"ok stopping\n", 0),
+        ]:
+            done = control(port, *words, text=text)
+            name = f"control {' '.join(words)} {text!r}"
+            checks.equal(name, (done.out, done.err, done.status), (wanted, b"", status))
+        checks.equal("control: stopped", service.wait(), (0, b""))
+        done = control(port, "undo")
+        checks.equal("control with no service", (done.out, done.status), (b"", 1))
+        checks.check("control with no service: it is told", None if done.err.startswith(b"resolver: ") else repr(done.err))
+    done = run([RESOLVER, "control"])
+    checks.equal("control with no address", (done.out, done.status), (b"", 2))
+    done = run([RESOLVER, "control", "nowhere", "undo"])
+    checks.equal("control with no address of a service", (done.out, done.err, done.status), (b"", BAD, 2))
+
+
+def check_silent_server(checks):
+    """A name server that is not there: the log has its start and its end, and between them a line of the exchange that came to nothing."""
+    for over in ("udp", "tcp"):
+        with NameServers({"127.0.0.1": {}}) as servers, Service([f"127.0.0.2@{servers.port}"]) as service:
+            checks.equal(f"a dead server, over {over}", service.ask("a.test.", "A", over).words(), "rcode 2")
+            checks.equal(f"a dead server, over {over}: stopped", service.stop(), STOPPED)
+            words = [line.partition(b"resolver: ")[2] for line in service.log().splitlines()]
+            checks.equal(f"a dead server, over {over}: the log", words, [b"started", b"device fault", b"stopped"])
+
+
+def check_signal(checks):
+    """SIGTERM ends it by the signal, and the log has no last line."""
+    with Service(["192.0.2.1"]) as service:
+        service.logged(b"resolver: started")
+        service.process.terminate()
+        checks.equal("SIGTERM", service.wait(), (-signal.SIGTERM, b""))
+        words = [line.partition(b"resolver: ")[2] for line in service.log().splitlines()]
+        checks.equal("SIGTERM: the log", words, [b"started"])
+
+
+NO_MEMORY = b"resolver: no memory\n"
+
+# The service makes fewer growths of memory than this before it is ready.
+MOST_GROWTHS = 1_000
+
+
+def refused_start(nth, *options):
+    """Starts a service whose growth of memory of this number is refused. Whether it was, and what is wrong with what came of it.
+
+    It ends and says why. Or it asked for less then, and serves as ever.
+    """
+    environment = {"LD_PRELOAD": library("refuse"), "REFUSE_NTH": str(nth), "TELL": "2"}
+    try:
+        with Service(["192.0.2.1"], *options, environment=environment) as service:
+            # What comes behind `ready` may be refused too, and is no start.
+            was_refused = b"refused\n" in service.log()
+            if not was_refused:
+                return False, None
+            service.obey("local_data a. 60 A 192.0.2.1")
+            answer = service.ask("a.").words()
+            ended = service.stop()
+            is_right = (answer, ended) == ("aa | answer a. A 192.0.2.1", STOPPED)
+            return True, None if is_right else f"it is ready, and answers {answer!r}, {ended}"
+    except NotReady as fault:
+        is_right = fault.status == 1 and b"refused\n" + NO_MEMORY in fault.told
+        return True, None if is_right else str(fault)
+
+
+def check_refused_start(checks):
+    """Each growth of memory up to `ready` is refused in turn."""
+    for options in ([], ["--udp", "3", "--tcp", "2", "--seed", "1"]):
+        name = " ".join(["serve", *options])
+        for nth in range(1, MOST_GROWTHS):
+            was_refused, fault = refused_start(nth, *options)
+            if not was_refused:
+                break
+            checks.check(f"{name}, growth {nth} refused", fault)
+        checks.check(f"{name}, growths refused", None if 50 < nth < MOST_GROWTHS - 1 else f"{nth - 1} were")
+
+
+# `stop` ends a service in a tenth of a second; on a machine that does other things beside, no later than this.
+STOP_SECONDS = 0.5
+
+
+def seconds_to_stop(service):
+    """How long it took from `stop` to the end of the program, which is with status 0."""
+    with service.control() as control:
+        began = time.monotonic()
+        told = control.tell("stop")
+        status, rest = service.wait()
+        took = time.monotonic() - began
+    return took, (told, status, rest)
+
+
+def ask_on(service, over, ending):
+    """Asks for what is held, and does not stop before the service does."""
+    try:
+        with service.client(over) as client:
+            client.sock.settimeout(5)
+            while not ending.is_set():
+                client.ask("held.test.", "A")
+    except (OSError, EOFError):
+        pass
+
+
+def check_stop(checks, name, is_asked, is_loaded):
+    """How soon `stop` ends a service: one at rest, one of whose questions wait for a silent name server, one that is asked without end."""
+    silent = {HOST: {"*": None}}
+    with NameServers(silent) as servers, Service([f"{HOST}@{servers.port}"], "--udp", "2", "--tcp", "2") as service:
+        service.obey("local_data held.test. 60 A 192.0.2.1")
+        ending = threading.Event()
+        threads = [threading.Thread(target=ask_on, args=(service, over, ending)) for over in ("udp", "tcp") for _ in range(2)]
+        if is_loaded:
+            for thread in threads:
+                thread.start()
+        with service.client() as client:
+            if is_asked:
+                for place in range(100):
+                    client.send(query(f"silent{place}.test.", "A"))
+                checks.check(f"stop {name}: asked", None if servers.wait_for("silent99.test. A") else "it is not")
+            if is_loaded:
+                time.sleep(0.5)
+            took, ended = seconds_to_stop(service)
+        ending.set()
+        if is_loaded:
+            for thread in threads:
+                thread.join()
+        checks.equal(f"stop {name}", ended, STOPPED)
+        print(f"stop {name}: {took * 1000:.0f} ms")
+        checks.check(f"stop {name}: how soon", None if took < STOP_SECONDS else f"{took:.3f} s")
+
+
+def outlive_want():
+    """A worker that cannot accept for eighteen seconds, while nobody connects: the faults in the log, whether it ended, and what it answers then."""
+    with Service(["192.0.2.1"]) as service:
+        service.obey("local_data held.test. 60 A 192.0.2.1")
+        until(lambda: service.threads() == 3)
+        service.idle_descriptors()
+        service.limit(service.first_free())
+        # A worker that waits has the descriptor of its next connection; the one behind it wants one.
+        with service.client("tcp") as client:
+            client.ended()
+        time.sleep(18.5)
+        faults, has_ended = service.log().count(b"resolver: device fault"), b"ended by failures" in service.log()
+        service.limit(1_024)
+        return faults > 16, has_ended, service.ask("held.test.", "A", "tcp").words(), service.stop()
+
+
+def make_all(checks):
+    checks.make(check_usage)
+    checks.make(check_addresses)
+    checks.make(check_binding)
+    checks.make(check_ranges)
+    checks.make(check_seed)
+    checks.make(check_control_program)
+    checks.make(check_silent_server)
+    checks.make(check_refused_start)
+    checks.make(check_stop, "at rest", False, False)
+    checks.make(check_stop, "with questions that wait", True, False)
+    checks.make(check_stop, "under load", False, True)
+    checks.make(check_stop, "under load, with questions that wait", True, True)
+    checks.make(check_signal)
+
+
+def main():
+    checks = Checks()
+    with ThreadPoolExecutor(1) as pool:
+        waiting = pool.submit(outlive_want)
+        make_all(checks)
+        wanted = True, False, "aa | answer held.test. A 192.0.2.1", STOPPED
+        checks.equal("no descriptors for eighteen seconds", waiting.result(), wanted)
+    checks.end()
+
+
+main()

@@ -1,0 +1,325 @@
+"""A minute of questions, commands and undos at once, each reply checked against the script program.
+
+Which number the book gave a call is not told outside, so the order of all calls is not known here. Known is who waited for whom:
+
+- An operator gives commands one after another, and asks questions of a zone that nobody else asks about, each when the one before
+  it was answered. The script program is given the same lines in the same order, and what the name servers then sent is admitted
+  there. Every reply must be the script's, and the name servers of that zone must have been asked just where the script held
+  nothing.
+- Clients ask about names that the commands block and answer, all the while. A client's reply must be what the script answers of
+  that name behind some command: one that was given by the time the reply came, and none that another was acknowledged behind
+  before the question was sent. And these places must not go back: of two questions, where the first was answered before the
+  second was sent, the second is not answered from before the first's.
+
+That each name's replies could be in one order with the commands is shown so; that the cells' contents were in that order is shown
+for the operator's own zone.
+"""
+
+import itertools
+import random
+import re
+import subprocess
+import sys
+import threading
+import time
+from bisect import bisect_left
+from dataclasses import dataclass
+
+from lib.checks import Checks
+from lib.messages import number
+from lib.nameserver import NameServers
+from lib.programs import RESOLVER
+from lib.reading import ZONE_TYPES
+from lib.replies import reply_in
+from lib.service import STOPPED, Service, query
+
+SECONDS = 60
+SEED = 20_261_123
+ROOT, OWN, OTHERS, STUB = "127.0.0.1", "127.0.0.2", "127.0.0.3", "127.0.0.4"
+# Names that the operator alone asks about, of which the last is denied; and those that the clients ask about, of which the last two
+# may be dropped, so that they are asked over TCP alone.
+OWN_NAMES = [f"s{place}.own." for place in range(5)] + ["n.own."]
+NAMES = [f"p{place}.others." for place in range(8)]
+DROPPED = NAMES[6:]
+SOA = "ns.own. host.own. 1 2 3 4 3600"
+# The types of zones that answer something.
+TYPES = [kind for kind in ZONE_TYPES if kind != "deny"]
+
+
+def zones():
+    """Each answer of the operator's zone has an address that no other has."""
+    fresh = itertools.count(1)
+
+    def own(asked):
+        name = asked.question.split()[0]
+        place = next(fresh)
+        data = f"aa | answer {name} 3600 A 10.0.{place >> 8}.{place & 255}"
+        yield asked.response(f"aa rcode 3 | authority own. 3600 SOA {SOA}" if name == "n.own." else data)
+
+    def root(asked):
+        zone = asked.question.split()[0].split(".", 1)[1]
+        yield asked.response(f"| authority {zone} 3600 NS ns.{zone} | additional ns.{zone} 3600 A {OWN if zone == 'own.' else OTHERS}")
+
+    others = {f"{name} A": f"aa | answer {name} 3600 A 192.0.2.{place}" for place, name in enumerate(NAMES)}
+    return {ROOT: {"*": root}, OWN: {"*": own}, STUB: {"*": own}, OTHERS: others}
+
+
+class Script:
+    """The script program, line by line."""
+
+    def __init__(self, *arguments):
+        self.process = subprocess.Popen([RESOLVER, "script", *arguments], stdin=subprocess.PIPE, stdout=subprocess.PIPE, env={})
+
+    def tell(self, line):
+        self.process.stdin.write(line.encode() + b"\n")
+        self.process.stdin.flush()
+        told = [self._line()]
+        while line.startswith("list_") and told[-1] != "end":
+            told.append(self._line())
+        return " / ".join(told)
+
+    def _line(self):
+        return self.process.stdout.readline().decode().rstrip("\n")
+
+    def end(self):
+        self.process.stdin.close()
+        self.process.stdout.close()
+        return self.process.wait()
+
+
+def without_left(told):
+    return re.sub(r"^(found \d|nodata|noname) \d+", r"\1", told)
+
+
+def meant(told, name):
+    """The reply over the wire that a look comes to; None where name servers would be asked."""
+    word, *rest = told.split()
+    fixed = {"local nodata": "aa", "local noname": "aa rcode 3", "local refuse": "aa rcode 5", "local drop": "drop"}
+    if told in fixed or word == "unknown":
+        return fixed.get(told)
+    if word == "noname":
+        return f"rcode 3 | authority own. SOA {SOA}"
+    head, rest = ("aa", rest[3:]) if word == "local" else ("-", rest[4:])
+    time_left = f"{told.split()[1]} " if word == "local" else ""
+    return " | ".join([head, *(f"answer {name} {time_left}A {data}" for data in " ".join(rest).split(" | "))])
+
+
+def shown(reply):
+    """A reply in the same words: what is local has its time to live."""
+    return reply.with_times() if reply.head()[:1] == ["aa"] else reply.words()
+
+
+def ask_or_drop(client, name, marker="marker."):
+    """The reply to a question, or `drop` where the next one is answered in its place; both over one connection."""
+    client.send(query(name, "A", 1))
+    client.send(query(marker, "A", 2))
+    first = client.octets()
+    if first[:2] == number(2):
+        return "drop"
+    client.octets()
+    return shown(reply_in(first))
+
+
+@dataclass
+class Told:
+    """A reply to a client, between two ticks."""
+
+    name: str
+    words: str
+    began: int
+    ended: int
+
+
+class Client(threading.Thread):
+    """Asks one question after another until the load ends, and notes each reply."""
+
+    def __init__(self, service, over, seed, clock, ending):
+        super().__init__(daemon=True)
+        self.service, self.over, self.clock, self.ending = service, over, clock, ending
+        self.random = random.Random(seed)
+        self.told, self.fault = [], None
+
+    def run(self):
+        try:
+            while not self.ending.is_set():
+                with self.service.client(self.over) as client:
+                    for _ in range(20):
+                        self._ask(client)
+                        self.ending.wait(0.02)
+        except Exception as fault:  # told as a check that failed
+            self.fault = f"{type(fault).__name__}: {fault}"
+
+    def _ask(self, client):
+        name = self.random.choice(NAMES if self.over == "tcp" else [name for name in NAMES if name not in DROPPED])
+        began = next(self.clock)
+        words = ask_or_drop(client, name) if self.over == "tcp" else shown(client.ask(name, "A"))
+        self.told.append(Told(name, words, began, next(self.clock)))
+
+
+class Operator:
+    """Gives drawn commands and asks questions, to the service and to the script."""
+
+    def __init__(self, checks, service, servers, clock):
+        self.checks, self.service, self.servers, self.clock = checks, service, servers, clock
+        self.random = random.Random(SEED)
+        self.script = Script("--journal", "16", "--server-port", str(servers.port), f"{ROOT}@{servers.port}")
+        self.control = service.control()
+        self.given = []  # the ticks round each command, and what each name is answered behind it
+        self.questions = 0
+        # No undo reaches the marker, since the journal has forgotten it.
+        for line in ["local_data marker. 60 A 192.0.2.99"] + ["flush nobody."] * 16:
+            self.obey(line)
+
+    def obey(self, line):
+        """A line, to both."""
+        began = next(self.clock)
+        told = self.control.tell(line)
+        ended = next(self.clock)
+        wanted = self.script.tell(line)
+        if without_left(told) != without_left(wanted):
+            self.checks.equal(f"line {len(self.given)}, {line}", told, wanted)
+        self.given.append((began, ended, self._answers()))
+
+    def _answers(self):
+        """What each name that the clients ask about is answered now."""
+        wanted = {}
+        for place, name in enumerate(NAMES):
+            wanted[name] = meant(self.script.tell(f"look {name} A"), name) or f"- | answer {name} A 192.0.2.{place}"
+        return wanted
+
+    def ask(self, name):
+        """A question of the operator's zone. Where the script holds nothing the name servers have to be asked, and it learns what they sent."""
+        before = len(self.own_asked())
+        words = self._reply(name)
+        asked = self.own_asked()[before:]
+        wanted = meant(self.script.tell(f"look {name} A"), name)
+        route = []
+        if wanted is None:
+            route = self._route(name)
+            wanted = self._learnt(name, words)
+        self.questions += 1
+        if (words, asked) != (wanted, route):
+            self.checks.equal(f"question {self.questions} of {name} behind line {len(self.given)}", (words, asked), (wanted, route))
+
+    def own_asked(self):
+        """Which servers were asked about the operator's zone so far."""
+        return [server for server, _, question in list(self.servers.asked) if question.endswith("own. A")]
+
+    def _reply(self, name):
+        with self.service.client(self.random.choice(["udp", "tcp"])) as client:
+            is_dropped = self.script.tell(f"look {name} A") == "local drop"
+            if client.over == "tcp":
+                return ask_or_drop(client, name)
+            if not is_dropped:
+                return shown(client.ask(name, "A"))
+        with self.service.client("tcp") as client:
+            return ask_or_drop(client, name)
+
+    def _route(self, name):
+        """The servers that have to be asked, and what the root's referral teaches."""
+        _, zone, source, addr = self.script.tell(f"servers {name}").split()
+        if source != "hints":
+            return [addr.split("@")[0]]
+        self.script.tell("admit 1 own. 3600 NS ns.own.")
+        self.script.tell(f"admit 1 ns.own. 3600 A {OWN}")
+        return [ROOT, OWN]
+
+    def _learnt(self, name, words):
+        """What a server of the zone taught, which the reply shows."""
+        if name == "n.own.":
+            self.script.tell(f"noname {name} 3600 own. {SOA}")
+            return f"rcode 3 | authority own. SOA {SOA}"
+        address = words.rpartition(" ")[2]
+        self.script.tell(f"admit 4 {name} 3600 A {address}")
+        return f"- | answer {name} A {address}"
+
+    def drawn(self):
+        """A line, or a question."""
+        draw = self.random
+        own, other = draw.choice(OWN_NAMES), draw.choice(NAMES)
+        name = draw.choice([own, other, other, other, "own.", "others."])
+        types = TYPES + ["deny"] if name in DROPPED or name in OWN_NAMES else TYPES
+        port = self.servers.port
+        lines = {
+            f"?{own}": 30,
+            "undo": 22,
+            "redo": 10,
+            f"local_zone {name} {draw.choice(types)}": 12,
+            f"local_zone_remove {name}": 4,
+            f"local_data {name} {draw.choice([30, 60])} A 192.0.2.{draw.randrange(100, 110)}": 10,
+            f"local_data_remove {name}": 3,
+            f"stub_add own. {STUB}@{port}": 2,
+            "stub_remove own.": 2,
+            f"flush {own}": 4,
+            f"flush_type {own} A": 4,
+            f"flush_zone {draw.choice(['own.', 'own.', '.'])}": 3,
+            f"look {own} A": 4,
+            f"servers {own}": 3,
+            draw.choice(["list_commands", "list_local_zones", "list_local_data", "list_stubs", "sweep", "frob"]): 6,
+        }
+        return draw.choices(list(lines), list(lines.values()))[0]
+
+    def go_on(self):
+        """One thing more."""
+        line = self.drawn()
+        if line.startswith("?"):
+            self.ask(line[1:])
+        else:
+            self.obey(line)
+
+    def end(self):
+        self.control.__exit__()
+        return self.script.end()
+
+
+def misplaced(given, told):
+    """The first reply that has no place between the commands, or None. Each is put at the earliest that is left to it."""
+    begun, ended = [began for began, _, _ in given], [end for _, end, _ in given]
+    settled = []  # ticks at which earlier replies ended, each with the latest place of those so far
+    for one in sorted(told, key=lambda one: one.began):
+        first = max([bisect_left(ended, one.began) - 1, *(place for end, place in settled if end < one.began)])
+        answers = [given[at][2][one.name] for at in range(first, bisect_left(begun, one.ended))]
+        if one.words not in answers:
+            return f"{one} has no place behind line {first}, where the script answers {answers}"
+        place = first + answers.index(one.words)
+        settled.append((one.ended, place))
+        settled = pruned(settled, one.began)
+    return None
+
+
+def pruned(settled, now):
+    """Of the replies that ended before now, only the latest place matters to those that begin later."""
+    past = [place for end, place in settled if end < now]
+    return ([(0, max(past))] if past else []) + [pair for pair in settled if pair[0] >= now]
+
+
+def main():
+    checks = Checks()
+    seconds = int(sys.argv[1]) if sys.argv[1:] else SECONDS
+    clock, ending = itertools.count(1), threading.Event()
+    with NameServers(zones()) as servers:
+        hint = f"{ROOT}@{servers.port}"
+        options = ["--server-port", str(servers.port), "--udp", "2", "--tcp", "4", "--journal", "16", "--record", "1000"]
+        with Service([hint], *options) as service:
+            operator = Operator(checks, service, servers, clock)
+            clients = [Client(service, over, seed, clock, ending) for seed, over in enumerate(["udp", "udp", "tcp", "tcp"])]
+            for client in clients:
+                client.start()
+            end = time.monotonic() + seconds
+            while time.monotonic() < end and not checks.failed:
+                operator.go_on()
+            ending.set()
+            for client in clients:
+                client.join()
+                checks.check(f"a client over {client.over}", client.fault)
+            checks.equal("the script's end", operator.end(), 0)
+            checks.equal("stopped", service.stop(), STOPPED)
+            told = [one for client in clients for one in client.told]
+            checks.check("the replies to clients, between the commands", misplaced(operator.given, told))
+            print(f"{len(operator.given)} lines, {operator.questions} questions of the operator, {len(told)} of clients")
+            is_enough = len(operator.given) > 100 and operator.questions > 30 and len(told) > 300
+            checks.check("that enough was asked", None if is_enough else "too little")
+    checks.end()
+
+
+main()
