@@ -1,0 +1,106 @@
+#!/usr/bin/env python3
+"""Measures the gate, and writes the table of docs/TIMES.md.
+
+    docs/times.py --run LOG COMMAND..   runs a command, as `rt ci` or ./check, and keeps in LOG each line with its second
+    docs/times.py LOG..                 writes the table from such logs, or from bare logs of `rt ci`, which have no seconds
+    docs/times.py --check               fails if the table has not a row for each crate of crates.txt, and for no other
+
+A crate that no log names keeps its row.
+"""
+
+import os
+import re
+import resource
+import subprocess
+import sys
+import time
+
+sys.dont_write_bytecode = True
+
+from graph import TOP, crates
+
+DOCUMENT = os.path.join(TOP, "docs/TIMES.md")
+HEAD = "| Crate | functions | must-fail edits | proved after |\n|---|---|---|---|\n"
+MINUTES = "processor minutes:"
+
+
+def measure(log, command):
+    """Runs a command. Its lines go on, and into the log with the seconds since it began; then the minutes of a processor."""
+    began = time.monotonic()
+    with open(log, "w", encoding="utf-8") as file:
+        with subprocess.Popen(command, stdout=subprocess.PIPE, stderr=subprocess.STDOUT, text=True) as process:
+            for line in process.stdout:
+                file.write(f"[{time.monotonic() - began:.0f}] {line}")
+                print(line, end="", flush=True)
+        used = resource.getrusage(resource.RUSAGE_CHILDREN)
+        file.write(f"{MINUTES} {(used.ru_utime + used.ru_stime) / 60:.0f}\n")
+    return process.returncode
+
+
+def read_log(path):
+    """What a log says of each crate: how many functions, and the second at which it was proved; and the minutes."""
+    functions, seconds, minutes, crate = {}, {}, None, None
+    with open(path, encoding="utf-8") as file:
+        for line in file:
+            stamp, text = re.match(r"(?:\[(\d+)\] )?(.*)", line).groups()
+            if begun := re.match(r"== (\w+)", text):
+                crate = begun[1]
+            elif (found := re.search(r"\bfunctions=(\d+)", text)) and crate:
+                functions.setdefault(crate, int(found[1]))
+            elif (proved := re.match(r"rt: (\w+) proved$", text)) and stamp:
+                seconds[proved[1]] = int(stamp)
+            elif text.startswith(MINUTES):
+                minutes = text.split()[-1]
+    return functions, seconds, minutes
+
+
+def edits(crate):
+    folder = os.path.join(TOP, "crates", crate, "must-fail")
+    return sum(name.endswith(".edit") for name in os.listdir(folder)) if os.path.isdir(folder) else 0
+
+
+def table_in(text):
+    """Where the table stands in the document, and its rows by crate."""
+    begins = text.index(HEAD)
+    ends = begins + len(HEAD)
+    rows = {}
+    while text.startswith("|", ends):
+        line = text[ends : text.index("\n", ends) + 1]
+        cells = [cell.strip() for cell in line.strip().strip("|").split("|")]
+        rows[cells[0].strip("`")] = cells[1:]
+        ends += len(line)
+    return begins, ends, rows
+
+
+def written(text, logs):
+    """The document with what the logs say."""
+    begins, ends, rows = table_in(text)
+    for path in logs:
+        functions, seconds, minutes = read_log(path)
+        for crate, count in functions.items():
+            rows[crate] = [str(count), "", f"{seconds[crate] / 60:.0f} min" if crate in seconds else ""]
+        if minutes:
+            text = re.sub(rf"{MINUTES} \d+", f"{MINUTES} {minutes}", text)
+    lines = []
+    for crate in crates():
+        count, _, after = rows.get(crate, ["", "", ""])
+        lines.append(f"| `{crate}` | {count} | {edits(crate) or ''} | {after} |\n")
+    return text[:begins] + HEAD + "".join(lines) + text[ends:]
+
+
+def main(arguments):
+    if arguments[:1] == ["--run"]:
+        sys.exit(measure(arguments[1], arguments[2:]))
+    with open(DOCUMENT, encoding="utf-8") as file:
+        text = file.read()
+    if arguments == ["--check"]:
+        told, known = set(table_in(text)[2]), set(crates())
+        if told != known:
+            sys.exit(f"docs/TIMES.md: rows and crates.txt differ in {', '.join(sorted(told ^ known))}: run docs/times.py LOG")
+        return
+    with open(DOCUMENT, "w", encoding="utf-8") as file:
+        file.write(written(text, arguments))
+
+
+if __name__ == "__main__":
+    main(sys.argv[1:])
