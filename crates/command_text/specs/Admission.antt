@@ -1,4 +1,4 @@
--- What is admitted.
+-- The find that an `admit` line admits.
 use Rattle.std.specs.Prelude.{◌≡◌, ℕ, ◌≤◌, List, length, min}
 use Rattle.std.specs.List.{AllByRecursion}
 use Rattle.dns_name.specs.Labels.{Labels}
@@ -12,7 +12,7 @@ use Rattle.ranked.specs.declared.find.Body.TheVariants.{Set}
 use Rattle.ranked.specs.declared.find.TheConstants.{LONGEST_TTL}
 use Rattle.ranked.specs.Set.{each_once}
 
--- what a line admits, as it stands there
+-- The words of an `admit` line, as values.
 pub record Given : Type 0 where
   pub rank : Rank
   pub owner : Labels
@@ -20,13 +20,13 @@ pub record Given : Type 0 where
   pub kind : ℕ
   pub body : List Data
 
--- It lives for a second at least and has a datum, and each has the form of its type.
+-- Its TTL is not 0, it has a datum, and each datum has the form of its type.
 pub record IsSound (given : Given) : Type 0 where
   pub lives : 1 ≤ given.ttl
   pub some : 1 ≤ length given.body
   pub formed : AllByRecursion (HasForm given.kind) given.body
 
--- the find of it: its data each once, for a day at most
+-- The find that it admits: each datum once, and a TTL of a day at most.
 pub record IsFindOf (given : Given) (find : Find) : Type 0 where
   pub owner : find.owner ≡ given.owner
   pub scope : find.scope ≡ One given.kind

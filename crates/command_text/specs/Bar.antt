@@ -1,29 +1,32 @@
--- The data of a set stand between bars.
+-- Data of a set, separated by words that are a bar alone.
 use Rattle.std.specs.Prelude.{ℕ, Bool, true, false, ◌&&◌, List, [], ◌∷◌, ◌++◌, Option, None, ◌==◌, is_none, unwrap_or, if◌then◌else◌}
 use Rattle.dns_text.specs.declared.word.Within.{Within}
 use Rattle.dns_text.specs.declared.word.Within.TheVariants.{Plain}
 use Rattle.dns_text.specs.Word.{is_blank, after_octet}
 
+-- A blank follows, or the text ends.
 abbrev pub is_at_end : List ℕ → Bool
 is_at_end [] = true
 is_at_end (c ∷ text) = is_blank c
 
--- a bar (124) that a blank or the end follows
+-- A bar (124) that a blank or the end follows.
 abbrev pub is_bar : List ℕ → Bool
 is_bar [] = false
 is_bar (c ∷ text) = c == 124 && is_at_end text
 
--- octets before the first piece
+-- Adds octets to the front of the first piece.
 abbrev pub onto : List ℕ → List (List ℕ) → List (List ℕ)
 onto octets [] = octets ∷ []
 onto octets (piece ∷ pieces) = (octets ++ piece) ∷ pieces
 
--- The pieces of a text between the words that are a bar alone, by where a word stands, if one does: a bar inside a word or its quotes is that word's.
+-- The pieces of a text between the words that are a bar alone, from inside a word or from between words.
+-- A bar inside a word or its quotes belongs to that word.
 abbrev pub pieces_from : Option Within → List ℕ → List (List ℕ)
 pieces_from within [] = [] ∷ []
 pieces_from within (c ∷ text) =
     if is_none within && is_bar (c ∷ text) then [] ∷ pieces_from None text
     else onto (c ∷ []) (pieces_from (after_octet (unwrap_or within Plain) c) text)
 
+-- The pieces of a text between the words that are a bar alone.
 abbrev pub pieces : List ℕ → List (List ℕ)
 pieces text = pieces_from None text

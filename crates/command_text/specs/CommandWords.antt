@@ -1,4 +1,4 @@
--- The words of a command: those of the line that gives it.
+-- Commands as the lines that give them.
 use Rattle.std.specs.Prelude.{◌≡◌, ◌≤◌, ◌<◌, ◌^◌, ℕ, false, List, ◌∷◌, ◌++◌, length, Some, Ok, codes}
 use Rattle.std.specs.List.{AllByRecursion}
 use Rattle.streams.specs.declared.held_line.TheConstants.{LONGEST_LINE}
@@ -18,7 +18,7 @@ use Rattle.command_text.specs.declared.words.Channel.{Channel}
 use Rattle.command_text.specs.Addrs.{addrs_text}
 use Rattle.command_text.specs.Line.{read_of}
 
--- the line that gives a command, without its end
+-- The line that gives a command, without its end.
 abbrev pub command_words : Command → List ℕ
 command_words (Flush name) = codes "flush " ++ text_of name
 command_words (FlushZone name) = codes "flush_zone " ++ text_of name
@@ -30,11 +30,12 @@ command_words (DropName name) = codes "local_data_remove " ++ text_of name
 command_words (SetStub stub) = codes "stub_add " ++ text_of stub.name ++ addrs_text stub.addrs
 command_words (DropStub name) = codes "stub_remove " ++ text_of name
 
--- An address has the octets of its kind, and a port.
+-- An address has as many octets as its kind has, and a port that is not 0.
 abbrev pub IsAddr : Addr → Type 0
 IsAddr addr = IsIp addr.ip × (0 < addr.port) × (addr.port < 2 ^ 16)
 
--- A line can give the command: its names are names, its type is one that records have, and its record's data are read back, as all data are that have the form of their type.
+-- A line can give the command: its names are names, its type is one that records have, and its record's data are read back.
+-- All data that have the form of their type are.
 abbrev pub IsGivable : Command → Type 0
 IsGivable (Flush name) = IsName name
 IsGivable (FlushZone name) = IsName name
@@ -46,7 +47,7 @@ IsGivable (DropName name) = IsName name
 IsGivable (SetStub stub) = IsName stub.name × (0 < length stub.addrs) × AllByRecursion IsAddr stub.addrs
 IsGivable (DropStub name) = IsName name
 
--- The words of a command are read back as that command, wherever lines come from.
+-- The line that gives a command is read back as that command, in a script and on the control socket.
 abbrev pub ReadsCommands : Type 0
 ReadsCommands =
     (channel : Channel) (command : Command) → IsGivable command → length (command_words command) ≤ LONGEST_LINE → read_of channel (command_words command) ≡ Ok (RequestLine (Do command))

@@ -1,4 +1,4 @@
--- What a line of control does, and what it is told.
+-- Control lines: the effect of each, and its reply.
 use Rattle.std.specs.Prelude.{◌≡◌, ℕ, Bool, true, false, IsTrue, ◌⊎◌, Result, Ok, Err, List, [], codes}
 use Rattle.streams.specs.Split.{with_end}
 use Rattle.history.specs.declared.event.Event.{Event}
@@ -13,31 +13,31 @@ use Rattle.command_text.specs.declared.words.Channel.TheVariants.{Control}
 use Rattle.command_text.specs.Request.{event_at}
 use Rattle.command_text.specs.Line.{says, takes_memory}
 use Rattle.command_text.specs.Text.{line_fault_text}
-use Rattle.command_text.specs.Obeying.{Tells}
+use Rattle.command_text.specs.Obeying.{IsTextOf}
 
--- one reading of a clock: before, the moment, after
+-- One reading of a clock: the clock before, the moment, the clock after.
 abbrev pub Ticks : Type 0 → Type 1
 Ticks C = C → ℕ → C → Type 0
 
--- one call of a desk: before, the event, the answer, after
+-- One call of a desk: the desk before, the event, its answer, the desk after.
 abbrev pub Calls : Type 0 → Type 1
 Calls D = D → Event → Result Reply DeskFault → D → Type 0
 
--- The clock is read once, the request is handed in at its moment, and what the desk answers is told.
+-- The clock is read once, the desk gets the request at that moment, and the reply is the desk's answer as text.
 pub record IsAsked {C D : Type 0} (ticks : Ticks C) (calls : Calls D) (clock : C) (desk : D) (request : Request) (text : List ℕ) (clock' : C) (desk' : D) : Type 0 where
   pub moment : ℕ
   pub read : ticks clock moment clock'
   pub answer : Result Reply DeskFault
   pub called : calls desk (event_at moment request) answer desk'
-  pub told : Tells answer text
+  pub told : IsTextOf answer text
 
--- The line is told this text. The clock is not read, and no one asks the desk.
+-- The reply is this text. The clock is not read, and the desk is not called.
 pub record IsTold {C D : Type 0} (clock : C) (desk : D) (this text : List ℕ) (clock' : C) (desk' : D) : Type 0 where
   pub text_is : text ≡ this
   pub same_clock : clock' ≡ clock
   pub same_desk : desk' ≡ desk
 
--- A line that says this is obeyed. Control has none of the lines that tell a script's moments and finds: they would be no commands.
+-- The effect of a line that is read as this. Only a script has the lines that give moments and finds: here they are unknown commands.
 abbrev pub DoesAt : {C D : Type 0} → Ticks C → Calls D → C → D → Result Line LineFault → List ℕ → Bool → C → D → Type 0
 DoesAt ticks calls clock desk (Ok Silent) text ends clock' desk' = IsTold clock desk [] text clock' desk' × (ends ≡ false)
 DoesAt ticks calls clock desk (Ok (RequestLine request)) text ends clock' desk' = IsAsked ticks calls clock desk request text clock' desk' × (ends ≡ false)
@@ -45,7 +45,7 @@ DoesAt ticks calls clock desk (Ok Stop) text ends clock' desk' = IsTold clock de
 DoesAt ticks calls clock desk (Ok _) text ends clock' desk' = IsTold clock desk (line_fault_text Unknown) text clock' desk' × (ends ≡ false)
 DoesAt ticks calls clock desk (Err fault) text ends clock' desk' = IsTold clock desk (line_fault_text fault) text clock' desk' × (ends ≡ false)
 
--- One line of control: what it says is done, or no memory is found for one that takes some.
+-- One control line: it is obeyed, or it needs memory and there is none.
 abbrev pub Controls : {C D : Type 0} → Ticks C → Calls D → C → D → List ℕ → List ℕ → Bool → C → D → Type 0
 Controls ticks calls clock desk line text ends clock' desk' =
     DoesAt ticks calls clock desk (says Control line) text ends clock' desk'

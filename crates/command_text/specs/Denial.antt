@@ -1,4 +1,4 @@
--- What denies that there are data, or a name.
+-- The negative answer that a `nodata` or `noname` line admits.
 use Rattle.std.specs.Prelude.{◌≡◌, ℕ, ◌≤◌, min}
 use Rattle.dns_name.specs.Labels.{Labels}
 use Rattle.dns_text.specs.declared.record.Record.{Record}
@@ -11,24 +11,24 @@ use Rattle.ranked.specs.declared.find.Body.TheVariants.{NoData, NoName}
 use Rattle.ranked.specs.declared.find.TheConstants.{LONGEST_NEGATIVE_TTL}
 use Rattle.ranked.specs.Body.{IsSoa}
 
--- what a line denies, as it stands there
+-- The words of such a line, as values.
 pub record Denied : Type 0 where
   pub owner : Labels
   pub scope : Scope
   pub ttl : ℕ
   pub soa : Record
 
--- It lives for a second at least, and an SOA record denies it.
+-- Its TTL is not 0, and its record is an SOA record.
 pub record IsSound (denied : Denied) : Type 0 where
   pub lives : 1 ≤ denied.ttl
   pub soa : IsSoa denied.soa
 
--- data of one type are denied, or the name with all types
+-- The negative answer: for one type of the name, or for the whole name.
 abbrev pub denying : Scope → Record → Body
 denying (One kind) soa = NoData soa
 denying Whole soa = NoName soa
 
--- the find of it: of the highest rank, for an hour at most
+-- The find that it admits: of the highest rank, and with a TTL of an hour at most.
 pub record IsDenialOf (denied : Denied) (find : Find) : Type 0 where
   pub owner : find.owner ≡ denied.owner
   pub scope : find.scope ≡ denied.scope

@@ -1,4 +1,4 @@
--- What a line says: its first word is a command, and the words after it are the command's.
+-- Lines: the first word is a command, and the words after it are the command's.
 use Rattle.std.specs.Prelude.{◌≡◌, ◌≤◌, ℕ, ◌-◌, ◌^◌, Bool, true, false, nat_lt, ◌==◌, Option, Some, None, Result, Ok, Err, is_ok, List, [], ◌∷◌, length, if◌then◌else◌}
 use Rattle.streams.specs.declared.held_line.TheConstants.{LONGEST_LINE}
 use Rattle.dns_name.specs.Results.{◌>>=◌, or_fault}
@@ -21,18 +21,18 @@ use Rattle.command_text.specs.Deny.{no_data_words, no_name_words, no_data_of, no
 use Rattle.command_text.specs.Stubs.{stub_words, set_stub_in, drop_stub_in}
 use Rattle.command_text.specs.Local.{set_zone_in, drop_zone_in, record_words, add_record_in, drop_name_in}
 
--- An empty line says nothing, nor does one that begins with a number sign (35).
+-- An empty line, or a comment: a line that begins with a number sign (35).
 abbrev pub is_silent : List ℕ → Bool
 is_silent [] = true
 is_silent (octet ∷ octets) = octet == 35
 
--- nothing behind the word
+-- A command without words of its own: the rest of the line is blank.
 unfoldable pub alone : Line → List ℕ → Result Line LineFault
 alone line text = do
   end ← ends text
   Ok line
 
--- N: from 0 to 2^64 - 1
+-- `at N`: the moment, from 0 to 2^64 - 1.
 unfoldable pub at_in : List ℕ → Result Line LineFault
 at_in text = do
   n ← word_in text
@@ -40,80 +40,94 @@ at_in text = do
   end ← ends n.1
   Ok (AtLine moment)
 
+-- `admit RANK NAME TTL TYPE DATA [| DATA]..`: a set that was found.
 unfoldable pub admit_in : List ℕ → Result Line LineFault
 admit_in text = do
   words ← admit_words text
   given ← given_of words
   Ok (AdmitLine given)
 
+-- `nodata NAME TTL TYPE OWNER SOA-DATA`: a negative answer for one type.
 unfoldable pub no_data_in : List ℕ → Result Line LineFault
 no_data_in text = do
   words ← no_data_words text
   denied ← no_data_of words
   Ok (DenyLine denied)
 
+-- `noname NAME TTL OWNER SOA-DATA`: a negative answer for the whole name.
 unfoldable pub no_name_in : List ℕ → Result Line LineFault
 no_name_in text = do
   words ← no_name_words text
   denied ← no_name_of words
   Ok (DenyLine denied)
 
+-- `look NAME TYPE`: the lookup of a question.
 unfoldable pub look_in : List ℕ → Result Line LineFault
 look_in text = do
   question ← question_in text
   Ok (RequestLine (LookRequest (Answer question)))
 
+-- `servers NAME`: the lookup of the servers to ask for a name.
 unfoldable pub servers_in : List ℕ → Result Line LineFault
 servers_in text = do
   name ← only_name text
   Ok (RequestLine (LookRequest (ServersAsk name)))
 
+-- `flush NAME`: drops the common types of a name from the cache.
 unfoldable pub flush_in : List ℕ → Result Line LineFault
 flush_in text = do
   name ← only_name text
   Ok (RequestLine (DoRequest (FlushCommand name)))
 
+-- `flush_type NAME TYPE`: drops one type of a name from the cache.
 unfoldable pub flush_type_in : List ℕ → Result Line LineFault
 flush_type_in text = do
   question ← question_in text
   Ok (RequestLine (DoRequest (FlushTypeCommand question)))
 
+-- `flush_zone NAME`: drops all that is at or below a name from the cache.
 unfoldable pub flush_zone_in : List ℕ → Result Line LineFault
 flush_zone_in text = do
   name ← only_name text
   Ok (RequestLine (DoRequest (FlushZoneCommand name)))
 
+-- `local_zone NAME TYPE`: sets the type of a local zone.
 unfoldable pub local_zone_in : List ℕ → Result Line LineFault
 local_zone_in text = do
   command ← set_zone_in text
   Ok (RequestLine (DoRequest command))
 
+-- `local_zone_remove NAME`: removes a local zone and its records.
 unfoldable pub local_zone_remove_in : List ℕ → Result Line LineFault
 local_zone_remove_in text = do
   command ← drop_zone_in text
   Ok (RequestLine (DoRequest command))
 
+-- `local_data RECORD`: adds a local record.
 unfoldable pub local_data_in : List ℕ → Result Line LineFault
 local_data_in text = do
   command ← add_record_in text
   Ok (RequestLine (DoRequest command))
 
+-- `local_data_remove NAME`: removes the local records of a name.
 unfoldable pub local_data_remove_in : List ℕ → Result Line LineFault
 local_data_remove_in text = do
   command ← drop_name_in text
   Ok (RequestLine (DoRequest command))
 
+-- `stub_add NAME ADDR..`: sets the servers of a stub.
 unfoldable pub stub_add_in : List ℕ → Result Line LineFault
 stub_add_in text = do
   command ← set_stub_in text
   Ok (RequestLine (DoRequest command))
 
+-- `stub_remove NAME`: removes a stub.
 unfoldable pub stub_remove_in : List ℕ → Result Line LineFault
 stub_remove_in text = do
   command ← drop_stub_in text
   Ok (RequestLine (DoRequest command))
 
--- what a command says with the text after its word
+-- The line of a command, with the text after its word.
 abbrev pub said_by : Verb → List ℕ → Result Line LineFault
 said_by At text = at_in text
 said_by Admit text = admit_in text
@@ -139,23 +153,23 @@ said_by Undo text = alone (RequestLine UndoRequest) text
 said_by Redo text = alone (RequestLine RedoRequest) text
 said_by Stop text = alone StopLine text
 
--- A line of blanks has no word, and a word that is no command where the line comes from is none.
+-- Reads a line. It is unknown if it has no word, or if its first word is no command of the channel.
 abbrev pub read_of : Channel → List ℕ → Result Line LineFault
 read_of channel line =
     if nat_lt LONGEST_LINE (length line) then Err TooLong
     else if is_silent line then Ok Silent
     else (or_fault Unknown (next_word line) >>= λ first. or_fault Unknown (verb_in channel first.0) >>= λ verb. said_by verb first.1)
 
--- A line whose first word is this is no command where it comes from there, whatever stands behind the word.
+-- On this channel a line with this first word is unknown, whatever follows the word.
 abbrev pub IsUnknown : Channel → List ℕ → Type 0
 IsUnknown channel word =
     (line rest : List ℕ) → length line ≤ LONGEST_LINE → is_silent line ≡ false → next_word line ≡ Some (word, rest) → read_of channel line ≡ Err Unknown
 
--- Lines are taken with those that say nothing as such, however long they are.
+-- Reads a line, but takes an empty line or a comment as one, however long it is.
 abbrev pub says : Channel → List ℕ → Result Line LineFault
 says channel line = if is_silent line then Ok Silent else read_of channel line
 
--- Only a command that has a name takes memory, and only once all its words are there.
+-- Only a command that has a name takes memory, and only if none of its words is missing.
 abbrev pub takes_by : Verb → List ℕ → Bool
 takes_by At text = false
 takes_by Admit text = is_ok (admit_words text)
@@ -189,6 +203,6 @@ abbrev takes_first : Channel → Option (List ℕ × List ℕ) → Bool
 takes_first channel None = false
 takes_first channel (Some first) = takes_if (verb_in channel first.0) first.1
 
--- Memory is taken for the line.
+-- Whether reading the line takes memory.
 abbrev pub takes_memory : Channel → List ℕ → Bool
 takes_memory channel line = if nat_lt LONGEST_LINE (length line) then false else takes_first channel (next_word line)

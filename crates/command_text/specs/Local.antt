@@ -1,4 +1,4 @@
--- The commands on local zones and local data.
+-- The words of the commands on local zones and local data.
 use Rattle.std.specs.Prelude.{ℕ, Result, Ok, Err, List}
 use Rattle.dns_name.specs.Results.{◌>>=◌, or_fault}
 use Rattle.dns_text.specs.declared.fault.TextFault.{TextFault}
@@ -12,6 +12,7 @@ use Rattle.command_text.specs.declared.fault.LineFault.{LineFault}
 use Rattle.command_text.specs.declared.fault.LineFault.TheVariants.{BadName, BadType, BadData, NoMemory}
 use Rattle.command_text.specs.Parts.{QuestionWords, word_in, ends, question_words, only_name}
 
+-- The command that the words NAME TYPE give, or the first fault from the left.
 unfoldable pub zone_of : QuestionWords → Result Command LineFault
 zone_of words = do
   name ← or_fault BadName (named words.name)
@@ -19,21 +20,23 @@ zone_of words = do
   end ← ends words.rest
   Ok (SetZone name kind)
 
--- NAME TYPE and no more
+-- `local_zone`: NAME TYPE and no more.
 unfoldable pub set_zone_in : List ℕ → Result Command LineFault
 set_zone_in text = question_words text >>= zone_of
 
+-- `local_zone_remove`: NAME and no more.
 unfoldable pub drop_zone_in : List ℕ → Result Command LineFault
 drop_zone_in text = do
   name ← only_name text
   Ok (DropZone name)
 
+-- `local_data_remove`: NAME and no more.
 unfoldable pub drop_name_in : List ℕ → Result Command LineFault
 drop_name_in text = do
   name ← only_name text
   Ok (DropName name)
 
--- the fault of a line whose record has this one
+-- The fault of a line, by the fault of its record.
 abbrev pub record_fault : TextFault → LineFault
 record_fault text_fault.BadName = BadName
 record_fault text_fault.BadTtl = BadData
@@ -41,6 +44,7 @@ record_fault text_fault.BadType = BadType
 record_fault text_fault.BadData = BadData
 record_fault text_fault.NoMemory = NoMemory
 
+-- A result of reading a record, with the fault of its line.
 abbrev pub of_line : {A : Type 0} → Result A TextFault → Result A LineFault
 of_line (Ok x) = Ok x
 of_line (Err fault) = Err (record_fault fault)
@@ -53,6 +57,7 @@ record_words text = do
   datum ← word_in kind.1
   Ok tt
 
+-- `local_data`: RECORD and no more.
 unfoldable pub add_record_in : List ℕ → Result Command LineFault
 add_record_in text = do
   words ← record_words text

@@ -1,4 +1,4 @@
--- What a line of a script does, and what it is told.
+-- Script lines: the effect of each, and its reply.
 use Rattle.std.specs.Prelude.{◌≡◌, ℕ, Bool, IsTrue, ◌⊎◌, Result, Ok, Err, List, [], codes}
 use Rattle.streams.specs.Split.{with_end}
 use Rattle.ranked.specs.declared.find.Find.{Find}
@@ -21,27 +21,28 @@ use Rattle.command_text.specs.Request.{event_at}
 use Rattle.command_text.specs.Line.{says, takes_memory}
 use Rattle.command_text.specs.Text.{is_long, reply_text, desk_fault_text, line_fault_text}
 
--- where a script stands: the events that were taken, and the moment of the next
+-- The state of a script: the events that were taken so far, and the moment of the next.
 pub record Place : Type 0 where
   pub history : List Event
   pub moment : ℕ
 
--- The text of a find, of local data or of a list may find no memory. It is lost then, and the event stands.
-abbrev pub Tells : Result Reply DeskFault → List ℕ → Type 0
-Tells (Ok told) text = (text ≡ reply_text told) ⊎ (IsTrue (is_long told) × (text ≡ with_end (codes "fault reply_lost")))
-Tells (Err fault) text = text ≡ desk_fault_text fault
+-- The reply to an event. If there is no memory for the text of a set, of local data or of a list, the reply is lost;
+-- the event still took effect.
+abbrev pub IsTextOf : Result Reply DeskFault → List ℕ → Type 0
+IsTextOf (Ok told) text = (text ≡ reply_text told) ⊎ (IsTrue (is_long told) × (text ≡ with_end (codes "fault reply_lost")))
+IsTextOf (Err fault) text = text ≡ desk_fault_text fault
 
--- An event is asked at a place, this text is told, and the script goes on at another.
+-- The book gets an event, the reply is its answer as text, and the history is that after the event and its answer.
 abbrev pub Asks : Settings → Place → Event → List ℕ → Place → Type 0
 Asks settings place event text next =
-    (answer : Result Reply StepFault) × Answers settings place.history event answer × Tells (desk_answer answer) text
+    (answer : Result Reply StepFault) × Answers settings place.history event answer × IsTextOf (desk_answer answer) text
     × (next ≡ record { history = history_after place.history event answer; moment = place.moment })
 
--- No memory is found for the line, and nothing changes.
+-- There is no memory for the line: the reply says so, and nothing changes.
 abbrev pub Drops : Place → List ℕ → Place → Type 0
 Drops place text next = (text ≡ line_fault_text NoMemory) × (next ≡ place)
 
--- A line that says this is obeyed. A script has no `stop`: that would be no command.
+-- The effect of a line that is read as this. A script has no `stop`: here it is an unknown command.
 abbrev pub Does : Settings → Place → Result Line LineFault → List ℕ → Place → Type 0
 Does settings place (Ok Silent) text next = (text ≡ []) × (next ≡ place)
 Does settings place (Ok (At moment)) text next = (text ≡ with_end (codes "ok")) × (next ≡ record { history = place.history; moment = moment })
@@ -51,15 +52,16 @@ Does settings place (Ok (Request request)) text next = Asks settings place (even
 Does settings place (Ok Stop) text next = (text ≡ line_fault_text Unknown) × (next ≡ place)
 Does settings place (Err fault) text next = (text ≡ line_fault_text fault) × (next ≡ place)
 
--- Wherever the book stood at the moment, it goes on so to a place where it stands at the moment after.
+-- From whatever history the book stands for before, `goes` leads to one that it stands for afterwards, at the moment after.
 abbrev pub GoesOn : {B : Type 0} → (B → List Event → Type 0) → B → ℕ → B → ℕ → (Place → Place → Type 0) → Type 0
 GoesOn stands_for book moment after_book after_moment goes =
     (place : Place) → stands_for book place.history → place.moment ≡ moment → (next : Place)
     × goes place next × stands_for after_book next.history × (next.moment ≡ after_moment)
 
--- What the line says is done, or no memory is found for one that takes some.
+-- The line takes effect, or it needs memory and there is none.
 abbrev pub DoesUnless : Settings → Place → Result Line LineFault → Bool → List ℕ → Place → Type 0
 DoesUnless settings place said takes text next = Does settings place said text next ⊎ (IsTrue takes × Drops place text next)
 
+-- One script line: it is obeyed, or it needs memory and there is none.
 abbrev pub Obeys : Settings → Place → List ℕ → List ℕ → Place → Type 0
 Obeys settings place line text next = DoesUnless settings place (says Script line) (takes_memory Script line) text next

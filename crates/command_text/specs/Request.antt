@@ -1,11 +1,11 @@
--- What a line hands in.
+-- Requests and the events that they become.
 use Rattle.std.specs.Prelude.{ℕ}
 use Rattle.history.specs.declared.event.Event.{Event}
 use Rattle.history.specs.declared.event.Event.TheVariants as event
 use Rattle.command_text.specs.declared.request.Request.{Request}
 use Rattle.command_text.specs.declared.request.Request.TheVariants.{Look, Sweep, Do, Undo, Redo}
 
--- the event of a request at a moment
+-- The event of a request at a moment.
 abbrev pub event_at : ℕ → Request → Event
 event_at moment (Look ask) = event.Look moment ask
 event_at moment Sweep = event.Sweep moment

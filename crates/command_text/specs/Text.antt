@@ -1,4 +1,4 @@
--- The texts of replies and faults, each with its line's end.
+-- The texts of replies and faults, each with its line end.
 use Rattle.std.specs.Prelude.{ℕ, Bool, true, false, not, List, [], ◌∷◌, ◌++◌, codes, decimal, flat_map}
 use Rattle.streams.specs.Split.{with_end}
 use Rattle.dns_name.specs.Labels.{Labels}
@@ -23,8 +23,8 @@ use Rattle.local_zone.specs.ZoneType.{word_of}
 use Rattle.stub_table.specs.declared.stub.Stub.{Stub}
 use Rattle.history.specs.declared.event.Journalled.{Journalled}
 use Rattle.history.specs.declared.servers.Servers.{Servers as ServersOf}
-use Rattle.history.specs.declared.servers.Source.{Source}
-use Rattle.history.specs.declared.servers.Source.TheVariants as source
+use Rattle.history.specs.declared.servers.Origin.{Origin}
+use Rattle.history.specs.declared.servers.Origin.TheVariants as source
 use Rattle.history.specs.declared.event.Reason.{Reason}
 use Rattle.history.specs.declared.event.Reason.TheVariants.{BelowRedirect, DataBelow, CnameClash, TooMany}
 use Rattle.history.specs.declared.event.Seen.{Seen as Sight}
@@ -40,37 +40,38 @@ use Rattle.command_text.specs.declared.fault.LineFault.TheVariants.{Unknown, Mis
 use Rattle.command_text.specs.Addrs.{addrs_text}
 use Rattle.command_text.specs.CommandWords.{command_words}
 
--- the data joined by bars
+-- Data joined by bars.
 abbrev pub set_text : List Data → List ℕ
 set_text [] = []
 set_text (first ∷ others) = data_text first ++ flat_map (λ datum. codes " | " ++ data_text datum) others
 
--- Every set is of one type.
+-- The type of a set. A whole name has none.
 abbrev pub scope_text : Scope → List ℕ
 scope_text (One kind) = type_text kind
 scope_text Whole = []
 
--- RANK LEFT OWNER TYPE DATA
+-- RANK LEFT OWNER TYPE DATA of a cached set, where LEFT is the seconds that it has left.
 unfoldable pub found_text : Shown Find → List Data → List ℕ
 found_text shown items =
     decimal (level_of shown.rank) ++ 32 ∷ decimal shown.left ++ 32 ∷ text_of shown.body.owner ++ 32 ∷ scope_text shown.body.scope ++ 32 ∷ set_text items
 
+-- A cached set, or a cached negative answer, with the seconds that it has left.
 abbrev pub held_by : Shown Find → Body → List ℕ
 held_by shown (Set items) = codes "found " ++ found_text shown items
 held_by shown (NoData soa) = codes "nodata " ++ decimal shown.left
 held_by shown (NoName soa) = codes "noname " ++ decimal shown.left
 
--- what is held: a set, or what denies, with the seconds left
+-- A cached find, with the seconds that it has left.
 abbrev pub held_text : Shown Find → List ℕ
 held_text shown = held_by shown shown.body.body
 
--- TTL OWNER TYPE DATA of a set, by its first record
+-- TTL OWNER TYPE DATA of a local set. All its records have the TTL, owner and type of the first.
 abbrev pub records_text : List Record → List ℕ
 records_text [] = []
 records_text (first ∷ others) =
     decimal first.ttl ++ 32 ∷ text_of first.owner ++ 32 ∷ type_text first.kind ++ 32 ∷ data_text first.body ++ flat_map (λ r. codes " | " ++ data_text r.body) others
 
--- what local zones answer; where they say nothing, nothing is known
+-- The answer of local data and local zones. If they pass, the reply is `unknown`.
 abbrev pub local_text : Local (List Record) Record → List ℕ
 local_text (local.Data records) = codes "local " ++ records_text records
 local_text (local.NoData soa) = codes "local nodata"
@@ -79,45 +80,47 @@ local_text local.Refuse = codes "local refuse"
 local_text local.Drop = codes "local drop"
 local_text local.Pass = codes "unknown"
 
--- NAME TYPE
+-- NAME TYPE of a local zone.
 abbrev pub zone_line : Zone → List ℕ
 zone_line zone = with_end (text_of zone.name ++ 32 ∷ word_of zone.kind)
 
--- NAME TTL TYPE DATA
+-- NAME TTL TYPE DATA of a local record.
 abbrev pub record_line : Record → List ℕ
 record_line r = with_end (record_text r)
 
--- NAME ADDR..
+-- NAME ADDR.. of a stub.
 abbrev pub stub_line : Stub → List ℕ
 stub_line stub = with_end (text_of stub.name ++ addrs_text stub.addrs)
 
--- whether it is done, between blanks
+-- The state of a command, between blanks: done or undone.
 abbrev pub state_text : Bool → List ℕ
 state_text true = codes " done "
 state_text false = codes " undone "
 
--- TICKET done COMMAND, the command in the words that would give it again
+-- TICKET STATE COMMAND, where COMMAND is the line that gives the command.
 abbrev pub journalled_line : Journalled → List ℕ
 journalled_line j = with_end (decimal j.ticket ++ state_text j.done ++ command_words j.command)
 
-abbrev pub source_text : Source → List ℕ
+-- SOURCE: where the addresses of the servers come from.
+abbrev pub source_text : Origin → List ℕ
 source_text source.Hints = codes "hints"
 source_text source.Stub = codes "stub"
 source_text source.Cache = codes "cache"
 
--- names, each behind a blank
+-- Names, each after a blank.
 abbrev pub names_text : List Labels → List ℕ
 names_text names = flat_map (λ name. 32 ∷ text_of name) names
 
--- the names that have no address, if any, behind a bar
+-- The names that have no address, if there are any, after a bar.
 abbrev pub missing_text : List Labels → List ℕ
 missing_text [] = []
 missing_text (name ∷ names) = codes " |" ++ names_text (name ∷ names)
 
--- ZONE SOURCE ADDR.., and the names that have no address
+-- ZONE SOURCE ADDR.., and the names that have no address.
 unfoldable pub servers_text : ServersOf → List ℕ
 servers_text servers = text_of servers.zone ++ 32 ∷ source_text servers.source ++ addrs_text servers.addrs ++ missing_text servers.missing
 
+-- The reply to a lookup, without its line end.
 abbrev pub seen_text : Sight → List ℕ
 seen_text NothingHeld = codes "unknown"
 seen_text (Held shown) = held_text shown
@@ -128,18 +131,19 @@ seen_text (Records records) = flat_map record_line records ++ codes "end"
 seen_text (Stubs stubs) = flat_map stub_line stubs ++ codes "end"
 seen_text (Commands commands) = flat_map journalled_line commands ++ codes "end"
 
+-- Why a command is refused.
 abbrev pub reason_text : Reason → List ℕ
 reason_text BelowRedirect = codes "error below_redirect"
 reason_text DataBelow = codes "error data_below"
 reason_text CnameClash = codes "error cname_clash"
 reason_text TooMany = codes "error too_many"
 
--- local data is answered
+-- The answer is local data.
 abbrev pub has_data : Local (List Record) Record → Bool
 has_data (local.Data records) = true
 has_data _ = false
 
--- A set, local data or a list is seen: only these texts are of no bounded length.
+-- The reply is a set, local data or a list: only these texts may be of any length.
 abbrev pub is_long : Reply → Bool
 is_long (Seen (Held shown)) = not (is_negative shown.body.body)
 is_long (Seen (LocalSeen answer)) = has_data answer
@@ -150,6 +154,7 @@ is_long (Seen (Stubs stubs)) = true
 is_long (Seen (Commands commands)) = true
 is_long _ = false
 
+-- The reply to an event that was taken.
 abbrev pub reply_text : Reply → List ℕ
 reply_text Taken = with_end (codes "taken")
 reply_text Outranked = with_end (codes "outranked")
@@ -162,17 +167,19 @@ reply_text (Redone ticket) = with_end (codes "redone " ++ decimal ticket)
 reply_text NothingToUndo = with_end (codes "error nothing_to_undo")
 reply_text NothingToRedo = with_end (codes "error nothing_to_redo")
 
+-- Why a book did not take an event.
 abbrev pub fault_text : StepFault → List ℕ
 fault_text BadMoment = with_end (codes "fault bad_moment")
 fault_text CountEnded = with_end (codes "fault count_ended")
 fault_text (Full stored) = with_end (codes "fault full " ++ decimal stored)
 fault_text StepNoMemory = with_end (codes "fault no_memory")
 
--- why a desk gives no reply: its book takes no such event, or the book is behind
+-- Why a desk gives no reply: its book did not take the event, or the caller is one of another book.
 abbrev pub desk_fault_text : DeskFault → List ℕ
 desk_fault_text (Step fault) = fault_text fault
 desk_fault_text (Behind at) = with_end (codes "fault behind " ++ decimal at)
 
+-- Why a line is not obeyed.
 abbrev pub line_fault_text : LineFault → List ℕ
 line_fault_text Unknown = with_end (codes "error unknown")
 line_fault_text Missing = with_end (codes "error missing")

@@ -1,4 +1,4 @@
--- The commands: their words, the forms of what follows, and where each is allowed.
+-- The table of commands: the word of each, the form of the words after it, and the channels that have it.
 use Rattle.std.specs.Prelude.{ℕ, Bool, true, false, List, [], ◌∷◌, ◌++◌, Option, Some, None, codes, flat_map, filter, if◌then◌else◌}
 use Rattle.std.specs.Str.{bytes_eq}
 use Rattle.dns_name.specs.Options.{◌>>=◌}
@@ -8,7 +8,7 @@ use Rattle.command_text.specs.declared.words.Channel.{Channel}
 use Rattle.command_text.specs.declared.words.Channel.TheVariants.{Script, Control}
 use Rattle.command_text.specs.declared.words.Usage.{Usage}
 
--- a row of the table
+-- A row of the table.
 pub record Row : Type 0 where
   pub verb : Verb
   pub word : List ℕ
@@ -25,7 +25,7 @@ anywhere verb word form = record { verb = verb; word = word; form = form; in_scr
 abbrev control_only : Verb → List ℕ → List ℕ → Row
 control_only verb word form = record { verb = verb; word = word; form = form; in_script = false; in_control = true }
 
--- the commands, each with its word and the form of what follows it
+-- The commands, each with its word and the form of the words after it.
 abbrev pub commands : List Row
 commands =
     script_only At (codes "at") (codes "N")
@@ -53,34 +53,37 @@ commands =
     ∷ control_only Stop (codes "stop") []
     ∷ []
 
--- a row as the code has it
+-- A row as the code has it.
 abbrev pub row_now : Usage → Row
 row_now usage = record { verb = usage.verb; word = usage.word.now; form = usage.form.now; in_script = usage.in_script; in_control = usage.in_control }
 
+-- The first row with this word.
 unfoldable pub by_word : List ℕ → List Row → Option Row
 by_word word [] = None
 by_word word (row ∷ table) = if bytes_eq row.word word then Some row else by_word word table
 
+-- Whether the channel has the command.
 abbrev pub is_allowed : Channel → Row → Bool
 is_allowed Script row = row.in_script
 is_allowed Control row = row.in_control
 
+-- The command of a row, if the channel has it.
 abbrev pub verb_if : Channel → Row → Option Verb
 verb_if channel row = if is_allowed channel row then Some row.verb else None
 
--- the command of a word, where it is allowed
+-- The command of a word, if the channel has it.
 abbrev pub verb_in : Channel → List ℕ → Option Verb
 verb_in channel word = by_word word commands >>= verb_if channel
 
--- what follows a word, if anything
+-- The form after a word, with a blank before it if there is one.
 abbrev pub form_text : List ℕ → List ℕ
 form_text [] = []
 form_text (c ∷ form) = 32 ∷ c ∷ form
 
--- a row as help shows it
+-- A row as help shows it.
 abbrev pub usage_text : Row → List ℕ
 usage_text row = codes "  " ++ row.word ++ form_text row.form ++ 10 ∷ []
 
--- what help says of the commands that are allowed
+-- The help on the commands of a channel: a line for each.
 abbrev pub help_text : Channel → List ℕ
 help_text channel = flat_map usage_text (filter (is_allowed channel) commands)

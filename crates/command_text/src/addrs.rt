@@ -20,7 +20,7 @@ fn read_address(word: &[u8]) -> Result<Addr, LineFault>
     }
 }
 
-/// The addresses that the words of a text stand for.
+/// The addresses that the words of a text write.
 pub(crate) fn read_addrs(alloc: Global, text: &[u8]) -> Result<Items<Addr>, LineFault>
     ensures { Gives result (addrs_in text.now) }
 {
@@ -33,7 +33,7 @@ pub(crate) fn read_addrs(alloc: Global, text: &[u8]) -> Result<Items<Addr>, Line
     Ok(Items::new(addrs))
 }
 
-/// Writes addresses, each behind a blank.
+/// Writes addresses, each after a blank.
 pub(crate) fn push_addrs(addrs: &[Addr], out: &mut Vec<u8>) -> Result<(), NoMemory>
     ensures { OnOk result (out.new.items ≡ out.old.items ++ addrs_text addrs.now) }
 {

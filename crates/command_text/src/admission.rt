@@ -1,4 +1,4 @@
-//! What is admitted.
+//! The find that an `admit` line admits.
 
 ghost use Rattle.std.specs.Prelude.{◌≡◌};
 ghost use Rattle.command_text.specs.Admission.{IsFindOf};
@@ -8,7 +8,7 @@ use dns_text::{Data, Items};
 use ranked::{Find, Rank};
 use std::marker::Model;
 
-/// What a line admits. It lives for a second at least and has a datum, and each has the form of its type.
+/// A set that a line admits. Its TTL is not 0, it has a datum, and each datum has the form of its type.
 #[derive(Drop)]
 pub struct Admission {
     pub(crate) rank: Rank,
@@ -29,7 +29,7 @@ impl Model for Admission {
 }
 
 impl Admission {
-    /// The find that it is. Data that equal earlier ones are left out, and a longer time to live is cut to a day.
+    /// The find: each datum once, and a TTL above a day is cut to a day.
     pub fn into_find(self) -> Find
         ensures { IsFindOf self result }
     {

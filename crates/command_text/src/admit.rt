@@ -72,7 +72,7 @@ pub(crate) fn read_datum(alloc: Global, kind: u16, text: &[u8]) -> Result<Data, 
     }
 }
 
-/// The data that stand between bars.
+/// The data that are written between the bars.
 fn read_set(alloc: Global, kind: u16, text: &[u8]) -> Result<Items<Data>, LineFault>
     ensures value { Gives result (or_fault BadData (data_of kind (pieces text.now))) }
     ensures some { IfOk result (λ items. 1 ≤ length items) }
@@ -88,7 +88,7 @@ fn read_set(alloc: Global, kind: u16, text: &[u8]) -> Result<Items<Data>, LineFa
     Ok(Items::new(data))
 }
 
-/// What the words say.
+/// The set that the words give.
 #[tactic(auto, unfolding(crate::specs::Admit::given_of))]
 pub(crate) fn read_admission(alloc: Global, words: AdmitWords<'_>) -> Result<Admission, LineFault>
     ensures { Gives result (given_of (words_now words.entry)) }

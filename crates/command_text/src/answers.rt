@@ -1,4 +1,4 @@
-//! What local zones answer, as it is told.
+//! The text of the answers of local data and local zones.
 
 ghost use Rattle.std.specs.Prelude.{◌≡◌, ◌++◌, IsTrue, IfOk, OnOk, OnErr, codes, flat_map};
 ghost use Rattle.streams.specs.Split.{with_end};
@@ -53,7 +53,7 @@ fn data_line(alloc: Global, records: &Items<SeenRecord>) -> Result<Vec<u8>, NoMe
     Ok(out)
 }
 
-/// The line of an answer. Only that of data takes memory.
+/// The line of a local answer. Only that of data takes memory.
 pub(crate) fn answer_line(
     alloc: Global,
     answer: &Local<Items<SeenRecord>, LocalRecord>,

@@ -1,13 +1,13 @@
-//! What tells the moment.
+//! The trait of clocks.
 
 ghost use Rattle.std.specs.Prelude.{ℕ};
 
-/// What tells the moment, in seconds.
+/// A clock that gives moments, in seconds.
 pub trait Clock {
     /// One reading: the clock before, the moment, the clock after.
     ghost ticks: { Self → ℕ → Self → Type 0 };
 
-    /// Reads the clock.
+    /// Reads the clock, in seconds.
     fn now(&mut self) -> u64
         ensures { ticks self.old result self.new };
 }

@@ -1,4 +1,4 @@
-//! Commands in the words that give them.
+//! Commands, written as the lines that give them.
 
 ghost use Rattle.std.specs.Prelude.{◌≡◌, ◌++◌, ◌∷◌, OnOk, codes};
 ghost use Rattle.dns_name.specs.Text.{text_of};
@@ -16,7 +16,7 @@ use itoa::Buffer;
 use local_zone::ZoneType;
 use stub_table::Stub;
 
-/// Writes a word, and a name behind it.
+/// Writes a word, and a name after it.
 fn push_named(word: &[u8], name: &Name, out: &mut Vec<u8>) -> Result<(), NoMemory>
     ensures { OnOk result (out.new.items ≡ out.old.items ++ word.now ++ text_of name.now) }
 {
@@ -25,7 +25,8 @@ fn push_named(word: &[u8], name: &Name, out: &mut Vec<u8>) -> Result<(), NoMemor
 }
 
 fn push_flush_type(question: &Question, out: &mut Vec<u8>) -> Result<(), NoMemory>
-    ensures { OnOk result (out.new.items ≡ out.old.items ++ codes "flush_type " ++ text_of question.now.owner ++ 32 ∷ type_text question.now.kind) }
+    ensures { OnOk result (out.new.items
+        ≡ out.old.items ++ codes "flush_type " ++ text_of question.now.owner ++ 32 ∷ type_text question.now.kind) }
 {
     push_named(b"flush_type ", &question.owner, out)?;
     out.push(b' ')?;
@@ -68,7 +69,7 @@ fn push_set_stub(stub: &Stub, out: &mut Vec<u8>) -> Result<(), NoMemory>
     push_addrs(stub.addrs.as_slice(), out)
 }
 
-/// Writes a command behind what `out` holds, in the words that give it. Where memory runs out, a part of them may stand there.
+/// Appends the line that gives a command, without its end. If memory runs out, a part of it may have been appended.
 pub fn push_command(command: &Command, out: &mut Vec<u8>) -> Result<(), NoMemory>
     ensures { OnOk result (out.new.items ≡ out.old.items ++ command_words command.now) }
 {

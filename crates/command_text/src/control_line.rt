@@ -1,4 +1,4 @@
-//! A line of control is obeyed.
+//! The effect of one control line.
 
 ghost use Rattle.std.specs.Prelude.{◌≡◌, false, Ok};
 ghost use Rattle.streams.specs.Text.{octets_in};
@@ -12,16 +12,16 @@ use crate::text::{answer_text, line_fault_text};
 use crate::words::Channel;
 use history::Desk;
 use std::alloc::Global;
-use streams::{Text, Told};
+use streams::{LineReply, Text};
 
-/// A line that is told this, and is not the last.
-fn going_on(text: Text) -> Told
+/// The reply to a line that does not stop the service.
+fn going_on(text: Text) -> LineReply
     ensures { result ≡ record { text = text; stops = false } }
 {
-    Told { text, stops: false }
+    LineReply { text, stops: false }
 }
 
-/// Hands a request in at the clock's moment, and says what is told.
+/// Gives the desk a request at the clock's moment, and returns its answer as text.
 fn ask_at<C: Clock, D: Desk>(alloc: Global, clock: &mut C, desk: &mut D, request: Request) -> Text
     ensures { IsAsked C.ticks D.calls clock.old desk.old request (octets_in result) clock.new desk.new }
 {
@@ -30,31 +30,31 @@ fn ask_at<C: Clock, D: Desk>(alloc: Global, clock: &mut C, desk: &mut D, request
     answer_text(alloc, &answer)
 }
 
-/// Obeys what a line says.
-fn obey_line<C: Clock, D: Desk>(alloc: Global, clock: &mut C, desk: &mut D, line: Line) -> Told
+/// Obeys a line that was read.
+fn obey_line<C: Clock, D: Desk>(alloc: Global, clock: &mut C, desk: &mut D, line: Line) -> LineReply
     ensures { DoesAt C.ticks D.calls clock.old desk.old (Ok line) (octets_in result.text) result.stops clock.new desk.new }
 {
     match line {
         Line::Silent => going_on(Text::Fixed(b"")),
         Line::Request(request) => going_on(ask_at(alloc, clock, desk, request)),
-        Line::Stop => Told {
+        Line::Stop => LineReply {
             text: Text::Fixed(b"ok stopping\n"),
             stops: true,
         },
-        // Control has none of these lines: `read_line` takes their words for none.
+        // Unreachable: on the control socket `read_line` does not know these commands.
         Line::At { .. } | Line::Admit(_) | Line::Deny(_) => {
             going_on(line_fault_text(LineFault::Unknown))
         }
     }
 }
 
-/// Obeys a line, and says what it is told and whether it is the last.
+/// Obeys a control line. Returns the reply, and whether the line was `stop`.
 pub(crate) fn obey_control<C: Clock, D: Desk>(
     alloc: Global,
     clock: &mut C,
     desk: &mut D,
     line: &[u8],
-) -> Told
+) -> LineReply
     ensures { Controls C.ticks D.calls clock.old desk.old line.now (octets_in result.text) result.stops clock.new desk.new }
 {
     if is_silent(line) {

@@ -1,4 +1,4 @@
-//! What denies that there are data, or a name.
+//! The negative answer that a `nodata` or `noname` line admits.
 
 ghost use Rattle.command_text.specs.Denial.{IsDenialOf};
 
@@ -7,7 +7,7 @@ use dns_text::Record;
 use ranked::{Find, Scope};
 use std::marker::Model;
 
-/// What a line denies. It lives for a second at least, and an SOA record denies it.
+/// A negative answer that a line admits. Its TTL is not 0, and its record is an SOA record.
 #[derive(Drop)]
 pub struct Denial {
     pub(crate) owner: Name,
@@ -27,7 +27,7 @@ impl Model for Denial {
 }
 
 impl Denial {
-    /// The find that it is. A longer time to live is cut to an hour.
+    /// The find. A TTL above an hour is cut to an hour.
     pub fn into_find(self) -> Find
         ensures { IsDenialOf self result }
     {

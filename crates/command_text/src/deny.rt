@@ -77,7 +77,7 @@ pub(crate) fn no_name_words(text: &[u8]) -> Result<NoNameWords<'_>, LineFault>
     Ok(NoNameWords { name, ttl, soa })
 }
 
-/// The SOA record, with the time to live of what it denies.
+/// The SOA record, with the TTL of the negative answer.
 #[tactic(auto, unfolding(crate::specs::Deny::soa_of))]
 fn read_soa(alloc: Global, ttl: u32, words: SoaWords<'_>) -> Result<Record, LineFault>
     requires { ttl < 2 ^ 31 }
@@ -95,7 +95,7 @@ fn read_soa(alloc: Global, ttl: u32, words: SoaWords<'_>) -> Result<Record, Line
     })
 }
 
-/// What the words of `nodata` say.
+/// The negative answer that the words of `nodata` give.
 #[tactic(auto, unfolding(crate::specs::Deny::no_data_of))]
 pub(crate) fn read_no_data(alloc: Global, words: NoDataWords<'_>) -> Result<Denial, LineFault>
     ensures { Gives result (no_data_of (no_data_now words.entry)) }
@@ -112,7 +112,7 @@ pub(crate) fn read_no_data(alloc: Global, words: NoDataWords<'_>) -> Result<Deni
     })
 }
 
-/// What the words of `noname` say.
+/// The negative answer that the words of `noname` give.
 #[tactic(auto, unfolding(crate::specs::Deny::no_name_of))]
 pub(crate) fn read_no_name(alloc: Global, words: NoNameWords<'_>) -> Result<Denial, LineFault>
     ensures { Gives result (no_name_of (no_name_now words.entry)) }

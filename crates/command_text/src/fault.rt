@@ -1,33 +1,35 @@
-//! Why a line says nothing.
+//! Faults of a line.
 
 ghost use Rattle.std.specs.Prelude.{◌≡◌};
 
 use std::alloc::{AllocError, AllocFailed};
 use thiserror::Error;
 
-/// Why a line says nothing: the first fault of its words from the left, once all are there.
+/// Why a line is not obeyed: a missing word, or else the first fault of its words from the left.
 #[derive(Clone, Copy, Debug, PartialEq, Eq, Error)]
 pub enum LineFault {
-    /// The first word is no command where the line comes from, or there is none.
+    /// The first word is no command of the channel, or there is no word.
     #[error("no such command")]
     Unknown,
-    /// A word of the command's form is missing.
+    /// A word that the command needs is missing.
     #[error("a word is missing")]
     Missing,
+    /// A word is no name.
     #[error("not a name")]
     BadName,
-    #[error("not a type of records")]
+    /// A word is no record type, or no type of local zones.
+    #[error("not a type")]
     BadType,
-    /// A moment, a rank, a time to live or data, or a word too many.
+    /// A bad moment, rank, TTL or RDATA, or a word too many.
     #[error("bad data, or a word too many")]
     BadData,
-    /// A word of addresses is none.
+    /// A word is no address of a server.
     #[error("not an address")]
     BadAddress,
-    /// More octets than a line may have.
+    /// The line is longer than `streams::LONGEST_LINE`.
     #[error("the line is too long")]
     TooLong,
-    /// Memory was refused.
+    /// There was no memory for the line.
     #[error("out of memory")]
     NoMemory,
 }

@@ -1,4 +1,4 @@
-//! The commands that can be undone or redone, as they are told.
+//! The text of the list of commands that can be undone or redone.
 
 ghost use Rattle.std.specs.Prelude.{◌≡◌, ◌++◌, IfOk, OnOk, codes, flat_map};
 ghost use Rattle.streams.specs.Split.{with_end};

@@ -1,4 +1,4 @@
-//! What the definitions come to, by themselves.
+//! Laws of the definitions alone.
 
 ghost use Rattle.std.specs.Prelude.{◌≡◌, ◌≢◌, ℕ, List, [], ◌∷◌, ◌++◌, Some, None, map, codes};
 ghost use Rattle.std.specs.List.{AllByRecursion};
@@ -11,7 +11,8 @@ ghost use Rattle.command_text.specs.declared.words.Channel.TheVariants.{Script, 
 
 use dns_text::written_law;
 
-/// The pieces of a text, by its words: one that is a bar alone ends a piece, with the blanks before it, and any other is of the piece that it stands in.
+/// The pieces of a text, by its words: a word that is a bar alone ends a piece, with the blanks before it.
+/// Any other word is part of its piece.
 pub fn bars_are()
     ensures none { (text : List ℕ) → next_word text ≡ None → pieces text ≡ text ∷ [] }
     ensures bar { (text word after : List ℕ) → next_word text ≡ Some (word, after) → word ≡ codes "|"
@@ -20,20 +21,19 @@ pub fn bars_are()
         → (first : List ℕ) × (text ≡ first ++ after) × (pieces text ≡ onto first (pieces after)) }
 {}
 
-/// The words that addresses are read from are those of the text, and no other.
+/// The words that addresses are read from are those of the text and no others.
 pub fn words_are()
     ensures only { (text : List ℕ) (words : List (List ℕ)) → AreWords text words → words_of text ≡ words }
     ensures some { (text : List ℕ) → AreWords text (words_of text) }
 {}
 
-/// A line that a script alone has is no command of control, and `stop` is none of a script, also where what stands behind
-/// the word is wrong.
+/// The control socket does not know the lines that only scripts have, and scripts do not know `stop`, whatever follows the word.
 pub fn channels_are_apart()
     ensures control { AllByRecursion (IsUnknown Control) (codes "at" ∷ codes "admit" ∷ codes "nodata" ∷ codes "noname" ∷ []) }
     ensures script { IsUnknown Script (codes "stop") }
 {}
 
-/// The words of a command are read back as that command, wherever lines come from.
+/// The line that gives a command is read back as that command, in a script and on the control socket.
 pub fn commands_are_read_back()
     ensures { ReadsCommands }
 {

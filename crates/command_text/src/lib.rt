@@ -1,21 +1,21 @@
-//! The operator's lines: what a line says, how it is obeyed, and what it is told.
+//! Operators' lines: the command that each gives, its effect, and the reply to it.
 #![tactic(auto)]
 
-// The table of commands: word, form, and where each is allowed.
+// The table of commands: word, form, and the channels that have it.
 mod words;
-// Why a line says nothing.
+// Faults of a line.
 mod fault;
-// The request that a line hands in.
+// Requests, and the events that they become.
 mod request;
-// The meaning of a line.
+// Lines, read from their words.
 mod line;
 // Words that many commands have.
 mod parts;
-// An admission.
+// The find that an `admit` line admits.
 mod admission;
 // The words of `admit`.
 mod admit;
-// A negative answer.
+// The negative answer that a `nodata` or `noname` line admits.
 mod denial;
 // The words of `nodata` and `noname`.
 mod deny;
@@ -25,9 +25,9 @@ mod addrs;
 mod stubs;
 // The words of the commands on local zones and local data.
 mod local;
-// The data of a set, between bars.
+// The data of a set, separated by bars.
 mod bar;
-// The words that give a command.
+// Commands, written as the lines that give them.
 mod command_words;
 // The text of local answers.
 mod answers;
@@ -39,15 +39,15 @@ mod servers;
 mod journal;
 // The text of a reply.
 mod text;
-// One line of a script.
+// The effect of one script line.
 mod obeying;
-// A script in, a transcript out.
+// Scripts.
 mod script;
 // The trait of clocks.
 mod clock;
-// One line of control.
+// The effect of one control line.
 mod control_line;
-// Lines of control in, a transcript out.
+// The control socket.
 mod control;
 // Laws of the definitions alone.
 mod laws;

@@ -1,4 +1,4 @@
-//! What a line says.
+//! Lines: commands, read from their words.
 
 ghost use Rattle.std.specs.Prelude.{◌≡◌, IsTrue, IfErr, IsErrOf, is_ok};
 ghost use Rattle.command_text.specs.declared.fault.LineFault.TheVariants.{BadData, NoMemory};
@@ -20,20 +20,20 @@ use history::{Ask, Command};
 use std::alloc::Global;
 use streams::LONGEST_LINE;
 
-/// What a line says.
+/// A line that was read.
 #[derive(Drop)]
 pub enum Line {
-    /// Nothing: the line is empty or a comment.
+    /// An empty line or a comment.
     Silent,
-    /// The moment of the lines after it, in seconds.
+    /// Sets the moment of the lines after it, in seconds. Scripts only.
     At { moment: u64 },
-    /// Something was found.
+    /// A set that was found. Scripts only.
     Admit(Admission),
-    /// Something was found not to be.
+    /// A negative answer that was found. Scripts only.
     Deny(Denial),
-    /// Something is handed in, at the moment that it is then.
+    /// A request, which gets the moment at which the line is obeyed.
     Request(Request),
-    /// No line after it is obeyed.
+    /// Ends the service: no line after it is obeyed. Control only.
     Stop,
 }
 
@@ -187,7 +187,7 @@ fn read_stub_remove(alloc: Global, text: &[u8]) -> Result<Line, LineFault>
     Ok(Line::Request(Request::Do(command)))
 }
 
-/// A command whose word stands alone.
+/// A command without words of its own.
 #[tactic(auto, unfolding(crate::specs::Line::alone))]
 fn read_alone(line: Line, text: &[u8]) -> Result<Line, LineFault>
     ensures value { result ≡ alone line text.now }
@@ -197,7 +197,7 @@ fn read_alone(line: Line, text: &[u8]) -> Result<Line, LineFault>
     Ok(line)
 }
 
-/// What a command says with the text after its word.
+/// The line of a command, with the text after its word.
 fn read_command(alloc: Global, verb: Verb, text: &[u8]) -> Result<Line, LineFault>
     ensures value { Gives result (said_by verb text.now) }
     ensures no_memory { IsErrOf result NoMemory → IsTrue (takes_by verb text.now) }
@@ -229,7 +229,8 @@ fn read_command(alloc: Global, verb: Verb, text: &[u8]) -> Result<Line, LineFaul
     }
 }
 
-/// Reads a line, without its end. The fault `TooLong` is told first, then `Unknown`, then `Missing`.
+/// Reads a line, without its end. A line with several faults gets `TooLong` first, then `Unknown`, then `Missing`,
+/// then the first of its words' faults from the left.
 pub fn read_line(alloc: Global, channel: Channel, line: &[u8]) -> Result<Line, LineFault>
     ensures value { Gives result (read_of channel line.now) }
     ensures no_memory { IsErrOf result NoMemory → IsTrue (takes_memory channel line.now) }

@@ -1,4 +1,4 @@
-//! The lists of local zones, local data and stubs, as they are told.
+//! The text of the lists of local zones, local data and stubs.
 
 ghost use Rattle.std.specs.Prelude.{◌≡◌, ◌++◌, ◌∷◌, IfOk, OnOk, codes, flat_map};
 ghost use Rattle.streams.specs.Split.{with_end};

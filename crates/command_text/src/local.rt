@@ -71,7 +71,7 @@ impl From<TextFault> for LineFault {
     }
 }
 
-/// Fails where a record has fewer words than any.
+/// Fails if the text has fewer words than the shortest record.
 #[tactic(auto, unfolding(crate::specs::Local::record_words))]
 fn check_record_words(text: &[u8]) -> Result<(), LineFault>
     ensures value { result ≡ record_words text.now }
@@ -90,7 +90,7 @@ fn read_shared(alloc: Global, text: &[u8]) -> Result<Shared<Record>, LineFault>
     Ok(Shared::new(alloc, record)?)
 }
 
-/// A record.
+/// `RECORD` and no more.
 #[tactic(auto, unfolding(crate::specs::Local::add_record_in))]
 pub(crate) fn read_add_record(alloc: Global, text: &[u8]) -> Result<Command, LineFault>
     ensures value { Gives result (add_record_in text.now) }

@@ -1,4 +1,4 @@
-//! A line of a script is obeyed.
+//! The effect of one script line.
 
 ghost use Rattle.std.specs.Prelude.{◌≡◌, List, Ok, IfOk, codes};
 ghost use Rattle.streams.specs.Split.{with_end};
@@ -21,7 +21,7 @@ use ranked::SharedFind;
 use std::alloc::{AllocError, Global};
 use streams::Text;
 
-/// Asks the book an event, and says what is told.
+/// Gives the book an event, and returns its answer as text.
 fn ask<B: Book>(alloc: Global, book: &mut B, event: Event) -> Text
     ensures asks { (place : Place) → B.stands_for book.old place.history → (next : Place)
         × Asks (B.settings book.old) place event (octets_in result) next
@@ -32,7 +32,7 @@ fn ask<B: Book>(alloc: Global, book: &mut B, event: Event) -> Text
     answer_text(alloc, &answer)
 }
 
-/// The moment of the lines after it.
+/// Sets the moment of the lines after it.
 fn obey_at(moment: &mut u64, given: u64) -> Text
     ensures moment { moment.new ≡ given }
     ensures text { octets_in result ≡ with_end (codes "ok") }
@@ -48,7 +48,8 @@ fn share_find(alloc: Global, admission: Admission) -> Result<SharedFind, AllocEr
 }
 
 fn obey_admit<B: Book>(alloc: Global, book: &mut B, moment: u64, admission: Admission) -> Text
-    ensures does { GoesOn B.stands_for book.old moment book.new moment (λ place next. Does (B.settings book.old) place (Ok (Admit admission)) (octets_in result) next) }
+    ensures does { GoesOn B.stands_for book.old moment book.new moment
+        (λ place next. Does (B.settings book.old) place (Ok (Admit admission)) (octets_in result) next) }
     ensures settings { B.settings book.new ≡ B.settings book.old }
 {
     match share_find(alloc, admission) {
@@ -64,7 +65,8 @@ fn share_denial(alloc: Global, denial: Denial) -> Result<SharedFind, AllocError>
 }
 
 fn obey_deny<B: Book>(alloc: Global, book: &mut B, moment: u64, denial: Denial) -> Text
-    ensures does { GoesOn B.stands_for book.old moment book.new moment (λ place next. Does (B.settings book.old) place (Ok (Deny denial)) (octets_in result) next) }
+    ensures does { GoesOn B.stands_for book.old moment book.new moment
+        (λ place next. Does (B.settings book.old) place (Ok (Deny denial)) (octets_in result) next) }
     ensures settings { B.settings book.new ≡ B.settings book.old }
 {
     match share_denial(alloc, denial) {
@@ -74,15 +76,17 @@ fn obey_deny<B: Book>(alloc: Global, book: &mut B, moment: u64, denial: Denial) 
 }
 
 fn obey_request<B: Book>(alloc: Global, book: &mut B, moment: u64, request: Request) -> Text
-    ensures does { GoesOn B.stands_for book.old moment book.new moment (λ place next. Does (B.settings book.old) place (Ok (RequestLine request)) (octets_in result) next) }
+    ensures does { GoesOn B.stands_for book.old moment book.new moment
+        (λ place next. Does (B.settings book.old) place (Ok (RequestLine request)) (octets_in result) next) }
     ensures settings { B.settings book.new ≡ B.settings book.old }
 {
     ask(alloc, book, event_at(moment, request))
 }
 
-/// Obeys what a line says.
+/// Obeys a line that was read.
 fn obey_line<B: Book>(alloc: Global, book: &mut B, moment: &mut u64, line: Line) -> Text
-    ensures does { GoesOn B.stands_for book.old moment.old book.new moment.new (λ place next. Does (B.settings book.old) place (Ok line) (octets_in result) next) }
+    ensures does { GoesOn B.stands_for book.old moment.old book.new moment.new
+        (λ place next. Does (B.settings book.old) place (Ok line) (octets_in result) next) }
     ensures settings { B.settings book.new ≡ B.settings book.old }
 {
     match line {
@@ -91,14 +95,15 @@ fn obey_line<B: Book>(alloc: Global, book: &mut B, moment: &mut u64, line: Line)
         Line::Admit(admission) => obey_admit(alloc, book, *moment, admission),
         Line::Deny(denial) => obey_deny(alloc, book, *moment, denial),
         Line::Request(request) => obey_request(alloc, book, *moment, request),
-        // No script has this line: `read_line` takes its word for none.
+        // Unreachable: in a script `read_line` does not know this command.
         Line::Stop => line_fault_text(LineFault::Unknown),
     }
 }
 
-/// Obeys a line, and says what it is told. The moment is that of the events after it.
+/// Obeys a script line and returns the reply. The moment is that of the events of the lines to come.
 pub(crate) fn obey<B: Book>(alloc: Global, book: &mut B, moment: &mut u64, line: &[u8]) -> Text
-    ensures obeys { GoesOn B.stands_for book.old moment.old book.new moment.new (λ place next. Obeys (B.settings book.old) place line.now (octets_in result) next) }
+    ensures obeys { GoesOn B.stands_for book.old moment.old book.new moment.new
+        (λ place next. Obeys (B.settings book.old) place line.now (octets_in result) next) }
     ensures settings { B.settings book.new ≡ B.settings book.old }
 {
     if is_silent(line) {

@@ -1,4 +1,4 @@
-//! Words that the forms of many commands have.
+//! Words that many commands have.
 
 ghost use Rattle.std.specs.Prelude.{◌≡◌, Ok, IsTrue, IfErr, IsErrOf, is_ok};
 ghost use Rattle.dns_name.specs.Results.{or_fault, result_map};
@@ -13,7 +13,7 @@ use dns_name::{Name, NameFault};
 use dns_text::{Question, next_word, read_type};
 use std::alloc::Global;
 
-/// A word that has to be there, and the text after it.
+/// The next word, which must be there, and the text after it.
 pub(crate) fn read_word(text: &[u8]) -> Result<(&[u8], &[u8]), LineFault>
     ensures value { result_map (λ r. (r.0.now, r.1.now)) result ≡ word_in text.now }
     ensures fault { IfErr result (λ e. e ≡ Missing) }
@@ -21,7 +21,7 @@ pub(crate) fn read_word(text: &[u8]) -> Result<(&[u8], &[u8]), LineFault>
     next_word(text).ok_or(LineFault::Missing)
 }
 
-/// Fails where a word is left.
+/// Fails if a word is left.
 pub(crate) fn read_end(text: &[u8]) -> Result<(), LineFault>
     ensures { result ≡ ends text.now }
 {

@@ -1,22 +1,22 @@
-//! What a line hands in.
+//! Requests, and the events that they become.
 
 ghost use Rattle.std.specs.Prelude.{◌≡◌};
 ghost use Rattle.command_text.specs.Request.{event_at};
 
 use history::{Ask, Command, Event};
 
-/// What a line hands in, before it has a moment.
+/// A request: an event without its moment.
 #[derive(Drop)]
 pub enum Request {
-    /// Something is asked.
+    /// A lookup or a list.
     Look(Ask),
-    /// What can never be shown again may be given up.
+    /// Frees what has expired.
     Sweep,
-    /// The operator gives a command.
+    /// A command of the operator.
     Do(Command),
-    /// The newest command is taken back.
+    /// Undoes the newest command.
     Undo,
-    /// The command that was undone last is put back.
+    /// Redoes the command that was undone last.
     Redo,
 }
 

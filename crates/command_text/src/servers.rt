@@ -1,4 +1,4 @@
-//! The servers of a name, as they are told.
+//! The text of the servers of a name.
 
 ghost use Rattle.std.specs.Prelude.{◌≡◌, ◌++◌, IfOk, OnOk, codes};
 ghost use Rattle.streams.specs.Split.{with_end};
@@ -7,20 +7,20 @@ ghost use Rattle.command_text.specs.Text.{source_text, names_text, missing_text,
 use crate::addrs::push_addrs;
 use dns_name::Name;
 use dns_text::NoMemory;
-use history::{Servers, Source};
+use history::{Origin, Servers};
 use std::alloc::Global;
 
-fn source_word(source: Source) -> &'static [u8]
+fn source_word(source: Origin) -> &'static [u8]
     ensures { result.now ≡ source_text source }
 {
     match source {
-        Source::Hints => b"hints",
-        Source::Stub => b"stub",
-        Source::Cache => b"cache",
+        Origin::Hints => b"hints",
+        Origin::Stub => b"stub",
+        Origin::Cache => b"cache",
     }
 }
 
-/// Writes names, each behind a blank.
+/// Writes names, each after a blank.
 fn push_names(names: &[Name], out: &mut Vec<u8>) -> Result<(), NoMemory>
     ensures { OnOk result (out.new.items ≡ out.old.items ++ names_text names.now) }
 {
@@ -31,7 +31,7 @@ fn push_names(names: &[Name], out: &mut Vec<u8>) -> Result<(), NoMemory>
     Ok(())
 }
 
-/// Writes the names that have no address, if any, behind a bar.
+/// Writes the names that have no address, if there are any, after a bar.
 fn push_missing(names: &[Name], out: &mut Vec<u8>) -> Result<(), NoMemory>
     ensures { OnOk result (out.new.items ≡ out.old.items ++ missing_text names.now) }
 {

@@ -21,7 +21,7 @@ fn share_stub(alloc: Global, name: Name, addrs: Items<Addr>) -> Result<Shared<St
     Shared::new(alloc, Stub { name, addrs })
 }
 
-/// `NAME` and one address or more.
+/// `NAME` and at least one address.
 #[tactic(auto, unfolding(crate::specs::Stubs::stub_words, crate::specs::Stubs::stub_of, crate::specs::Stubs::set_stub_in))]
 pub(crate) fn read_set_stub(alloc: Global, text: &[u8]) -> Result<Command, LineFault>
     ensures value { Gives result (set_stub_in text.now) }

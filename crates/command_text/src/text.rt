@@ -1,4 +1,4 @@
-//! What is told.
+//! Texts of replies and faults, each with its line end.
 
 ghost use Rattle.std.specs.Prelude.{◌≡◌, ◌≤◌, not, ◌++◌, ◌∷◌, [], length, IsTrue, IfOk, OnOk, OnErr, codes, decimal, flat_map};
 ghost use Rattle.streams.specs.Split.{with_end};
@@ -7,7 +7,8 @@ ghost use Rattle.dns_name.specs.Text.{text_of};
 ghost use Rattle.dns_text.specs.Data.{data_text};
 ghost use Rattle.ranked.specs.Body.{is_negative};
 ghost use Rattle.command_text.specs.Text.{set_text, scope_text, found_text, held_text, is_long, reply_text, reason_text, fault_text, desk_fault_text, line_fault_text};
-ghost use Rattle.command_text.specs.Obeying.{Tells};
+ghost use Rattle.command_text.specs.declared.text.TheConstants.{MOST_WORDS};
+ghost use Rattle.command_text.specs.Obeying.{IsTextOf};
 
 use crate::answers::answer_line;
 use crate::fault::LineFault;
@@ -57,7 +58,8 @@ fn push_scope(scope: Scope, out: &mut Vec<u8>) -> Result<(), NoMemory>
 
 /// Writes ` OWNER TYPE DATA` of a set.
 fn push_find(find: &Find, items: &[Data], out: &mut Vec<u8>) -> Result<(), NoMemory>
-    ensures { OnOk result (out.new.items ≡ out.old.items ++ 32 ∷ text_of find.now.owner ++ 32 ∷ scope_text find.now.scope ++ 32 ∷ set_text items.now) }
+    ensures { OnOk result (out.new.items
+        ≡ out.old.items ++ 32 ∷ text_of find.now.owner ++ 32 ∷ scope_text find.now.scope ++ 32 ∷ set_text items.now) }
 {
     out.push(b' ')?;
     find.owner.push_text(out)?;
@@ -67,7 +69,7 @@ fn push_find(find: &Find, items: &[Data], out: &mut Vec<u8>) -> Result<(), NoMem
     push_set(items, out)
 }
 
-/// The line of a set that is held.
+/// The line of a cached set.
 #[tactic(auto, unfolding(crate::specs::Text::found_text))]
 fn found_line(alloc: Global, shown: &Shown<SharedFind>, items: &[Data]) -> Result<Vec<u8>, NoMemory>
     ensures { IfOk result (λ text. text.items ≡ with_end (codes "found " ++ found_text shown.now items.now)) }
@@ -80,7 +82,7 @@ fn found_line(alloc: Global, shown: &Shown<SharedFind>, items: &[Data]) -> Resul
     Ok(out)
 }
 
-/// The line of what is held. Only that of a set takes memory.
+/// The line of a cached find. Only that of a set takes memory.
 fn held_line(alloc: Global, shown: &Shown<SharedFind>) -> Result<Text, NoMemory>
     ensures text { IfOk result (λ text. octets_in text ≡ with_end (held_text shown.now)) }
     ensures memory { OnErr result (IsTrue (not (is_negative shown.now.body.body))) }
@@ -92,9 +94,12 @@ fn held_line(alloc: Global, shown: &Shown<SharedFind>) -> Result<Text, NoMemory>
     }
 }
 
+/// The longest words before the number of a line, in octets.
+const MOST_WORDS: usize = 16;
+
 /// A line of words and a number. It takes no memory.
 fn number_line(words: &[u8], number: u64) -> Text
-    requires { length words.now ≤ 16 }
+    requires { length words.now ≤ MOST_WORDS }
     ensures { octets_in result ≡ with_end (words.now ++ 32 ∷ decimal number) }
 {
     let mut digits = Buffer::new();
@@ -118,7 +123,7 @@ fn reason_line(reason: Reason) -> Text
     }
 }
 
-/// The lines of a reply, each with its end. Only those of a set, of local data or of a list take memory.
+/// The lines of a reply, each with its end. Only those of a set, of local data or of a list take memory, and can fail.
 pub fn reply_text(alloc: Global, reply: &Reply) -> Result<Text, NoMemory>
     ensures text { IfOk result (λ text. octets_in text ≡ reply_text reply.now) }
     ensures memory { OnErr result (IsTrue (is_long reply.now)) }
@@ -144,7 +149,7 @@ pub fn reply_text(alloc: Global, reply: &Reply) -> Result<Text, NoMemory>
     }
 }
 
-/// The line of a fault of a step.
+/// The line of a fault of a book.
 fn fault_text(fault: StepFault) -> Text
     ensures { octets_in result ≡ fault_text fault }
 {
@@ -166,9 +171,10 @@ fn desk_fault_text(fault: DeskFault) -> Text
     }
 }
 
-/// The line of what a desk answers. A set, local data or a list that finds no memory for its text is lost.
+/// The lines of a desk's answer. If there is no memory for the text of a set, of local data or of a list, it is
+/// `fault reply_lost`; the event still took effect.
 pub fn answer_text(alloc: Global, answer: &Result<Reply, DeskFault>) -> Text
-    ensures { Tells answer.now (octets_in result) }
+    ensures { IsTextOf answer.now (octets_in result) }
 {
     match answer {
         Ok(reply) => match reply_text(alloc, reply) {
@@ -179,7 +185,7 @@ pub fn answer_text(alloc: Global, answer: &Result<Reply, DeskFault>) -> Text
     }
 }
 
-/// The line of what says nothing.
+/// The line of a fault of a line.
 pub fn line_fault_text(fault: LineFault) -> Text
     ensures { octets_in result ≡ line_fault_text fault }
 {

@@ -1,4 +1,4 @@
-//! The commands: their words, the forms of what follows, and where each is allowed.
+//! The table of commands: the word of each, the form of the words after it, and the channels that have it.
 
 ghost use Rattle.std.specs.Prelude.{map, filter, flat_map, ◌≡◌, ◌++◌, option_map, string_bytes, IfOk, OnOk};
 ghost use Rattle.std.specs.Str.{bytes_eq};
@@ -6,7 +6,7 @@ ghost use Rattle.command_text.specs.Words.{row_now, commands, by_word, is_allowe
 
 use std::alloc::{AllocError, Global};
 
-/// What the first word of a line commands.
+/// A command, by the first word of its line.
 #[derive(Clone, Copy)]
 pub(crate) enum Verb {
     At,
@@ -34,20 +34,21 @@ pub(crate) enum Verb {
     Stop,
 }
 
-/// Where lines come from.
+/// The place that lines come from.
 #[derive(Clone, Copy, PartialEq, Eq)]
 pub enum Channel {
+    /// A script.
     Script,
-    /// The control socket.
+    /// The control socket of a service.
     Control,
 }
 
-/// How a command is written, and where it is allowed.
+/// How a command is written, and which channels have it.
 struct Usage {
     verb: Verb,
     /// The first word of its line.
     word: &'static str,
-    /// What follows the word.
+    /// The form of the words after it.
     form: &'static str,
     in_script: bool,
     in_control: bool,
@@ -254,7 +255,7 @@ fn by_word(word: &[u8]) -> Option<&'static Usage>
     None
 }
 
-/// The command of a word, where it is allowed.
+/// The command of a word, if the channel has it.
 pub(crate) fn verb_in(channel: Channel, word: &[u8]) -> Option<Verb>
     ensures { result ≡ verb_in channel word.now }
 {
@@ -285,7 +286,7 @@ fn push_usage(usage: &Usage, out: &mut String) -> Result<(), AllocError>
     out.push_str("\n")
 }
 
-/// A line for each command that is allowed, with its form.
+/// The help on the commands of a channel: a line for each, with its form.
 pub fn help_text(alloc: Global, channel: Channel) -> Result<String, AllocError>
     ensures { IfOk result (λ text. string_bytes text ≡ help_text channel) }
 {

@@ -1,4 +1,4 @@
--- The command line: the commands and their options, as clap reads them.
+-- The command line: subcommands and their options, as clap reads them.
 use Rattle.std.specs.Prelude.{◌≡◌, ℕ, List, [], ◌∷◌, ◌++◌, Some, pos, true, false, codes}
 use Rattle.clap.specs.Lexer.{usize_max}
 use Rattle.clap.specs.Simple.{App, Shape, app_of, new_rule, new_shape, on_top}
@@ -11,69 +11,80 @@ use Rattle.clap.specs.declared.builder.value_parser.ValueParser.TheVariants.{Sig
 use Rattle.shared_book.specs.declared.kept.TheConstants.{MOST_RECORDED}
 use Rattle.history.specs.declared.limits.TheConstants.{MOST_CELLS, MOST_COMMANDS}
 use Rattle.resolver_args.specs.declared.mode.TheConstants.{MOST_WORKERS}
+use Rattle.resolver_args.specs.declared.options.TheConstants.{MOST_PORT}
 
--- `--name VALUE`, once at most
+-- The option `--name VALUE`, once at most.
 abbrev pub option_rule : Text → Rule
 option_rule name = record (new_rule name) { long = Some name; action = Some Set; value_names = 1 }
 
--- a number between these
+-- An option with a number in this range.
 abbrev pub number_rule : Text → ℕ → ℕ → Rule
 number_rule name least most = record (option_rule name) { parser = Some (Signed (pos least) (pos most)) }
 
--- a number from 1 on, and which one it is where none is given
+-- An option with a number from 1 on, and with a default.
 abbrev pub count_rule : Text → Text → ℕ → Rule
 count_rule name default most = record (number_rule name 1 most) { defaults = default ∷ [] }
 
+-- An option or argument that must be there.
 abbrev pub required : Rule → Rule
 required rule = record rule { required = true }
 
+-- Any number of words.
 abbrev pub any_number : ValueRange
 any_number = record { start_inclusive = 0; end_inclusive = usize_max }
 
--- words that stand by themselves, any number of them
+-- An argument of any number of words.
 abbrev pub words_rule : Text → Rule
 words_rule name = record (new_rule name) {
   action = Some Append;
   range = Some any_number;
 }
 
+-- The options on the size of the cache and of the journal.
 abbrev pub limit_rules : List Rule
 limit_rules = count_rule (codes "journal") (codes "64") MOST_COMMANDS
     ∷ count_rule (codes "cells") (codes "100000") MOST_CELLS ∷ []
 
+-- The port of name servers, and the addresses of the root servers.
 abbrev pub server_rules : List Rule
-server_rules = count_rule (codes "server-port") (codes "53") 65535 ∷ words_rule (codes "HINT") ∷ []
+server_rules = count_rule (codes "server-port") (codes "53") MOST_PORT ∷ words_rule (codes "HINT") ∷ []
 
+-- The addresses of a service.
 abbrev pub address_rules : List Rule
 address_rules = required (option_rule (codes "listen")) ∷ required (option_rule (codes "control")) ∷ []
 
+-- The numbers of workers.
 abbrev pub worker_rules : List Rule
 worker_rules = count_rule (codes "udp") (codes "1") MOST_WORKERS ∷ count_rule (codes "tcp") (codes "1") MOST_WORKERS ∷ []
 
+-- The length of the call log, and the seed of the query IDs.
 abbrev pub record_rules : List Rule
 record_rules = count_rule (codes "record") (codes "10000") MOST_RECORDED ∷ number_rule (codes "seed") 0 4294967295 ∷ []
 
--- Of the words behind the address each is one of the line, whatever it begins with.
+-- An address and a line. Each word after the address belongs to the line, even if it begins with a hyphen.
 abbrev pub line_rules : List Rule
 line_rules = required (new_rule (codes "ADDR")) ∷ record (words_rule (codes "LINE")) { trailing_var_arg = true } ∷ []
 
--- the command with these behind its own, none of which it shares with subcommands
+-- The command with these options after its own. Subcommands get none of them.
 pub record AddsRules (old : Command) (rules : List Rule) (new : Command) : Type 0 where
   pub app : app_of new ≡ on_top (λ s. record s { rules = s.rules ++ rules }) (app_of old)
   pub globals : (fields_of new).has_globals ≡ (fields_of old).has_globals
 
+-- The subcommand `script`.
 abbrev pub script_shape : Shape
 script_shape = record (new_shape (codes "script")) { rules = limit_rules ++ server_rules }
 
+-- The subcommand `serve`.
 abbrev pub serve_shape : Shape
 serve_shape = record (new_shape (codes "serve")) {
   rules = address_rules ++ (worker_rules ++ (limit_rules ++ (record_rules ++ server_rules)));
 }
 
+-- The subcommand `control`.
 abbrev pub control_shape : Shape
 control_shape = record (new_shape (codes "control")) { rules = line_rules }
 
--- one of three commands, which has to be there
+-- The program: one of three subcommands, which must be there.
 abbrev pub resolver_app : App
 resolver_app = record {
   top = record (new_shape (codes "resolver")) { subcommand_required = true; is_leaf = false; has_version = true };

@@ -1,4 +1,4 @@
--- What was given under a name: by words, or by the default where no word gives it.
+-- Values of options and arguments: those that the words give, or else the defaults.
 use Rattle.std.specs.Prelude.{◌≡◌, ◌<◌, ◌^◌, ℕ, List, [], Option, Some, None, map, option_map, unwrap_or}
 use Rattle.std.specs.List.{join_with_byte}
 use Rattle.std.specs.Str.Parse.{IsNumeral, digits_value, without_leading_plus}
@@ -8,46 +8,51 @@ use Rattle.clap.specs.declared.parser.matches.ArgMatches.{ArgMatches}
 use Rattle.dns_text.specs.declared.addr.Addr.{Addr}
 use Rattle.dns_text.specs.Addr.{addr_in}
 
--- decimal digits that write this number
+-- Decimal digits that write this number.
 abbrev pub WritesNumber : Text → ℕ → Type 0
 WritesNumber text n = IsNumeral 10 (without_leading_plus text) × (digits_value 10 (without_leading_plus text) ≡ n)
 
--- the entries of a parse, without those of its subcommand
+-- The values of a parse, without those of its subcommand.
 abbrev pub rows_in : ArgMatches → List Row
 rows_in found = rows_of (found_of found)
 
+-- The option has this number.
 abbrev pub GivesNumber : List Row → Text → ℕ → Type 0
 GivesNumber rows name n = (text : Text) × (one_of name rows ≡ Some text) × WritesNumber text n
 
--- a number of 32 bits, or nothing
+-- The option has this number of 32 bits, or is absent.
 abbrev pub MayGive : List Row → Text → Option ℕ → Type 0
 MayGive rows name None = one_of name rows ≡ None
 MayGive rows name (Some n) = GivesNumber rows name n × (n < 2 ^ 32)
 
--- no number of so many bits
+-- The option has no number of so many bits.
 abbrev pub LacksNumber : ℕ → List Row → Text → Type 0
 LacksNumber bits rows name = (n : ℕ) → n < 2 ^ bits → GivesNumber rows name n → ⊥
 
--- neither a number of 32 bits nor nothing
+-- The option is there, but has no number of 32 bits.
 abbrev pub LacksOption : List Row → Text → Type 0
 LacksOption rows name = (n : Option ℕ) → MayGive rows name n → ⊥
 
+-- The option has this address.
 abbrev pub GivesAddr : List Row → Text → Addr → Type 0
 GivesAddr rows name addr = (text : Text) × (first_of name rows ≡ Some text) × (addr_in text ≡ Some addr)
 
+-- The option has no address.
 abbrev pub LacksAddr : List Row → Text → Type 0
 LacksAddr rows name = (addr : Addr) → GivesAddr rows name addr → ⊥
 
--- these texts are these addresses
+-- These texts write these addresses.
 abbrev pub AreAddrs : List Text → List Addr → Type 0
 AreAddrs texts addrs = map addr_in texts ≡ map Some addrs
 
+-- The argument has these addresses.
 abbrev pub GivesAddrs : List Row → Text → List Addr → Type 0
 GivesAddrs rows name addrs = AreAddrs (unwrap_or (all_of name rows) []) addrs
 
+-- A word of the argument is no address.
 abbrev pub LacksAddrs : List Row → Text → Type 0
 LacksAddrs rows name = (addrs : List Addr) → GivesAddrs rows name addrs → ⊥
 
--- words with a blank between each two, or nothing
+-- The argument has these words, with a blank between two, or is absent.
 abbrev pub GivesLine : List Row → Text → Option Text → Type 0
 GivesLine rows name line = line ≡ option_map (join_with_byte 32) (all_of name rows)

@@ -1,4 +1,4 @@
--- The ranges of what the program is to do.
+-- Ranges of the numbers of a mode, and loopback addresses.
 use Rattle.std.specs.Prelude.{◌≡◌, ◌≤◌, ◌+◌, ℕ, List, [], ◌∷◌, length, slice_index}
 use Rattle.dns_text.specs.declared.addr.Ip.{Ip}
 use Rattle.dns_text.specs.declared.addr.Ip.TheVariants.{V4, V6}
@@ -9,12 +9,12 @@ use Rattle.resolver_args.specs.declared.mode.Mode.TheVariants.{Script, Serve, Co
 use Rattle.resolver_args.specs.declared.mode.Service.{Service}
 use Rattle.resolver_args.specs.declared.mode.TheConstants.{MOST_WORKERS}
 
--- 127.0.0.0/8 or ::1: only this machine can send to it
+-- 127.0.0.0/8 or ::1: only this machine can send to it.
 abbrev pub IsLoopback : Ip → Type 0
 IsLoopback (V4 octets) = slice_index octets 0 ≡ 127
 IsLoopback (V6 octets) = octets ≡ 0 ∷ 0 ∷ 0 ∷ 0 ∷ 0 ∷ 0 ∷ 0 ∷ 0 ∷ 0 ∷ 0 ∷ 0 ∷ 0 ∷ 0 ∷ 0 ∷ 0 ∷ 1 ∷ []
 
--- a root server is known, there is a worker of each kind and not too many, and some calls are recorded
+-- There is a root server, there are UDP and TCP workers but not too many, and the call log has a length.
 pub record HasCounts (service : Service) : Type 0 where
   pub some_hints : 1 ≤ length service.settings.hints
   pub some_udp : 1 ≤ service.udp
@@ -23,12 +23,12 @@ pub record HasCounts (service : Service) : Type 0 where
   pub some_recorded : 1 ≤ service.record_limit
   pub few_recorded : service.record_limit ≤ MOST_RECORDED
 
--- each number of a mode is in its range
+-- Each number of a mode is in its range.
 abbrev pub HasNumbers : Mode → Type 0
 HasNumbers (Script settings) = AreSettings settings
 HasNumbers (Serve service) = AreSettings service.settings × HasCounts service
 HasNumbers (Control _ _) = Unit {0}
 
--- a service that can be served, and commanded from this machine alone
+-- A service that can run, and that only this machine can give commands.
 abbrev pub IsService : Service → Type 0
 IsService service = AreSettings service.settings × (HasCounts service × IsLoopback service.control.ip)

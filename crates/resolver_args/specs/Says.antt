@@ -1,4 +1,4 @@
--- What the words of a command line say.
+-- Command lines and the modes that they give.
 use Rattle.std.specs.Prelude.{◌≡◌, ◌⊎◌, ◌<◌, ◌^◌, ℕ, List, [], Option, Some, String, codes, option_map}
 use Rattle.clap.specs.Faults.{fault_of}
 use Rattle.clap.specs.Simple.{subcommand_of}
@@ -14,6 +14,7 @@ use Rattle.resolver_args.specs.declared.mode.Mode.{Mode}
 use Rattle.resolver_args.specs.declared.mode.Mode.TheVariants.{Script, Serve, Control}
 use Rattle.resolver_args.specs.declared.mode.Service.{Service}
 
+-- The options and arguments have these settings.
 pub record GivesSettings (rows : List Row) (settings : Settings) : Type 0 where
   pub journal : GivesNumber rows (codes "journal") settings.journal
   pub cells : GivesNumber rows (codes "cells") settings.cells
@@ -21,6 +22,7 @@ pub record GivesSettings (rows : List Row) (settings : Settings) : Type 0 where
   pub server_port : GivesNumber rows (codes "server-port") settings.server_port
   pub has_16_bits : settings.server_port < 2 ^ 16
 
+-- The options and arguments have the settings of this service.
 pub record GivesService (rows : List Row) (service : Service) : Type 0 where
   pub settings : GivesSettings rows service.settings
   pub listen : GivesAddr rows (codes "listen") service.listen
@@ -30,59 +32,65 @@ pub record GivesService (rows : List Row) (service : Service) : Type 0 where
   pub record_limit : GivesNumber rows (codes "record") service.record_limit
   pub seed : MayGive rows (codes "seed") service.seed
 
--- a text that may be missing
+-- The octets of a text that may be absent.
 abbrev pub text_of : {Z : Type 0} → Option (String Z) → Option Text
 text_of = option_map (λ line. line.bytes.items)
 
--- what was given with the command of this name comes to this mode
+-- The subcommand of this name, with these options and arguments, gives this mode.
 abbrev pub Gives : Text → List Row → Mode → Type 0
 Gives name rows (Script settings) = (name ≡ codes "script") × GivesSettings rows settings
 Gives name rows (Serve service) = (name ≡ codes "serve") × GivesService rows service
 Gives name rows (Control addr line) =
     (name ≡ codes "control") × (GivesAddr rows (codes "ADDR") addr × GivesLine rows (codes "LINE") (text_of line))
 
--- commands come from this machine alone
+-- Only this machine can give commands.
 abbrev pub IsGuarded : Mode → Type 0
 IsGuarded (Serve service) = IsLoopback service.control.ip
 IsGuarded _ = Unit {0}
 
--- clap takes the words, of which the first is the program's own name, and what they give comes to this mode
+-- A command line gives this mode: clap accepts it, and its subcommand gives the mode. The first word is the program's own name.
 pub record Says (words : List Text) (mode : Mode) : Type 0 where
   pub taken : fault_of resolver_app words ≡ []
   pub given : (command : Text × List Row) × (subcommand_of resolver_app words ≡ Some command) × Gives command.0 command.1 mode
   pub in_range : HasNumbers mode
 
--- why words are refused: clap does not take them, they say no mode, or others could give commands
+-- Why a command line is rejected: clap rejects it, it gives no mode, or other machines could give commands.
 abbrev pub Refuses : List Text → ArgsFault → Type 0
 Refuses words NoMemory = Unit {0}
 Refuses words (Usage _) = fault_of resolver_app words ≡ [] → ⊥
 Refuses words BadArguments = (mode : Mode) → Says words mode → ⊥
 Refuses words NotLoopback = (service : Service) × Says words (Serve service) × (IsLoopback service.control.ip → ⊥)
 
+-- The fault has lines of clap.
 abbrev pub IsUsage : ArgsFault → Type 0
 IsUsage (Usage _) = Unit {0}
 IsUsage _ = ⊥
 
--- memory was refused, or the arguments are bad, for this reason
+-- There was no memory, or the arguments are bad for this reason.
 abbrev pub RefusedFor : Type 0 → ArgsFault → Type 0
 RefusedFor reason fault = (fault ≡ NoMemory) ⊎ ((fault ≡ BadArguments) × reason)
 
+-- The options and arguments have no settings in range.
 abbrev pub LacksSettings : List Row → Type 0
 LacksSettings rows = (settings : Settings) → GivesSettings rows settings → AreSettings settings → ⊥
 
+-- The options and arguments have no service in range.
 abbrev pub LacksService : List Row → Type 0
 LacksService rows = (service : Service) → GivesService rows service → HasNumbers (Serve service) → ⊥
 
+-- The subcommand gives no mode in range.
 abbrev pub LacksMode : Text → List Row → Type 0
 LacksMode name rows = (mode : Mode) → Gives name rows mode → HasNumbers mode → ⊥
 
--- a service that others could give commands
+-- The options and arguments have a service that other machines could give commands.
 abbrev pub GivesUnguarded : List Row → Type 0
 GivesUnguarded rows = (service : Service) × GivesService rows service × HasNumbers (Serve service) × (IsLoopback service.control.ip → ⊥)
 
+-- Why a service is rejected.
 abbrev pub RefusesService : List Row → ArgsFault → Type 0
 RefusesService rows fault = RefusedFor (LacksService rows) fault ⊎ ((fault ≡ NotLoopback) × GivesUnguarded rows)
 
+-- Why a subcommand is rejected.
 abbrev pub RefusesMode : Text → List Row → ArgsFault → Type 0
 RefusesMode name rows fault = RefusedFor (LacksMode name rows) fault
     ⊎ ((fault ≡ NotLoopback) × ((name ≡ codes "serve") × GivesUnguarded rows))

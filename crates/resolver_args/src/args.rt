@@ -1,4 +1,4 @@
-//! What the arguments of the program say.
+//! The mode that the arguments give.
 
 ghost use Rattle.std.specs.Prelude.{◌≡◌, ◌≢◌, ◌⊎◌, ◌∷◌, None, Some, Any, map, option_map, codes, IfOk, IfErr};
 ghost use Rattle.std.specs.List.{join_with_byte};
@@ -24,7 +24,7 @@ use dns_text::{Addr, Items, read_addr};
 use history::Settings;
 use std::alloc::{AllocError, Global};
 
-/// What `clap` says of the arguments, a call for help included, unless memory was refused while it read them.
+/// The lines that `clap` writes, also for help and the version, unless it ran out of memory.
 fn usage(alloc: Global, error: &Error) -> ArgsFault
     ensures { (result ≡ NoMemory) ⊎ (IsUsage result × (kind_of error.now ≢ OutOfMemory)) }
 {
@@ -37,7 +37,7 @@ fn usage(alloc: Global, error: &Error) -> ArgsFault
     }
 }
 
-/// The number that was given under this name, if one was.
+/// The number of an option, if it has one.
 fn number_in(found: &ArgMatches<'_>, name: &str) -> Result<Option<u32>, ArgsFault>
     ensures given { IfOk result (MayGive (rows_in found.now) name.now) }
     ensures fault { IfErr result (RefusedFor (LacksOption (rows_in found.now) name.now)) }
@@ -48,7 +48,7 @@ fn number_in(found: &ArgMatches<'_>, name: &str) -> Result<Option<u32>, ArgsFaul
     }
 }
 
-/// The number that was given under this name.
+/// The number of an option that has one, if only by default.
 fn count_in(found: &ArgMatches<'_>, name: &str) -> Result<u32, ArgsFault>
     ensures given { IfOk result (GivesNumber (rows_in found.now) name.now) }
     ensures fault { IfErr result (RefusedFor (LacksNumber 32 (rows_in found.now) name.now)) }
@@ -59,7 +59,7 @@ fn count_in(found: &ArgMatches<'_>, name: &str) -> Result<u32, ArgsFault>
     }
 }
 
-/// The number of workers that was given under this name.
+/// The number of workers of an option.
 fn workers_in(found: &ArgMatches<'_>, name: &str) -> Result<u8, ArgsFault>
     ensures given { IfOk result (GivesNumber (rows_in found.now) name.now) }
     ensures fault { IfErr result (RefusedFor (LacksNumber 8 (rows_in found.now) name.now)) }
@@ -70,7 +70,7 @@ fn workers_in(found: &ArgMatches<'_>, name: &str) -> Result<u8, ArgsFault>
     }
 }
 
-/// The address that was given under this name.
+/// The address of an option or argument.
 fn addr_in(found: &ArgMatches<'_>, name: &str) -> Result<Addr, ArgsFault>
     ensures given { IfOk result (GivesAddr (rows_in found.now) name.now) }
     ensures fault { IfErr result (RefusedFor (LacksAddr (rows_in found.now) name.now)) }
@@ -84,7 +84,7 @@ fn addr_in(found: &ArgMatches<'_>, name: &str) -> Result<Addr, ArgsFault>
     }
 }
 
-/// The addresses that these texts are.
+/// The addresses that these texts write.
 fn addrs_of(alloc: Global, texts: &[&str]) -> Result<Vec<Addr>, ArgsFault>
     ensures addrs { IfOk result (λ addrs. AreAddrs (map (λ text. text.now) texts.now) addrs.items) }
     ensures fault { IfErr result (RefusedFor (Any (λ text. addr_in text.now ≡ None) texts.now)) }
@@ -101,7 +101,7 @@ fn addrs_of(alloc: Global, texts: &[&str]) -> Result<Vec<Addr>, ArgsFault>
     Ok(addrs)
 }
 
-/// The hints that were given, in order.
+/// The hints, in order.
 fn hints_in(alloc: Global, found: &ArgMatches<'_>) -> Result<Items<Addr>, ArgsFault>
     ensures given { IfOk result (GivesAddrs (rows_in found.now) (codes "HINT")) }
     ensures fault { IfErr result (RefusedFor (LacksAddrs (rows_in found.now) (codes "HINT"))) }
@@ -112,7 +112,7 @@ fn hints_in(alloc: Global, found: &ArgMatches<'_>) -> Result<Items<Addr>, ArgsFa
     }
 }
 
-/// The settings that were given.
+/// The settings of a cache.
 fn settings_in(alloc: Global, found: &ArgMatches<'_>) -> Result<Settings, ArgsFault>
     ensures given { IfOk result (GivesSettings (rows_in found.now)) }
     ensures in_range { IfOk result (λ settings. AreSettings settings) }
@@ -128,7 +128,7 @@ fn settings_in(alloc: Global, found: &ArgMatches<'_>) -> Result<Settings, ArgsFa
     }
 }
 
-/// The service that was given.
+/// The settings of a service.
 fn service_in(alloc: Global, found: &ArgMatches<'_>) -> Result<Service, ArgsFault>
     ensures given { IfOk result (GivesService (rows_in found.now)) }
     ensures in_range { IfOk result (λ service. HasNumbers (Serve service) × IsLoopback service.control.ip) }
@@ -146,7 +146,7 @@ fn service_in(alloc: Global, found: &ArgMatches<'_>) -> Result<Service, ArgsFaul
     service.checked()
 }
 
-/// These words as one line, behind this one.
+/// A line of these words, the first of them apart.
 fn joined(alloc: Global, first: &str, rest: &[&str]) -> Result<String, AllocError>
     ensures { IfOk result (λ line. line.bytes.items ≡ join_with_byte 32 (first.now ∷ map (λ word. word.now) rest.now)) }
 {
@@ -158,7 +158,7 @@ fn joined(alloc: Global, first: &str, rest: &[&str]) -> Result<String, AllocErro
     Ok(line)
 }
 
-/// Words as one line, each behind a blank but the first.
+/// A line of these words, with a blank between two.
 fn line_of(alloc: Global, words: &[&str]) -> Result<String, AllocError>
     ensures { IfOk result (λ line. line.bytes.items ≡ join_with_byte 32 (map (λ word. word.now) words.now)) }
 {
@@ -168,7 +168,7 @@ fn line_of(alloc: Global, words: &[&str]) -> Result<String, AllocError>
     }
 }
 
-/// The line that was given, if any was.
+/// The line to send, if the arguments have one.
 fn line_in(alloc: Global, found: &ArgMatches<'_>) -> Result<Option<String>, AllocError>
     ensures { IfOk result (λ line. GivesLine (rows_in found.now) (codes "LINE") (text_of line)) }
 {
@@ -178,7 +178,7 @@ fn line_in(alloc: Global, found: &ArgMatches<'_>) -> Result<Option<String>, Allo
     }
 }
 
-/// Where a line is to go, and the line.
+/// The mode that sends lines to a service.
 fn control_in(alloc: Global, found: &ArgMatches<'_>) -> Result<Mode, ArgsFault>
     ensures given { IfOk result (λ mode. Gives (codes "control") (rows_in found.now) mode × (HasNumbers mode × IsGuarded mode)) }
     ensures fault { IfErr result (RefusedFor (LacksAddr (rows_in found.now) (codes "ADDR"))) }
@@ -188,7 +188,7 @@ fn control_in(alloc: Global, found: &ArgMatches<'_>) -> Result<Mode, ArgsFault>
     Ok(Mode::Control { addr, line })
 }
 
-/// What a command of this name is to do, with what was given behind it.
+/// The mode of a subcommand with its arguments.
 fn mode_in(alloc: Global, name: &str, found: &ArgMatches<'_>) -> Result<Mode, ArgsFault>
     ensures given { IfOk result (Gives name.now (rows_in found.now)) }
     ensures in_range { IfOk result (λ mode. HasNumbers mode × IsGuarded mode) }
@@ -202,14 +202,14 @@ fn mode_in(alloc: Global, name: &str, found: &ArgMatches<'_>) -> Result<Mode, Ar
     }
 }
 
-/// The command that was given, and what was given behind it.
+/// The subcommand, and its arguments.
 fn command_in<'b, 'a>(found: &'b ArgMatches<'a>) -> Option<(&'a str, &'b ArgMatches<'a>)>
     ensures { option_map (λ command. (command.0.now, rows_in command.1.now)) result ≡ subcommand_rows_of found.now }
 {
     found.subcommand()
 }
 
-/// Reads the arguments, of which the first is the program's own name.
+/// Reads the arguments. The first is the program's own name, and is not looked at.
 pub fn read_args(alloc: Global, words: &[&str]) -> Result<Mode, ArgsFault>
     ensures said { IfOk result (Says (map (λ word. word.now) words.now)) }
     ensures guarded { IfOk result IsGuarded }

@@ -1,23 +1,23 @@
-//! Why the arguments say nothing.
+//! Faults of the arguments.
 
 ghost use Rattle.std.specs.Prelude.{◌≡◌};
 ghost use Rattle.resolver_args.specs.declared.fault.ArgsFault.TheVariants.{NoMemory};
 
 use std::alloc::AllocError;
 
-/// Why the arguments say nothing.
+/// Why the arguments are rejected.
 #[derive(Debug, Drop, thiserror::Error)]
 pub enum ArgsFault {
-    /// Memory is refused.
+    /// There was no memory to read the arguments.
     #[error("no memory")]
     NoMemory,
-    /// What `clap` says of them, in lines: what is wrong with an option, or the help that is asked for.
+    /// The lines that `clap` writes: its error, or the help or version that was asked for.
     #[error("{0}")]
     Usage(String),
-    /// An address is none, no root server is given or more than 16 are, or the workers are more than 16.
+    /// A word is no address, a service has no hint, there are more than `MOST_HINTS` hints, or more than `MOST_WORKERS` workers.
     #[error("bad arguments")]
     BadArguments,
-    /// Others than this machine could give commands.
+    /// The control address is not loopback, so other machines could give commands.
     #[error("control must be loopback")]
     NotLoopback,
 }

@@ -1,4 +1,4 @@
-//! What some command lines come to.
+//! Laws of two command lines.
 
 ghost use Rattle.std.specs.Prelude.{◌≡◌, ◌∷◌, [], Some, codes, map};
 ghost use Rattle.dns_text.specs.Addr.{addr_in};
@@ -6,13 +6,13 @@ ghost use Rattle.history.specs.declared.event.Settings.{Settings};
 ghost use Rattle.resolver_args.specs.Says.{Says};
 ghost use Rattle.resolver_args.specs.declared.mode.Mode.TheVariants.{Script};
 
-/// `resolver script` gives each setting its default, and no hint.
+/// `resolver script` gives each setting its default, and no hints.
 pub fn defaults_law()
     ensures { (settings : Settings) → Says (codes "resolver" ∷ codes "script" ∷ []) (Script settings)
         → settings ≡ record { journal = 64; cells = 100000; hints = []; server_port = 53 } }
 {}
 
-/// `resolver script --journal 7 192.0.2.1` gives the journal that number, and one hint.
+/// `resolver script --journal 7 192.0.2.1` sets the journal to 7, and gives one hint.
 pub fn given_law()
     ensures { (settings : Settings)
         → Says (codes "resolver" ∷ codes "script" ∷ codes "--journal" ∷ codes "7" ∷ codes "192.0.2.1" ∷ []) (Script settings)

@@ -1,15 +1,15 @@
-//! What the arguments of `resolver` say: a script, a service, or lines for one.
+//! Arguments of `resolver`: run a script, run a service, or send lines to one.
 #![tactic(auto)]
 
 // Why arguments are rejected.
 mod fault;
-// The mode of the program: a script, a service, or lines for one.
+// The mode of the program: run a script, run a service, or send lines to one.
 mod mode;
 // The commands of the program, as help shows them.
 mod options;
-// The mode that arguments say.
+// The mode that the arguments give.
 mod args;
-// Laws of some command lines.
+// Laws of two command lines.
 mod laws;
 
 pub use args::read_args;

@@ -1,4 +1,4 @@
-//! What the program is to do.
+//! Modes of the program, with their settings.
 
 ghost use Rattle.std.specs.Prelude.{◌≡◌, ◌↔◌, ◌⊎◌, ◌<◌, ◌^◌, IsTrue, IsSome, IfOk, IfErr, IfSome};
 ghost use Rattle.history.specs.Event.{AreSettings};
@@ -10,39 +10,40 @@ use dns_text::{Addr, Ip, Items};
 use history::{MOST_CELLS, MOST_COMMANDS, MOST_HINTS, Settings};
 use shared_book::MOST_RECORDED;
 
-/// What the program is to do.
+/// A mode of the program.
 #[derive(Drop)]
 pub enum Mode {
-    /// It obeys the lines of standard input.
+    /// Obeys the lines of standard input.
     Script(Settings),
-    /// It answers questions until an operator stops it.
+    /// Answers queries until an operator stops it.
     Serve(Service),
-    /// It sends a service a line, or each line of standard input.
+    /// Sends a service one line, or each line of standard input.
     Control { addr: Addr, line: Option<String> },
 }
 
-/// What a service is made with.
+/// The settings of a service.
 #[derive(Drop)]
 pub struct Service {
+    /// The settings of its cache.
     pub settings: Settings,
-    /// Where questions come in, over UDP and TCP.
+    /// The address on which queries arrive, over UDP and TCP.
     pub listen: Addr,
-    /// Where an operator's lines come in.
+    /// The address of the control socket, on which an operator's lines arrive.
     pub control: Addr,
-    /// How many workers serve datagrams.
+    /// The number of UDP workers.
     pub udp: u8,
-    /// How many workers serve connections.
+    /// The number of TCP workers.
     pub tcp: u8,
-    /// How many calls of the book are recorded.
+    /// The length of the call log, in calls.
     pub record_limit: u64,
-    /// What the identifiers of queries are drawn by, in place of the system's randomness.
+    /// The seed of the query IDs, if they are not to come from the system's randomness.
     pub seed: Option<u32>,
 }
 
-/// The most workers, of both kinds together.
+/// The most workers, UDP and TCP together.
 pub const MOST_WORKERS: u8 = 16;
 
-/// These settings, if each is in its range.
+/// These settings, if each number is in its range.
 pub(crate) fn settings_of(
     journal: u32,
     cells: u32,
@@ -51,7 +52,8 @@ pub(crate) fn settings_of(
 ) -> Option<Settings>
     ensures some { IsSome result ↔ (AreSettings (record { journal = journal; cells = cells; hints = hints; server_port = server_port })
         × (server_port < 2 ^ 16)) }
-    ensures value { IfSome result (λ settings. settings ≡ record { journal = journal; cells = cells; hints = hints; server_port = server_port }) }
+    ensures value { IfSome result (λ settings. settings
+        ≡ record { journal = journal; cells = cells; hints = hints; server_port = server_port }) }
 {
     let settings = Settings {
         journal: journal as usize,
@@ -69,7 +71,7 @@ pub(crate) fn settings_of(
     }
 }
 
-/// Whether an address is one of this machine alone.
+/// Whether only this machine can send to the address.
 fn is_loopback(ip: &Ip) -> bool
     ensures { IsTrue result ↔ IsLoopback ip.now }
 {
@@ -80,7 +82,7 @@ fn is_loopback(ip: &Ip) -> bool
 }
 
 impl Service {
-    /// Whether a root server is known, and each count is in its range.
+    /// Whether there is a hint, and each number is in its range.
     fn has_counts(&self) -> bool
         ensures { IsTrue result ↔ HasCounts self.now }
     {
@@ -91,7 +93,7 @@ impl Service {
         has_hints && has_each && has_few && has_record
     }
 
-    /// The same, if it can be served. Its counts are looked at before its control.
+    /// Returns the service if it can run. Checks its numbers before its control address.
     pub(crate) fn checked(self) -> Result<Service, ArgsFault>
         requires { AreSettings self.settings }
         ensures same { IfOk result (λ service. service ≡ self) }

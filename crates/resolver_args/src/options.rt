@@ -1,4 +1,4 @@
-//! The commands of the program and their options, as `clap` is told them and as help shows them.
+//! Subcommands of the program and their options, as `clap` reads them and as help shows them.
 
 ghost use Rattle.std.specs.Prelude.{◌≡◌, false, IfOk};
 ghost use Rattle.clap.specs.declared.builder.command.Command.TheViews.{out-Command as fields_of};
@@ -16,7 +16,7 @@ use history::{MOST_CELLS, MOST_COMMANDS};
 use shared_book::MOST_RECORDED;
 use std::alloc::{AllocError, Global};
 
-/// What help says last of each command: the lines that it takes.
+/// The last part of the help on a subcommand: the lines that it takes.
 #[derive(Drop)]
 pub(crate) struct LinesHelp {
     script: String,
@@ -24,6 +24,7 @@ pub(crate) struct LinesHelp {
 }
 
 impl LinesHelp {
+    /// The lines of each channel.
     pub fn new(alloc: Global) -> Result<LinesHelp, AllocError> {
         Ok(LinesHelp {
             script: lines_of(alloc, Channel::Script)?,
@@ -32,7 +33,7 @@ impl LinesHelp {
     }
 }
 
-/// The lines that may come there, as help shows them.
+/// The lines of a channel, as help shows them.
 fn lines_of(alloc: Global, channel: Channel) -> Result<String, AllocError> {
     let mut text = String::from_str(alloc, "Lines:\n")?;
     let lines = help_text(alloc, channel)?;
@@ -40,13 +41,31 @@ fn lines_of(alloc: Global, channel: Channel) -> Result<String, AllocError> {
     Ok(text)
 }
 
-/// The version of the program: CHANGELOG.md says what came with it.
+/// The version of the program. CHANGELOG.md lists what came with it.
 pub(crate) const VERSION: &str = "0.1.0";
 
-/// What help says last of `serve`.
+/// The last part of the help on `serve`.
 const SERVE_HELP: &str = "\
-This service is for trying, not for a network: it keeps the whole history of what it was told and learnt, and goes through
-it for each look, so it answers ever more slowly and takes ever more memory. `stop` on its control socket ends it.";
+This service is for trials, not for a network. A full cache takes nothing new until the line `sweep` makes room,
+and some memory of each cached name stays until a restart. The line `stop` on the control socket ends the service.";
+
+/// The default of `--journal`.
+const DEFAULT_JOURNAL: &str = "64";
+
+/// The default of `--cells`.
+const DEFAULT_CELLS: &str = "100000";
+
+/// The default of `--server-port`: the port of DNS.
+const DEFAULT_SERVER_PORT: &str = "53";
+
+/// The default of `--udp` and of `--tcp`.
+const DEFAULT_WORKERS: &str = "1";
+
+/// The default of `--record`.
+const DEFAULT_RECORD: &str = "10000";
+
+/// The greatest port.
+const MOST_PORT: u32 = 65_535;
 
 /// An option with a value.
 fn option<'a>(alloc: Global, name: &'a str, value: &'a str, help: &'a str) -> Arg<'a>
@@ -60,7 +79,7 @@ fn option<'a>(alloc: Global, name: &'a str, value: &'a str, help: &'a str) -> Ar
         .action(ArgAction::Set)
 }
 
-/// An option with a number between these.
+/// An option with a number in a range.
 fn number<'a>(alloc: Global, name: &'a str, least: u32, most: u32, help: &'a str) -> Arg<'a>
     ensures rule { rule_of result ≡ number_rule name.now least most }
     ensures local { result.global ≡ false }
@@ -71,7 +90,7 @@ fn number<'a>(alloc: Global, name: &'a str, least: u32, most: u32, help: &'a str
     ))
 }
 
-/// An option with a number from 1 on, and which one it is where none is given.
+/// An option with a number from 1 on, and with a default.
 fn count<'a>(alloc: Global, name: &'a str, default: &'a str, most: u32, help: &'a str) -> Arg<'a>
     ensures rule { rule_of result ≡ count_rule name.now default.now most }
     ensures local { result.global ≡ false }
@@ -79,28 +98,28 @@ fn count<'a>(alloc: Global, name: &'a str, default: &'a str, most: u32, help: &'
     number(alloc, name, 1, most, help).default_value(default)
 }
 
-/// What a book is made with, but for its hints.
+/// The options on the size of the cache and of the journal.
 fn with_limits<'a>(alloc: Global, command: Command<'a>) -> Result<Command<'a>, AllocError>
     ensures { IfOk result (AddsRules command.entry limit_rules) }
 {
     let journal = count(
         alloc,
         "journal",
-        "64",
+        DEFAULT_JOURNAL,
         MOST_COMMANDS as u32,
-        "How many commands can be undone, 1 to 256",
+        "The number of commands that can be undone, 1 to 256",
     );
     let cells = count(
         alloc,
         "cells",
-        "100000",
+        DEFAULT_CELLS,
         MOST_CELLS as u32,
-        "How many cells there may be, 1 to 1000000",
+        "The most sets and negative answers that the cache holds, 1 to 1000000",
     );
     command.arg(journal)?.arg(cells)
 }
 
-/// The arguments that say where servers are.
+/// The arguments on name servers: their port, and the root servers.
 fn with_servers<'a>(
     alloc: Global,
     command: Command<'a>,
@@ -111,9 +130,9 @@ fn with_servers<'a>(
     let port = count(
         alloc,
         "server-port",
-        "53",
-        65535,
-        "The port of the servers whose addresses are learnt, 1 to 65535",
+        DEFAULT_SERVER_PORT,
+        MOST_PORT,
+        "The port of the name servers that the cache knows, 1 to 65535",
     );
     let hints = Arg::new(alloc, "HINT")
         .help(help)
@@ -122,7 +141,7 @@ fn with_servers<'a>(
     command.arg(port)?.arg(hints)
 }
 
-/// The addresses where a service is reached.
+/// The addresses of a service.
 fn with_addresses<'a>(alloc: Global, command: Command<'a>) -> Result<Command<'a>, AllocError>
     ensures { IfOk result (AddsRules command.entry address_rules) }
 {
@@ -130,14 +149,14 @@ fn with_addresses<'a>(alloc: Global, command: Command<'a>) -> Result<Command<'a>
         alloc,
         "listen",
         "ADDR",
-        "Where questions come in over UDP and TCP, IP or IP@PORT",
+        "The address on which queries arrive, over UDP and TCP: IP@PORT, or IP for port 53",
     )
     .required(true);
     let control = option(
         alloc,
         "control",
         "ADDR",
-        "Where an operator's lines come in, in 127.0.0.0/8 or ::1",
+        "The address of the control socket, in 127.0.0.0/8 or ::1: IP@PORT, or IP for port 53",
     )
     .required(true);
     command.arg(listen)?.arg(control)
@@ -150,64 +169,64 @@ fn with_workers<'a>(alloc: Global, command: Command<'a>) -> Result<Command<'a>, 
     let udp = count(
         alloc,
         "udp",
-        "1",
+        DEFAULT_WORKERS,
         u32::from(MOST_WORKERS),
-        "How many workers answer over UDP, at least 1 and with those over TCP at most 16",
+        "The number of UDP workers, at least 1, and with the TCP workers at most 16",
     );
     let tcp = count(
         alloc,
         "tcp",
-        "1",
+        DEFAULT_WORKERS,
         u32::from(MOST_WORKERS),
-        "How many workers answer over TCP, at least 1",
+        "The number of TCP workers, at least 1",
     );
     command.arg(udp)?.arg(tcp)
 }
 
-/// What else a service is made with.
+/// The call log of a service, and the seed of its query IDs.
 fn with_record<'a>(alloc: Global, command: Command<'a>) -> Result<Command<'a>, AllocError>
     ensures { IfOk result (AddsRules command.entry record_rules) }
 {
     let record = count(
         alloc,
         "record",
-        "10000",
+        DEFAULT_RECORD,
         MOST_RECORDED as u32,
-        "How many calls of the book are recorded, 1 to 1000000",
+        "The length of the call log, 1 to 1000000 calls",
     );
     let seed = number(
         alloc,
         "seed",
         0,
         u32::MAX,
-        "Draws the identifiers of queries from this number, 0 to 4294967295, and not from the system's randomness",
+        "For trials: draws the query IDs from this number, 0 to 4294967295, instead of the system's randomness",
     );
     command.arg(record)?.arg(seed)
 }
 
-/// The command `script`, whose help ends with these lines.
+/// The subcommand `script`. Its help ends with these lines.
 fn script_command<'a>(alloc: Global, lines: &'a str) -> Result<Command<'a>, AllocError>
     ensures shape { IfOk result (λ command. shape_of command ≡ script_shape) }
     ensures local { IfOk result (λ command. (fields_of command).has_globals ≡ false) }
 {
     let command = Command::new(alloc, "script")
-        .about("Obeys the lines of standard input and writes a reply to each")
+        .about("Obeys the lines of standard input, and writes the reply to each")
         .after_help(lines);
     let command = with_limits(alloc, command)?;
     with_servers(
         alloc,
         command,
-        "The addresses of the root's servers, each IP or IP@PORT, at most 16",
+        "The addresses of the root servers, each IP@PORT, or IP for port 53; at most 16",
     )
 }
 
-/// The command `serve`.
+/// The subcommand `serve`.
 fn serve_command<'a>(alloc: Global) -> Result<Command<'a>, AllocError>
     ensures shape { IfOk result (λ command. shape_of command ≡ serve_shape) }
     ensures local { IfOk result (λ command. (fields_of command).has_globals ≡ false) }
 {
     let command = Command::new(alloc, "serve")
-        .about("Answers questions over UDP and TCP, and obeys an operator's lines")
+        .about("Answers queries over UDP and TCP, and obeys an operator's lines")
         .after_help(SERVE_HELP);
     let command = with_addresses(alloc, command)?;
     let command = with_workers(alloc, command)?;
@@ -216,31 +235,31 @@ fn serve_command<'a>(alloc: Global) -> Result<Command<'a>, AllocError>
     with_servers(
         alloc,
         command,
-        "The addresses of the root's servers, each IP or IP@PORT, 1 to 16",
+        "The addresses of the root servers, each IP@PORT, or IP for port 53; 1 to 16",
     )
 }
 
-/// The command `control`, whose help ends with these lines.
+/// The subcommand `control`. Its help ends with these lines.
 fn control_command<'a>(alloc: Global, lines: &'a str) -> Result<Command<'a>, AllocError>
     ensures shape { IfOk result (λ command. shape_of command ≡ control_shape) }
     ensures local { IfOk result (λ command. (fields_of command).has_globals ≡ false) }
 {
     let addr = Arg::new(alloc, "ADDR")
-        .help("The control socket of the service, IP or IP@PORT")
+        .help("The control address of the service: IP@PORT, or IP for port 53")
         .required(true);
     let line = Arg::new(alloc, "LINE")
-        .help("The line, whose words may be arguments of their own")
+        .help("The line. Its words may be separate arguments")
         .action(ArgAction::Append)
         .num_args(0..)
         .trailing_var_arg(true);
     Command::new(alloc, "control")
-        .about("Sends a service a line, or each line of standard input, and writes the replies")
+        .about("Sends a service one line, or each line of standard input, and writes the replies")
         .after_help(lines)
         .arg(addr)?
         .arg(line)
 }
 
-/// The program is called `resolver`, whatever its file is called.
+/// The program with its subcommands. It is called `resolver`, whatever its file is called.
 pub(crate) fn command<'a>(alloc: Global, lines: &'a LinesHelp) -> Result<Command<'a>, AllocError>
     ensures { IfOk result (λ command. app_of command ≡ resolver_app) }
 {

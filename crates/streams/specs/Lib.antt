@@ -4,4 +4,5 @@ pub mod Split
 pub mod Text
 pub mod Transcript
 pub mod Flow
+pub mod Engine
 pub mod Laws

@@ -13,37 +13,37 @@ abbrev pub ended_lines : List ℕ → List ℕ → List (List ℕ)
 ended_lines begun [] = []
 ended_lines begun (octet ∷ octets) = if nat_eq octet 10 then without_return begun ∷ ended_lines [] octets else ended_lines (begun ++ octet ∷ []) octets
 
--- what has come of the next line
+-- The octets so far of the line that has not ended.
 abbrev pub begun_line : List ℕ → List ℕ → List ℕ
 begun_line begun [] = begun
 begun_line begun (octet ∷ octets) = if nat_eq octet 10 then begun_line [] octets else begun_line (begun ++ octet ∷ []) octets
 
--- The last line may lack its end, if something has come of it.
+-- The last line may lack its end. It counts if it has an octet.
 abbrev pub last_line : List ℕ → List (List ℕ)
 last_line [] = []
 last_line (octet ∷ octets) = (octet ∷ octets) ∷ []
 
--- the lines of an input
+-- The lines of an input: those that end, and the last one if it has an octet.
 abbrev pub lines_of : List ℕ → List (List ℕ)
 lines_of input = ended_lines [] input ++ last_line (begun_line [] input)
 
--- What is held of a line that has begun: enough to tell what it says.
+-- The octets that are kept of a line that has begun: all of a line that is not too long.
 abbrev pub held_of : List ℕ → List ℕ
 held_of begun = take MOST_HELD begun
 
--- What is heard of a line: all of it, or, of one that is too long, that it is so, and its first octet.
+-- The octets handed on for a line: all of it, or, if it is too long, some that are too long too and begin with the same octet.
 abbrev pub Heard : List ℕ → List ℕ → Type 0
 Heard line whole = (line ≡ whole) ⊎ ((LONGEST_LINE < length line) × (LONGEST_LINE < length whole) × (take 1 line ≡ take 1 whole))
 
--- no octet of it ends a line
+-- No octet of it ends a line.
 abbrev pub IsUnended : List ℕ → Type 0
 IsUnended octets = AllByRecursion (λ octet. octet ≢ 10) octets
 
--- a line and its end
+-- A line with its end.
 abbrev pub with_end : List ℕ → List ℕ
 with_end line = line ++ 10 ∷ []
 
--- The input is these lines, each with its end, and then less than a whole one.
+-- The input is these lines, each with its end, and then the front of one more.
 pub record Splits (input : List ℕ) (whole : List (List ℕ)) (rest : List ℕ) : Type 0 where
   pub all : input ≡ flat_map with_end whole ++ rest
   pub unended : AllByRecursion IsUnended whole

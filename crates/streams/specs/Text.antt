@@ -1,9 +1,9 @@
--- What a line is told.
+-- The octets of a reply.
 use Rattle.std.specs.Prelude.{ℕ, List}
 use Rattle.streams.specs.declared.text.Text.{Text}
 use Rattle.streams.specs.declared.text.Text.TheVariants.{Fixed, Short, Made}
 
--- the octets of a text
+-- The octets of a reply, whichever way it is kept.
 abbrev pub octets_in : Text → List ℕ
 octets_in (Fixed octets) = octets.now
 octets_in (Short octets) = octets.items

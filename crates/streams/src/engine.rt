@@ -1,30 +1,30 @@
-//! Lines in, a transcript out.
+//! The engine of lines: it reads an input, obeys its lines in order, and writes the reply to each.
 
-ghost use Rattle.std.specs.Prelude.{◌≡◌, ℕ, List, [], ◌∷◌, ◌≤◌, ◌<◌, ◌+◌, ◌⊎◌, IfOk, IsErrOf};
-ghost use Rattle.std.specs.Io.KnownBytes.{Appends, Consumes};
+ghost use Rattle.std.specs.Prelude.{◌≡◌, ℕ, List, [], ◌∷◌, ◌≤◌, ◌<◌, ◌+◌, IsErrOf};
 ghost use Rattle.streams.specs.declared.source.TheConstants.{MOST_COUNTED};
 ghost use Rattle.streams.specs.declared.engine.TheConstants.{MOST_READS};
 ghost use Rattle.streams.specs.declared.fault.Flow.TheVariants.{On};
 ghost use Rattle.streams.specs.declared.fault.ScriptFault.TheVariants.{Read as ReadFault, Write as WriteFault};
-ghost use Rattle.streams.specs.Split.{ended_lines, begun_line, last_line, lines_of, held_of, Heard};
-ghost use Rattle.streams.specs.Transcript.{Transcript, Partly, IsFront, EndsBy, paired};
+ghost use Rattle.streams.specs.Split.{ended_lines, begun_line, last_line, held_of, Heard};
+ghost use Rattle.streams.specs.Transcript.{paired};
 ghost use Rattle.streams.specs.Flow.{Tells, CountsFlow};
+ghost use Rattle.streams.specs.Engine.{RunsLines, FailsToRead};
 
 use crate::fault::{Ended, Flow, ScriptFault};
 use crate::held_line::HeldLine;
-use crate::obeyer::{Obeyer, Told};
+use crate::obeyer::{LineReply, Obeyer};
 use crate::sending::send;
 use crate::sink::Sink;
 use crate::source::Source;
 use std::alloc::Global;
 
-/// A reader is read fewer times than this: the read that would be the last is answered as failed, and never made.
+/// A run makes fewer reads than this. If it would need one more, it fails as if that read had failed.
 pub const MOST_READS: u64 = 1 << 40;
 
-/// The octets of one read.
+/// The most octets that one read takes.
 const ROOM: usize = 4096;
 
-/// Obeys a line, and writes what it is told.
+/// Obeys a line and writes its reply.
 fn tell<T, D, O: Obeyer<T, D>, W: Sink>(
     alloc: Global,
     time: &mut T,
@@ -33,18 +33,18 @@ fn tell<T, D, O: Obeyer<T, D>, W: Sink>(
     writer: &mut W,
 ) -> Flow
     requires { W.failures writer.old < MOST_COUNTED }
-    ensures told { (whole : List ℕ) → Heard line.now whole
-        → Tells result (paired O.obeys) (time.old, desk.old) (whole ∷ []) (time.new, desk.new) (W.contents writer.old) (W.contents writer.new) }
+    ensures told { (whole : List ℕ) → Heard line.now whole → Tells result (paired O.obeys)
+        (time.old, desk.old) (whole ∷ []) (time.new, desk.new) (W.contents writer.old) (W.contents writer.new) }
     ensures failures { CountsFlow result (W.failures writer.old) (W.failures writer.new) }
 {
-    let Told { text, stops } = O::obey(alloc, time, desk, line);
+    let LineReply { text, stops } = O::obey(alloc, time, desk, line);
     match send(writer, text.as_slice()) {
         Ok(()) => { if stops { Flow::Stopped } else { Flow::On } }
         Err(_) => Flow::Failed,
     }
 }
 
-/// Takes one octet of the input. Where it ends a line, the line is obeyed and told.
+/// Takes one octet of the input. If it ends a line, obeys the line and writes its reply.
 fn feed_one<T, D, O: Obeyer<T, D>, W: Sink>(
     alloc: Global,
     time: &mut T,
@@ -54,8 +54,8 @@ fn feed_one<T, D, O: Obeyer<T, D>, W: Sink>(
     writer: &mut W,
 ) -> Flow
     requires { W.failures writer.old < MOST_COUNTED }
-    ensures told { (begun : List ℕ) → held.old ≡ held_of begun
-        → Tells result (paired O.obeys) (time.old, desk.old) (ended_lines begun (octet ∷ [])) (time.new, desk.new) (W.contents writer.old) (W.contents writer.new) }
+    ensures told { (begun : List ℕ) → held.old ≡ held_of begun → Tells result (paired O.obeys)
+        (time.old, desk.old) (ended_lines begun (octet ∷ [])) (time.new, desk.new) (W.contents writer.old) (W.contents writer.new) }
     ensures held { (begun : List ℕ) → held.old ≡ held_of begun → held.new ≡ held_of (begun_line begun (octet ∷ [])) }
     ensures failures { CountsFlow result (W.failures writer.old) (W.failures writer.new) }
 {
@@ -68,7 +68,7 @@ fn feed_one<T, D, O: Obeyer<T, D>, W: Sink>(
     flow
 }
 
-/// Takes some octets of the input. Each line that ends is obeyed and told.
+/// Takes some octets of the input. Obeys each line that ends in them and writes its reply.
 fn feed<T, D, O: Obeyer<T, D>, W: Sink>(
     alloc: Global,
     time: &mut T,
@@ -78,8 +78,8 @@ fn feed<T, D, O: Obeyer<T, D>, W: Sink>(
     writer: &mut W,
 ) -> Flow
     requires { W.failures writer.old < MOST_COUNTED }
-    ensures told { (begun : List ℕ) → held.old ≡ held_of begun
-        → Tells result (paired O.obeys) (time.old, desk.old) (ended_lines begun octets.now) (time.new, desk.new) (W.contents writer.old) (W.contents writer.new) }
+    ensures told { (begun : List ℕ) → held.old ≡ held_of begun → Tells result (paired O.obeys)
+        (time.old, desk.old) (ended_lines begun octets.now) (time.new, desk.new) (W.contents writer.old) (W.contents writer.new) }
     ensures held { (begun : List ℕ) → held.old ≡ held_of begun → result ≡ On → held.new ≡ held_of (begun_line begun octets.now) }
     ensures failures { CountsFlow result (W.failures writer.old) (W.failures writer.new) }
 {
@@ -92,7 +92,7 @@ fn feed<T, D, O: Obeyer<T, D>, W: Sink>(
     Flow::On
 }
 
-/// The input has ended: what has come of the last line is a line, if anything has.
+/// Ends the input. If a line has begun, it is the last one: obeys it and writes its reply.
 fn finish<T, D, O: Obeyer<T, D>, W: Sink>(
     alloc: Global,
     time: &mut T,
@@ -101,8 +101,8 @@ fn finish<T, D, O: Obeyer<T, D>, W: Sink>(
     writer: &mut W,
 ) -> Flow
     requires { W.failures writer.old < MOST_COUNTED }
-    ensures told { (begun : List ℕ) → held.now ≡ held_of begun
-        → Tells result (paired O.obeys) (time.old, desk.old) (last_line begun) (time.new, desk.new) (W.contents writer.old) (W.contents writer.new) }
+    ensures told { (begun : List ℕ) → held.now ≡ held_of begun → Tells result (paired O.obeys)
+        (time.old, desk.old) (last_line begun) (time.new, desk.new) (W.contents writer.old) (W.contents writer.new) }
     ensures failures { CountsFlow result (W.failures writer.old) (W.failures writer.new) }
 {
     if held.is_empty() {
@@ -111,7 +111,8 @@ fn finish<T, D, O: Obeyer<T, D>, W: Sink>(
     tell::<T, D, O, W>(alloc, time, desk, held, writer)
 }
 
-/// Obeys the lines of the input in order, and writes what each is told and nothing else.
+/// Obeys the lines of the input in order, and writes the reply to each and nothing else.
+/// `Read`: a read failed, or the run may not read once more. `Write`: a write failed.
 pub fn run_lines<T, D, O: Obeyer<T, D>, S: Source, W: Sink>(
     alloc: Global,
     time: &mut T,
@@ -121,25 +122,14 @@ pub fn run_lines<T, D, O: Obeyer<T, D>, S: Source, W: Sink>(
 ) -> Result<Ended, ScriptFault>
     requires reads { S.calls reader.old + MOST_READS ≤ MOST_COUNTED }
     requires writes { W.failures writer.old < MOST_COUNTED }
-    // It gives up only where a read or a write failed, or where it may not read once more.
+    // It reads fewer times than it may, and fails only if a read or a write failed, or if it may not read once more.
     ensures few { S.calls reader.new < S.calls reader.old + MOST_READS }
-    ensures read_failed { IsErrOf result ReadFault → (S.failures reader.new ≡ S.failures reader.old + 1) ⊎ (S.calls reader.new + 1 ≡ S.calls reader.old + MOST_READS) }
+    ensures read_failed { IsErrOf result ReadFault
+        → FailsToRead (S.calls reader.old) (S.calls reader.new) (S.failures reader.old) (S.failures reader.new) }
     ensures write_failed { IsErrOf result WriteFault → W.failures writer.new ≡ W.failures writer.old + 1 }
-    // The lines are obeyed to the end of the input, or to one that is the last, and what is written is their transcript.
-    ensures ended { IfOk result (λ ended. (input : List ℕ) × (text : List ℕ)
-        × Consumes (S.remaining reader.old) (S.remaining reader.new) input
-        × EndsBy ended (paired O.obeys) (time.old, desk.old) (lines_of input) text (time.new, desk.new) (S.remaining reader.new)
-        × Appends (W.contents writer.old) (W.contents writer.new) text) }
-    // After a fault of the reader each whole line so far was obeyed and told.
-    ensures read { IsErrOf result ReadFault → (input : List ℕ) × (text : List ℕ)
-        × Consumes (S.remaining reader.old) (S.remaining reader.new) input
-        × Transcript (paired O.obeys) (time.old, desk.old) (ended_lines [] input) text (time.new, desk.new)
-        × Appends (W.contents writer.old) (W.contents writer.new) text }
-    // After a fault of the writer the line whose text failed was obeyed, and a front of its text was written.
-    ensures write { IsErrOf result WriteFault → (input : List ℕ) × (text : List ℕ)
-        × Consumes (S.remaining reader.old) (S.remaining reader.new) input
-        × Partly (paired O.obeys) IsFront (time.old, desk.old) (lines_of input) text (time.new, desk.new)
-        × Appends (W.contents writer.old) (W.contents writer.new) text }
+    // What it read, which lines of that it obeyed, and what it wrote.
+    ensures runs { RunsLines result (paired O.obeys) (time.old, desk.old) (time.new, desk.new)
+        (S.remaining reader.old) (S.remaining reader.new) (W.contents writer.old) (W.contents writer.new) }
 {
     let mut held = HeldLine::new();
     let mut room = [0u8; ROOM];

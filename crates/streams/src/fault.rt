@@ -1,31 +1,35 @@
-//! Why no more lines are obeyed.
+//! Ends and faults of a run over lines.
 
 use crate::source::ReadFailed;
 use thiserror::Error;
 
-/// What ended the lines.
+/// Why a run ended.
 #[derive(Clone, Copy, PartialEq, Eq)]
 pub enum Ended {
+    /// The input ended, and all its lines were obeyed.
     EndOfInput,
-    /// A line that was the last. What was read behind it is lost.
+    /// A line asked to stop. What was read after it is lost.
     Stop,
 }
 
-/// Whether more lines are obeyed.
+/// Whether the run goes on after a line.
 #[derive(Clone, Copy, PartialEq, Eq)]
 pub enum Flow {
+    /// The next line is obeyed.
     On,
+    /// The line asked to stop.
     Stopped,
-    /// A write failed.
+    /// A write of the reply failed.
     Failed,
 }
 
-/// Why lines end before their input does.
+/// Why a run failed before its input ended.
 #[derive(Clone, Copy, Debug, PartialEq, Eq, Error)]
 pub enum ScriptFault {
-    /// A read failed, or the reader was read as often as it may be.
+    /// A read failed, or the run made as many reads as it may.
     #[error("read failed")]
     Read,
+    /// A write failed.
     #[error("write failed")]
     Write,
 }

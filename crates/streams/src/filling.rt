@@ -1,4 +1,4 @@
-//! A whole room is read.
+//! Filling a buffer from a reader.
 
 ghost use Rattle.std.specs.Prelude.{◌≡◌, ◌+◌, ◌<◌, ◌≤◌, length, OnOk};
 ghost use Rattle.streams.specs.Filled.{Filled, GivesUp};
@@ -6,7 +6,8 @@ ghost use Rattle.streams.specs.declared.source.TheConstants.{MOST_COUNTED};
 
 use crate::source::{ReadFailed, Source};
 
-/// Fills a room, or as much of it as comes before the end, in so many reads at most as are left.
+/// Fills a buffer, or as much of it as the input has, in at most `left` reads, and counts them off `left`.
+/// Returns the number of octets. An error if a read fails or if one more read would be needed.
 pub fn fill<S: Source>(reader: &mut S, left: &mut u64, room: &mut [u8]) -> Result<usize, ReadFailed>
     requires { S.calls reader.old + left.old ≤ MOST_COUNTED }
     ensures filled { Filled result (S.remaining reader.old) (S.remaining reader.new) room.new }

@@ -1,4 +1,4 @@
-//! What is held of a line that has begun.
+//! The octets so far of a line that has not ended, as many as are needed.
 
 ghost use Rattle.std.specs.Prelude.{◌≡◌, ℕ, List, [], ◌∷◌, ◌++◌};
 ghost use Rattle.streams.specs.Split.{without_return, held_of};
@@ -6,13 +6,13 @@ ghost use Rattle.streams.specs.Split.{without_return, held_of};
 use arrayvec::ArrayVec;
 use std::marker::Model;
 
-/// The octets of the longest line that says something, without its end.
+/// The length of the longest line that is obeyed, in octets, without its end.
 pub const LONGEST_LINE: usize = 1024;
 
-/// The longest line, a carriage return, and one octet more, which tells that a line is too long.
+/// The longest line, a carriage return, and one octet more, so that a line that is too long is seen to be so.
 const MOST_HELD: usize = LONGEST_LINE + 2;
 
-/// The octets that have come of a line, as many as tell what it says.
+/// The octets so far of a line, up to `MOST_HELD`.
 #[derive(Drop)]
 pub struct HeldLine {
     octets: ArrayVec<u8, MOST_HELD>,
@@ -25,6 +25,7 @@ impl Model for HeldLine {
 }
 
 impl HeldLine {
+    /// A line of which nothing has been read.
     pub fn new() -> HeldLine
         ensures { result ≡ [] }
     {
@@ -33,13 +34,14 @@ impl HeldLine {
         }
     }
 
+    /// The octets that are held.
     pub fn as_slice(&self) -> &[u8]
         ensures { result.now ≡ self.now }
     {
         self.octets.as_slice()
     }
 
-    /// What is held, without one carriage return at its end.
+    /// The octets that are held, without one carriage return at their end.
     pub fn trimmed(&self) -> &[u8]
         ensures { result.now ≡ without_return self.now }
     {
@@ -52,7 +54,7 @@ impl HeldLine {
         }
     }
 
-    /// Holds one octet more of the line, where it tells more.
+    /// Adds the next octet of the line, if there is room for it.
     pub fn push(&mut self, octet: u8)
         ensures { self.new ≡ held_of (self.old ++ octet ∷ []) }
     {
@@ -61,7 +63,7 @@ impl HeldLine {
         }
     }
 
-    /// Another line begins.
+    /// Forgets the line: another one begins.
     pub fn clear(&mut self)
         ensures { self.new ≡ [] }
     {

@@ -1,25 +1,25 @@
-//! Octets in pieces: what is read from and written to, with counts; lines cut from the pieces, and obeyed.
+//! Readers and writers that count their calls, and the engine that obeys the lines of an input and writes the replies.
 #![tactic(auto)]
 
 // Readers, with counts of calls and failures.
 mod source;
 // Writers, with counts of failures.
 mod sink;
-// The write of a whole text.
+// Writing a whole text.
 mod sending;
-// The read of a whole room.
+// Filling a buffer.
 mod filling;
-// The front of a line that has begun.
+// The octets so far of a line that has not ended.
 mod held_line;
-// The text that answers a line.
+// The reply to a line.
 mod text;
-// The trait of what obeys a line.
+// The trait that obeys one line.
 mod obeyer;
-// Why no more lines are obeyed.
+// Ends and faults of a run.
 mod fault;
-// The engine: lines in, a transcript out.
+// The engine: it reads lines, obeys them and writes the replies.
 mod engine;
-// Laws of the definitions alone.
+// Laws of the definitions: the lines of an input are what one expects.
 mod laws;
 
 pub use engine::{MOST_READS, run_lines};
@@ -27,7 +27,7 @@ pub use fault::{Ended, ScriptFault};
 pub use filling::fill;
 pub use held_line::{HeldLine, LONGEST_LINE};
 pub use laws::lines_are;
-pub use obeyer::{Obeyer, Told};
+pub use obeyer::{LineReply, Obeyer};
 pub use sending::send;
 pub use sink::{CountedWriter, Sink, WriteFailed};
 pub use source::{CountedReader, MOST_COUNTED, ReadFailed, Source};

@@ -1,4 +1,4 @@
-//! What obeys a line.
+//! The trait that obeys one line.
 
 ghost use Rattle.std.specs.Prelude.{ℕ, Bool, List};
 ghost use Rattle.streams.specs.Split.{Heard};
@@ -7,20 +7,22 @@ ghost use Rattle.streams.specs.Text.{octets_in};
 use crate::text::Text;
 use std::alloc::Global;
 
-/// What a line is told, and whether it is the last.
+/// The reply to a line, and whether the run stops there.
 #[derive(Drop)]
-pub struct Told {
+pub struct LineReply {
+    /// The text of the reply.
     pub text: Text,
-    /// No line after it is obeyed.
+    /// Whether the run stops: no line after this one is obeyed.
     pub stops: bool,
 }
 
-/// A manner of obeying lines at a desk, in its time: a moment, or a clock.
+/// A way to obey lines at a desk `D`, in a time `T`: a moment, or a clock.
 pub trait Obeyer<T, D> {
-    /// The time and the desk before, the line, what it is told, whether it is the last, the time and the desk after.
+    /// The time and the desk before, the line, its reply, whether the run stops, the time and the desk after.
     ghost obeys: { T → D → List ℕ → List ℕ → Bool → T → D → Type 0 };
 
-    /// Obeys a line. Of one that is too long it hears that it is so, and the first octet.
-    fn obey(alloc: Global, time: &mut T, desk: &mut D, line: &[u8]) -> Told
-        ensures obeys { (whole : List ℕ) → Heard line.now whole → obeys time.old desk.old whole (octets_in result.text) result.stops time.new desk.new };
+    /// Obeys a line. A line that is too long may be cut, but is still too long and keeps its first octet.
+    fn obey(alloc: Global, time: &mut T, desk: &mut D, line: &[u8]) -> LineReply
+        ensures obeys { (whole : List ℕ) → Heard line.now whole
+            → obeys time.old desk.old whole (octets_in result.text) result.stops time.new desk.new };
 }

@@ -1,4 +1,4 @@
-//! A whole text is written.
+//! Writing a whole text.
 
 ghost use Rattle.std.specs.Prelude.{◌<◌};
 ghost use Rattle.streams.specs.Told.{Sent, CountsFailure};
@@ -6,7 +6,7 @@ ghost use Rattle.streams.specs.declared.source.TheConstants.{MOST_COUNTED};
 
 use crate::sink::{Sink, WriteFailed};
 
-/// Writes a text. Where that fails, a front of it is written.
+/// Writes a text. If a write fails, only a front of the text was written.
 pub fn send<W: Sink>(writer: &mut W, text: &[u8]) -> Result<(), WriteFailed>
     requires { W.failures writer.old < MOST_COUNTED }
     ensures sent { Sent result (W.contents writer.old) (W.contents writer.new) text.now }

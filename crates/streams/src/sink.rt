@@ -1,4 +1,4 @@
-//! What is written to.
+//! Writers that count their failures.
 
 ghost use Rattle.std.specs.Prelude.{◌≡◌, ℕ, List, Option, ◌+◌, ◌<◌, length, IfOk, OnErr, MatchOption};
 ghost use Rattle.std.specs.Io.KnownBytes.{Keeps};
@@ -11,15 +11,15 @@ use std::io::{ErrorKind, Write};
 #[derive(Clone, Copy, PartialEq, Eq)]
 pub struct WriteFailed;
 
-/// What takes octets in pieces. It counts the calls that failed: each other one takes an octet at least.
+/// A writer that takes octets in pieces. It counts failures only: a call that succeeds always makes progress.
 pub trait Sink {
-    /// The octets that it holds, where they are known.
+    /// The octets that were written to it, if they are known.
     ghost contents: { Self → Option (List ℕ) };
 
     /// How many calls failed.
     ghost failures: { Self → ℕ };
 
-    /// Takes a front of the text, of one octet at least.
+    /// Writes a front of the text, at least one octet, and returns its length. After an error nothing was written.
     fn put(&mut self, text: &[u8]) -> Result<usize, WriteFailed>
         requires text { 0 < length text.now }
         requires few { failures self.old < MOST_COUNTED }
@@ -28,17 +28,18 @@ pub trait Sink {
         ensures failures { CountsFailure result (failures self.old) (failures self.new) };
 }
 
-/// A writer, with its count.
+/// A writer of std, with the count of its failures.
 #[derive(Drop)]
 pub struct CountedWriter<W> {
     writer: W,
     failures: u64,
 }
 
-/// A write that signals interrupt is tried again, as often as this.
+/// How often a write that a signal interrupted is tried again.
 const MOST_TRIES: u64 = 1 << 40;
 
 impl<W: Write> CountedWriter<W> {
+    /// The writer, with no failure counted.
     pub fn new(writer: W) -> CountedWriter<W>
         ensures writer { result.writer ≡ writer }
         ensures failures { result.failures ≡ 0 }
@@ -50,7 +51,7 @@ impl<W: Write> CountedWriter<W> {
     }
 }
 
-/// Writes a front of a text once. None is an interrupted write.
+/// Writes a front of a text once. Returns None if a signal interrupted the write.
 fn write_once<W: Write>(writer: &mut W, text: &[u8]) -> Result<Option<usize>, WriteFailed>
     ensures ok { IfOk result (λ n. MatchOption n (Keeps (W.contents writer.old) (W.contents writer.new))
         (λ n. Takes n (W.contents writer.old) (W.contents writer.new) text.now)) }
@@ -69,7 +70,7 @@ fn write_once<W: Write>(writer: &mut W, text: &[u8]) -> Result<Option<usize>, Wr
     }
 }
 
-/// Writes a front of a text, of one octet at least.
+/// Writes a front of a text, at least one octet.
 fn write_some<W: Write>(writer: &mut W, text: &[u8]) -> Result<usize, WriteFailed>
     ensures ok { IfOk result (λ n. Takes n (W.contents writer.old) (W.contents writer.new) text.now) }
     ensures err { OnErr result (Keeps (W.contents writer.old) (W.contents writer.new)) }

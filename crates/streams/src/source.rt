@@ -1,4 +1,4 @@
-//! What is read from.
+//! Readers that count their calls and failures.
 
 ghost use Rattle.std.specs.Prelude.{◌≡◌, ℕ, List, Option, ◌+◌, ◌<◌, ◌≤◌, length, take, IfOk, OnErr, MatchOption};
 ghost use Rattle.std.specs.Io.KnownBytes.{Consumes, IsAtEnd, Keeps};
@@ -7,16 +7,16 @@ ghost use Rattle.streams.specs.declared.source.TheConstants.{MOST_COUNTED};
 
 use std::io::{ErrorKind, Read};
 
-/// A call is made only while its count is below this.
+/// No call is made once a count has reached this, so that no count overflows.
 pub const MOST_COUNTED: u64 = 1 << 63;
 
 /// A read failed.
 #[derive(Clone, Copy, PartialEq, Eq)]
 pub struct ReadFailed;
 
-/// What gives octets in pieces. It counts its calls, and those that failed.
+/// A reader that gives octets in pieces. It counts its calls, and those of them that failed.
 pub trait Source {
-    /// The octets that it has left, where they are known.
+    /// The octets that are left to read, if they are known.
     ghost remaining: { Self → Option (List ℕ) };
 
     /// How often it was called.
@@ -25,7 +25,8 @@ pub trait Source {
     /// How many of the calls failed.
     ghost failures: { Self → ℕ };
 
-    /// Some octets, or nothing at the end. A read that a signal interrupts gives no octets.
+    /// Reads into the buffer and returns the number of octets, or None at the end of the input.
+    /// A read that a signal interrupts gives 0 octets.
     fn next(&mut self, room: &mut [u8]) -> Result<Option<usize>, ReadFailed>
         requires room { 0 < length room.old }
         requires few { calls self.old < MOST_COUNTED }
@@ -38,7 +39,7 @@ pub trait Source {
         ensures failures { CountsFailure result (failures self.old) (failures self.new) };
 }
 
-/// A reader, with its counts.
+/// A reader of std, with the counts of its calls and failures.
 #[derive(Drop)]
 pub struct CountedReader<R> {
     reader: R,
@@ -48,6 +49,7 @@ pub struct CountedReader<R> {
 }
 
 impl<R: Read> CountedReader<R> {
+    /// The reader, with nothing counted.
     pub fn new(reader: R) -> CountedReader<R>
         ensures reader { result.reader ≡ reader }
         ensures calls { result.calls ≡ 0 }

@@ -3,7 +3,8 @@
 use std::alloc::{AllocError, Global};
 use std::io::{Read, Write};
 use streams::{
-    CountedReader, CountedWriter, Ended, LONGEST_LINE, Obeyer, ScriptFault, Text, Told, run_lines,
+    CountedReader, CountedWriter, Ended, LONGEST_LINE, LineReply, Obeyer, ScriptFault, Text,
+    run_lines,
 };
 
 /// Each line is told itself, and a comment nothing. It counts the lines, and ends at `stop`.
@@ -31,9 +32,9 @@ fn text_of(alloc: Global, line: &[u8]) -> Text {
 impl Obeyer<u64, ()> for Echo {
     ghost obeys = { λ _ _ _ _ _ _ _. Unit {0} };
 
-    fn obey(alloc: Global, time: &mut u64, _desk: &mut (), line: &[u8]) -> Told {
+    fn obey(alloc: Global, time: &mut u64, _desk: &mut (), line: &[u8]) -> LineReply {
         *time = time.wrapping_add(1);
-        Told {
+        LineReply {
             text: text_of(alloc, line),
             stops: line == b"stop".as_slice(),
         }

@@ -28,33 +28,37 @@ loop-preserved g c =
       few = omega (arith, c.loop-test.true);
     }
 
-pub returns-in-Stopped-clause-ended : goal.returns-in-Stopped-clause-ended
-returns-in-Stopped-clause-ended g c =
+pub returns-in-Stopped-clause-runs : goal.returns-in-Stopped-clause-runs
+returns-in-Stopped-clause-runs g c =
     let so = c.loop.invariant.told in
     let came = rw c.in-Some.is at c.in_ok-n.ensures.some in
-    runs-stop Stopped _ (paired g.O.Obeyer.obeys) _ _ _ so.0 (take c.in-Some.n c.next.new.room) _ _ _ _ _ _ tt so.1 so.2 came.1 (c.in-Stopped.ensures.told _ so.3)
+    let ran = runs-stop Stopped _ (paired g.O.Obeyer.obeys) _ _ _ so.0 (take c.in-Some.n c.next.new.room) _ _ _ _ _ _ tt so.1 so.2 came.1 (c.in-Stopped.ensures.told _ so.3) in
+    record { input = ran.0; text = ran.1; reads = ran.2; obeyed = ran.3; writes = ran.4 }
 
-pub returns-in-Failed-clause-write : goal.returns-in-Failed-clause-write
-returns-in-Failed-clause-write g c = λ fault.
+pub returns-in-Failed-clause-runs : goal.returns-in-Failed-clause-runs
+returns-in-Failed-clause-runs g c =
     let so = c.loop.invariant.told in
     let came = rw c.in-Some.is at c.in_ok-n.ensures.some in
-    runs-stop Failed _ (paired g.O.Obeyer.obeys) _ _ _ so.0 (take c.in-Some.n c.next.new.room) _ _ _ _ _ _ tt so.1 so.2 came.1 (c.in-Failed.ensures.told _ so.3)
+    let ran = runs-stop Failed _ (paired g.O.Obeyer.obeys) _ _ _ so.0 (take c.in-Some.n c.next.new.room) _ _ _ _ _ _ tt so.1 so.2 came.1 (c.in-Failed.ensures.told _ so.3) in
+    record { input = ran.0; text = ran.1; reads = ran.2; obeyed = ran.3; writes = ran.4 }
 
-pub returns-in-On-finish-clause-ended : goal.returns-in-On-finish-clause-ended
-returns-in-On-finish-clause-ended g c =
+pub returns-in-On-finish-clause-runs : goal.returns-in-On-finish-clause-runs
+returns-in-On-finish-clause-runs g c =
     let so = c.loop.invariant.told in
     let came = rw c.in-None.is at c.in_ok-n.ensures.some in
     let ran = runs-end On _ (paired g.O.Obeyer.obeys) _ _ _ so.0 _ _ _ _ _ (Consumes-kept _ _ _ so.0 so.1 came.0) so.2 (c.in-On-finish.ensures.told _ (c.as_slice.ensures ∙ so.3)) in
-    (ran.0, ran.1, ran.2, (ran.3, came.1), ran.4)
+    record { input = ran.0; text = ran.1; reads = ran.2; obeyed = (ran.3, came.1); writes = ran.4 }
 
-pub returns-in-Stopped-finish-clause-ended : goal.returns-in-Stopped-finish-clause-ended
-returns-in-Stopped-finish-clause-ended g c =
+pub returns-in-Stopped-finish-clause-runs : goal.returns-in-Stopped-finish-clause-runs
+returns-in-Stopped-finish-clause-runs g c =
     let so = c.loop.invariant.told in
     let came = rw c.in-None.is at c.in_ok-n.ensures.some in
-    runs-end Stopped _ (paired g.O.Obeyer.obeys) _ _ _ so.0 _ _ _ _ _ (Consumes-kept _ _ _ so.0 so.1 came.0) so.2 (c.in-Stopped-finish.ensures.told _ (c.as_slice.ensures ∙ so.3))
+    let ran = runs-end Stopped _ (paired g.O.Obeyer.obeys) _ _ _ so.0 _ _ _ _ _ (Consumes-kept _ _ _ so.0 so.1 came.0) so.2 (c.in-Stopped-finish.ensures.told _ (c.as_slice.ensures ∙ so.3)) in
+    record { input = ran.0; text = ran.1; reads = ran.2; obeyed = ran.3; writes = ran.4 }
 
-pub returns-in-Failed-finish-clause-write : goal.returns-in-Failed-finish-clause-write
-returns-in-Failed-finish-clause-write g c = λ fault.
+pub returns-in-Failed-finish-clause-runs : goal.returns-in-Failed-finish-clause-runs
+returns-in-Failed-finish-clause-runs g c =
     let so = c.loop.invariant.told in
     let came = rw c.in-None.is at c.in_ok-n.ensures.some in
-    runs-end Failed _ (paired g.O.Obeyer.obeys) _ _ _ so.0 _ _ _ _ _ (Consumes-kept _ _ _ so.0 so.1 came.0) so.2 (c.in-Failed-finish.ensures.told _ (c.as_slice.ensures ∙ so.3))
+    let ran = runs-end Failed _ (paired g.O.Obeyer.obeys) _ _ _ so.0 _ _ _ _ _ (Consumes-kept _ _ _ so.0 so.1 came.0) so.2 (c.in-Failed-finish.ensures.told _ (c.as_slice.ensures ∙ so.3)) in
+    record { input = ran.0; text = ran.1; reads = ran.2; obeyed = ran.3; writes = ran.4 }
