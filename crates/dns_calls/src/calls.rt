@@ -1,4 +1,4 @@
-//! The calls by their words.
+//! The table of calls by their words.
 
 use crate::arguments::arguments_in;
 use crate::denials::denial_in;
@@ -17,7 +17,7 @@ use crate::verdicts::{query_octets, verdict_in};
 use dns_text::next_word;
 use std::alloc::Global;
 
-/// What a call gives.
+/// The text that a call returns.
 fn answer(alloc: Global, word: &[u8], arguments: &[Vec<u8>]) -> Result<Vec<u8>, CallFault> {
     match (word, arguments) {
         (b"name", [text]) => name_text(alloc, text),
@@ -53,7 +53,7 @@ fn answer(alloc: Global, word: &[u8], arguments: &[Vec<u8>]) -> Result<Vec<u8>, 
     }
 }
 
-/// The text that the call of a line gives, with its end.
+/// The text that the call of a line returns, with its line end.
 pub fn call(alloc: Global, line: &[u8]) -> Result<Vec<u8>, CallFault> {
     let (word, rest) = next_word(line).ok_or(CallFault::NoCall)?;
     let arguments = arguments_in(alloc, rest)?;

@@ -1,4 +1,4 @@
-//! Calls of what a message denies.
+//! Calls for the negative answer of a message.
 
 use crate::fault::CallFault;
 use crate::words::push_record;
@@ -9,13 +9,14 @@ use neg_rule::negative_of;
 use ranked::{Body, Find, Scope};
 use std::alloc::Global;
 
+/// The question for a name and a type, both as text.
 pub fn question_of(alloc: Global, owner: &[u8], kind: &[u8]) -> Result<Question, CallFault> {
     let kind = read_type(kind)?;
     let owner = Name::from_text(alloc, owner)?;
     Ok(Question { owner, kind })
 }
 
-/// Writes ` TYPE`, or nothing where it is every type.
+/// Writes ` TYPE`, or nothing if the scope is every type.
 pub fn push_scope(scope: Scope, out: &mut Vec<u8>) -> Result<(), NoMemory> {
     match scope {
         Scope::One(kind) => {
@@ -26,7 +27,7 @@ pub fn push_scope(scope: Scope, out: &mut Vec<u8>) -> Result<(), NoMemory> {
     }
 }
 
-/// The record by which a find denies.
+/// The SOA record of a negative answer.
 fn soa_of(find: &Find) -> Option<&Record> {
     match &find.body {
         Body::NoData(soa) => Some(soa),
@@ -35,7 +36,7 @@ fn soa_of(find: &Find) -> Option<&Record> {
     }
 }
 
-/// `nodata` or `noname`, the rank, the time to live, what is denied, and the record that denies behind a bar.
+/// `nodata` or `noname`, the rank, the TTL, the name and type denied, and the SOA record behind a bar.
 pub fn denial_words(alloc: Global, find: &Find) -> Result<Vec<u8>, NoMemory> {
     let word = match find.body {
         Body::NoData(_) => "nodata",
@@ -54,7 +55,7 @@ pub fn denial_words(alloc: Global, find: &Find) -> Result<Vec<u8>, NoMemory> {
     Ok(told)
 }
 
-/// What a message denies of a question of this name and type, from a zone: `none`, or that there are no data or no name.
+/// The negative answer of a message from a zone to a question of this name and type, or `none`.
 pub fn denial_in(
     alloc: Global,
     octets: &[u8],

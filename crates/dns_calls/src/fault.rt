@@ -1,11 +1,11 @@
-//! Why a call gives nothing.
+//! Faults of a call.
 
 use dns_name::{NameFault, NoMemory};
 use dns_text::TextFault;
 use dns_wire::{EncodeFault, WireFault};
 use thiserror::Error;
 
-/// The fault that the call tells, or what is wrong with its line.
+/// The fault that a call returns, or the fault of its line.
 #[derive(Debug, Drop, Error)]
 pub enum CallFault {
     #[error("{0:?}")]
@@ -18,7 +18,7 @@ pub enum CallFault {
     Encode(#[from] EncodeFault),
     #[error("NoMemory")]
     NoMemory(#[from(alloc)] NoMemory),
-    /// The line has no such word with so many arguments, or an argument is not what the call takes.
+    /// No call has this word and number of arguments, or an argument is not of the kind that the call takes.
     #[error("NoCall")]
     NoCall,
 }

@@ -1,4 +1,4 @@
-//! Calls of what a message is believed to say.
+//! Calls for the harvest of a message.
 
 use crate::denials::{denial_words, push_scope, question_of};
 use crate::fault::CallFault;
@@ -20,7 +20,7 @@ fn push_each(data: &[Data], out: &mut Vec<u8>) -> Result<(), NoMemory> {
     Ok(())
 }
 
-/// `set`, the rank, the time to live, the owner, the type and the data; or what is denied.
+/// `set`, the rank, the TTL, the owner, the type and the data; or the negative answer.
 pub fn find_words(alloc: Global, find: &Find) -> Result<Vec<u8>, NoMemory> {
     let Body::Set(data) = &find.body else {
         return denial_words(alloc, find);
@@ -53,7 +53,7 @@ fn push_part(part: &[u8], out: &mut Vec<u8>) -> Result<(), NoMemory> {
     out.extend_from_slice(part)
 }
 
-/// The finds in order, and then the sets that pass; `none` where there are none.
+/// The finds in order, and then the passing sets; `none` if there are none.
 fn harvest_words(alloc: Global, harvest: &Harvest) -> Result<Vec<u8>, NoMemory> {
     let mut told = Vec::new(alloc);
     for find in harvest.finds.as_slice() {
@@ -68,7 +68,7 @@ fn harvest_words(alloc: Global, harvest: &Harvest) -> Result<Vec<u8>, NoMemory> 
     Ok(told)
 }
 
-/// What a message is believed to say of a question of this name and type that a server of a zone was asked.
+/// The harvest of a message from a server of a zone that was asked a question of this name and type.
 pub fn harvest_in(
     alloc: Global,
     octets: &[u8],

@@ -1,4 +1,4 @@
-//! Calls of replies whose records are lent.
+//! Calls for replies with borrowed records.
 
 ghost use Rattle.std.specs.Prelude.{IfOk};
 ghost use Rattle.std.specs.List.{AllByRecursion};
@@ -12,7 +12,7 @@ use dns_text::{Data, Ttl, read_data, read_type};
 use dns_wire::{Head, LentRecord, NoRecords, Opcode, Query, Rcode, Reserved, Section, encode_lent};
 use std::alloc::Global;
 
-/// A set of one owner, type and time to live.
+/// An RRset: one owner, type and TTL.
 #[derive(Drop)]
 struct LentSet<'a> {
     owner: &'a Name,
@@ -60,7 +60,7 @@ fn read_set(alloc: Global, kind: u16, texts: &[Vec<u8>]) -> Result<Vec<Data>, Ca
     Ok(data)
 }
 
-/// A time to live of four octets.
+/// A TTL of four octets.
 fn ttl_of(octets: &[u8]) -> Result<Ttl, CallFault> {
     let [a, b, c, d] = octets else {
         return Err(CallFault::NoCall);
@@ -83,7 +83,7 @@ fn head_of(query: &Query) -> Head {
     }
 }
 
-/// The reply to a query whose answer is a set of this owner, type and time to live.
+/// The reply to a query whose answer is an RRset with this owner, type and TTL.
 pub fn lent_octets(
     alloc: Global,
     query: &[u8],

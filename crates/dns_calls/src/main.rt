@@ -1,7 +1,7 @@
-//! Reads lines from standard input, each a call of the crates that say what DNS says, and writes one line for each: what
-//! the call gives, or `fault` and why it gives nothing.
+//! A program that calls the crates of DNS rules. It reads lines from standard input, each a call, and writes one line for
+//! each: the result of the call, or `fault` and the fault.
 //!
-//! A call is a word and its arguments, `calls` has them all. An argument is octets as hexadecimal digits, or `-` for none.
+//! A call is a word and its arguments; `calls` has them all. An argument is octets as hexadecimal digits, or `-` for none.
 #![tactic(auto)]
 
 mod arguments; // the arguments of a call
@@ -21,7 +21,7 @@ use calls::call;
 use std::io;
 use std::io::{BufRead, Input, Write};
 
-/// Writes what the call of a line gives.
+/// Writes the result of the call of a line.
 fn tell(rt: &HostRuntime, line: &[u8]) -> io::Result<()> {
     match call(rt.alloc(), line) {
         Ok(text) => rt.stdout().write_all(&text),

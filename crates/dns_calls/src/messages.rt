@@ -1,4 +1,4 @@
-//! Calls of messages and queries.
+//! Calls for messages and queries.
 
 ghost use Rattle.std.specs.Prelude.{◌≡◌, [], ◌∷◌};
 ghost use Rattle.std.specs.Bool.{OnTrue};
@@ -19,13 +19,13 @@ pub fn words_of(alloc: Global, octets: &[u8]) -> Result<Vec<u8>, CallFault> {
     Ok(message_words(alloc, &decode(alloc, octets)?)?)
 }
 
-/// The octets as which the message that octets are is written.
+/// The octets to which a message is written, after it was read from octets.
 pub fn encoding_of(alloc: Global, octets: &[u8]) -> Result<Vec<u8>, CallFault> {
     let written = encode(alloc, &decode(alloc, octets)?)?;
     Ok(digits(alloc, &written)?)
 }
 
-/// Whether a message that is written is read as the same message.
+/// Whether a written message is read back as the same message.
 pub fn is_read_again(alloc: Global, octets: &[u8]) -> Result<Vec<u8>, CallFault> {
     let message = decode(alloc, octets)?;
     let written = encode(alloc, &message)?;
@@ -43,7 +43,7 @@ fn query_words(alloc: Global, query: &Query) -> Result<Vec<u8>, CallFault> {
     Ok(told)
 }
 
-/// What octets ask a server for: `drop`, an RCODE, or a question with its octets.
+/// The request in octets that a server received: `drop`, an RCODE, or a question with its octets.
 pub fn verdict_on(alloc: Global, octets: &[u8]) -> Result<Vec<u8>, CallFault> {
     match read_question(alloc, octets)? {
         Asked::Drop => Ok(Vec::from_slice(alloc, b"drop")?),
@@ -55,7 +55,7 @@ pub fn verdict_on(alloc: Global, octets: &[u8]) -> Result<Vec<u8>, CallFault> {
     }
 }
 
-/// The reply to octets that tells an RCODE of one octet, or `none`.
+/// The error reply to octets with an RCODE of one octet, or `none`.
 pub fn fault_reply_to(alloc: Global, octets: &[u8], rcode: &[u8]) -> Result<Vec<u8>, CallFault> {
     let [number] = rcode else {
         return Err(CallFault::NoCall);
@@ -69,6 +69,7 @@ pub fn fault_reply_to(alloc: Global, octets: &[u8], rcode: &[u8]) -> Result<Vec<
     }
 }
 
+/// The query in octets that ask for an answer.
 pub fn query_in(alloc: Global, octets: &[u8]) -> Result<Query, CallFault> {
     match read_question(alloc, octets)? {
         Asked::Good(query) => Ok(query),
@@ -76,7 +77,7 @@ pub fn query_in(alloc: Global, octets: &[u8]) -> Result<Query, CallFault> {
     }
 }
 
-/// A reply to a query, cut for UDP.
+/// A reply to a query, truncated for UDP.
 pub fn reply_over_udp(alloc: Global, query: &[u8], reply: &[u8]) -> Result<Vec<u8>, CallFault> {
     let query = query_in(alloc, query)?;
     let mut octets = Vec::from_slice(alloc, reply)?;
@@ -95,7 +96,7 @@ fn is_reply(query: &Query, message: &Message) -> bool
     }
 }
 
-/// A message written as the reply to a query, whose question is its only one.
+/// A message written as the reply to a query. Its only question is that of the query.
 pub fn reply_octets(alloc: Global, query: &[u8], reply: &[u8]) -> Result<Vec<u8>, CallFault> {
     let query = query_in(alloc, query)?;
     let reply = decode(alloc, reply)?;

@@ -1,4 +1,4 @@
-//! Calls of names.
+//! Calls for names.
 
 use crate::fault::CallFault;
 use dns_name::{Name, NoMemory};
@@ -39,7 +39,7 @@ pub fn labels_of(alloc: Global, text: &[u8]) -> Result<Vec<u8>, CallFault> {
     Ok(told)
 }
 
-/// How many octets a name takes in a message.
+/// The number of octets of a name in a message.
 pub fn length_of(alloc: Global, text: &[u8]) -> Result<Vec<u8>, CallFault> {
     let len = Name::from_text(alloc, text)?.wire_len();
     Ok(format!(in alloc; "{len}")?.into_bytes())
@@ -60,7 +60,7 @@ pub fn parent_of(alloc: Global, text: &[u8]) -> Result<Vec<u8>, CallFault> {
     }
 }
 
-/// Which of two names comes first.
+/// The order of two names.
 pub fn order_of(alloc: Global, text: &[u8], other: &[u8]) -> Result<Vec<u8>, CallFault> {
     let order = Name::from_text(alloc, text)?.cmp(&Name::from_text(alloc, other)?);
     Ok(format!(in alloc; "{order:?}")?.into_bytes())

@@ -1,4 +1,4 @@
-//! Calls of what is read from text and written as text.
+//! Calls that read text and write it again.
 
 use crate::fault::CallFault;
 use dns_text::{

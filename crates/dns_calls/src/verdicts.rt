@@ -1,4 +1,4 @@
-//! Calls of what came of a query.
+//! Calls for the verdict on a response.
 
 use crate::denials::{denial_words, question_of};
 use crate::fault::CallFault;
@@ -29,7 +29,7 @@ fn over_of(over: &[u8]) -> Result<Over, CallFault> {
     }
 }
 
-/// The octets of the query of a question, with an identifier.
+/// The octets of the query for a question, with an identifier.
 pub fn query_octets(
     alloc: Global,
     id: &[u8],
@@ -48,7 +48,7 @@ fn believed_words(alloc: Global, set: Believed<'_>) -> Result<Vec<u8>, NoMemory>
     }
 }
 
-/// `answers` and the set that is asked for, or `alias` and the set of the name's CNAME.
+/// `answers` and the set that the question asks for, or `alias` and the CNAME set of the name.
 fn answer_words(alloc: Global, heard: &Heard, question: &Question) -> Result<Vec<u8>, CallFault> {
     let owner = question.owner.clone()?;
     let alias = Question { owner, kind: CNAME };
@@ -64,7 +64,7 @@ fn answer_words(alloc: Global, heard: &Heard, question: &Question) -> Result<Vec
     Ok(told)
 }
 
-/// `denies`, the RCODE, and what is denied or `none`.
+/// `denies`, the RCODE, and the negative answer or `none`.
 fn denied_words(
     alloc: Global,
     rcode: u8,
@@ -78,7 +78,7 @@ fn denied_words(
     Ok(told)
 }
 
-/// `refers`, the zone, the addresses, and behind a bar the servers that have none.
+/// `refers`, the zone, the addresses, and behind a bar the servers without an address.
 fn referral_words(alloc: Global, referral: &Referral) -> Result<Vec<u8>, NoMemory> {
     let mut told = Vec::from_slice(alloc, b"refers ")?;
     referral.zone.push_text(&mut told)?;
@@ -112,8 +112,8 @@ fn verdict_words(
     }
 }
 
-/// What came of a query over `udp` or `tcp`, with an identifier of two octets and a question of this name and type, of a
-/// server of a zone.
+/// The verdict on octets that came for a query over `udp` or `tcp`, with an identifier of two octets and a question of this
+/// name and type, to a server of a zone.
 pub fn verdict_in(
     alloc: Global,
     octets: &[u8],

@@ -71,7 +71,7 @@ fn push_section(
     Ok(())
 }
 
-/// All that a message says.
+/// The whole message.
 pub fn message_words(alloc: Global, message: &Message) -> Result<Vec<u8>, NoMemory> {
     let mut out = head_words(alloc, &message.head)?;
     for question in message.questions.as_slice() {

@@ -6,6 +6,7 @@ use Rattle.dns_name.specs.Labels.{Labels, IsAtOrBelow}
 use Rattle.dns_name.specs.Order.{name_eq, name_eq_exact, name_eq_itself}
 use Rattle.dns_name.specs.Below.{is_at_or_below}
 
+-- a name is at or below itself
 pub below_itself : (n : Labels) → is_at_or_below n n ≡ true
 below_itself [] = name_eq_itself []
 below_itself (l ∷ n) = or_left (name_eq (l ∷ n) (l ∷ n)) _ (name_eq_itself (l ∷ n))
@@ -14,9 +15,11 @@ below_front : (front n z : Labels) → n ≡ front ++ z → is_at_or_below n z �
 below_front [] n z e = rw e (below_itself z)
 below_front (l ∷ front) n z e = rw e (or_right (name_eq (l ∷ (front ++ z)) z) _ (below_front front (front ++ z) z refl))
 
+-- the test finds each name that is at or below a zone
 pub below_from_fact : (n z : Labels) → IsAtOrBelow n z → is_at_or_below n z ≡ true
 below_from_fact n z h = below_front h.0 n z h.1
 
+-- the test finds no other name
 pub fact_from_below : (n z : Labels) → is_at_or_below n z ≡ true → IsAtOrBelow n z
 fact_from_below [] z e = ([], name_eq_exact [] z e)
 fact_from_below (l ∷ n) z e =

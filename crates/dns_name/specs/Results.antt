@@ -1,23 +1,23 @@
--- What came of a step that may fail: words for every crate, generic in the value and in the fault.
+-- Results of steps that may fail: definitions for every crate, generic in the value and the fault.
 use Rattle.std.specs.Prelude.{◌≡◌, ◌≢◌, Option, Some, None, Result, Ok, Err}
 
--- goes on with what came of a step, unless it failed
+-- goes on with the value of a step, unless it failed
 infixl 10 ◌>>=◌
 abbrev pub ◌>>=◌ : {A B E : Type 0} → Result A E → (A → Result B E) → Result B E
 (Ok x) >>= f = f x
 (Err fault) >>= f = Err fault
 
--- what was found, or this fault where nothing was
+-- what was found, or this fault if nothing was
 abbrev pub or_fault : {A E : Type 0} → E → Option A → Result A E
 or_fault fault None = Err fault
 or_fault fault (Some x) = Ok x
 
--- a function on the value
+-- the result with a function applied to its value
 abbrev pub result_map : {A B E : Type 0} → (A → B) → Result A E → Result B E
 result_map f (Ok x) = Ok (f x)
 result_map f (Err fault) = Err fault
 
--- What a function answered is what a definition says, unless it told that memory ran out, which no definition says.
+-- A function returned what a definition says, unless it returned that memory ran out, which no definition says.
 abbrev pub GivesBut : {A E : Type 0} → E → Result A E → Result A E → Type 0
 GivesBut no_memory (Ok x) said = said ≡ Ok x
 GivesBut no_memory (Err fault) said = fault ≢ no_memory → said ≡ Err fault

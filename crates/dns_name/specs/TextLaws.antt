@@ -1,4 +1,4 @@
--- Names as text: what stands for a name is read as it, and what is written stands for it. Lemmas, which proofs here and in
+-- Names as text: a text that stands for a name is read as that name, and the text that is written stands for it. Lemmas, which proofs here and in
 -- the crates above cite; no contract needs them.
 use Rattle.std.proofs.Common.{◌≡◌, ◌≢◌, ◌⊎◌, ℕ, zero, suc, ◌+◌, ◌-◌, ◌/◌, ◌%◌, ◌<◌, ◌≤◌, Bool, true, false, cond, eqb, List, [], ◌∷◌, ◌++◌, length, map, drop, Some, None, Ok, Err, refl, sym, ap, subst, ◌∙◌, append_assoc, arith, length-append, inl, inr}
 use Rattle.std.proofs.lemmas.Bool.{eqb-true, ne_eqb, le-ltb, lt-ltb, cases_Bool, agree_below, agree_below_at, and_parts, not-true, false_from_ne_true}
@@ -21,12 +21,14 @@ use Rattle.dns_name.specs.Text.{decimal, IsOctetText, itself, quoted, numbered, 
 
 -- ---- one atom after another
 
+-- skipping octets is reading the text behind them
 pub read-skip : (before : Labels) (part : List ℕ) (skip : ℕ) (text : List ℕ) → read before part skip text ≡ read before part 0 (drop skip text)
 unfolding read
 read-skip before part zero text = refl
 read-skip before part (suc skip) [] = refl
 read-skip before part (suc skip) (c ∷ text) = read-skip before part skip text
 
+-- one dot or octet of a label is read, then the text behind it
 pub read_step : (before : Labels) (part text : List ℕ) (atom : Atom) (k : ℕ) (next : Labels × List ℕ) → 0 < length text → 0 < k → atom_at text ≡ Some (atom, k) → after_atom before part atom ≡ Ok next → read before part 0 text ≡ read next.0 next.1 0 (drop k text)
 unfolding read
 read_step before part [] atom k next some more here e = absurd (omega arith)
@@ -34,16 +36,19 @@ read_step before part (c ∷ text) atom zero next some more here e = absurd (ome
 read_step before part (c ∷ text) atom (suc k) next some more here e =
     rw (here, e) (let one : suc k - 1 ≡ k = omega arith in rw one (read-skip next.0 next.1 k text))
 
+-- a dot or octet that does not fit is the fault of the text
 pub read_fault : (before : Labels) (part text : List ℕ) (atom : Atom) (k : ℕ) (fault : NameFault) → 0 < length text → atom_at text ≡ Some (atom, k) → after_atom before part atom ≡ Err fault → read before part 0 text ≡ Err fault
 unfolding read
 read_fault before part [] atom k fault some here e = absurd (omega arith)
 read_fault before part (c ∷ text) atom k fault some here e = rw (here, e) refl
 
+-- a front that is neither a dot nor an octet of a label is a bad escape
 pub read_bad : (before : Labels) (part text : List ℕ) → 0 < length text → atom_at text ≡ None → read before part 0 text ≡ Err BadEscape
 unfolding read
 read_bad before part [] some here = absurd (omega arith)
 read_bad before part (c ∷ text) some here = rw here refl
 
+-- at the end of the text the labels are complete
 pub read_end : (before : Labels) (part text : List ℕ) → length text ≡ 0 → read before part 0 text ≡ labels_at_end before part
 unfolding read
 read_end before part [] e = refl
@@ -57,21 +62,26 @@ graphic_true b h = grind (arith, nat_tests)
 digit_true : (b : ℕ) → IsAsciiDigit b → is_ascii_digit b ≡ true
 digit_true b h = grind (arith, nat_tests)
 
+-- an octet that passes the test is printable
 pub graphic_from : (b : ℕ) → is_ascii_graphic b ≡ true → IsAsciiGraphic b
 graphic_from b h = grind (arith, nat_tests)
 
+-- an octet that passes the test is a digit
 pub digit_from : (b : ℕ) → is_ascii_digit b ≡ true → IsAsciiDigit b
 digit_from b h = grind (arith, nat_tests)
 
+-- an octet that fails the test is no digit
 pub digit_apart : (b : ℕ) → is_ascii_digit b ≡ false → ¬ IsAsciiDigit b
 digit_apart b e h = let e' : is_ascii_digit b ≡ true = digit_true b h in cc
 
+-- the text of an octet is read as that octet, whatever follows
 pub atom_of_piece : (piece : List ℕ) (b : ℕ) (rest : List ℕ) → IsOctetText piece b → atom_at (piece ++ rest) ≡ Some (Octet b, length piece)
 atom_of_piece piece b rest (itself graphic dot slash e) = rw e (rw (ne_eqb b 46 dot, ne_eqb b 92 slash, graphic_true b graphic) refl)
 atom_of_piece piece b rest (quoted graphic digit e) = rw e (rw (false_from_ne_true (is_ascii_digit b) (λ d. digit (digit_from b d)), graphic_true b graphic) refl)
 atom_of_piece piece b rest (numbered x y z dx dy dz is small e) =
     rw (e, is) (rw (digit_true x dx, digit_true y dy, digit_true z dz) (rw (lt-ltb (decimal x y z) 256 (rw (← is) small)) refl))
 
+-- the text of an octet is not empty
 pub length_piece : (piece : List ℕ) (b : ℕ) → IsOctetText piece b → 0 < length piece
 length_piece piece b (itself graphic dot slash e) = omega (arith, ap length e)
 length_piece piece b (quoted graphic digit e) = omega (arith, ap length e)
@@ -85,6 +95,7 @@ read_piece before part piece b rest stands few room =
     read_step before part (piece ++ rest) (Octet b) (length piece) (before, part ++ b ∷ []) (omega (arith, length_piece piece b stands, length-append piece rest)) (length_piece piece b stands) (atom_of_piece piece b rest stands) (octet_fits before part b few room)
     ∙ ap (read before (part ++ b ∷ []) 0) (drop_at piece rest (length piece) refl)
 
+-- the texts of octets are read as those octets, if they fit
 pub read_pieces : (before : Labels) (part : List ℕ) (pieces : List (List ℕ)) (octets rest : List ℕ) → EachPair IsOctetText pieces octets → length part + length octets ≤ MAX_LABEL_OCTETS → wire_len_with before (length part + length octets) ≤ MAX_NAME_OCTETS → read before part 0 (concat pieces ++ rest) ≡ read before (part ++ octets) 0 rest
 read_pieces before part [] [] rest each few room = ap (λ (x : List ℕ). read before x 0 rest) (sym (append-nil part))
 read_pieces before part [] (b ∷ octets) rest each few room = absurd each
@@ -107,6 +118,7 @@ read_octets before text label rest h one room =
 dot_ends : (before : Labels) (part : List ℕ) → 0 < length part → after_atom before part Dot ≡ Ok (before ++ map to_ascii_lowercase part ∷ [], [])
 dot_ends before part some = rw (ne_eqb (length part) 0 (λ e. omega arith)) refl
 
+-- the text of a label with a dot behind it is read as that label
 pub read_label_dot : (before : Labels) (text label rest : List ℕ) → IsLabelText text label → IsLabel label → wire_len_with before (length label) ≤ MAX_NAME_OCTETS → read before [] 0 (text ++ 46 ∷ rest) ≡ read (before ++ label ∷ []) [] 0 rest
 read_label_dot before text label rest h one room =
     let dot : List ℕ = 46 ∷ rest in
@@ -122,7 +134,7 @@ ended_dot : (before : Labels) (label : List ℕ) → labels_at_end (before ++ la
 ended_dot [] label = refl
 ended_dot (l ∷ before) label = refl
 
--- what may stand behind the last label
+-- the last label has a dot behind it or nothing
 abbrev pub IsLastDot : List ℕ → Type 0
 IsLastDot tail = (tail ≡ []) ⊎ (tail ≡ 46 ∷ [])
 
@@ -200,6 +212,7 @@ read_dotted : (text : List ℕ) (labels : Labels) (texts : List (List ℕ)) → 
 read_dotted text [] texts each name e = root_is_read texts text each e
 read_dotted text (label ∷ labels) texts each name e = read_joined texts (label ∷ labels) text (46 ∷ []) each name (λ none. cc) e (inr refl)
 
+-- a text that stands for a name is read as that name
 pub what_stands_is_read : (text : List ℕ) (labels : Labels) → IsNameText text labels → name_in text ≡ Ok labels
 what_stands_is_read text labels h =
     elim h.dots [
@@ -270,11 +283,12 @@ dots_of_text label (next ∷ labels) =
     ∙ append_assoc text (46 ∷ []) (rest ++ 46 ∷ [])
     ∙ sym (append_assoc text (46 ∷ rest) (46 ∷ []))
 
+-- the text of a name stands for it
 pub text_of-IsNameText : (labels : Labels) → IsName labels → IsNameText (text_of labels) labels
 text_of-IsNameText [] h = record { texts = []; dots = inl refl; each = tt; name = h }
 text_of-IsNameText (label ∷ labels) h =
     record { texts = map (λ l. flat_map octet_text l) (label ∷ labels); dots = inl (dots_of_text label labels); each = written_labels (label ∷ labels) h.each; name = h }
 
--- What is written is read back as the same name.
+-- the text of a name is read back as that name
 pub name_in-text_of : (labels : Labels) → IsName labels → name_in (text_of labels) ≡ Ok labels
 name_in-text_of labels h = what_stands_is_read (text_of labels) labels (text_of-IsNameText labels h)

@@ -1,4 +1,4 @@
-//! How long labels and names may be (RFC 1035 section 2.3.4).
+//! The limits on labels and names (RFC 1035, section 2.3.4).
 
 /// The most octets of a label.
 pub const MAX_LABEL_OCTETS: usize = 63;
@@ -9,5 +9,5 @@ pub const MAX_NAME_OCTETS: usize = 255;
 /// The most labels of a name: each takes two octets or more.
 pub const MAX_LABELS: usize = (MAX_NAME_OCTETS - 1) / 2;
 
-// The most octets that the labels of a name take, each behind its length.
+/// The most octets that the labels of a name take, each behind its length.
 pub(crate) const MAX_SPELLED_OCTETS: usize = MAX_NAME_OCTETS - 1;

@@ -12,25 +12,25 @@ use crate::NoMemory;
 use crate::builder::NameBuilder;
 use crate::fault::NameFault;
 use crate::limits::{MAX_LABELS, MAX_SPELLED_OCTETS};
-use crate::octets::Octets;
+use crate::octets::NameOctets;
 use arrayvec::ArrayVec;
 use std::alloc::Global;
 use std::cmp::Ordering;
 use std::hash::{Hash, Hasher};
 use std::marker::Model;
 
-/// A domain name (RFC 1034 section 3.1): its labels in lower case, the leftmost first. The root has
+/// A domain name (RFC 1034, section 3.1): its labels in lower case, the leftmost first. The root has
 /// none. Each has 1 to `MAX_LABEL_OCTETS` octets, and the name at most `MAX_NAME_OCTETS` in a message.
 ///
-/// Two names are equal where their labels are. They are ordered by labels from the root, each label
+/// Two names are equal if their labels are. They are ordered by labels from the root, each label
 /// compared as octets, so a zone comes right before the names below it.
 ///
-/// A copy takes no memory. That of a name of more than 31 octets in a message is one more owner of
-/// the same octets; where there are too many owners to count, `clone` answers `NoMemory`.
+/// A copy takes no memory: copies of a name of more than 31 octets in a message share the same
+/// octets. If there are too many copies to count, `clone` returns `NoMemory`.
 #[derive(Drop)]
 pub struct Name {
     // The labels from the root, each behind its length: those of a zone are a prefix.
-    octets: Octets,
+    octets: NameOctets,
 }
 
 impl Model for Name {
@@ -50,13 +50,13 @@ impl Name {
         ensures { result ≡ [] }
     {
         Name {
-            octets: Octets::none(),
+            octets: NameOctets::none(),
         }
     }
 
-    /// The name of these labels, the leftmost first; capitals become small letters.
+    /// The name of these labels, the leftmost first. Capitals become small letters.
     ///
-    /// Each label is judged as a whole, from the left: `EmptyLabel`, `LongLabel`, then `LongName`.
+    /// Each label is checked as a whole, from the left: `EmptyLabel`, `LongLabel`, then `LongName`.
     pub fn from_labels(alloc: Global, labels: &[&[u8]]) -> Result<Name, NameFault>
         ensures exact { Gives result (name_after [] (map (λ l. l.now) labels.now)) }
         ensures value { IfOk result (λ n. n ≡ lowercase_labels (map (λ l. l.now) labels.now)) }
@@ -65,7 +65,7 @@ impl Name {
         build(alloc, labels)
     }
 
-    /// The name of the labels that a buffer spells from `start` on, from the root.
+    /// The name of the labels that a buffer spells from `start` on, the one next to the root first.
     pub(crate) fn from_buffer(
         alloc: Global,
         buffer: &[u8; MAX_SPELLED_OCTETS],
@@ -76,7 +76,7 @@ impl Name {
         ensures { IfOk result (λ n. n ≡ labels_of (drop start buffer.now)) }
     {
         Ok(Name {
-            octets: Octets::from_buffer(alloc, buffer, start)?,
+            octets: NameOctets::from_buffer(alloc, buffer, start)?,
         })
     }
 
@@ -103,7 +103,7 @@ impl Name {
         }
     }
 
-    /// The labels from the root, each behind its length. It takes no memory.
+    /// The labels, the one next to the root first, each behind its length. It takes no memory.
     pub fn octets(&self) -> &[u8]
         ensures value { result.now ≡ octets_of self.now }
         ensures spelled { IsOctets result.now }
@@ -113,7 +113,7 @@ impl Name {
         self.octets.as_slice()
     }
 
-    /// How many octets the name takes in a message, with the zero octet that ends it: 1 to `MAX_NAME_OCTETS` (RFC 1035 section 3.1).
+    /// How many octets the name takes in a message, with the zero octet that ends it: 1 to `MAX_NAME_OCTETS` (RFC 1035, section 3.1).
     pub fn wire_len(&self) -> usize
         ensures len { result ≡ wire_len self.now }
         ensures name { IsName self.now }
@@ -121,9 +121,9 @@ impl Name {
         self.octets().len() + 1
     }
 
-    /// Writes the labels behind what `out` holds, as they stand in a message, each behind its length,
-    /// without the zero octet that ends a name (RFC 1035 section 3.1). Where memory runs out, some
-    /// of them may stand there.
+    /// Writes the labels behind what `out` holds, each behind its length, as in a message but
+    /// without the zero octet that ends a name (RFC 1035, section 3.1). If memory runs out, some of
+    /// them may have been written.
     pub fn push_spelled(&self, out: &mut Vec<u8>) -> Result<(), NoMemory>
         ensures { OnOk result (out.new.items ≡ out.old.items ++ spelled self.now) }
     {
@@ -139,11 +139,11 @@ impl Name {
     }
 }
 
-/// The labels of a name that are still to come, the leftmost first.
+/// An iterator over the labels of a name, the leftmost first. Contracts see the labels that are left.
 #[derive(Drop)]
 pub struct Labels<'a> {
     octets: &'a [u8],
-    // Where each label begins, the one next to the root first. A label takes two octets or more.
+    // The place where each label begins, the one next to the root first. A label takes two octets or more.
     starts: ArrayVec<u8, MAX_LABELS>,
 }
 
@@ -173,6 +173,7 @@ impl<'a> Iterator for Labels<'a> {
     }
 }
 
+/// Adds labels one by one to a new name.
 #[tactic(auto, unfolding(crate::specs::Making::name_after))]
 fn build(alloc: Global, labels: &[&[u8]]) -> Result<Name, NameFault>
     ensures { Gives result (name_after [] (map (λ l. l.now) labels.now)) }
@@ -205,7 +206,7 @@ fn push_labels(octets: &[u8], out: &mut Vec<u8>) -> Result<(), NoMemory>
     out.extend_from_slice(&octets[..label.len() + 1])
 }
 
-/// Where each label of a run of octets begins.
+/// The place where each label of a run of octets begins.
 fn label_starts(octets: &[u8]) -> ArrayVec<u8, MAX_LABELS>
     requires { IsOctets octets.now }
     ensures { result.items ≡ starts_from 0 (labels_in octets.now) }
@@ -221,7 +222,7 @@ fn label_starts(octets: &[u8]) -> ArrayVec<u8, MAX_LABELS>
     starts
 }
 
-/// The last label of a run of octets, whose start it takes away, and the octets before it.
+/// The last label of a run of octets, whose start it removes, and the octets before it.
 fn pop_label<'a>(
     octets: &'a [u8],
     starts: &mut ArrayVec<u8, MAX_LABELS>,
@@ -259,14 +260,14 @@ fn compare(a: &[u8], b: &[u8]) -> Ordering
     }
 }
 
-/// In the order of names a subtree is one run, and its zone comes first: so the names at or below
-/// a zone are found by a walk from the zone on, up to the first that is not.
+/// In the order of names a zone and the names below it are contiguous, and the zone comes first. So a
+/// walk from the zone on finds them all before the first name that is not among them.
 pub fn subtree_law()
     ensures zone_is_first { ZoneIsFirst }
     ensures contiguous { SubtreeIsContiguous }
 {}
 
-/// The octets of a zone are a prefix of those of a name exactly where the name is at or below the zone.
+/// The octets of a zone are a prefix of those of a name exactly if the name is at or below the zone.
 pub fn octets_law()
     ensures below { (n z : Labels) → IsAtOrBelow n z → (rest : List ℕ) × (octets_of n ≡ octets_of z ++ rest) }
     ensures prefix { (n z : Labels) (rest : List ℕ) → octets_of n ≡ octets_of z ++ rest → IsAtOrBelow n z }

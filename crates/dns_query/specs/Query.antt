@@ -1,4 +1,4 @@
--- The query of a question (RFC 1034, section 5.3.3, step 3; RFC 1035, section 4.1).
+-- The query for a question (RFC 1034, section 5.3.3, step 3; RFC 1035, section 4.1).
 use Rattle.std.specs.Prelude.{ℕ, false, List, [], ◌∷◌}
 use Rattle.dns_name.specs.Labels.{Labels}
 use Rattle.dns_text.specs.declared.record.Question.{Question}
@@ -8,11 +8,11 @@ use Rattle.dns_wire.specs.declared.message.Message.{Message}
 use Rattle.dns_wire.specs.Read.Message.{SpelledMessage}
 use Rattle.dns_wire.specs.Write.Question.{in_class_in}
 
--- no recursion desired, and no other bit set
+-- the head of a query: RD and all other bits are 0
 abbrev pub query_head : ℕ → Head
 query_head id = record { id = id; qr = false; opcode = 0; aa = false; tc = false; rd = false; ra = false; z = 0; rcode = 0 }
 
--- one question of class IN, and nothing else
+-- the query as a message: one question of class IN, and nothing else
 abbrev pub query_message : ℕ → Question → Message
 query_message id question = record {
   head = query_head id;
@@ -22,14 +22,14 @@ query_message id question = record {
   additional = [];
 }
 
--- The octets are the query of a question, with this identifier.
+-- The octets are the query for a question, with this identifier.
 abbrev pub IsQuery : List ℕ → ℕ → Question → Type 0
 IsQuery octets id question = SpelledMessage octets (query_message id question)
 
--- what a name is an alias of
+-- the question for the CNAME record of a name
 abbrev pub alias_question : Labels → Question
 alias_question name = record { owner = name; kind = types.CNAME }
 
--- the IPv4 addresses of a name
+-- the question for the IPv4 addresses of a name
 abbrev pub address_question : Labels → Question
 address_question name = record { owner = name; kind = types.A }

@@ -1,4 +1,4 @@
--- Referrals: responses that say no more of a question than which servers are nearer (RFC 1034, section 5.3.3, step 4b).
+-- Referrals: responses that only name servers nearer to the question's name (RFC 1034, section 5.3.3, step 4b).
 use Rattle.std.specs.Prelude.{◌≡◌, ℕ, ◌==◌, ◌&&◌, ◌||◌, Bool, not, true, false, List, [], ◌∷◌, ◌++◌, length, filter, Option, Some, None, if◌then◌else◌}
 use Rattle.std.specs.List.{filter_map, find, flat_map, list_any, list_all}
 use Rattle.std.specs.Option.{option_map}
@@ -25,15 +25,15 @@ use Rattle.dns_query.specs.declared.verdict.Referral.{Referral}
 
 -- ---- the zone
 
--- whether a record is of class IN; the others say nothing here
+-- whether a record is of class IN; records of other classes are ignored
 abbrev pub is_in : Classed Record → Bool
 is_in r = r.class == CLASS_IN
 
--- whether it is also of this type
+-- whether a record is of class IN and this type
 abbrev pub is_of : ℕ → Classed Record → Bool
 is_of kind r = is_in r && r.item.kind == kind
 
--- whether it is no NS record, or this name's
+-- whether a record is no NS record, or an NS record of this name
 abbrev pub is_own : Labels → Classed Record → Bool
 is_own name r = not (is_of types.NS r) || name_eq r.item.owner name
 
@@ -62,42 +62,43 @@ pub record RefersTo (asked : Labels) (v : Message) (zone : Labels) : Type 0 wher
 abbrev pub target_in : Classed Record → Option Labels
 target_in r = if is_of types.NS r then target_of r.item.body else None
 
--- the servers that a section names, each once (RFC 2181, section 5)
+-- the servers that a section names, without duplicates (RFC 2181, section 5)
 abbrev pub targets_in : List (Classed Record) → List Labels
 targets_in section = each_once name_eq (filter_map target_in section)
 
--- the address that a datum of an A or AAAA record has, with this port
+-- the address in the data of an A or AAAA record, with this port; other data has none
 abbrev pub addr_of : ℕ → Data → List Addr
 addr_of port (A octets) = (record { ip = V4 octets; port = port }) ∷ []
 addr_of port (Aaaa octets) = (record { ip = V6 octets; port = port }) ∷ []
 addr_of port _ = []
 
--- the data of a name and a type in a find, whatever its rank
+-- the data that a find has for a name and a type, whatever its rank
 abbrev pub data_found : Labels → ℕ → Said → List Data
 data_found name kind said = if name_eq said.owner name && has_kind said.scope kind then data_of said.body else []
 
--- and in a set that passes
+-- the data that a passing set has for a name and a type
 abbrev pub data_passing : Labels → ℕ → Set → List Data
 data_passing name kind set = if name_eq set.key.owner name && set.key.kind == kind then set.data_in else []
 
--- the addresses of a server by its records of this type: those of the finds, then those that pass
+-- the addresses of a server from its records of this type: those of the finds, then those of the passing sets
 abbrev pub addrs_by : ℕ → List Said → List Set → ℕ → Labels → List Addr
 addrs_by port finds passing kind name =
     flat_map (λ said. flat_map (addr_of port) (data_found name kind said)) finds ++ flat_map (λ set. flat_map (addr_of port) (data_passing name kind set)) passing
 
--- the addresses of a server, those of IPv4 first
+-- the addresses of a server: IPv4 first, then IPv6
 abbrev pub addrs_of : ℕ → List Said → List Set → Labels → List Addr
 addrs_of port finds passing name = addrs_by port finds passing types.A name ++ addrs_by port finds passing types.AAAA name
 
+-- whether a server has no address
 abbrev pub has_no_addr : ℕ → List Said → List Set → Labels → Bool
 has_no_addr port finds passing name = length (addrs_of port finds passing name) == 0
 
--- These are the addresses of servers, server by server, and the servers that have none.
+-- The referral has the addresses of these servers, server by server, and the servers without an address.
 pub record AreServers (port : ℕ) (finds : List Said) (passing : List Set) (targets : List Labels) (referral : Referral) : Type 0 where
   pub addrs : referral.addrs ≡ flat_map (addrs_of port finds passing) targets
   pub missing : referral.missing ≡ filter (has_no_addr port finds passing) targets
 
--- A response from a zone refers to these servers of one at or above the name, with the addresses that stand in its own harvest.
+-- A response from a zone refers to a zone at or above the question's name and to its servers, with the addresses in its own harvest.
 pub record IsReferral (port : ℕ) (zone : Labels) (question : Question) (v : Message) (referral : Referral) : Type 0 where
   pub refers : RefersTo zone v referral.zone
   pub above : IsAtOrBelow question.owner referral.zone

@@ -1,4 +1,4 @@
-//! The query of a question.
+//! The query for a question.
 
 ghost use Rattle.std.specs.Prelude.{◌≡◌, IfOk};
 ghost use Rattle.dns_wire.specs.WellFormed.{HasForms};
@@ -9,6 +9,7 @@ use dns_text::{Items, Octets, Question};
 use dns_wire::{CLASS_IN, Classed, Head, Message, Opcode, Rcode, Reserved, encode};
 use std::alloc::{AllocError, Global};
 
+/// The head of a query with this identifier.
 fn query_head(id: u16) -> Head
     ensures { result ≡ query_head id }
 {
@@ -25,6 +26,7 @@ fn query_head(id: u16) -> Head
     }
 }
 
+/// The query for a question as a message.
 fn query_message(alloc: Global, id: u16, question: &Question) -> Result<Message, NoMemory>
     ensures { IfOk result (λ v. v ≡ query_message id question.now) }
 {
@@ -47,14 +49,14 @@ fn query_message(alloc: Global, id: u16, question: &Question) -> Result<Message,
     })
 }
 
-/// The query of a question as octets: RD=0, one question of class IN, and nothing else (RFC 1034, section 5.3.3, step 3).
+/// The query for a question as octets: RD is 0, one question of class IN, and nothing else (RFC 1034, section 5.3.3, step 3).
 pub fn query(alloc: Global, id: u16, question: &Question) -> Result<Octets, NoMemory>
     ensures { IfOk result (λ octets. IsQuery octets id question.now) }
 {
     let message = query_message(alloc, id, question)?;
     match encode(alloc, &message) {
         Ok(octets) => Ok(Octets::new(octets)),
-        // One question isn't too long, so only memory was wanting.
+        // One question isn't too long, so only memory can have run out.
         Err(_) => Err(AllocError),
     }
 }

@@ -1,4 +1,4 @@
-//! The sets of a harvest that may be answered.
+//! The sets of a harvest that may be used as answers.
 
 ghost use Rattle.std.specs.Prelude.{◌≡◌, ◌↔◌, IsTrue, MatchOption, map};
 ghost use Rattle.std.specs.List.{AllByRecursion};
@@ -12,13 +12,14 @@ use dns_text::{Question, Shared};
 use harvest::{Harvest, PassingSet};
 use ranked::{Body, Find, Scope, SharedFind};
 
+/// Whether two names are the same.
 pub(crate) fn is_same(name: &Name, other: &Name) -> bool
     ensures { IsTrue result ↔ (name.now ≡ other.now) }
 {
     name == other
 }
 
-/// Whether a find is a set of this name and type that may be answered.
+/// Whether a find is a set of this name and type that may be used as an answer.
 fn is_found_for(find: &Find, owner: &Name, kind: u16) -> bool
     ensures { IsTrue result ↔ IsFoundFor (record { owner = owner.now; kind = kind }) (said_by find.now) }
 {
@@ -28,13 +29,14 @@ fn is_found_for(find: &Find, owner: &Name, kind: u16) -> bool
         && is_same(&find.owner, owner)
 }
 
-/// Whether a set that passes is one of this name and type that may be answered.
+/// Whether a passing set is of this name and type and may be used as an answer.
 fn is_passing_for(set: &PassingSet, owner: &Name, kind: u16) -> bool
     ensures { IsTrue result ↔ IsPassingFor (record { owner = owner.now; kind = kind }) (set_of set.now) }
 {
     set.kind == kind && set.rank.level() >= 2 && is_same(&set.owner, owner)
 }
 
+/// The first find of this name and type that may be used as an answer.
 fn first_found<'a>(finds: &'a [SharedFind], owner: &Name, kind: u16) -> Option<&'a SharedFind>
     ensures { MatchOption result
         (AllByRecursion (λ said. ¬ (IsFoundFor (record { owner = owner.now; kind = kind }) said)) (map said_by finds.now))
@@ -48,6 +50,7 @@ fn first_found<'a>(finds: &'a [SharedFind], owner: &Name, kind: u16) -> Option<&
     None
 }
 
+/// The first passing set of this name and type that may be used as an answer.
 fn first_passing<'a>(
     passing: &'a [Shared<PassingSet>],
     owner: &Name,
@@ -65,7 +68,7 @@ fn first_passing<'a>(
     None
 }
 
-/// The first set of this name and type that may be answered.
+/// The first set of this name and type that may be used as an answer.
 pub(crate) fn believed_of<'a>(harvest: &'a Harvest, owner: &Name, kind: u16) -> Option<Believed<'a>>
     ensures { MatchOption result
         (¬ (HasSetAmong (map said_by harvest.now.finds) (map set_of harvest.now.passing) (record { owner = owner.now; kind = kind })))
@@ -80,8 +83,8 @@ pub(crate) fn believed_of<'a>(harvest: &'a Harvest, owner: &Name, kind: u16) -> 
     }
 }
 
-/// The first set of this question in a harvest that may be answered, of rank 2 or more (RFC 2181, section 5.4.1): among the
-/// finds, else among the sets that pass.
+/// The first set of a harvest that may be used as the answer to this question: it has rank 2 or more (RFC 2181, section
+/// 5.4.1). Finds come before passing sets.
 pub fn believed<'a>(harvest: &'a Harvest, question: &Question) -> Option<Believed<'a>>
     ensures { MatchOption result
         (¬ (HasSetAmong (map said_by harvest.now.finds) (map set_of harvest.now.passing) question.now))

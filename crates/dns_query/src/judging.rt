@@ -1,11 +1,11 @@
-//! What octets say that came of a query.
+//! The judgement of the octets that came for a query.
 
 ghost use Rattle.std.specs.Prelude.{◌≡◌, ◌↔◌, ◌⊎◌, List, map, true, ℕ, IfOk, IsTrue, MatchOption};
 ghost use Rattle.dns_wire.specs.WellFormed.{HasForms};
 ghost use Rattle.neg_rule.specs.Negative.{said_by};
 ghost use Rattle.harvest.specs.Harvest.{finds_in, passing_in};
 ghost use Rattle.harvest.specs.Learnt.{set_of};
-ghost use Rattle.dns_query.specs.Believed.{HasSetAmong};
+ghost use Rattle.dns_query.specs.Believed.{HarvestHasSet};
 ghost use Rattle.dns_query.specs.Query.{alias_question};
 ghost use Rattle.dns_query.specs.Response.{IsRead, IsWhole, Meets};
 ghost use Rattle.dns_query.specs.declared.over.Over.{Over};
@@ -25,9 +25,9 @@ use neg_rule::negative_of;
 use ranked::SharedFind;
 use std::alloc::Global;
 
-/// Whether a harvest has a set of this name and type that may be answered.
+/// Whether a harvest has a set of this name and type that may be used as an answer.
 fn has(harvest: &Harvest, owner: &Name, kind: u16) -> bool
-    ensures { IsTrue result ↔ HasSetAmong (map said_by harvest.now.finds) (map set_of harvest.now.passing) (record { owner = owner.now; kind = kind }) }
+    ensures { IsTrue result ↔ HarvestHasSet harvest.now (record { owner = owner.now; kind = kind }) }
 {
     match believed_of(harvest, owner, kind) {
         Some(_) => true,
@@ -35,15 +35,14 @@ fn has(harvest: &Harvest, owner: &Name, kind: u16) -> bool
     }
 }
 
-/// Whether a harvest has the set that is asked for, or an alias of the name.
+/// Whether a harvest has the set that the question asks for, or a CNAME record of its name.
 fn is_answer(harvest: &Harvest, question: &Question) -> bool
-    ensures { IsTrue result ↔ (HasSetAmong (map said_by harvest.now.finds) (map set_of harvest.now.passing) question.now
-        ⊎ HasSetAmong (map said_by harvest.now.finds) (map set_of harvest.now.passing) (alias_question question.now.owner)) }
+    ensures { IsTrue result ↔ (HarvestHasSet harvest.now question.now ⊎ HarvestHasSet harvest.now (alias_question question.now.owner)) }
 {
     has(harvest, &question.owner, question.kind) || has(harvest, &question.owner, CNAME)
 }
 
-/// What a response denies.
+/// The denial of an authoritative response without an answer.
 fn denies(
     alloc: Global,
     zone: &Name,
@@ -65,7 +64,7 @@ fn denies(
     }
 }
 
-/// What a response with this harvest says of the question, if it does.
+/// The answer, denial or referral of a response with this harvest; none if it has none of them.
 fn says(
     alloc: Global,
     port: u16,
@@ -76,7 +75,9 @@ fn says(
 ) -> Result<Option<Says>, NoMemory>
     requires finds { map said_by harvest.now.finds ≡ finds_in message.now question.now zone.now }
     requires passing { map set_of harvest.now.passing ≡ passing_in message.now question.now zone.now }
-    ensures { IfOk result (λ said. MatchOption said (¬ (Tells port zone.now question.now message.now)) (IsSaid port zone.now question.now message.now)) }
+    ensures { IfOk result (λ said. MatchOption said
+        (¬ (Tells port zone.now question.now message.now))
+        (IsSaid port zone.now question.now message.now)) }
 {
     if is_answer(harvest, question) {
         return Ok(Some(Says::Answers));
@@ -91,7 +92,7 @@ fn says(
     }
 }
 
-/// What a whole response comes to.
+/// The verdict on a whole response.
 fn heard(
     alloc: Global,
     port: u16,
@@ -111,7 +112,7 @@ fn heard(
     }
 }
 
-/// What a message comes to.
+/// The verdict on a message.
 fn judged(
     alloc: Global,
     port: u16,
@@ -136,8 +137,8 @@ fn judged(
     heard(alloc, port, zone, question, message)
 }
 
-/// What octets say that came of a query over this transport, with this identifier and question, of a server of this zone. The
-/// servers of a referral listen at this port. Octets that are no message are struck.
+/// The verdict on octets that came for a query over this transport, with this identifier and question, to a server of this
+/// zone. The servers of a referral listen at this port. Octets that are no message are `Struck`.
 pub fn judge(
     alloc: Global,
     port: u16,

@@ -1,27 +1,27 @@
-//! The query of a question, and what a server's response says of it (RFC 1034, section 5.3.3).
+//! The query for a question, and the verdict on a server's response (RFC 1034, section 5.3.3).
 #![tactic(auto)]
 
 // In the order in which to read them.
 
-// How a query goes out.
+// The transport of a query.
 mod over;
-// The query of a question.
+// The query for a question.
 mod asking;
-// Which octets are a response to it.
+// Octets that are a response to a query.
 mod response;
-// A set that a harvest has.
+// A set of a harvest.
 mod sets;
-// Which sets of a harvest may be answered.
+// The sets of a harvest that may be used as answers.
 mod believing;
-// What came of a query.
+// The verdict on a response.
 mod verdict;
 // The zone to which a response refers.
 mod nearer;
-// The servers that it names, and the addresses that it gives of them.
+// The servers that a response names, and their addresses.
 mod servers;
-// Both.
+// Referrals: the zone, its servers and their addresses.
 mod referral;
-// What octets say that came of a query.
+// Judging the octets that came for a query.
 mod judging;
 
 pub use asking::query;

@@ -12,6 +12,7 @@ use dns_text::Record;
 use dns_text::types::{NS, SOA};
 use dns_wire::{CLASS_IN, Classed, Message, Rcode};
 
+/// Whether a record is of class IN.
 fn is_in(r: &Classed<Record>) -> bool
     ensures { result ≡ is_in r.now }
 {
@@ -25,19 +26,21 @@ pub(crate) fn is_of(kind: u16, r: &Classed<Record>) -> bool
     is_in(r) && r.item.kind == kind
 }
 
-/// Whether a record is no NS record, or this name's.
+/// Whether a record is no NS record, or an NS record of this name.
 fn is_own(name: &Name, r: &Classed<Record>) -> bool
     ensures { result ≡ is_own name.now r.now }
 {
     !is_of(NS, r) || r.item.owner == *name
 }
 
+/// Whether a section has a record of class IN.
 fn has_any(section: &[Classed<Record>]) -> bool
     ensures { result ≡ list_any is_in section.now }
 {
     section.iter().any(|r| is_in(r))
 }
 
+/// Whether a section has an SOA record.
 fn has_soa(section: &[Classed<Record>]) -> bool
     ensures { result ≡ list_any (is_of SOA) section.now }
 {
@@ -52,13 +55,14 @@ fn ns_owner(section: &[Classed<Record>]) -> Option<&Name>
     Some(&first.item.owner)
 }
 
+/// Whether all NS records of a section are of this name.
 fn has_one_owner(section: &[Classed<Record>], name: &Name) -> bool
     ensures { result ≡ list_all (is_own name.now) section.now }
 {
     section.iter().all(|r| is_own(name, r))
 }
 
-/// Whether a response says no more than which servers are nearer, if it does that.
+/// Whether a response may be a referral: it is not authoritative, and has no error, no answer and no SOA record.
 fn may_refer(message: &Message) -> bool
     ensures { IsTrue result ↔ MayRefer message.now }
 {
@@ -77,7 +81,9 @@ fn is_nearer(asked: &Name, zone: &Name) -> bool
 
 /// The zone to which a response refers.
 pub(crate) fn zone_of<'a>(asked: &Name, message: &'a Message) -> Option<&'a Name>
-    ensures { MatchOption result ((zone : Labels) → ¬ (RefersTo asked.now message.now zone)) (λ zone. RefersTo asked.now message.now zone.now) }
+    ensures { MatchOption result
+        ((zone : Labels) → ¬ (RefersTo asked.now message.now zone))
+        (λ zone. RefersTo asked.now message.now zone.now) }
 {
     if !may_refer(message) {
         return None;

@@ -1,4 +1,4 @@
-//! Servers nearer to a name.
+//! Referrals to servers nearer to a name.
 
 ghost use Rattle.std.specs.Prelude.{◌≡◌, map, IfOk, MatchOption};
 ghost use Rattle.neg_rule.specs.Negative.{said_by};

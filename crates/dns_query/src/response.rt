@@ -1,4 +1,4 @@
-//! Which octets are a response to a query.
+//! Responses to a query, from their octets.
 
 ghost use Rattle.std.specs.Prelude.{◌↔◌, IfOk, IsTrue, MatchOption};
 ghost use Rattle.dns_wire.specs.Read.Decoding.{IsUnspelled};
@@ -35,7 +35,7 @@ pub(crate) fn meets(id: u16, question: &Question, message: &Message) -> bool
     questions.len() == 1 && questions[0].class == CLASS_IN && questions[0].item == *question
 }
 
-/// Whether it is whole, and says that there is no error or no such name.
+/// Whether a response was not truncated, and its RCODE is no error or no such name.
 pub(crate) fn is_whole(message: &Message) -> bool
     ensures { IsTrue result ↔ IsWhole message.now }
 {
@@ -43,7 +43,7 @@ pub(crate) fn is_whole(message: &Message) -> bool
         && (message.head.rcode == Rcode::NO_ERROR || message.head.rcode == Rcode::NAME_ERROR)
 }
 
-/// Whether it was truncated to fit a datagram.
+/// Whether a response was truncated to fit a datagram.
 pub(crate) fn is_cut(over: Over, message: &Message) -> bool
     ensures { IsTrue result ↔ IsCut over message.now }
 {

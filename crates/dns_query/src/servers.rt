@@ -1,4 +1,4 @@
-//! The servers that a response names, and the addresses that it gives of them.
+//! The servers that a response names, and their addresses.
 
 ghost use Rattle.std.specs.Prelude.{◌≡◌, ◌==◌, ◌∷◌, ◌++◌, [], filter, length, map, if◌then◌else◌, IfOk, OnOk};
 ghost use Rattle.std.specs.List.{flat_map};
@@ -36,7 +36,7 @@ fn target_in(r: &Classed<Record>) -> Option<&Name>
     }
 }
 
-/// Adds a name, unless it is there. The set has those that are.
+/// Adds a name, unless it is there. The set has the names that are there.
 fn push_once(
     name: &Name,
     seen: &mut BTreeSet<Name>,
@@ -53,7 +53,7 @@ fn push_once(
     Ok(())
 }
 
-/// The servers that a section names, each once.
+/// The servers that a section names, without duplicates.
 pub(crate) fn targets_in(alloc: Global, section: &[Classed<Record>]) -> Result<Vec<Name>, NoMemory>
     ensures { IfOk result (λ targets. targets.items ≡ targets_in section.now) }
 {
@@ -67,6 +67,7 @@ pub(crate) fn targets_in(alloc: Global, section: &[Classed<Record>]) -> Result<V
     Ok(targets)
 }
 
+/// Adds the address in the data of an A or AAAA record; other data has none.
 fn push_addr(port: u16, datum: &Data, out: &mut Vec<Addr>) -> Result<(), NoMemory>
     ensures { OnOk result (out.new.items ≡ out.old.items ++ addr_of port datum.now) }
 {
@@ -79,6 +80,7 @@ fn push_addr(port: u16, datum: &Data, out: &mut Vec<Addr>) -> Result<(), NoMemor
     Ok(())
 }
 
+/// Adds the addresses in the data of a set.
 fn push_addrs(port: u16, set: &[Data], out: &mut Vec<Addr>) -> Result<(), NoMemory>
     ensures { OnOk result (out.new.items ≡ out.old.items ++ flat_map (addr_of port) set.now) }
 {
@@ -88,6 +90,7 @@ fn push_addrs(port: u16, set: &[Data], out: &mut Vec<Addr>) -> Result<(), NoMemo
     Ok(())
 }
 
+/// The data of a find; a negative answer has none.
 fn data_in(body: &Body) -> &[Data]
     ensures { result.now ≡ data_of body.now }
 {
@@ -113,7 +116,7 @@ fn found_of_kind(find: &Find, kind: u16) -> &[Data]
     }
 }
 
-/// And in a set that passes.
+/// The data of a type in a passing set.
 fn passing_of_kind(set: &PassingSet, kind: u16) -> &[Data]
     ensures { result.now ≡ (if set.now.kind == kind then set.now.data else []) }
 {
@@ -132,7 +135,8 @@ fn add_addrs(
     set: &[Data],
     index: &mut BTreeMap<Name, Vec<Addr>>,
 ) -> Result<(), NoMemory>
-    ensures { OnOk result ((name : Labels) → addrs_at index.new name ≡ addrs_at index.old name ++ (if name_eq owner.now name then flat_map (addr_of port) set.now else [])) }
+    ensures { OnOk result ((name : Labels) → addrs_at index.new name
+        ≡ addrs_at index.old name ++ (if name_eq owner.now name then flat_map (addr_of port) set.now else [])) }
 {
     if set.is_empty() {
         return Ok(());
@@ -146,6 +150,7 @@ fn add_addrs(
     Ok(())
 }
 
+/// Adds the addresses of the finds of one type.
 fn add_found(
     alloc: Global,
     port: u16,
@@ -163,6 +168,7 @@ fn add_found(
     Ok(())
 }
 
+/// Adds the addresses of the passing sets of one type.
 fn add_passing(
     alloc: Global,
     port: u16,
@@ -180,7 +186,7 @@ fn add_passing(
     Ok(())
 }
 
-/// Adds the addresses of each name by its records of one type.
+/// Adds the addresses of each name from its records of one type.
 fn add_kind(
     alloc: Global,
     port: u16,
@@ -195,13 +201,14 @@ fn add_kind(
     add_passing(alloc, port, harvest.passing.as_slice(), kind, index)
 }
 
-/// The addresses that a harvest has of each name, those of IPv4 first.
+/// The addresses that a harvest has for each name, IPv4 first.
 pub(crate) fn addrs_by_name(
     alloc: Global,
     port: u16,
     harvest: &Harvest,
 ) -> Result<BTreeMap<Name, Vec<Addr>>, NoMemory>
-    ensures { IfOk result (λ index. (name : Labels) → addrs_at index name ≡ addrs_of port (map said_by harvest.now.finds) (map set_of harvest.now.passing) name) }
+    ensures { IfOk result (λ index. (name : Labels) → addrs_at index name
+        ≡ addrs_of port (map said_by harvest.now.finds) (map set_of harvest.now.passing) name) }
 {
     let mut index = BTreeMap::new(alloc);
     add_kind(alloc, port, harvest, A, &mut index)?;
@@ -209,6 +216,7 @@ pub(crate) fn addrs_by_name(
     Ok(index)
 }
 
+/// The addresses of a name; none if the map does not have it.
 fn addrs_at<'a>(index: &'a BTreeMap<Name, Vec<Addr>>, name: &Name) -> &'a [Addr]
     ensures { result.now ≡ addrs_at index.now name.now }
 {
@@ -218,7 +226,7 @@ fn addrs_at<'a>(index: &'a BTreeMap<Name, Vec<Addr>>, name: &Name) -> &'a [Addr]
     }
 }
 
-/// Adds the addresses of a server, or itself to those that have none.
+/// Adds the addresses of a server, or adds it to the servers without an address.
 pub(crate) fn add_server(
     index: &BTreeMap<Name, Vec<Addr>>,
     target: &Name,
@@ -226,7 +234,8 @@ pub(crate) fn add_server(
     missing: &mut Vec<Name>,
 ) -> Result<(), NoMemory>
     ensures addrs { OnOk result (addrs.new.items ≡ addrs.old.items ++ addrs_at index.now target.now) }
-    ensures missing { OnOk result (missing.new.items ≡ missing.old.items ++ filter (λ name. length (addrs_at index.now name) == 0) (target.now ∷ [])) }
+    ensures missing { OnOk result (missing.new.items
+        ≡ missing.old.items ++ filter (λ name. length (addrs_at index.now name) == 0) (target.now ∷ [])) }
 {
     let own = addrs_at(index, target);
     if own.is_empty() {

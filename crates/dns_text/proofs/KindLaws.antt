@@ -8,13 +8,13 @@ use borrow.Author.Tests.{ltb-true}
 use Rattle.dns_name.specs.ResultLaws.{some_same}
 use Rattle.dns_text.specs.declared.word.Within.{Within}
 use Rattle.dns_text.specs.declared.word.Within.TheVariants.{Plain, Quotes, Escape, QuotedEscape}
-use Rattle.dns_text.specs.Kind.{Entry, types, by_number, by_name, type_number, number_or, is_excluded, name_or_number, type_in, type_text}
+use Rattle.dns_text.specs.Kind.{KindRow, types, by_number, by_name, type_number, number_or, is_excluded, name_or_number, type_in, type_text}
 use Rattle.dns_text.specs.Record.{is_class}
 use Rattle.dns_text.proofs.NumberLaws.{digits-decimal, short_number_in-decimal}
 use Rattle.dns_text.proofs.WordLaws.{scanned, IsWord, joined_scanned, digits_scanned}
 
 -- a table's entry that has another name
-pub by_name_other : {X : Type 0} (f : X → Entry) (word : List ℕ) (items : List X) (i : ℕ) (d : X) → i < length items → str_eq_ignore_ascii_case (f (get_or items i d)).1 word ≡ false → by_name word (map f (drop (i + 1) items)) ≡ by_name word (map f (drop i items))
+pub by_name_other : {X : Type 0} (f : X → KindRow) (word : List ℕ) (items : List X) (i : ℕ) (d : X) → i < length items → str_eq_ignore_ascii_case (f (get_or items i d)).1 word ≡ false → by_name word (map f (drop (i + 1) items)) ≡ by_name word (map f (drop i items))
 unfolding by_name
 by_name_other f word items i d h e =
     let here : map f (drop i items) ≡ f (get_or items i d) ∷ map f (drop (i + 1) items) = rw (add-one, drop-cons items i d) refl in
@@ -22,7 +22,7 @@ by_name_other f word items i d h e =
 
 -- ---- what is written is read back
 
-is_number : ℕ → Option Entry → Bool
+is_number : ℕ → Option KindRow → Bool
 is_number n None = false
 is_number n (Some t) = t.0 == n
 
@@ -31,22 +31,22 @@ is_closed (Some Plain) = true
 is_closed _ = false
 
 -- an entry's name is a word, and finds an entry of its number
-reads_back : Entry → Bool
+reads_back : KindRow → Bool
 reads_back t = is_number t.0 (by_name t.1 types) && (is_closed (scanned Plain t.1) && nat_lt 0 (length t.1))
 
 all_read_back : list_all reads_back types ≡ true
 unfolding reads_back is_number is_closed by_name scanned
 all_read_back = refl
 
-found_entry : (table : List Entry) (kind : ℕ) (t : Entry) → list_all reads_back table ≡ true → by_number kind table ≡ Some t → (reads_back t ≡ true) × (t.0 ≡ kind)
+found_entry : (table : List KindRow) (kind : ℕ) (t : KindRow) → list_all reads_back table ≡ true → by_number kind table ≡ Some t → (reads_back t ≡ true) × (t.0 ≡ kind)
 unfolding by_number
 found_entry [] kind t all e = absurd cc
 found_entry (s ∷ table) kind t all e = elim (cases_Bool (s.0 == kind)) [
-  | inl same ↦ let parts = and_parts _ _ all in let here : s ≡ t = some_same (rw same at e) in (subst (λ (x : Entry). reads_back x ≡ true) here parts.0, ap (λ (x : Entry). x.0) (sym here) ∙ eqb-true s.0 kind same)
+  | inl same ↦ let parts = and_parts _ _ all in let here : s ≡ t = some_same (rw same at e) in (subst (λ (x : KindRow). reads_back x ≡ true) here parts.0, ap (λ (x : KindRow). x.0) (sym here) ∙ eqb-true s.0 kind same)
   | inr other ↦ let parts = and_parts _ _ all in found_entry table kind t parts.1 (rw other at e)
 ]
 
-named_entry : (o : Option Entry) (n : ℕ) (other : Option ℕ) → is_number n o ≡ true → number_or other o ≡ Some n
+named_entry : (o : Option KindRow) (n : ℕ) (other : Option ℕ) → is_number n o ≡ true → number_or other o ≡ Some n
 unfolding is_number
 named_entry None n other e = absurd cc
 named_entry (Some t) n other e = ap (λ (k : ℕ). let o : Option ℕ = Some k in o) (eqb-true t.0 n e)
@@ -72,7 +72,7 @@ type_scanned : scanned Plain (84 ∷ 89 ∷ 80 ∷ 69 ∷ []) ≡ Some Plain
 unfolding scanned
 type_scanned = refl
 
-back : (t : Entry) (kind : ℕ) → t.0 ≡ kind → reads_back t ≡ true → ReadsBack kind t.1
+back : (t : KindRow) (kind : ℕ) → t.0 ≡ kind → reads_back t ≡ true → ReadsBack kind t.1
 unfolding reads_back
 back t kind same h =
     let parts = and_parts _ _ h in
@@ -82,7 +82,7 @@ back t kind same h =
       value = named_entry (by_name t.1 types) t.0 (type_number t.1) parts.0 ∙ ap (λ (k : ℕ). let o : Option ℕ = Some k in o) same;
     }
 
-text_reads_back : (kind : ℕ) (o : Option Entry) → kind < 65536 → by_number kind types ≡ o → ReadsBack kind (name_or_number kind o)
+text_reads_back : (kind : ℕ) (o : Option KindRow) → kind < 65536 → by_number kind types ≡ o → ReadsBack kind (name_or_number kind o)
 text_reads_back kind None small e =
     let far : kind < 2 ^ 64 = omega arith in
     record {
@@ -99,22 +99,22 @@ unfolding type_in
 type_in-type_text kind small fit = rw ((text_reads_back kind (by_number kind types) small refl).value) (rw fit refl)
 
 -- no type is written as the class
-is_other : Entry → Bool
+is_other : KindRow → Bool
 is_other t = not (is_class t.1)
 
 all_other : list_all is_other types ≡ true
 unfolding is_other
 all_other = refl
 
-entry_is_other : (table : List Entry) (kind : ℕ) (t : Entry) → list_all is_other table ≡ true → by_number kind table ≡ Some t → is_class t.1 ≡ false
+entry_is_other : (table : List KindRow) (kind : ℕ) (t : KindRow) → list_all is_other table ≡ true → by_number kind table ≡ Some t → is_class t.1 ≡ false
 unfolding by_number is_other
 entry_is_other [] kind t all e = absurd cc
 entry_is_other (s ∷ table) kind t all e = elim (cases_Bool (s.0 == kind)) [
-  | inl same ↦ let parts = and_parts _ _ all in let here : s ≡ t = some_same (rw same at e) in subst (λ (x : Entry). is_class x.1 ≡ false) here (not-true _ parts.0)
+  | inl same ↦ let parts = and_parts _ _ all in let here : s ≡ t = some_same (rw same at e) in subst (λ (x : KindRow). is_class x.1 ≡ false) here (not-true _ parts.0)
   | inr other ↦ let parts = and_parts _ _ all in entry_is_other table kind t parts.1 (rw other at e)
 ]
 
-text_is_other : (kind : ℕ) (o : Option Entry) → by_number kind types ≡ o → is_class (name_or_number kind o) ≡ false
+text_is_other : (kind : ℕ) (o : Option KindRow) → by_number kind types ≡ o → is_class (name_or_number kind o) ≡ false
 text_is_other kind None e = refl
 text_is_other kind (Some t) e = entry_is_other types kind t all_other e
 

@@ -1,4 +1,4 @@
--- The data of records as text: what a text stands for, how it is read, and how data are written.
+-- The data of records as text: the data that a text stands for, how it is read, and how data is written.
 use Rattle.std.specs.Prelude.{◌≡◌, ℕ, ◌<◌, ◌+◌, List, ◌∷◌, ◌++◌, [], length, ◌↔◌, Option, Some, option_map, decimal}
 use Rattle.std.specs.List.{AllByRecursion, AllByRecursion-prop}
 use Rattle.std.specs.Coded.{Coded-set, coded_ℕ, ×_prop, Unit-prop, le_prop}
@@ -23,7 +23,7 @@ use Rattle.dns_name.specs.Options.{◌>>=◌}
 
 -- ---- what a text stands for
 
--- preference and exchange (RFC 1035, section 3.3.9)
+-- The text is a preference and an exchange (RFC 1035, section 3.3.9).
 pub record IsMxText (text : List ℕ) (preference : ℕ) (exchange : Labels) : Type 0 where
   pub first : List ℕ
   pub second : List ℕ
@@ -31,7 +31,7 @@ pub record IsMxText (text : List ℕ) (preference : ℕ) (exchange : Labels) : T
   pub number : IsNumberText MOST_16 first preference
   pub name : IsNameText second exchange
 
--- two names and five numbers of 32 bits (RFC 1035, section 3.3.13)
+-- The text is two names and five numbers of 32 bits (RFC 1035, section 3.3.13).
 pub record IsSoaText (text : List ℕ) (primary mailbox : Labels) (serial refresh retry expire minimum : ℕ) : Type 0 where
   pub first : List ℕ
   pub second : List ℕ
@@ -49,7 +49,7 @@ pub record IsSoaText (text : List ℕ) (primary mailbox : Labels) (serial refres
   pub expire_number : IsNumberText MOST_32 sixth expire
   pub minimum_number : IsNumberText MOST_32 seventh minimum
 
--- three numbers of 16 bits and a name (RFC 2782)
+-- The text is three numbers of 16 bits and a name (RFC 2782).
 pub record IsSrvText (text : List ℕ) (priority weight port : ℕ) (target : Labels) : Type 0 where
   pub first : List ℕ
   pub second : List ℕ
@@ -61,7 +61,7 @@ pub record IsSrvText (text : List ℕ) (priority weight port : ℕ) (target : La
   pub port_number : IsNumberText MOST_16 third port
   pub target_name : IsNameText fourth target
 
--- The words of a text stand for these data, in the form that the data have.
+-- The words of a text stand for this data, in the data's own form.
 abbrev pub AreDataWords : List ℕ → Data → Type 0
 AreDataWords text (A octets) = (word : List ℕ) × AreWords text (word ∷ []) × IsIpv4Text word octets
 AreDataWords text (Aaaa octets) = (word : List ℕ) × AreWords text (word ∷ []) × IsIpv6Text word octets
@@ -90,14 +90,14 @@ pub record IsDataText (kind : ℕ) (text : List ℕ) (body : Data) : Type 0 wher
 
 -- ---- reading
 
--- preference and exchange
+-- MX data of a text: preference and exchange
 unfoldable pub mx_in : List ℕ → Option Data
 mx_in text = do
   preference ← number_at MOST_16 text
   exchange ← last_name preference.1
   Some (Mx preference.0 exchange)
 
--- two names and five numbers of 32 bits
+-- SOA data of a text: two names and five numbers of 32 bits
 unfoldable pub soa_in : List ℕ → Option Data
 soa_in text = do
   primary ← name_at text
@@ -109,7 +109,7 @@ soa_in text = do
   minimum ← last_number MOST_32 expire.1
   Some (Soa primary.0 mailbox.0 serial.0 refresh.0 retry.0 expire.0 minimum)
 
--- three numbers of 16 bits and a name
+-- SRV data of a text: three numbers of 16 bits and a name
 unfoldable pub srv_in : List ℕ → Option Data
 srv_in text = do
   priority ← number_at MOST_16 text
@@ -118,7 +118,7 @@ srv_in text = do
   target ← last_name port.1
   Some (Srv priority.0 weight.0 port.0 target)
 
--- the data of a form that a text stands for
+-- the data of this form that a text stands for
 unfoldable pub data_as : Form → List ℕ → Option Data
 data_as FormA text = only_word text >>= λ word. option_map A (ipv4_in word)
 data_as FormAaaa text = only_word text >>= λ word. option_map Aaaa (ipv6_in word)
@@ -129,11 +129,11 @@ data_as FormSrv text = srv_in text
 data_as FormOpaque text = option_map Opaque (octets_in text)
 data_as FormTxt text = option_map Txt (strings_in text)
 
--- the data of a type
+-- the data of this type that a text stands for
 abbrev pub data_in : ℕ → List ℕ → Option Data
 data_in kind text = data_as (form_of kind) text
 
--- The data of a type are read from a text exactly where the text stands for them.
+-- Data of a type is read from a text exactly if the text stands for it.
 abbrev pub ReadsData : Type 0
 ReadsData = (kind : ℕ) (text : List ℕ) (body : Data) → (data_in kind text ≡ Some body) ↔ IsDataText kind text body
 
@@ -147,15 +147,19 @@ blank_number n = 32 ∷ decimal n
 abbrev pub soa_numbers_text : ℕ → ℕ → ℕ → ℕ → ℕ → List ℕ
 soa_numbers_text serial refresh retry expire minimum = blank_number serial ++ blank_number refresh ++ blank_number retry ++ blank_number expire ++ blank_number minimum
 
+-- MX data as text
 abbrev pub mx_text : ℕ → Labels → List ℕ
 mx_text preference exchange = decimal preference ++ 32 ∷ text_of exchange
 
+-- SRV data as text
 abbrev pub srv_text : ℕ → ℕ → ℕ → Labels → List ℕ
 srv_text priority weight port target = decimal priority ++ blank_number weight ++ blank_number port ++ 32 ∷ text_of target
 
+-- two names with a blank between them
 abbrev pub names_text : Labels → Labels → List ℕ
 names_text primary mailbox = text_of primary ++ 32 ∷ text_of mailbox
 
+-- data as text
 unfoldable pub data_text : Data → List ℕ
 data_text (A octets) = ipv4_text octets
 data_text (Aaaa octets) = ipv6_text octets
@@ -166,7 +170,7 @@ data_text (Srv priority weight port target) = srv_text priority weight port targ
 data_text (Opaque octets) = opaque_text octets
 data_text (Txt strings) = strings_text strings
 
--- how many octets there may be
+-- The data has as many octets and strings as its form allows.
 abbrev pub IsSized : Data → Type 0
 IsSized (A octets) = length octets ≡ 4
 IsSized (Aaaa octets) = length octets ≡ 16
@@ -174,16 +178,16 @@ IsSized (Txt strings) = (0 < length strings) × AllByRecursion (λ octets. lengt
 IsSized (Opaque octets) = length octets < MOST_16 + 1
 IsSized _ = Unit {0}
 
--- Data has this form.
+-- The data has this form and a size that the form allows.
 pub record IsOfForm (form : Form) (body : Data) : Type 0 where
   pub same : form ≡ form_in body
   pub sized : IsSized body
 
--- Data has the form of its type.
+-- The data has the form of its type.
 abbrev pub HasForm : ℕ → Data → Type 0
 HasForm kind body = IsOfForm (form_of kind) body
 
--- in one way at most
+-- there is at most one proof that data is of an allowed size
 IsSized-prop : (body : Data) → IsProp (IsSized body)
 IsSized-prop (A octets) = Coded-set coded_ℕ (length octets) 4
 IsSized-prop (Aaaa octets) = Coded-set coded_ℕ (length octets) 16
@@ -197,5 +201,6 @@ IsSized-prop (Opaque octets) = le_prop
 Form-set : IsSet Form
 Form-set = Coded-set (form_type.the_row).coded
 
+-- there is at most one proof that data has the form of its type
 pub HasForm-prop : (kind : ℕ) (body : Data) → IsProp (HasForm kind body)
 HasForm-prop kind body = λ x y i. record { same = Form-set (form_of kind) (form_in body) x.same y.same i; sized = IsSized-prop body x.sized y.sized i }

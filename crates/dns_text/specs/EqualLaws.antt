@@ -1,4 +1,4 @@
--- What `==` calls equal is one value, and each value is equal to itself: lemmas for this crate and those above.
+-- Values that `==` calls equal are the same, and each value is equal to itself: lemmas for this crate and those above.
 use Rattle.std.proofs.Common.{◌≡◌, ℕ, true, eqb, eq-eqb, List, refl, ap, ◌∙◌}
 use Rattle.std.proofs.lemmas.Bool.{and_parts, false≢true, eqb-true}
 use Rattle.std.proofs.lemmas.Slice.Eq.{bytes_eq-Decides, slice_eq-Decides}
@@ -72,6 +72,7 @@ opaque_exact : (x0 : List ℕ) (b : Data) → data_eq (Opaque x0) b ≡ true →
 opaque_exact x0 (Opaque y0) e = ap Opaque ((bytes_eq-Decides x0 y0).0 e)
 opaque_exact x0 _ e = absurd (false≢true e)
 
+-- data that `==` calls equal is the same
 pub data_eq_exact : (a b : Data) → data_eq a b ≡ true → a ≡ b
 data_eq_exact (A x0) b e = a_exact x0 b e
 data_eq_exact (Aaaa x0) b e = aaaa_exact x0 b e
@@ -82,6 +83,7 @@ data_eq_exact (Txt x0) b e = txt_exact x0 b e
 data_eq_exact (Srv x0 x1 x2 x3) b e = srv_exact x0 x1 x2 x3 b e
 data_eq_exact (Opaque x0) b e = opaque_exact x0 b e
 
+-- questions that `==` calls equal are the same
 pub question_eq_exact : (a b : Question) → question_eq a b ≡ true → a ≡ b
 question_eq_exact a b e =
     let parts = and_parts _ _ e in
@@ -89,6 +91,7 @@ question_eq_exact a b e =
     let with_kind : ℕ → Question = λ kind. record b { kind = kind } in
     ap with_owner (name_eq_exact a.owner b.owner parts.0) ∙ ap with_kind (eqb-true a.kind b.kind parts.1)
 
+-- records that `==` calls equal are the same
 pub record_eq_exact : (a b : Record) → record_eq a b ≡ true → a ≡ b
 record_eq_exact a b e =
     let p0 = and_parts _ _ e in
@@ -100,11 +103,13 @@ record_eq_exact a b e =
     let e3 : a.body ≡ b.body = data_eq_exact a.body b.body p2.1 in
     λ i. record { owner = e0 i; kind = e1 i; ttl = e2 i; body = e3 i }
 
+-- IP addresses that `==` calls equal are the same
 pub ip_eq_exact : (a b : Ip) → ip_eq a b ≡ true → a ≡ b
 ip_eq_exact (V4 xs) (V4 ys) e = ap V4 ((bytes_eq-Decides xs ys).0 e)
 ip_eq_exact (V6 xs) (V6 ys) e = ap V6 ((bytes_eq-Decides xs ys).0 e)
 ip_eq_exact _ _ e = absurd (false≢true e)
 
+-- addresses of servers that `==` calls equal are the same
 pub addr_eq_exact : (a b : Addr) → addr_eq a b ≡ true → a ≡ b
 addr_eq_exact a b e =
     let parts = and_parts _ _ e in
@@ -117,6 +122,7 @@ addr_eq_exact a b e =
 same : (n : ℕ) → eqb n n ≡ true
 same n = eq-eqb n n refl
 
+-- data is equal to itself
 pub data_eq_itself : (a : Data) → data_eq a a ≡ true
 data_eq_itself (A octets) = (bytes_eq-Decides octets octets).1 refl
 data_eq_itself (Aaaa octets) = (bytes_eq-Decides octets octets).1 refl
@@ -128,15 +134,19 @@ data_eq_itself (Txt strings) = (slice_eq-Decides bytes_eq-Decides strings string
 data_eq_itself (Srv priority weight port target) = both_true (same priority) (both_true (same weight) (both_true (same port) (name_eq_itself target)))
 data_eq_itself (Opaque octets) = (bytes_eq-Decides octets octets).1 refl
 
+-- a question is equal to itself
 pub question_eq_itself : (a : Question) → question_eq a a ≡ true
 question_eq_itself a = both_true (name_eq_itself a.owner) (same a.kind)
 
+-- a record is equal to itself
 pub record_eq_itself : (a : Record) → record_eq a a ≡ true
 record_eq_itself a = both_true (name_eq_itself a.owner) (both_true (same a.kind) (both_true (same a.ttl) (data_eq_itself a.body)))
 
+-- an IP address is equal to itself
 pub ip_eq_itself : (a : Ip) → ip_eq a a ≡ true
 ip_eq_itself (V4 octets) = (bytes_eq-Decides octets octets).1 refl
 ip_eq_itself (V6 octets) = (bytes_eq-Decides octets octets).1 refl
 
+-- an address of a server is equal to itself
 pub addr_eq_itself : (a : Addr) → addr_eq a a ≡ true
 addr_eq_itself a = both_true (ip_eq_itself a.ip) (same a.port)

@@ -1,4 +1,4 @@
--- Data of types without a form of their own (RFC 3597, section 5): what a text stands for, how it is read, and how octets are written.
+-- Data of types without a form of their own (RFC 3597, section 5): the octets that a text stands for, how it is read, and how octets are written.
 use Rattle.std.specs.Prelude.{◌≡◌, ℕ, List, [], ◌∷◌, ◌++◌, length, Option, Some, None, Result, Ok, Err, ◌==◌, if◌then◌else◌, codes, decimal}
 use Rattle.std.specs.Str.{bytes_eq}
 use Rattle.hex.specs.declared.error.FromHexError.{FromHexError}
@@ -11,6 +11,7 @@ use Rattle.dns_name.specs.Options.{◌>>=◌}
 
 -- ---- what a text stands for
 
+-- the octets that were decoded, if they were
 abbrev pub ok_or_none : Result (List ℕ) FromHexError → Option (List ℕ)
 ok_or_none (Ok octets) = Some octets
 ok_or_none (Err fault) = None
@@ -19,13 +20,13 @@ ok_or_none (Err fault) = None
 abbrev pub octets_of_hex : List ℕ → Option (List ℕ)
 octets_of_hex digits = ok_or_none (decode_of digits)
 
--- one word of hexadecimal digits, or none where there are no octets
+-- The words are one word of hexadecimal digits, or none if there are no octets.
 abbrev pub AreHexWords : List (List ℕ) → List ℕ → Type 0
 AreHexWords [] octets = octets ≡ []
 AreHexWords (digits ∷ []) octets = octets_of_hex digits ≡ Some octets
 AreHexWords (digits ∷ more ∷ words) octets = ⊥
 
--- The mark `\#`, how many octets there are, and the octets as hexadecimal digits.
+-- The text is the mark `\#`, the number of octets, and the octets as hexadecimal digits.
 pub record IsOpaqueText (text octets : List ℕ) : Type 0 where
   pub count : List ℕ
   pub digits : List (List ℕ)
@@ -35,25 +36,28 @@ pub record IsOpaqueText (text octets : List ℕ) : Type 0 where
 
 -- ---- reading
 
+-- the first word, if it is the only one; no octets of text if there is none
 abbrev pub or_nothing : Option (List ℕ × List ℕ) → Option (List ℕ)
 or_nothing None = Some []
 or_nothing (Some first) = unless_more first.0 (next_word first.1)
 
--- the only word of a text, or nothing where it has none
+-- the only word of a text, or no octets of text if it has none
 abbrev pub word_or_nothing : List ℕ → Option (List ℕ)
 word_or_nothing text = or_nothing (next_word text)
 
+-- the text behind the mark `\#`
 abbrev pub behind_mark : List ℕ → List ℕ → Option (List ℕ)
 behind_mark word rest = if bytes_eq word (codes "\\#") then Some rest else None
 
+-- the octets, if there are as many as the count says
 abbrev pub as_many_as : ℕ → List ℕ → Option (List ℕ)
 as_many_as count octets = if length octets == count then Some octets else None
 
--- so many octets, by their digits
+-- the octets of hexadecimal digits, if there are as many as the count says
 abbrev pub counted_octets : ℕ → List ℕ → Option (List ℕ)
 counted_octets count digits = octets_of_hex digits >>= as_many_as count
 
--- `\# N HEX`
+-- the octets that a text `\# N HEX` stands for
 unfoldable pub octets_in : List ℕ → Option (List ℕ)
 octets_in text = do
   mark ← next_word text
@@ -64,9 +68,11 @@ octets_in text = do
 
 -- ---- writing
 
+-- a blank and the hexadecimal digits; nothing if there are no octets
 abbrev pub hex_part : List ℕ → List ℕ
 hex_part [] = []
 hex_part (b ∷ octets) = 32 ∷ encode_lower (b ∷ octets)
 
+-- octets as text: `\# N HEX`, or `\# 0`
 abbrev pub opaque_text : List ℕ → List ℕ
 opaque_text octets = codes "\\# " ++ decimal (length octets) ++ hex_part octets

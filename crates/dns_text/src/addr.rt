@@ -1,4 +1,4 @@
-//! Addresses of servers as text, as `192.0.2.1@53`.
+//! Addresses of servers as text, such as `192.0.2.1@53`.
 
 ghost use Rattle.std.specs.Prelude.{◌≡◌, ◌<◌, ◌++◌, IfOk, OnOk, Some};
 ghost use Rattle.dns_text.specs.declared.fault.TextFault.TheVariants.{BadData};
@@ -13,20 +13,24 @@ use crate::word::cut_at;
 use dns_name::NoMemory;
 use std::alloc::Global;
 
-/// The octets of an IPv4 or IPv6 address.
+/// The port of a server whose text names none.
+pub(crate) const DEFAULT_PORT: u16 = 53;
+
+/// An IPv4 or IPv6 address: its octets, the first first.
 #[derive(Clone, Copy, PartialEq, Eq)]
 pub enum Ip {
     V4([u8; 4]),
     V6([u8; 16]),
 }
 
-/// Where a server listens.
+/// The address and port where a server listens.
 #[derive(Clone, Copy, PartialEq, Eq)]
 pub struct Addr {
     pub ip: Ip,
     pub port: u16,
 }
 
+/// The IP address that a word stands for.
 fn read_ip(word: &[u8]) -> Option<Ip>
     ensures { result ≡ ip_in word.now }
 {
@@ -36,6 +40,7 @@ fn read_ip(word: &[u8]) -> Option<Ip>
     }
 }
 
+/// The port that a word stands for, which is not 0.
 fn read_port(word: &[u8]) -> Option<u16>
     ensures { result ≡ port_in word.now }
 {
@@ -45,19 +50,20 @@ fn read_port(word: &[u8]) -> Option<u16>
     }
 }
 
-/// The address of a text `ip@port` or `ip`, whose port is 53. The only fault is `BadData`, for port 0 too.
+/// The address of a text `ip@port`, or of a text `ip`, for port 53. The only fault is `BadData`, for port 0 too.
 #[tactic(auto, unfolding(crate::specs::Addr::addr_in))]
 pub fn read_addr(text: &[u8]) -> Result<Addr, TextFault>
     ensures { result ≡ or_fault BadData (addr_in text.now) }
 {
     let (word, port) = match cut_at(b'@', text) {
-        None => (text, 53),
+        None => (text, DEFAULT_PORT),
         Some((word, rest)) => (word, read_port(rest).ok_or(TextFault::BadData)?),
     };
     let ip = read_ip(word).ok_or(TextFault::BadData)?;
     Ok(Addr { ip, port })
 }
 
+/// Writes an IP address.
 fn push_ip(ip: &Ip, out: &mut Vec<u8>) -> Result<(), NoMemory>
     ensures text { OnOk result (out.new.items ≡ out.old.items ++ ip_text ip.now) }
     ensures reads { IpReads ip.now }
@@ -68,7 +74,7 @@ fn push_ip(ip: &Ip, out: &mut Vec<u8>) -> Result<(), NoMemory>
     }
 }
 
-/// Writes an address with its port behind what `out` holds. Where memory runs out, a part of the text may stand there.
+/// Writes an address with its port behind what `out` holds. If memory runs out, a part of the text may have been written.
 pub fn push_addr(addr: &Addr, out: &mut Vec<u8>) -> Result<(), NoMemory>
     ensures text { OnOk result (out.new.items ≡ out.old.items ++ addr_text addr.now) }
     ensures again { OnOk result (0 < addr.now.port → addr_in (addr_text addr.now) ≡ Some addr.now) }

@@ -1,4 +1,4 @@
-//! Data and records, once more.
+//! Copies of data and records.
 
 ghost use Rattle.std.specs.Prelude.{◌≡◌, IfOk};
 
@@ -7,12 +7,14 @@ use crate::record::{Data, Record};
 use dns_name::Name;
 use std::alloc::{AllocError, Global};
 
+/// A copy of octets.
 fn copy_octets(alloc: Global, octets: &Octets) -> Result<Octets, AllocError>
     ensures { IfOk result (λ copy. copy ≡ octets.now) }
 {
     Ok(Octets::new(Vec::from_slice(alloc, octets.as_slice())?))
 }
 
+/// A copy of strings.
 fn copy_strings(alloc: Global, strings: &[Octets]) -> Result<Items<Octets>, AllocError>
     ensures { IfOk result (λ copy. copy ≡ strings.now) }
 {
@@ -23,6 +25,7 @@ fn copy_strings(alloc: Global, strings: &[Octets]) -> Result<Items<Octets>, Allo
     Ok(Items::new(copies))
 }
 
+/// MX data with a copy of the name.
 fn copy_mx(preference: u16, exchange: &Name) -> Result<Data, AllocError>
     ensures { IfOk result (λ copy. copy ≡ Data.Mx preference exchange.now) }
 {
@@ -32,6 +35,7 @@ fn copy_mx(preference: u16, exchange: &Name) -> Result<Data, AllocError>
     })
 }
 
+/// SRV data with a copy of the name.
 fn copy_srv(priority: u16, weight: u16, port: u16, target: &Name) -> Result<Data, AllocError>
     ensures { IfOk result (λ copy. copy ≡ Data.Srv priority weight port target.now) }
 {
@@ -44,7 +48,7 @@ fn copy_srv(priority: u16, weight: u16, port: u16, target: &Name) -> Result<Data
 }
 
 impl Data {
-    /// The same data once more. Strings and lists take memory, names share theirs.
+    /// A copy of the data. Strings and lists take memory; names share theirs.
     pub fn copy(&self, alloc: Global) -> Result<Data, AllocError>
         ensures { IfOk result (λ x. x ≡ self.now) }
     {
@@ -86,7 +90,7 @@ impl Data {
 }
 
 impl Record {
-    /// The same record once more. Strings and lists take memory, names share theirs.
+    /// A copy of the record. Strings and lists take memory; names share theirs.
     pub fn copy(&self, alloc: Global) -> Result<Record, AllocError>
         ensures { IfOk result (λ x. x ≡ self.now) }
     {

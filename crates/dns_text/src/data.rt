@@ -1,4 +1,4 @@
-//! The data of records as text, each type in its form.
+//! The data of records as text, in the form of each type.
 
 ghost use Rattle.std.specs.Prelude.{◌≡◌, ◌<◌, ◌^◌, ◌++◌, slice_index, ℕ, length, option_map, IfOk, OnOk, Some, Ok};
 ghost use Rattle.dns_name.specs.Labels.{IsName};
@@ -113,7 +113,7 @@ fn parse_data(alloc: Global, kind: u16, text: &[u8]) -> Result<Data, TextFault>
     }
 }
 
-/// The data of this type that a whole text stands for. The faults are `BadData` and `NoMemory`.
+/// The data of this type that a whole text stands for. The only faults are `BadData` and `NoMemory`.
 pub fn read_data(alloc: Global, kind: u16, text: &[u8]) -> Result<Data, TextFault>
     ensures value { Gives result (or_fault BadData (data_in kind text.now)) }
     ensures stands { IfOk result (IsDataText kind text.now) }
@@ -142,7 +142,7 @@ fn push_names(first: &Name, second: &Name, out: &mut Vec<u8>) -> Result<(), NoMe
     push_name(second, out)
 }
 
-/// Writes the numbers of a zone's start, each behind a blank.
+/// Writes the numbers of SOA data, each behind a blank.
 fn push_soa_numbers(
     serial: u32,
     refresh: u32,
@@ -189,7 +189,7 @@ fn push_srv(
     push_name(target, out)
 }
 
-/// Writes data behind what `out` holds. Where memory runs out, a part of the text may stand there.
+/// Writes data behind what `out` holds. If memory runs out, a part of the text may have been written.
 #[tactic(auto, unfolding(crate::specs::Data::data_text))]
 pub fn push_data(body: &Data, out: &mut Vec<u8>) -> Result<(), NoMemory>
     ensures text { OnOk result (out.new.items ≡ out.old.items ++ data_text body.now) }

@@ -1,4 +1,4 @@
-//! Why a text could not be read.
+//! Faults of a text.
 
 ghost use Rattle.std.specs.Prelude.{◌≡◌};
 ghost use Rattle.dns_text.specs.declared.fault.TextFault.TheVariants.{NoMemory};
@@ -6,17 +6,22 @@ ghost use Rattle.dns_text.specs.declared.fault.TextFault.TheVariants.{NoMemory};
 use std::alloc::{AllocError, AllocFailed};
 use thiserror::Error;
 
-/// The first fault from left to right.
+/// The first fault of a text, from the left.
 #[derive(Clone, Copy, Debug, PartialEq, Eq, Error)]
 pub enum TextFault {
+    /// The name is missing, or the word is no name.
     #[error("the name is missing or not a name")]
     BadName,
+    /// The TTL is above 2147483647 (RFC 2181, section 8).
     #[error("the time to live is above 2147483647")]
     BadTtl,
+    /// The type is missing, unknown, or one that records may not have.
     #[error("the type is missing, unknown or not one of a record")]
     BadType,
+    /// The data is missing, or it does not have the form of its type.
     #[error("the data is missing or not of its type's form")]
     BadData,
+    /// Memory ran out.
     #[error("out of memory")]
     NoMemory,
 }

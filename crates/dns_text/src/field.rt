@@ -26,12 +26,12 @@ pub(crate) fn push_name(name: &Name, out: &mut Vec<u8>) -> Result<(), NoMemory>
     ensures text { OnOk result (out.new.items ≡ out.old.items ++ text_of name.now) }
     ensures name { IsName name.now }
 {
-    // What a name is, its labels say.
+    // The contract of `labels` says that the name is valid.
     let _labels = name.labels();
     name.push_text(out)
 }
 
-/// The name that stands first in a text, and the text after it.
+/// The name that is the first word of a text, and the text after it.
 pub(crate) fn next_name(alloc: Global, text: &[u8]) -> Result<Option<(Name, &[u8])>, NoMemory>
     ensures { IfOk result (λ r. option_map (λ p. (p.0, p.1.now)) r ≡ name_at text.now) }
 {
@@ -44,7 +44,7 @@ pub(crate) fn next_name(alloc: Global, text: &[u8]) -> Result<Option<(Name, &[u8
     }
 }
 
-/// The name that a text is.
+/// The name that is the only word of a text.
 pub(crate) fn last_name(alloc: Global, text: &[u8]) -> Result<Option<Name>, NoMemory>
     ensures { IfOk result (λ name. name ≡ last_name text.now) }
 {
@@ -54,7 +54,7 @@ pub(crate) fn last_name(alloc: Global, text: &[u8]) -> Result<Option<Name>, NoMe
     }
 }
 
-/// The number that stands first in a text, no greater than `most`, and the text after it.
+/// The number that is the first word of a text, no greater than `most`, and the text after it.
 pub(crate) fn next_number(text: &[u8], most: u64) -> Option<(u64, &[u8])>
     ensures value { option_map (λ r. (r.0, r.1.now)) result ≡ number_at most text.now }
     ensures bound { IfSome result (λ r. r.0 ≤ most) }
@@ -64,7 +64,7 @@ pub(crate) fn next_number(text: &[u8], most: u64) -> Option<(u64, &[u8])>
     Some((number, rest))
 }
 
-/// The number that a text is, no greater than `most`.
+/// The number that is the only word of a text, no greater than `most`.
 pub(crate) fn last_number(text: &[u8], most: u64) -> Option<u64>
     ensures value { result ≡ last_number most text.now }
     ensures bound { IfSome result (λ n. n ≤ most) }

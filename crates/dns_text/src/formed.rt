@@ -1,4 +1,4 @@
-//! Whether data has the form of a type.
+//! A test of data: does it have the form of a type?
 
 ghost use Rattle.std.specs.Prelude.{◌≡◌, ◌<◌, ◌+◌, ◌↔◌, length, IsTrue};
 ghost use Rattle.std.specs.List.{AllByRecursion};
@@ -21,7 +21,7 @@ fn are_short(strings: &[Octets]) -> bool
 }
 
 impl Data {
-    /// How it is laid out.
+    /// The form of the data.
     fn form(&self) -> Form
         ensures { result ≡ form_in self.now }
     {
@@ -37,7 +37,7 @@ impl Data {
         }
     }
 
-    /// Whether it has as many strings and octets as it may have.
+    /// Whether the numbers of strings and octets are in range.
     fn is_sized(&self) -> bool
         ensures { IsTrue result ↔ IsSized self.now }
     {
@@ -51,8 +51,8 @@ impl Data {
         }
     }
 
-    /// Whether it has the form of a type, in which it can be written into a message: what its variant is, and how many
-    /// strings and octets there are.
+    /// Whether the data has the form of a type, so that it can be written into a message. The variant must be that of the
+    /// form, and the numbers of strings and octets must be in range.
     pub fn has_form(&self, kind: u16) -> bool
         ensures { IsTrue result ↔ HasForm kind self.now }
     {

@@ -3,15 +3,15 @@
 ghost use Rattle.std.specs.Prelude.{length, ◌≡◌, ◌<◌, ◌++◌, ℕ, slice_index, OnOk};
 ghost use Rattle.dns_text.specs.Ipv4.{octet_in, ipv4_in, dotted_text, ipv4_text};
 
-use crate::number::{push_number, read_short_number};
+use crate::number::{MOST_8, push_number, read_short_number};
 use crate::word::cut_at;
 use dns_name::NoMemory;
 
-/// A number of an address, without leading zeros.
+/// The octet that a word stands for: 0 to 255, without leading zeros.
 fn read_octet(word: &[u8]) -> Option<u8>
     ensures { result ≡ octet_in word.now }
 {
-    let n = read_short_number(word, 255)?;
+    let n = read_short_number(word, MOST_8)?;
     Some(n as u8)
 }
 

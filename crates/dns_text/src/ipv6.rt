@@ -5,7 +5,7 @@ ghost use Rattle.std.specs.Char.{digit_char};
 ghost use Rattle.std.specs.List.{slice_split};
 ghost use Rattle.std.specs.Net.Text.{hex, groups_text};
 ghost use Rattle.std.specs.Net.Addr.{segments_of};
-ghost use Rattle.dns_text.specs.Ipv6.{hex_in, four_in, group_in, with_group, with_word, octets_after, is_colon, groups_in, behind_colon, behind_gap, head_after, with_zeros, address_of, ipv6_in, IsIpv6Text, ipv6_text};
+ghost use Rattle.dns_text.specs.Ipv6.{hex_in, four_in, group_in, with_group, with_word, octets_after, is_colon, groups_in, behind_colon, behind_gap, IsOneGroup, BeginsWithGroup, head_after, with_zeros, address_of, ipv6_in, IsIpv6Text, ipv6_text};
 
 use crate::word::cut_at;
 use arrayvec::ArrayVec;
@@ -48,7 +48,7 @@ fn read_group(word: &[u8]) -> Option<u16>
     }
 }
 
-/// Adds the octets of a group, where there is room for them.
+/// Adds the octets of a group, if there is room for them.
 fn add_group(group: u16, octets: &mut Octets) -> Option<()>
     ensures { option_map (λ _. octets.new.items) result ≡ with_group octets.old.items group }
 {
@@ -60,22 +60,22 @@ fn add_group(group: u16, octets: &mut Octets) -> Option<()>
     Some(())
 }
 
-/// Adds the octets of a group's word, where it is one and there is room for them.
+/// Adds the octets of a group's word, if it is a group and there is room for them.
 fn add_word(word: &[u8], octets: &mut Octets) -> Option<()>
     ensures { option_map (λ _. octets.new.items) result ≡ with_word octets.old.items word.now }
 {
     add_group(read_group(word)?, octets)
 }
 
-/// The first of some groups with colons between them, and the others; none where it is the only one.
+/// The first group of a text and the rest behind its colon; none if it is the only group.
 fn cut_at_colon(text: &[u8]) -> Option<(&[u8], &[u8])>
-    ensures cut { MatchOption result (slice_split is_colon text.now ≡ text.now ∷ []) (λ r. slice_split is_colon text.now ≡ r.0.now ∷ slice_split is_colon r.1.now) }
+    ensures cut { MatchOption result (IsOneGroup text.now) (λ r. BeginsWithGroup text.now r.0.now r.1.now) }
     ensures less { IfSome result (λ r. length r.1.now < length text.now) }
 {
     cut_at(b':', text)
 }
 
-/// The octets of groups with colons between them.
+/// The octets of groups with a colon between each two.
 #[tactic(auto, unfolding(crate::specs::Ipv6::octets_after))]
 fn read_some_groups(text: &[u8]) -> Option<Octets>
     ensures { option_map (λ v. v.items) result ≡ octets_after [] (slice_split is_colon text.now) }
@@ -90,7 +90,7 @@ fn read_some_groups(text: &[u8]) -> Option<Octets>
     Some(octets)
 }
 
-/// The octets of groups with colons between them, or of none.
+/// The octets of groups with a colon between each two, or of no group.
 #[tactic(auto, unfolding(crate::specs::Ipv6::groups_in))]
 fn read_groups(text: &[u8]) -> Option<Octets>
     ensures { option_map (λ v. v.items) result ≡ groups_in text.now }
@@ -101,7 +101,7 @@ fn read_groups(text: &[u8]) -> Option<Octets>
     }
 }
 
-/// What stands behind a colon at the front of a text.
+/// The text behind a colon at its front.
 fn behind_colon(text: &[u8]) -> Option<&[u8]>
     ensures { option_map (λ back. back.now) result ≡ behind_colon text.now }
 {
@@ -111,7 +111,7 @@ fn behind_colon(text: &[u8]) -> Option<&[u8]>
     }
 }
 
-/// What stands behind a `::` at the front of a text.
+/// The text behind a `::` at its front.
 fn behind_gap(text: &[u8]) -> Option<&[u8]>
     ensures { option_map (λ back. back.now) result ≡ behind_gap text.now }
 {
@@ -121,7 +121,7 @@ fn behind_gap(text: &[u8]) -> Option<&[u8]>
     }
 }
 
-/// The octets of groups, one or more, up to the first `::`, and the text behind it where there is one.
+/// The octets of one group or more up to the first `::`, and the text behind it, if there is one.
 fn read_head(text: &[u8]) -> Option<(Octets, Option<&[u8]>)>
     ensures { option_map (λ r. (r.0.items, option_map (λ back. back.now) r.1)) result ≡ head_after [] text.now }
 {
@@ -138,7 +138,7 @@ fn read_head(text: &[u8]) -> Option<(Octets, Option<&[u8]>)>
     Some((octets, None))
 }
 
-// A function of its own, so that no goal spells the zeros out.
+/// Zeros. A function of its own, so that no proof goal spells them out.
 fn zeros(n: usize) -> &'static [u8]
     requires { n ≤ 16 }
     ensures { result.now ≡ replicate n 0 }
@@ -159,7 +159,7 @@ fn fill_gap(mut octets: Octets, tail: &[u8]) -> Option<[u8; 16]>
     octets.into_inner().ok()
 }
 
-/// The address of groups before `::`, where it stands, and of what stands behind it.
+/// The address of the groups before `::`, if the text has one, and of the groups behind it.
 fn address_of(head: Octets, back: Option<&[u8]>) -> Option<[u8; 16]>
     ensures { result ≡ address_of head.items (option_map (λ back. back.now) back.entry) }
 {

@@ -1,4 +1,4 @@
-//! Lists in fields, which contracts see as lists.
+//! Lists as fields, which contracts see as lists.
 
 ghost use Rattle.std.specs.Prelude.{◌≡◌};
 
@@ -19,7 +19,7 @@ impl Model for Octets {
 }
 
 impl Octets {
-    /// These octets, as a field holds them.
+    /// A field with these octets.
     pub fn new(octets: Vec<u8>) -> Octets
         ensures { result ≡ octets.items }
     {
@@ -64,7 +64,7 @@ impl<T> Model for Items<T> {
 }
 
 impl<T> Items<T> {
-    /// This list, as a field holds it.
+    /// A field with this list.
     pub fn new(items: Vec<T>) -> Items<T>
         ensures { result ≡ items.items }
     {
@@ -78,7 +78,7 @@ impl<T> Items<T> {
         &self.items
     }
 
-    /// The list, taken out without memory.
+    /// The list, taken out of the field. It takes no memory.
     pub fn into_vec(self) -> Vec<T>
         ensures { result.items ≡ self }
     {

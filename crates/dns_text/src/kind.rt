@@ -1,4 +1,4 @@
-//! The types of records: number, name and form of data.
+//! The table of record types: number, name and form of data.
 
 ghost use Rattle.std.specs.Prelude.{map, ◌≡◌, ◌++◌, ◌<◌, option_map, IfOk, IfSome, OnOk, Some, false};
 ghost use Rattle.std.specs.Str.{str_eq_ignore_ascii_case};
@@ -11,92 +11,102 @@ use crate::number::{MOST_16, push_number, read_short_number};
 use crate::types;
 use std::alloc::{AllocError, Global};
 
-/// How the data of a type is laid out.
+/// The form of a type's data.
 #[derive(Clone, Copy, PartialEq, Eq)]
 pub enum Form {
+    /// An IPv4 address.
     A,
+    /// An IPv6 address.
     Aaaa,
+    /// One name.
     Name,
+    /// A preference and a name.
     Mx,
+    /// Two names and five numbers.
     Soa,
+    /// Strings, one or more.
     Txt,
+    /// Three numbers and a name.
     Srv,
+    /// Octets without further form (RFC 3597).
     Opaque,
 }
 
-/// A type that has a name.
-struct Entry {
+/// A row of the table: a type that has a name.
+struct KindRow {
     number: u16,
     name: &'static [u8],
     form: Form,
 }
 
-static TYPES: [Entry; 11] = [
-    Entry {
+/// The types that have a name.
+static TYPES: [KindRow; 11] = [
+    KindRow {
         number: types::A,
         name: b"A",
         form: Form::A,
     },
-    Entry {
+    KindRow {
         number: types::NS,
         name: b"NS",
         form: Form::Name,
     },
-    Entry {
+    KindRow {
         number: types::CNAME,
         name: b"CNAME",
         form: Form::Name,
     },
-    Entry {
+    KindRow {
         number: types::SOA,
         name: b"SOA",
         form: Form::Soa,
     },
-    Entry {
+    KindRow {
         number: types::PTR,
         name: b"PTR",
         form: Form::Name,
     },
-    Entry {
+    KindRow {
         number: types::MX,
         name: b"MX",
         form: Form::Mx,
     },
-    Entry {
+    KindRow {
         number: types::TXT,
         name: b"TXT",
         form: Form::Txt,
     },
-    Entry {
+    KindRow {
         number: types::AAAA,
         name: b"AAAA",
         form: Form::Aaaa,
     },
-    Entry {
+    KindRow {
         number: types::SRV,
         name: b"SRV",
         form: Form::Srv,
     },
-    Entry {
+    KindRow {
         number: types::NAPTR,
         name: b"NAPTR",
         form: Form::Opaque,
     },
-    Entry {
+    KindRow {
         number: types::DNAME,
         name: b"DNAME",
         form: Form::Opaque,
     },
 ];
 
-// A function of its own, so that no goal spells the table out.
-fn table() -> &'static [Entry]
+/// The table. A function of its own, so that no proof goal spells it out.
+fn table() -> &'static [KindRow]
     ensures { map (λ t. (t.number, t.name.now, t.form)) result.now ≡ types }
 {
     &TYPES
 }
 
-impl Entry {
+impl KindRow {
+    /// Whether this is the type's name, without regard to case.
     fn is_named(&self, word: &[u8]) -> bool
         ensures { result ≡ str_eq_ignore_ascii_case self.now.name.now word.now }
     {
@@ -104,9 +114,9 @@ impl Entry {
     }
 }
 
-/// The entry of a type.
+/// The row of a type.
 #[tactic(auto, unfolding(crate::specs::Kind::by_number))]
-fn by_number(kind: u16) -> Option<&'static Entry>
+fn by_number(kind: u16) -> Option<&'static KindRow>
     ensures { option_map (λ t. (t.now.number, t.now.name.now, t.now.form)) result ≡ by_number kind types }
 {
     for t in table() {
@@ -117,9 +127,9 @@ fn by_number(kind: u16) -> Option<&'static Entry>
     None
 }
 
-/// The entry of a name, without regard to case.
+/// The row of a name, without regard to case.
 #[tactic(auto, unfolding(crate::specs::Kind::by_name))]
-fn by_name(word: &[u8]) -> Option<&'static Entry>
+fn by_name(word: &[u8]) -> Option<&'static KindRow>
     ensures { option_map (λ t. (t.now.number, t.now.name.now, t.now.form)) result ≡ by_name word.now types }
 {
     for t in table() {
@@ -130,7 +140,7 @@ fn by_name(word: &[u8]) -> Option<&'static Entry>
     None
 }
 
-/// The form of a type's data; opaque where the type has none of its own.
+/// The form of a type's data; opaque if the type has no form of its own.
 pub fn form_of(kind: u16) -> Form
     ensures { result ≡ form_of kind }
 {
@@ -140,7 +150,7 @@ pub fn form_of(kind: u16) -> Form
     }
 }
 
-/// The number of a type that is given as `TYPEn` (RFC 3597, section 5).
+/// The number of a type that is written as `TYPEn` (RFC 3597, section 5).
 fn type_number(word: &[u8]) -> Option<u16>
     ensures { result ≡ type_number word.now }
 {
@@ -156,7 +166,7 @@ fn type_number(word: &[u8]) -> Option<u16>
     }
 }
 
-/// Whether no record has this type: obsolete types of mail, those of questions alone, and OPT.
+/// Whether records may not have this type: an obsolete type of mail, a type of questions alone, or OPT.
 pub fn is_excluded(kind: u16) -> bool
     ensures { result ≡ is_excluded kind }
 {

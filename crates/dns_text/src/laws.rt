@@ -1,4 +1,4 @@
-//! What the definitions of texts say by themselves.
+//! Laws of the definitions of texts, which callers may cite.
 
 ghost use Rattle.std.specs.Prelude.{ℕ};
 ghost use Rattle.dns_text.specs.Ipv4.{ReadsIpv4};
@@ -9,7 +9,7 @@ ghost use Rattle.dns_text.specs.Record.{IsRecordText, ReadsRecords};
 ghost use Rattle.dns_text.specs.Laws.{StandsForOne};
 ghost use Rattle.dns_text.specs.Written.{WritesNames, WritesNumbers, WritesTypes, WritesAddrs, WritesRecords};
 
-/// What is read from a text is what it stands for.
+/// Reading a text gives the value that it stands for.
 pub fn text_law()
     ensures ipv4 { ReadsIpv4 }
     ensures ipv6 { ReadsIpv6 }
@@ -20,7 +20,7 @@ pub fn text_law()
     dns_name::text_law();
 }
 
-/// A text stands for one thing at most.
+/// A text stands for one value at most.
 pub fn one_meaning()
     ensures ipv6 { StandsForOne IsIpv6Text }
     ensures strings { StandsForOne IsStringsText }
@@ -30,7 +30,7 @@ pub fn one_meaning()
     text_law();
 }
 
-/// What is written are words that are read back, wherever in a line they stand.
+/// Written texts are words, which are read back anywhere in a line.
 pub fn written_law()
     ensures names { WritesNames }
     ensures numbers { WritesNumbers }

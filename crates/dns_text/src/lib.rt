@@ -5,26 +5,27 @@
 
 // Questions, data and records.
 mod record;
-// Times to live, which a record's type keeps in range.
+// The TTL, whose type keeps it in range.
 mod ttl;
 // Lists in fields.
 mod items;
 // Values with several owners.
 mod shared;
-// Values again, with memory of their own.
+// Copies of data and records.
 mod copying;
-// The types that code names, by number.
+// Record types as constants.
 pub mod types;
 // The table of types: number, name and form of data.
 mod kind;
-// Why a text could not be read.
+// The faults of a text.
 mod fault;
-// What texts are made of: words, and numbers of digits.
+// Numbers as decimal digits.
 mod number;
+// Words of a line.
 mod word;
 // Names and numbers, each a word of data.
 mod field;
-// Data of each form that is not names and numbers alone.
+// Data of each form other than names and numbers.
 mod ipv4;
 mod ipv6;
 mod opaque;
@@ -37,7 +38,7 @@ mod formed;
 mod record_text;
 // Addresses of servers.
 mod addr;
-// What is read from a text is what it stands for.
+// The laws of reading and writing texts.
 mod laws;
 
 pub use addr::{Addr, Ip, push_addr, read_addr, write_addr};

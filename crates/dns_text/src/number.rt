@@ -7,6 +7,9 @@ ghost use Rattle.dns_text.specs.Number.{number_in, short_number_in, is_digits, d
 use itoa::Buffer;
 use std::alloc::AllocError;
 
+/// The greatest number of 8 bits.
+pub(crate) const MOST_8: u64 = 255;
+
 /// The greatest number of 16 bits.
 pub(crate) const MOST_16: u64 = 65535;
 
@@ -25,7 +28,7 @@ fn all_digits(word: &[u8]) -> bool
     true
 }
 
-/// Whether a word is of digits alone.
+/// Whether a word is one digit or more, and nothing else.
 pub(crate) fn is_digits(word: &[u8]) -> bool
     ensures { result ≡ is_digits word.now }
 {
@@ -55,7 +58,7 @@ fn digits(text: &[u8], most: u64) -> Option<u64>
     Some(number)
 }
 
-/// The number that a word of digits stands for, if it is no greater than `most`. Leading zeros are read.
+/// The number that a word of digits stands for, if it is no greater than `most`. Leading zeros are allowed.
 pub fn read_number(word: &[u8], most: u64) -> Option<u64>
     ensures value { result ≡ number_in most word.now }
     ensures bound { IfSome result (λ n. n ≤ most) }
@@ -66,7 +69,7 @@ pub fn read_number(word: &[u8], most: u64) -> Option<u64>
     }
 }
 
-/// The same without leading zeros.
+/// The number that a word of digits without leading zeros stands for, if it is no greater than `most`.
 pub(crate) fn read_short_number(word: &[u8], most: u64) -> Option<u64>
     ensures value { result ≡ short_number_in most word.now }
     ensures bound { IfSome result (λ n. n ≤ most) }

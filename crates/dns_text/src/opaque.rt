@@ -1,6 +1,6 @@
 //! Data of types without a form of their own, as a count and hexadecimal digits (RFC 3597, section 5).
 
-ghost use Rattle.std.specs.Prelude.{◌≡◌, ◌<◌, ◌++◌, option_map, ℕ, slice_index, length, IfOk, IfSome, OnOk};
+ghost use Rattle.std.specs.Prelude.{◌≡◌, ◌<◌, ◌+◌, ◌++◌, option_map, ℕ, slice_index, length, IfOk, IfSome, OnOk};
 ghost use Rattle.hex.specs.Hex.{lower_digits, encode_lower};
 ghost use Rattle.dns_text.specs.declared.fault.TextFault.TheVariants.{BadData};
 ghost use Rattle.dns_name.specs.Results.{or_fault, result_map};
@@ -15,7 +15,7 @@ use dns_name::NoMemory;
 use hex::FromHexError;
 use std::alloc::{AllocError, Global};
 
-/// The only word of a text, or no octets where it has none.
+/// The only word of a text, or no octets of text if it has none.
 fn word_or_nothing(text: &[u8]) -> Option<&[u8]>
     ensures { option_map (λ r. r.now) result ≡ word_or_nothing text.now }
 {
@@ -39,7 +39,7 @@ fn decode_hex(alloc: Global, digits: &[u8]) -> Result<Option<Vec<u8>>, NoMemory>
     }
 }
 
-/// The octets that so many pairs of hexadecimal digits stand for. Digits of another count take no memory.
+/// The octets that pairs of hexadecimal digits stand for, if there are as many as the count says. Otherwise it takes no memory.
 fn counted_octets(alloc: Global, count: u64, digits: &[u8]) -> Result<Option<Vec<u8>>, NoMemory>
     ensures value { IfOk result (λ o. option_map (λ v. v.items) o ≡ counted_octets count digits.now) }
     ensures count { IfOk result (λ o. IfSome o (λ v. length v.items ≡ count)) }
@@ -54,7 +54,7 @@ fn counted_octets(alloc: Global, count: u64, digits: &[u8]) -> Result<Option<Vec
 #[tactic(auto, unfolding(crate::specs::Opaque::octets_in))]
 pub(crate) fn read_octets(alloc: Global, text: &[u8]) -> Result<Vec<u8>, TextFault>
     ensures value { Gives (result_map (λ v. v.items) result) (or_fault BadData (octets_in text.now)) }
-    ensures few { IfOk result (λ v. length v.items < 65536) }
+    ensures few { IfOk result (λ v. length v.items < MOST_16 + 1) }
 {
     let (mark, rest) = next_word(text).ok_or(TextFault::BadData)?;
     if mark != b"\\#".as_slice() {
@@ -86,7 +86,7 @@ fn push_hex(octets: &[u8], out: &mut Vec<u8>) -> Result<(), NoMemory>
     Ok(())
 }
 
-/// Writes octets as `\# N HEX`, or as `\# 0` where there are none.
+/// Writes octets as `\# N HEX`, or as `\# 0` if there are none.
 pub(crate) fn push_octets(octets: &[u8], out: &mut Vec<u8>) -> Result<(), NoMemory>
     ensures text { OnOk result (out.new.items ≡ out.old.items ++ opaque_text octets.now) }
     ensures octets { (i : ℕ) → slice_index octets.now i < 256 }

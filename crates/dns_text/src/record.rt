@@ -16,7 +16,7 @@ pub struct Question {
     pub kind: u16,
 }
 
-/// What a record says (RFC 1035, section 3.3).
+/// The data of a record (RFC 1035, section 3.3).
 #[derive(Drop, PartialEq)]
 pub enum Data {
     /// An IPv4 address, its first octet first (RFC 1035, section 3.4.1).
@@ -30,7 +30,7 @@ pub enum Data {
         preference: u16,
         exchange: Name,
     },
-    /// The start of a zone of authority; times in seconds (RFC 1035, section 3.3.13).
+    /// The start of a zone of authority; times are in seconds (RFC 1035, section 3.3.13).
     Soa {
         primary: Name,
         mailbox: Name,
@@ -62,7 +62,7 @@ pub struct Record {
     pub body: Data,
 }
 
-/// What `==` calls equal is one value, and each value is equal to itself.
+/// Values that `==` calls equal are the same, and each value is equal to itself.
 pub fn equality_law()
     ensures data_exact { (a b : Data) → ⟦<Data as PartialEq>⟧.eq a b ≡ true → a ≡ b }
     ensures questions_exact { (a b : Question) → ⟦<Question as PartialEq>⟧.eq a b ≡ true → a ≡ b }

@@ -6,7 +6,7 @@ use std::alloc::{AllocError, Global};
 use std::marker::Model;
 use std::sync::Arc;
 
-/// A value with several owners, which contracts see as the value itself.
+/// A value with several owners. Contracts see the value itself.
 #[derive(Drop)]
 pub struct Shared<T> {
     value: Arc<T>,
@@ -28,7 +28,7 @@ impl<T: Drop> Shared<T> {
         })
     }
 
-    /// Another owner of the same value. It takes no memory; there can be too many owners to count.
+    /// Another owner of the same value. It takes no memory, and fails if there are too many owners to count.
     pub fn share(&self) -> Result<Shared<T>, AllocError>
         ensures { IfOk result (λ s. s ≡ self.now) }
     {

@@ -1,11 +1,11 @@
-//! Strings of TXT data, each a word, in quotes or not.
+//! Strings of TXT data, each a word with or without quotes.
 
 ghost use Rattle.std.specs.Prelude.{◌≡◌, ◌<◌, ◌≤◌, ◌+◌, ◌++◌, [], List, ℕ, option_map, length, IfOk, IfSome, OnOk, MatchOption, None};
 ghost use Rattle.std.specs.List.{flat_map, AllByRecursion};
 ghost use Rattle.dns_text.specs.declared.fault.TextFault.TheVariants.{BadData};
 ghost use Rattle.dns_name.specs.Results.{or_fault, result_map};
 ghost use Rattle.dns_text.specs.Fault.{Gives};
-ghost use Rattle.dns_text.specs.String.{octet_at, octets_after, before_last_quote, inside_quotes, string_in, strings_after, strings_in, quoted_octet, quoted_text, strings_text, AreOctets};
+ghost use Rattle.dns_text.specs.String.{octet_at, octets_after, IsNoString, ReadsOn, before_last_quote, inside_quotes, string_in, strings_after, strings_in, quoted_octet, quoted_text, strings_text, AreOctets};
 
 use crate::fault::TextFault;
 use crate::items::{Items, Octets};
@@ -14,7 +14,7 @@ use arrayvec::ArrayVec;
 use dns_name::{NoMemory, read_escape};
 use std::alloc::Global;
 
-/// The most octets of a string, whose length a message tells in one (RFC 1035, section 3.3).
+/// The most octets of a string: in a message its length is one octet (RFC 1035, section 3.3).
 pub const MOST_STRING: usize = 255;
 
 /// The octet at the front of a text, escaped or not, and how many octets of text it takes; none at a bare quote.
@@ -30,10 +30,12 @@ fn next_octet(text: &[u8]) -> Option<(u8, usize)>
     }
 }
 
-/// Reads one octet more of a string, of which there are at most 255, and answers the text after it.
+/// Reads one more octet of a string, which has 255 at most, and returns the text after it.
 fn take_octet<'a>(text: &'a [u8], octets: &mut ArrayVec<u8, MOST_STRING>) -> Option<&'a [u8]>
     requires { 0 < length text.now }
-    ensures { MatchOption result (octets_after octets.old.items 0 text.now ≡ None) (λ rest. (octets_after octets.old.items 0 text.now ≡ octets_after octets.new.items 0 rest.now) × (length rest.now < length text.now)) }
+    ensures { MatchOption result
+        (IsNoString octets.old.items text.now)
+        (λ rest. ReadsOn octets.old.items text.now octets.new.items rest.now) }
 {
     let (octet, taken) = next_octet(text)?;
     if octets.len() >= MOST_STRING {
@@ -55,7 +57,7 @@ fn read_string_octets(text: &[u8]) -> Option<ArrayVec<u8, MOST_STRING>>
     Some(octets)
 }
 
-/// What stands in the quotes round a word, or the word itself where it begins with none.
+/// The text inside the quotes of a word, or the word itself if it does not begin with a quote.
 fn inside_quotes(word: &[u8]) -> Option<&[u8]>
     ensures { option_map (λ r. r.now) result ≡ inside_quotes word.now }
 {
@@ -65,7 +67,7 @@ fn inside_quotes(word: &[u8]) -> Option<&[u8]>
     }
 }
 
-/// What stands before the quote at the end of a text.
+/// The text before the quote at its end.
 fn before_last_quote(text: &[u8]) -> Option<&[u8]>
     ensures { option_map (λ r. r.now) result ≡ before_last_quote text.now }
 {
@@ -77,7 +79,7 @@ fn before_last_quote(text: &[u8]) -> Option<&[u8]>
 #[tactic(auto, unfolding(crate::specs::String::string_in))]
 fn read_string(alloc: Global, word: &[u8]) -> Result<Option<Octets>, NoMemory>
     ensures value { IfOk result (λ s. s ≡ string_in word.now) }
-    ensures few { IfOk result (λ s. IfSome s (λ octets. length octets < 256)) }
+    ensures few { IfOk result (λ s. IfSome s (λ octets. length octets < MOST_STRING + 1)) }
 {
     let Some(inside) = inside_quotes(word) else {
         return Ok(None);
@@ -88,10 +90,10 @@ fn read_string(alloc: Global, word: &[u8]) -> Result<Option<Octets>, NoMemory>
     }
 }
 
-/// The strings of a text, one or more.
+/// The strings of a text.
 fn read_all_strings(alloc: Global, text: &[u8]) -> Result<Vec<Octets>, TextFault>
     ensures value { Gives (result_map (λ v. v.items) result) (or_fault BadData (strings_after [] (length text.now) text.now)) }
-    ensures few { IfOk result (λ v. AllByRecursion (λ octets. length octets < 256) v.items) }
+    ensures few { IfOk result (λ v. AllByRecursion (λ octets. length octets < MOST_STRING + 1) v.items) }
 {
     let mut strings = Vec::new(alloc);
     let mut rest = text;
@@ -109,7 +111,7 @@ fn read_all_strings(alloc: Global, text: &[u8]) -> Result<Vec<Octets>, TextFault
 #[tactic(auto, unfolding(crate::specs::String::strings_in))]
 pub(crate) fn read_strings(alloc: Global, text: &[u8]) -> Result<Items<Octets>, TextFault>
     ensures value { Gives result (or_fault BadData (strings_in text.now)) }
-    ensures sized { IfOk result (λ strings. (0 < length strings) × AllByRecursion (λ octets. length octets < 256) strings) }
+    ensures sized { IfOk result (λ strings. (0 < length strings) × AllByRecursion (λ octets. length octets < MOST_STRING + 1) strings) }
 {
     let strings = read_all_strings(alloc, text)?;
     if strings.is_empty() {

@@ -1,13 +1,13 @@
-//! Times to live.
+//! The TTL of a record.
 
 ghost use Rattle.std.specs.Prelude.{◌≡◌, ◌<◌, ◌^◌, ◌↔◌, IsSome, IfSome};
 
 use std::marker::Model;
 
-/// The greatest time to live, in seconds (RFC 2181, section 8).
+/// The greatest TTL, in seconds (RFC 2181, section 8).
 pub const MOST_TTL: u64 = 2147483647;
 
-/// For how many seconds a record may be kept: below 2^31 (RFC 2181, section 8). Contracts see the number.
+/// The number of seconds that a record may be cached: below 2^31 (RFC 2181, section 8). Contracts see the number.
 #[derive(Clone, Copy, PartialEq, Eq)]
 pub struct Ttl {
     seconds: u32,
@@ -26,10 +26,10 @@ impl Model for Ttl {
 }
 
 impl Ttl {
-    /// For this once and no longer.
+    /// A TTL of 0: the record may be used once and not cached.
     pub const ZERO: Ttl = Ttl { seconds: 0 };
 
-    /// So many seconds, where they are known to be few enough.
+    /// A TTL of this many seconds, which are known to be below 2^31.
     pub(crate) fn new(seconds: u32) -> Ttl
         requires { seconds < 2 ^ 31 }
         ensures { result ≡ seconds }
@@ -37,7 +37,7 @@ impl Ttl {
         Ttl { seconds }
     }
 
-    /// So many seconds, if that is below 2^31.
+    /// A TTL of this many seconds, if they are below 2^31.
     pub fn from_seconds(seconds: u32) -> Option<Ttl>
         ensures some { IsSome result ↔ (seconds < 2 ^ 31) }
         ensures value { IfSome result (λ ttl. ttl ≡ seconds) }
@@ -48,7 +48,7 @@ impl Ttl {
         Some(Ttl { seconds })
     }
 
-    /// In seconds.
+    /// The number of seconds.
     pub fn seconds(self) -> u32
         ensures value { result ≡ self }
         ensures range { self < 2 ^ 31 }

@@ -3,10 +3,12 @@
 ghost use Rattle.std.specs.Prelude.{◌≡◌, ◌<◌, length, option_map, IfSome};
 ghost use Rattle.dns_text.specs.Word.{after_octet, cut_word, skip_blanks, next_word, only_word, cut_at};
 
-/// Where a word stands after some of its octets.
+/// The state within a word after some of its octets.
 #[derive(Clone, Copy)]
 pub enum Within {
+    /// Outside quotes.
     Plain,
+    /// Inside quotes.
     Quotes,
     /// Behind a backslash, outside quotes.
     Escape,
@@ -14,7 +16,7 @@ pub enum Within {
     QuotedEscape,
 }
 
-/// Where a word stands after one more octet; none where the octet is a blank that ends it.
+/// The state after one more octet of a word; none if the octet is a blank that ends the word.
 fn after_octet(within: Within, b: u8) -> Option<Within>
     ensures { result ≡ after_octet within b }
 {
@@ -64,7 +66,7 @@ fn skip_blanks(text: &[u8]) -> &[u8]
     rest
 }
 
-/// The first word of a text as it stands there, with its quotes, and the text after it.
+/// The first word of a text as it is written, with its quotes, and the text after it.
 pub fn next_word(text: &[u8]) -> Option<(&[u8], &[u8])>
     ensures value { option_map (λ r. (r.0.now, r.1.now)) result ≡ next_word text.now }
     ensures less { IfSome result (λ r. length r.1.now < length text.now) }
@@ -72,6 +74,7 @@ pub fn next_word(text: &[u8]) -> Option<(&[u8], &[u8])>
     first_word(text)
 }
 
+/// The same, without a bound on the length of the rest.
 fn first_word(text: &[u8]) -> Option<(&[u8], &[u8])>
     ensures { option_map (λ r. (r.0.now, r.1.now)) result ≡ next_word text.now }
 {
@@ -82,7 +85,7 @@ fn first_word(text: &[u8]) -> Option<(&[u8], &[u8])>
     Some(cut_word(rest))
 }
 
-/// The one word of a text.
+/// The only word of a text.
 pub(crate) fn only_word(text: &[u8]) -> Option<&[u8]>
     ensures { option_map (λ r. r.now) result ≡ only_word text.now }
 {
@@ -93,7 +96,7 @@ pub(crate) fn only_word(text: &[u8]) -> Option<&[u8]>
     }
 }
 
-/// What stands before the first of these octets, and after it.
+/// The text before the first such octet, and the text after it.
 pub(crate) fn cut_at(octet: u8, text: &[u8]) -> Option<(&[u8], &[u8])>
     ensures value { option_map (λ r. (r.0.now, r.1.now)) result ≡ cut_at octet text.now }
     ensures less { IfSome result (λ r. length r.1.now < length text.now) }

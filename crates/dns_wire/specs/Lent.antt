@@ -1,4 +1,4 @@
--- Sections whose records are lent, part by part, and the messages that they make (RFC 1035, section 4.1).
+-- Sections that lend their records part by part, and the messages that they make (RFC 1035, section 4.1).
 use Rattle.std.specs.Prelude.{ℕ, List, [], ◌∷◌, get_or, map}
 use Rattle.std.specs.List.{flat_map}
 use Rattle.dns_name.specs.Labels.{Labels}
@@ -14,7 +14,7 @@ use Rattle.dns_wire.specs.Write.Question.{in_class_in}
 abbrev pub Parts : Type 0
 Parts = List (List (Classed Record))
 
--- the records of a part, none where there is no such part
+-- the records of a part; none if there is no such part
 abbrev pub part_at : Parts → ℕ → List (Classed Record)
 part_at parts i = get_or parts i []
 
@@ -22,7 +22,7 @@ part_at parts i = get_or parts i []
 abbrev pub in_order : Parts → List (Classed Record)
 in_order parts = flat_map (λ part. part) parts
 
--- the records of a set of one owner, type and time to live (RFC 2181, section 5)
+-- the records of an RRset: one owner, type and TTL (RFC 2181, section 5)
 abbrev pub set_records : Labels → ℕ → ℕ → List Data → List (Classed Record)
 set_records owner kind ttl bodies = map (λ body. in_class_in (record { owner = owner; kind = kind; ttl = ttl; body = body })) bodies
 
@@ -32,14 +32,18 @@ pub record Records : Type 0 where
   pub authority : List (Classed Record)
   pub additional : List (Classed Record)
 
--- those of a message
+-- the records of three lent sections
+abbrev pub records_in : Parts → Parts → Parts → Records
+records_in answer authority additional = record { answer = in_order answer; authority = in_order authority; additional = in_order additional }
+
+-- the records of each section of a message
 abbrev pub records_of : Message → Records
 records_of v = record { answer = v.answer; authority = v.authority; additional = v.additional }
 
--- the reply of a head and records to a question
+-- the reply to a question with this head and these records
 abbrev pub reply_of : Head → Question → Records → Message
 reply_of head question records = record { head = head; questions = in_class_in question ∷ []; answer = records.answer; authority = records.authority; additional = records.additional }
 
--- the same, where the answer and the authority section are lent, and the additional section is empty
+-- the reply with a lent answer section, a lent authority section and an empty additional section
 abbrev pub lent_reply : Head → Question → Parts → Parts → Message
 lent_reply head question answer authority = reply_of head question (record { answer = in_order answer; authority = in_order authority; additional = [] })

@@ -1,4 +1,4 @@
--- What a lent set says of its records: a lemma, which proofs in the crates above cite. No contract needs it.
+-- The form of the records of a lent RRset: a lemma, which proofs in the crates above cite. No contract needs it.
 use Rattle.std.specs.Prelude.{ℕ, List, [], ◌∷◌}
 use Rattle.std.specs.List.{AllByRecursion}
 use Rattle.dns_name.specs.Labels.{Labels}

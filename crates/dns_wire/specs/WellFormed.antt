@@ -14,12 +14,14 @@ use Rattle.dns_wire.specs.declared.message.Message.{Message}
 use Rattle.dns_wire.specs.Lent.{Records, records_of}
 use Rattle.dns_wire.specs.Read.Rdata.{form_in}
 
+-- Each field of a header is in range: an identifier of 16 bits, and so on.
 pub record IsHead (h : Head) : Type 0 where
   pub id : h.id < 2 ^ 16
   pub opcode : h.opcode < 2 ^ 4
   pub z : h.z < 2 ^ 3
   pub rcode : h.rcode < 2 ^ 4
 
+-- A question has a valid name, and a type and a class of 16 bits.
 pub record IsQuestion (q : Classed Question) : Type 0 where
   pub owner : IsName q.item.owner
   pub kind : q.item.kind < 2 ^ 16
@@ -40,6 +42,7 @@ IsData (Opaque octets) = AreOctets octets
 abbrev pub HasItsForm : Classed Record → Type 0
 HasItsForm r = IsOfForm (form_in r.class r.item.kind) r.item.body
 
+-- A record has a valid owner, each field in range, a TTL below 2^31 and data in the form of its class and type.
 pub record IsRecord (r : Classed Record) : Type 0 where
   pub owner : IsName r.item.owner
   pub kind : r.item.kind < 2 ^ 16
@@ -48,7 +51,7 @@ pub record IsRecord (r : Classed Record) : Type 0 where
   pub form : HasItsForm r
   pub data_fits : IsData r.item.body
 
--- The records of each section.
+-- All records of the three sections are valid.
 pub record AreRecords (records : Records) : Type 0 where
   pub answer : AllByRecursion IsRecord records.answer
   pub authority : AllByRecursion IsRecord records.authority
@@ -62,12 +65,12 @@ pub record IsWellFormed (v : Message) : Type 0 where
   pub authority : AllByRecursion IsRecord v.authority
   pub additional : AllByRecursion IsRecord v.additional
 
--- All data has the form of its class and type.
+-- All data of the three sections has the form of its class and type.
 pub record AreFormed (records : Records) : Type 0 where
   pub answer : AllByRecursion HasItsForm records.answer
   pub authority : AllByRecursion HasItsForm records.authority
   pub additional : AllByRecursion HasItsForm records.additional
 
--- The same of a message. The types of the fields ensure all else that a message has to be.
+-- All data of a message has the form of its class and type. The Rust types of the fields ensure all other ranges.
 abbrev pub HasForms : Message → Type 0
 HasForms v = AreFormed (records_of v)

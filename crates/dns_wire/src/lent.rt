@@ -1,4 +1,4 @@
-//! Records that are lent, and the sections that lend them.
+//! Borrowed records, and the sections that lend them.
 
 ghost use Rattle.std.specs.Prelude.{◌≡◌, ◌<◌, get_or, length, slice_get};
 ghost use Rattle.dns_wire.specs.Lent.{Parts, part_at};
@@ -9,7 +9,7 @@ use dns_name::Name;
 use dns_text::{Data, Items, Record, Ttl};
 use std::marker::Model;
 
-/// A record whose name and data are lent. Contracts see a record with its class.
+/// A record whose name and data are borrowed. Contracts see a record with its class.
 #[derive(Drop)]
 pub struct LentRecord<'a> {
     pub(crate) owner: &'a Name,
@@ -56,8 +56,8 @@ impl<'a> LentRecord<'a> {
     }
 }
 
-/// A section of a message that lends its records, part by part: a part is a set of records (RFC 2181, section 5), one
-/// record, or whatever else its holder has in one piece. What is written is asked for twice or more.
+/// A section of a message that lends its records, part by part. A part is an RRset (RFC 2181, section 5), one record, or
+/// whatever else its holder has in one piece. The writer reads each record at least twice.
 pub trait Section {
     ghost parts: { Self → Parts };
 
@@ -65,16 +65,16 @@ pub trait Section {
     fn part_count(&self) -> usize
         ensures { result ≡ length (parts self.now) };
 
-    /// How many records a part has; 0 where there is no such part.
+    /// How many records a part has; 0 if there is no such part.
     fn record_count(&self, part: usize) -> usize
         ensures { result ≡ length (part_at (parts self.now) part) };
 
-    /// The record at a place of a part, both counted from 0; none where there is no such record.
+    /// The record at a place of a part, both counted from 0; none if there is no such record.
     fn record(&self, part: usize, place: usize) -> Option<LentRecord<'_>>
         ensures { result ≡ slice_get (part_at (parts self.now) part) place };
 }
 
-/// A record that stands in a part.
+/// A record of a part, which has one at this place.
 pub(crate) fn record_in<S: Section>(section: &S, part: usize, place: usize) -> LentRecord<'_>
     requires { place < length (part_at (S.parts section.now) part) }
     ensures { result ≡ get_or (part_at (S.parts section.now) part) place result }
@@ -141,9 +141,9 @@ pub(crate) struct Sections<'a, A: Section, B: Section, C: Section> {
 }
 
 impl<'a, A: Section, B: Section, C: Section> Model for Sections<'a, A, B, C> {
-    ghost use Rattle.dns_wire.specs.Lent.{Records, in_order};
+    ghost use Rattle.dns_wire.specs.Lent.{Records, records_in};
 
     ghost Value = { Records };
 
-    ghost view = { λ s. record { answer = in_order (A.parts s.answer.now); authority = in_order (B.parts s.authority.now); additional = in_order (C.parts s.additional.now) } };
+    ghost view = { λ s. records_in (A.parts s.answer.now) (B.parts s.authority.now) (C.parts s.additional.now) };
 }

@@ -1,27 +1,30 @@
 //! Messages of the domain name system (RFC 1035, section 4): read from octets, written as octets, and taken as queries.
 #![tactic(auto)]
 
-// In the order in which to read them. Each file stands beside a file of specs/ of its name.
+// In the order in which to read them.
 
-// What the fields of a header say: what came of a query, the kind of a query, and bits that are reserved.
+// The limits and marks of messages.
+mod limits;
+// Fields of a header: the kind of a query, the response code, and the reserved bits.
 mod opcode;
 mod rcode;
 mod reserved;
-// What a message says.
+// The header, questions and records of a message.
 mod message;
-// Records that are lent, and the sections that lend them.
+// Borrowed records, and the sections that lend them.
 mod lent;
-// Why octets are no message.
+// The faults of octets that are no message.
 mod fault;
-// What is read.
+// Reading messages.
 mod read;
-// What is written.
+// Writing messages.
 mod write;
-// What a server is asked and replies.
+// Queries that a server receives, and replies that take no memory.
 mod server;
 
 pub use fault::WireFault;
 pub use lent::{LentRecord, NoRecords, Section};
+pub use limits::{HEADER_OCTETS, MOST_OCTETS};
 pub use message::{CLASS_IN, Classed, Head, Message};
 pub use opcode::Opcode;
 pub use rcode::Rcode;

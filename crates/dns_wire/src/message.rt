@@ -1,4 +1,4 @@
-//! What a message says.
+//! A message: its header, questions and records.
 
 ghost use Rattle.std.specs.Prelude.{◌≡◌};
 ghost use Rattle.std.specs.Option.{option_copied};
@@ -15,10 +15,11 @@ use dns_text::{Items, Question, Record};
 /// The header of a message without its counts (RFC 1035, section 4.1.1).
 #[derive(Clone, Copy, PartialEq, Eq)]
 pub struct Head {
-    /// A response has that of its query.
+    /// The identifier. A response has that of its query.
     pub id: u16,
     /// Whether it is a response.
     pub qr: bool,
+    /// The kind of query.
     pub opcode: Opcode,
     /// Whether the answer is authoritative.
     pub aa: bool,
@@ -28,8 +29,9 @@ pub struct Head {
     pub rd: bool,
     /// Whether recursion is available.
     pub ra: bool,
-    /// Reserved.
+    /// The reserved bits.
     pub z: Reserved,
+    /// The response code.
     pub rcode: Rcode,
 }
 
@@ -43,7 +45,7 @@ pub struct Classed<T> {
     pub class: u16,
 }
 
-/// A message (RFC 1035, section 4.1). A record of another class than IN has opaque data.
+/// A message (RFC 1035, section 4.1). A record of a class other than IN has opaque data.
 #[derive(Drop, PartialEq)]
 pub struct Message {
     pub head: Head,
@@ -54,7 +56,7 @@ pub struct Message {
 }
 
 impl Message {
-    /// The name of the first question.
+    /// The name of the first question, if there is one.
     pub(crate) fn first_name(&self) -> Option<&Name>
         ensures { option_copied result ≡ first_name self.now.questions }
     {
@@ -64,7 +66,7 @@ impl Message {
         }
     }
 
-    /// The records, lent.
+    /// The borrowed records of each section.
     pub(crate) fn sections(
         &self,
     ) -> Sections<'_, Items<Classed<Record>>, Items<Classed<Record>>, Items<Classed<Record>>>

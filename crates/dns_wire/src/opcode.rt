@@ -1,4 +1,4 @@
-//! Kinds of query.
+//! The kind of a query.
 
 ghost use Rattle.std.specs.Prelude.{◌≡◌, ◌<◌, ◌/◌, ◌%◌, ◌↔◌, IsTrue, IsSome, IfSome};
 
@@ -26,7 +26,7 @@ impl Opcode {
     /// A standard query.
     pub const QUERY: Opcode = Opcode { number: 0 };
 
-    /// That of this number, if it has 4 bits.
+    /// The kind with this number, if the number has 4 bits.
     pub fn from_number(number: u8) -> Option<Opcode>
         ensures some { IsSome result ↔ (number < 16) }
         ensures value { IfSome result (λ opcode. opcode ≡ number) }
@@ -37,7 +37,7 @@ impl Opcode {
         Some(Opcode { number })
     }
 
-    /// The one in the flags of a header.
+    /// The kind in the flags of a header.
     pub(crate) fn in_flags(flags: u16) -> Opcode
         ensures { result ≡ flags / 2048 % 16 }
     {
@@ -53,7 +53,7 @@ impl Opcode {
         self.number == 0
     }
 
-    /// Its number.
+    /// The number, below 16.
     pub fn number(self) -> u8
         ensures value { result ≡ self }
         ensures range { self < 16 }

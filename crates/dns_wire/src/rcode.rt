@@ -1,10 +1,10 @@
-//! Response codes.
+//! The response code.
 
 ghost use Rattle.std.specs.Prelude.{◌≡◌, ◌<◌, ◌/◌, ◌%◌, ◌↔◌, IsSome, IfSome};
 
 use std::marker::Model;
 
-/// What came of a query, in 4 bits (RFC 1035, section 4.1.1). Contracts see the number.
+/// The outcome of a query, in 4 bits (RFC 1035, section 4.1.1). Contracts see the number.
 #[derive(Clone, Copy, PartialEq, Eq)]
 pub struct Rcode {
     number: u8,
@@ -23,19 +23,20 @@ impl Model for Rcode {
 }
 
 impl Rcode {
+    /// No error.
     pub const NO_ERROR: Rcode = Rcode { number: 0 };
-    /// The query could not be read.
+    /// The server could not read the query.
     pub const FORMAT_ERROR: Rcode = Rcode { number: 1 };
     /// The server could not answer.
     pub const SERVER_FAILURE: Rcode = Rcode { number: 2 };
     /// The name doesn't exist.
     pub const NAME_ERROR: Rcode = Rcode { number: 3 };
-    /// The server knows no such query.
+    /// The server does not support this kind of query.
     pub const NOT_IMPLEMENTED: Rcode = Rcode { number: 4 };
-    /// The server won't answer.
+    /// The server refuses to answer.
     pub const REFUSED: Rcode = Rcode { number: 5 };
 
-    /// That of this number, if it has 4 bits.
+    /// The code with this number, if the number has 4 bits.
     pub fn from_number(number: u8) -> Option<Rcode>
         ensures some { IsSome result ↔ (number < 16) }
         ensures value { IfSome result (λ rcode. rcode ≡ number) }
@@ -46,7 +47,7 @@ impl Rcode {
         Some(Rcode { number })
     }
 
-    /// The one in the flags of a header.
+    /// The code in the flags of a header.
     pub(crate) fn in_flags(flags: u16) -> Rcode
         ensures { result ≡ flags % 16 }
     {
@@ -55,7 +56,7 @@ impl Rcode {
         }
     }
 
-    /// Its number.
+    /// The number, below 16.
     pub fn number(self) -> u8
         ensures value { result ≡ self }
         ensures range { self < 16 }

@@ -1,4 +1,4 @@
-//! What is read.
+//! Messages read from octets.
 
 // In the order in which to read them.
 
@@ -6,13 +6,13 @@
 pub mod number;
 // The header: identifier and flags.
 pub mod header;
-// What stands at a place where a name is read.
+// The label, pointer or end of a name at a place.
 pub mod place;
 // Chains of pointers, and a message with their ends.
 pub mod chains;
 // Names, which may point back to others.
 pub mod name;
-// Sections, of items one after another.
+// Sections: items one after another.
 pub mod section;
 // Questions.
 pub mod question;
@@ -20,7 +20,7 @@ pub mod question;
 pub mod rdata;
 // Records.
 pub mod record;
-// Messages, a section after the other.
+// Messages, section after section.
 pub mod message;
-// What octets are, as a whole.
+// Decoding: the message that octets are, or their first fault.
 pub mod decoding;

@@ -23,10 +23,10 @@ impl Model for Reserved {
 }
 
 impl Reserved {
-    /// As a message has to have them.
+    /// The bits as every message must have them.
     pub const ZERO: Reserved = Reserved { number: 0 };
 
-    /// That of this number, if it has 3 bits.
+    /// The bits of this number, if it has 3 bits.
     pub fn from_number(number: u8) -> Option<Reserved>
         ensures some { IsSome result ↔ (number < 8) }
         ensures value { IfSome result (λ z. z ≡ number) }
@@ -37,7 +37,7 @@ impl Reserved {
         Some(Reserved { number })
     }
 
-    /// Those in the flags of a header.
+    /// The bits in the flags of a header.
     pub(crate) fn in_flags(flags: u16) -> Reserved
         ensures { result ≡ flags / 16 % 8 }
     {
@@ -46,7 +46,7 @@ impl Reserved {
         }
     }
 
-    /// Its number.
+    /// The number, below 8.
     pub fn number(self) -> u8
         ensures value { result ≡ self }
         ensures range { self < 8 }

@@ -1,14 +1,14 @@
-//! What a server is asked, and the replies that take no memory.
+//! Queries that a server receives, and replies that take no memory.
 
 // In the order in which to read them.
 
 // The octets of a question.
 pub mod spelling;
-// A query, and what else octets ask for.
+// A query, and the other requests.
 pub mod query;
-// Messages walked, and not kept.
+// Walking over a message without keeping it.
 pub mod walking;
-// What octets ask for.
+// The request in received octets.
 pub mod asking;
-// Replies that tell a fault, and replies cut for UDP.
+// Error replies, and replies truncated for UDP.
 pub mod replying;

@@ -1,4 +1,4 @@
-//! What is written.
+//! Messages written as octets.
 
 // In the order in which to read them.
 
@@ -16,7 +16,7 @@ pub mod rdata;
 pub mod record;
 // The sections of a message.
 pub mod message;
-// How many octets a message takes.
+// The number of octets of a message.
 pub mod size;
 // Messages and replies, in a buffer each.
 pub mod encoding;

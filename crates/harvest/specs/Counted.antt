@@ -1,4 +1,4 @@
--- Which records of a message count, and how far each is trusted (RFC 2181, section 5.4.1).
+-- The records of a message that count, and how far each is trusted (RFC 2181, section 5.4.1).
 use Rattle.std.specs.Prelude.{Bool, not, ◌==◌, ◌&&◌, List, ◌++◌, map, filter, if◌then◌else◌}
 use Rattle.dns_name.specs.Labels.{Labels}
 use Rattle.dns_name.specs.Order.{name_eq}
@@ -12,20 +12,20 @@ use Rattle.dns_name.specs.Below.{is_at_or_below}
 use Rattle.ranked.specs.declared.rank.Rank.{Rank}
 use Rattle.ranked.specs.declared.rank.Rank.TheVariants.{Additional, Answer, Authority, AuthoritativeAnswer}
 
--- a record with its rank
+-- A record with its rank.
 pub record Ranked : Type 0 where
   pub rank : Rank
   pub said : Record
 
--- whether a record counts: it is of class IN and of a type that records have, and its owner is at or below the zone asked
+-- whether a record counts: it is of class IN and of a type that records may have, and its owner is at or below the zone asked
 abbrev pub counts : Labels → Classed Record → Bool
 counts zone r = r.class == CLASS_IN && (not (is_excluded r.item.kind) && is_at_or_below r.item.owner zone)
 
--- the rank of a record of the answer section: the highest for the question's own name in an authoritative reply
+-- the rank of a record of the answer section: the highest for the question's own name in an authoritative response
 abbrev pub answer_rank : Bool → Labels → Record → Rank
 answer_rank aa asked r = if aa && name_eq r.owner asked then AuthoritativeAnswer else Answer
 
--- the rank of the authority section
+-- the rank of the records of the authority section
 abbrev pub authority_rank : Bool → Rank
 authority_rank aa = if aa then Authority else Additional
 
@@ -33,7 +33,7 @@ authority_rank aa = if aa then Authority else Additional
 abbrev pub ranked_in : Labels → (Record → Rank) → List (Classed Record) → List Ranked
 ranked_in zone rank section = map (λ r. record { rank = rank r.item; said = r.item }) (filter (counts zone) section)
 
--- those of a message: of the answer section, then the authority section, then the additional section
+-- the records of a message that count: those of the answer section, the authority section, then the additional section
 abbrev pub ranked_of : Message → Question → Labels → List Ranked
 ranked_of message question zone =
     ranked_in zone (answer_rank message.head.aa question.owner) message.answer

@@ -1,4 +1,4 @@
--- What a map holds that leads from what the records of a set have in common to the place of the set.
+-- The map from the key of a set of records to the place of the set.
 use Rattle.std.specs.Prelude.{◌≡◌, ◌<◌, ℕ, List, Some, length, slice_index_or}
 use Rattle.std.specs.BTreeMap.{BTreeMap, get}
 use Rattle.std.specs.Ordering.{nat_cmp, ordering_then}
@@ -8,10 +8,11 @@ use Rattle.dns_name.specs.Order.{name_cmp}
 use Rattle.ranked.specs.Rank.{level_of}
 use Rattle.harvest.specs.Sets.{Key, Set}
 
--- the owner, and the type with the rank
+-- a set's key in the map: the owner, the type and the rank
 abbrev pub place_key : Key → Labels × (ℕ × ℕ)
 place_key key = (key.owner, (key.kind, level_of key.rank))
 
+-- the order of keys in the map: by owner, then type, then rank
 abbrev pub place_cmp : Labels × (ℕ × ℕ) → Labels × (ℕ × ℕ) → Ordering
 place_cmp a b = ordering_then (name_cmp a.0 b.0) (ordering_then (nat_cmp a.1.0 b.1.0) (nat_cmp a.1.1 b.1.1))
 

@@ -1,4 +1,4 @@
-//! Which records of a message count, and how far each is trusted.
+//! The records of a message that count, and how far each is trusted.
 
 ghost use Rattle.std.specs.Prelude.{◌≡◌, ◌++◌, IfOk, OnOk};
 ghost use Rattle.std.specs.List.{AllByRecursion};
@@ -48,7 +48,7 @@ fn answer_rank(aa: bool, asked: &Name, r: &Record) -> Rank
     }
 }
 
-/// The rank of the authority section.
+/// The rank of the records of the authority section.
 fn authority_rank(aa: bool) -> Rank
     ensures { result ≡ authority_rank aa }
 {

@@ -1,4 +1,4 @@
-//! Data of one type, each once.
+//! Data of one type without duplicates.
 
 ghost use Rattle.std.specs.Prelude.{◌≡◌, ◌≤◌, ◌∷◌, [], false, length, map, take, IfOk, OnOk, OnErr};
 ghost use Rattle.dns_text.specs.Data.{HasForm, data_text};
@@ -12,10 +12,10 @@ use std::alloc::{AllocError, Global};
 use std::collections::BTreeSet;
 use std::marker::Model;
 
-/// A datum is compared with so many, the first; those behind them are found by their texts. Few sets have more.
+/// The most data that a new datum is compared with, one by one. Those behind them are found by their texts. Few sets have more.
 pub(crate) const MOST_COMPARED: usize = 8;
 
-/// Data of one type in order, each once. They are lent.
+/// Borrowed data of one type in order, without duplicates.
 #[derive(Drop)]
 pub(crate) struct Distinct<'a> {
     kind: u16,
@@ -61,6 +61,7 @@ impl<'a> Distinct<'a> {
         })
     }
 
+    /// The type of the data.
     pub(crate) fn kind(&self) -> u16
         ensures { result ≡ self.now.kind }
     {
@@ -74,7 +75,7 @@ impl<'a> Distinct<'a> {
         &self.data
     }
 
-    /// Adds a datum behind the first `MOST_COMPARED`, unless one of its text is there.
+    /// Adds a datum behind the first `MOST_COMPARED`, unless one with its text is there.
     fn add_behind(&mut self, alloc: Global, datum: &'a Data) -> Result<(), NoMemory>
         requires form { HasForm self.old.kind datum.now }
         requires behind { MOST_COMPARED ≤ length self.old.data_in }

@@ -11,7 +11,7 @@ use ranked::{LONGEST_TTL, Rank};
 use std::alloc::Global;
 use std::marker::Model;
 
-/// A set as far as it has come. Its data are lent, each once.
+/// A set that is being gathered. Its data are borrowed and without duplicates.
 #[derive(Drop)]
 pub(crate) struct Gathering<'a> {
     pub(crate) owner: &'a Name,
@@ -25,12 +25,16 @@ impl<'a> Model for Gathering<'a> {
 
     ghost Value = { Set };
 
-    ghost view = { λ g. record { key = record { owner = g.owner.now; kind = g.data.kind; rank = g.rank }; ttl = g.ttl; data_in = g.data.data_in } };
+    ghost view = { λ g. record {
+      key = record { owner = g.owner.now; kind = g.data.kind; rank = g.rank };
+      ttl = g.ttl;
+      data_in = g.data.data_in;
+    } };
 
     ghost invariant = { λ g. IsGathered g.data.kind g.ttl g.data.data_in };
 }
 
-/// The lesser of two times to live.
+/// The lesser of two TTLs.
 fn least(ttl: u32, other: Ttl) -> u32
     ensures { result ≡ min ttl other }
 {
@@ -38,7 +42,7 @@ fn least(ttl: u32, other: Ttl) -> u32
 }
 
 impl<'a> Gathering<'a> {
-    /// The set that a record begins.
+    /// A new set of one record.
     pub(crate) fn new(alloc: Global, first: &Counted<'a>) -> Result<Gathering<'a>, NoMemory>
         ensures { IfOk result (λ g. g ≡ begun first.now) }
     {
@@ -60,7 +64,7 @@ impl<'a> Gathering<'a> {
             && *self.owner == r.said.owner
     }
 
-    /// Takes a record, if it is of this set, and tells whether it is.
+    /// Takes a record if it is of this set, and returns whether it is.
     pub(crate) fn join(&mut self, alloc: Global, r: &Counted<'a>) -> Result<bool, NoMemory>
         ensures set { OnOk result (self.new ≡ joined r.now self.old) }
         ensures told { IfOk result (λ told. told ≡ is_of_set r.now self.old) }

@@ -1,4 +1,4 @@
-//! What is learnt from a message.
+//! The harvest of a message.
 
 ghost use Rattle.std.specs.Prelude.{◌≡◌, ◌≤◌, ◌++◌, IfOk, OnOk, filter, map};
 ghost use Rattle.std.specs.Option.{option_to_list};
@@ -19,7 +19,7 @@ use neg_rule::negative_of;
 use ranked::{Body, Find, Scope, SharedFind};
 use std::alloc::Global;
 
-/// Copies of data that are lent.
+/// Copies of borrowed data.
 fn copy_all(alloc: Global, lent: &[&Data]) -> Result<Items<Data>, NoMemory>
     ensures { IfOk result (λ copies. copies ≡ map (λ d. d.now) lent.now) }
 {
@@ -30,14 +30,14 @@ fn copy_all(alloc: Global, lent: &[&Data]) -> Result<Items<Data>, NoMemory>
     Ok(Items::new(copies))
 }
 
-/// The find that a set is.
+/// A set as a find.
 fn find_of(alloc: Global, set: &Gathering<'_>) -> Result<SharedFind, NoMemory>
     requires { 1 ≤ set.now.ttl }
     ensures { IfOk result (λ find. said_by find ≡ said_of set.now) }
 {
     let owner = set.owner.clone()?;
     let data = copy_all(alloc, set.data.as_slice())?;
-    // `Find::new` would compare the data with each other; here each stands once.
+    // `Find::new` would compare the data with each other; here there are no duplicates.
     let find = Find {
         owner,
         scope: Scope::One(set.data.kind()),
@@ -48,7 +48,7 @@ fn find_of(alloc: Global, set: &Gathering<'_>) -> Result<SharedFind, NoMemory>
     SharedFind::new(alloc, find)
 }
 
-/// A set that passes.
+/// A set with a TTL of 0, as a passing set.
 fn passing_set(alloc: Global, set: &Gathering<'_>) -> Result<Shared<PassingSet>, NoMemory>
     requires { set.now.ttl ≡ 0 }
     ensures { IfOk result (λ passing. set_of passing ≡ set.now) }
@@ -62,7 +62,7 @@ fn passing_set(alloc: Global, set: &Gathering<'_>) -> Result<Shared<PassingSet>,
     Shared::new(alloc, passing)
 }
 
-/// The sets that live, as finds.
+/// The sets that may be cached, as finds.
 fn finds_of(alloc: Global, sets: &[Gathering<'_>]) -> Result<Vec<SharedFind>, NoMemory>
     ensures { IfOk result (λ finds. map said_by finds.items ≡ map said_of (filter lives sets.now)) }
 {
@@ -75,7 +75,7 @@ fn finds_of(alloc: Global, sets: &[Gathering<'_>]) -> Result<Vec<SharedFind>, No
     Ok(finds)
 }
 
-/// The sets that pass.
+/// The sets with a TTL of 0.
 fn passing_of(alloc: Global, sets: &[Gathering<'_>]) -> Result<Items<Shared<PassingSet>>, NoMemory>
     ensures { IfOk result (λ passing. map set_of passing ≡ filter passes sets.now) }
 {
@@ -88,7 +88,7 @@ fn passing_of(alloc: Global, sets: &[Gathering<'_>]) -> Result<Items<Shared<Pass
     Ok(Items::new(passing))
 }
 
-/// Adds what a message denies.
+/// Adds the negative answer of a message, if there is one.
 fn push_negative(
     alloc: Global,
     message: &Message,
@@ -96,7 +96,8 @@ fn push_negative(
     zone: &Name,
     finds: &mut Vec<SharedFind>,
 ) -> Result<(), NoMemory>
-    ensures { OnOk result (map said_by finds.new.items ≡ map said_by finds.old.items ++ option_to_list (negative_in message.now question.now zone.now)) }
+    ensures { OnOk result (map said_by finds.new.items
+        ≡ map said_by finds.old.items ++ option_to_list (negative_in message.now question.now zone.now)) }
 {
     match negative_of(alloc, message, question, zone)? {
         None => Ok(()),
@@ -107,8 +108,8 @@ fn push_negative(
     }
 }
 
-/// What a message is believed to say of a question that a server of `zone` was asked: each set of the records that count, as a
-/// find, or as a passing set where its time to live is 0, and last what it denies.
+/// The harvest of a message from a server of `zone` that was asked a question. It has each set of the records that count:
+/// as a passing set if its TTL is 0, else as a find. The negative answer, if there is one, is the last find.
 pub fn harvest(
     alloc: Global,
     message: &Message,

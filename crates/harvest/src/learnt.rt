@@ -1,13 +1,14 @@
-//! What is learnt from a message.
+//! The type of a message's harvest.
 
 use crate::passing::PassingSet;
 use dns_text::{Items, Shared};
 use ranked::SharedFind;
 
-/// What a message is believed to say.
+/// The harvest of a message: the sets and the negative answer that it is believed to have.
 #[derive(Drop, PartialEq)]
 pub struct Harvest {
+    /// The sets that may be cached, and last the negative answer, if there is one.
     pub finds: Items<SharedFind>,
-    /// The sets that may be told and not kept, which an answer shares.
+    /// The sets with a TTL of 0, which may be passed on once but not cached.
     pub passing: Items<Shared<PassingSet>>,
 }

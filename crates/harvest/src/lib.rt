@@ -1,22 +1,22 @@
-//! What a message is believed to say: finds by trust.
+//! The harvest of a message: its records and its negative answer, ranked by trust.
 #![tactic(auto)]
 
 // In the order in which to read them.
 
-// Which records count, and how far each is trusted.
+// The records that count, and how far each is trusted.
 mod counted;
-// Data of one type, each once.
+// Data of one type without duplicates.
 mod distinct;
 // The records of one owner, type and rank.
 mod gathering;
 // All the sets of a message.
 mod sets;
-// A set that may be told and not kept.
+// A set with a TTL of 0.
 mod passing;
-// What is learnt from a message.
+// The harvest of a message, and its type.
 mod harvesting;
 mod learnt;
-// What the definitions say by themselves.
+// Laws of the definitions, which callers may cite.
 mod laws;
 
 pub use harvesting::harvest;

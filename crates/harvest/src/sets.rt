@@ -11,9 +11,10 @@ use dns_name::{Name, NoMemory};
 use std::alloc::Global;
 use std::collections::BTreeMap;
 
-/// What the records of a set have in common: their owner, and their type with their rank.
+/// The key of a set: the owner, and the type and rank.
 type PlaceKey = (Name, (u16, u8));
 
+/// The key of the set that a record is of.
 fn place_key(r: &Counted<'_>) -> Result<PlaceKey, NoMemory>
     ensures { IfOk result (λ key. key ≡ place_key (key_of r.now)) }
 {
@@ -29,7 +30,7 @@ fn place_of(places: &BTreeMap<PlaceKey, usize>, r: &Counted<'_>) -> Result<Optio
     Ok(places.get(&key).copied())
 }
 
-/// Gives a record to the set that it is of, and tells whether there is one.
+/// Adds a record to the set that it is of, and returns whether there is one.
 fn join_sets<'a>(
     alloc: Global,
     sets: &mut [Gathering<'a>],
@@ -49,7 +50,7 @@ fn join_sets<'a>(
     }
 }
 
-/// Adds the set that a record begins.
+/// Adds a new set of one record.
 fn begin_set<'a>(
     alloc: Global,
     sets: &mut Vec<Gathering<'a>>,

@@ -1,5 +1,5 @@
--- The name that a question comes to by the CNAME records of an answer section (RFC 1034, section 3.6.2).
-use Rattle.std.specs.Prelude.{◌≡◌, ℕ, zero, suc, ◌≤◌, Bool, ◌&&◌, ◌==◌, List, Option, Some, None, unwrap_or, is_some, if◌then◌else◌}
+-- The last name of a question, to which the CNAME records of an answer section lead (RFC 1034, section 3.6.2).
+use Rattle.std.specs.Prelude.{◌≡◌, ◌≢◌, ◌↔◌, ℕ, zero, suc, ◌≤◌, Bool, ◌&&◌, ◌==◌, List, Option, Some, None, unwrap_or, is_some, if◌then◌else◌}
 use Rattle.std.specs.List.{find}
 use Rattle.dns_name.specs.Labels.{Labels}
 use Rattle.dns_name.specs.Options.{◌>>=◌}
@@ -30,7 +30,7 @@ alias_of answer owner = find (is_for owner CNAME) answer >>= λ r. target_of r.i
 abbrev pub next_name : List (Classed Record) → Labels → Labels
 next_name answer owner = unwrap_or (alias_of answer owner) owner
 
--- the name after so many steps, where a name that is no alias stays
+-- the name after this many steps; a step leaves a name that is no alias as it is
 unfoldable pub name_after : List (Classed Record) → Labels → ℕ → Labels
 name_after answer owner zero = owner
 name_after answer owner (suc n) = next_name answer (name_after answer owner n)
@@ -39,18 +39,22 @@ name_after answer owner (suc n) = next_name answer (name_after answer owner n)
 abbrev pub unless_alias : List (Classed Record) → Labels → Option Labels
 unless_alias answer owner = if is_some (alias_of answer owner) then None else Some owner
 
--- The last name of a question: the one that its aliases come to in as many steps as there may be. A question for CNAME asks for the alias itself.
+-- the last name of a question, to which its aliases lead in `MOST_ALIASES` steps at most; a question for CNAME asks for the alias itself
 abbrev pub last_of : List (Classed Record) → Question → Option Labels
 last_of answer question = if question.kind == CNAME then Some question.owner else unless_alias answer (name_after answer question.owner MOST_ALIASES)
 
--- CNAME records lead from one name to another in so many steps.
+-- CNAME records lead from one name to another in this many steps.
 pub data Leads (answer : List (Classed Record)) : Labels → ℕ → Labels → Type 0 where
   here : {name : Labels} → Leads answer name 0 name
   alias : {name next last : Labels} {n : ℕ} → alias_of answer name ≡ Some next → Leads answer next n last → Leads answer name (suc n) last
 
--- CNAME records lead from a name to one that is no alias, in as many steps as there may be.
+-- CNAME records lead from a name to one that is no alias, in `MOST_ALIASES` steps at most.
 pub record IsLast (answer : List (Classed Record)) (name last : Labels) : Type 0 where
   pub steps : ℕ
   pub few : steps ≤ MOST_ALIASES
   pub leads : Leads answer name steps last
   pub ends : alias_of answer last ≡ None
+
+-- For a question of a type other than CNAME, the last name is found exactly if CNAME records lead to it.
+abbrev pub FindsLast : Type 0
+FindsLast = (answer : List (Classed Record)) (question : Question) (last : Labels) → question.kind ≢ CNAME → (last_of answer question ≡ Some last) ↔ IsLast answer question.owner last

@@ -1,4 +1,4 @@
-//! The name that a question comes to by the CNAME records of an answer section.
+//! The last name of a question, to which the CNAME records of an answer section lead.
 
 ghost use Rattle.std.specs.Prelude.{◌≡◌};
 ghost use Rattle.std.specs.List.{find};
@@ -10,7 +10,7 @@ use dns_text::types::CNAME;
 use dns_text::{Data, Question, Record};
 use dns_wire::{CLASS_IN, Classed};
 
-/// How many CNAME records are followed.
+/// The most CNAME records that are followed.
 pub const MOST_ALIASES: usize = 16;
 
 /// Whether a record is of class IN, this owner and this type.
@@ -54,7 +54,7 @@ fn next_name<'a>(answer: &'a [Classed<Record>], owner: &'a Name) -> &'a Name
     alias_of(answer, owner).unwrap_or(owner)
 }
 
-/// The name that the aliases of one come to in so many steps.
+/// The name to which the aliases of a name lead in this many steps.
 fn name_after<'a>(answer: &'a [Classed<Record>], owner: &'a Name, steps: usize) -> &'a Name
     ensures { result.now ≡ name_after answer.now owner.now steps }
 {
@@ -65,7 +65,7 @@ fn name_after<'a>(answer: &'a [Classed<Record>], owner: &'a Name, steps: usize) 
     name
 }
 
-/// The last name of a question; none where its aliases go on.
+/// The last name of a question; none if its aliases go on.
 pub(crate) fn last_of<'a>(answer: &'a [Classed<Record>], question: &'a Question) -> Option<&'a Name>
     ensures { option_map (λ name. name.now) result ≡ last_of answer.now question.now }
 {

@@ -1,13 +1,13 @@
-//! What the responses of servers deny: that a name has data of a type, or that there is such a name (RFC 2308).
+//! Negative answers in the responses of servers: a name has no data of a type, or does not exist (RFC 2308).
 #![tactic(auto)]
 
 // In the order in which to read them.
 
-// The name that a question comes to by CNAME records.
+// The last name of a question, to which CNAME records lead.
 mod alias;
-// What is denied, and for how long.
+// The negative answer of a response, and its TTL.
 mod negative;
-// What the definitions say by themselves.
+// Laws of the definitions, which callers may cite.
 mod laws;
 
 pub use alias::MOST_ALIASES;

@@ -1,4 +1,4 @@
-//! What a response denies, and for how long.
+//! The negative answer of a response, and its TTL.
 
 ghost use Rattle.std.specs.Prelude.{◌≡◌, IfOk, OnErr, IsSome};
 ghost use Rattle.std.specs.Option.{option_map};
@@ -12,7 +12,7 @@ use dns_wire::{CLASS_IN, Classed, Message, Rcode};
 use ranked::Find;
 use std::alloc::Global;
 
-/// Whether a reply is one that may deny.
+/// Whether a response may deny: it is authoritative, and its RCODE is no error or no such name.
 fn may_deny(message: &Message) -> bool
     ensures { result ≡ may_deny message.now }
 {
@@ -30,7 +30,7 @@ fn denies(r: &Classed<Record>, zone: &Name, name: &Name) -> bool
         && r.item.owner.at_or_below(zone)
 }
 
-/// The first such record of the authority section.
+/// The first such SOA record of the authority section.
 fn soa_for<'a>(message: &'a Message, zone: &Name, name: &Name) -> Option<&'a Record>
     ensures { option_map (λ soa. soa.now) result ≡ soa_for message.now zone.now name.now }
 {
@@ -42,7 +42,7 @@ fn soa_for<'a>(message: &'a Message, zone: &Name, name: &Name) -> Option<&'a Rec
     Some(&first.item)
 }
 
-/// Whether the answer section has the data that are asked for, at a name.
+/// Whether the answer section has a record of the type asked for at a name.
 fn has_answer(message: &Message, question: &Question, name: &Name) -> bool
     ensures { result ≡ has_answer message.now question.now name.now }
 {
@@ -72,7 +72,7 @@ fn denied_in<'a>(
     Some((last, soa))
 }
 
-/// For how long something is denied.
+/// The TTL of the negative answer of an SOA record.
 fn denied_for(soa: &Record) -> u32
     ensures { result ≡ denied_for soa.now }
 {
@@ -82,7 +82,7 @@ fn denied_for(soa: &Record) -> u32
     }
 }
 
-/// What a reply from a server of `zone` denies of a question that it was asked. It takes memory only where it finds something.
+/// The negative answer of a response from a server of `zone` to a question. It takes memory only if there is one.
 pub fn negative_of(
     alloc: Global,
     message: &Message,

@@ -1,4 +1,4 @@
-//! Octet strings by chance.
+//! Random octet strings.
 
 use rand_core::Rng;
 use rand_pcg::Pcg32;
@@ -53,7 +53,7 @@ fn change(rng: &mut Pcg32, out: &mut Vec<u8>) -> Result<(), AllocError> {
     Ok(())
 }
 
-/// A good message with up to three changes.
+/// A valid message with up to three changes.
 fn changed(rng: &mut Pcg32, out: &mut Vec<u8>) -> Result<(), AllocError> {
     if rng.next_u32() % 8 == 0 {
         out.extend_from_slice(QUERY)?;
@@ -66,7 +66,7 @@ fn changed(rng: &mut Pcg32, out: &mut Vec<u8>) -> Result<(), AllocError> {
     Ok(())
 }
 
-/// A string of octets: any, or a good message with changes.
+/// A string of octets: any, or a valid message with changes.
 pub fn drawn(rng: &mut Pcg32, alloc: Global) -> Result<Vec<u8>, AllocError> {
     let mut out = Vec::new(alloc);
     if rng.next_u32() % 2 == 0 {

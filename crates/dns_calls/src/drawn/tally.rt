@@ -1,4 +1,4 @@
-//! How many strings had each outcome.
+//! The tally of outcomes: the number of strings with each.
 
 ghost use Rattle.dns_wire.specs.WellFormed.{HasForms};
 
@@ -8,6 +8,7 @@ use dns_wire::{Asked, EncodeFault, Message, Rcode, WireFault, decode, encode, re
 use rand_pcg::Pcg32;
 use std::alloc::{AllocError, Global};
 
+/// The tally of the outcomes of all strings so far.
 #[derive(Clone, Copy)]
 pub struct Tally {
     messages: u32,
@@ -18,13 +19,13 @@ pub struct Tally {
     bad_names: u32,
     bad_pointers: u32,
     bad_data: u32,
-    /// The offsets that faults told, each taken into all before it.
+    /// A sum over the offsets of faults.
     offsets: u32,
-    /// What the messages say.
+    /// A sum over the contents of the messages.
     values: Values,
-    /// The messages that, written and read, were the same again.
+    /// The messages that were the same after writing and reading.
     again: u32,
-    /// The octets that were written.
+    /// The number of octets that were written.
     octets: u32,
     octet_values: Values,
     no_replies: u32,
@@ -89,7 +90,7 @@ impl Tally {
         Ok(())
     }
 
-    /// Writes a message, and reads what was written.
+    /// Writes a message, and reads it back.
     fn take_again(&mut self, alloc: Global, message: &Message) -> Result<(), AllocError>
         requires { HasForms message.now }
     {
@@ -112,7 +113,7 @@ impl Tally {
         }
     }
 
-    /// What the octets ask a server for.
+    /// The request in the octets.
     fn take_asked(&mut self, alloc: Global, octets: &[u8]) -> Result<(), AllocError> {
         match read_question(alloc, octets)? {
             Asked::Drop => self.no_replies = self.no_replies.wrapping_add(1),
@@ -136,7 +137,7 @@ impl Tally {
         }
     }
 
-    /// The answers to so many strings.
+    /// The tally of this many strings.
     pub fn drawn(alloc: Global, count: u32) -> Result<Tally, AllocError> {
         let mut tally = Tally::new();
         let mut rng = Pcg32::new(42, 54);

@@ -1,10 +1,11 @@
-//! A number that all that messages say goes into.
+//! A sum over the contents of messages.
 
 use dns_name::Name;
 use dns_text::{Data, Question, Record, push_data};
 use dns_wire::{Classed, Message};
 use std::alloc::{AllocError, Global};
 
+/// A running sum, which depends on the order of the numbers taken in.
 #[derive(Clone, Copy)]
 pub struct Values {
     pub sum: u32,
@@ -78,7 +79,7 @@ impl Values {
         self.take(u32::from(head.rcode.number()));
     }
 
-    /// Takes in all that a message says. Where memory runs out, a front of it is taken in.
+    /// Takes in the whole contents of a message. If memory runs out, the front of it has been taken in.
     pub fn take_message(&mut self, alloc: Global, message: &Message) -> Result<(), AllocError> {
         self.take_head(message);
         for question in message.questions.as_slice() {

@@ -1,4 +1,4 @@
--- What decoding answers, and that the octets leave it no choice but by memory.
+-- The results of decoding, which the octets determine unless memory runs out.
 use Rattle.std.specs.Prelude.{◌≡◌, ℕ, ◌<◌, ◌⊎◌, List, length}
 use Rattle.dns_wire.specs.declared.fault.WireFault.{WireFault}
 use Rattle.dns_wire.specs.declared.fault.WireFault.TheVariants.{NoMemory}
@@ -20,11 +20,11 @@ pub record HasTrailing (m : List ℕ) : Type 0 where
 abbrev pub UnlessMemory : WireFault → Type 0 → Type 0
 UnlessMemory fault p = (fault ≡ NoMemory) ⊎ p
 
--- Octets spell a message, or a fault keeps them from it.
+-- Octets spell a message, or there is a fault in them.
 abbrev pub SpelledOrFails : Type 0
 SpelledOrFails = (m : List ℕ) → ((v : Message) × SpelledMessage m v) ⊎ ((fault : WireFault) × MessageFails m fault)
 
--- Octets that a fault keeps from being a message spell none.
+-- Octets with a fault spell no message.
 abbrev pub NeverBoth : Type 0
 NeverBoth = (m : List ℕ) (fault : WireFault) → MessageFails m fault → IsUnspelled m
 
@@ -32,6 +32,6 @@ NeverBoth = (m : List ℕ) (fault : WireFault) → MessageFails m fault → IsUn
 abbrev pub SpelledOnce : Type 0
 SpelledOnce = (m : List ℕ) (v w : Message) → SpelledMessage m v → SpelledMessage m w → v ≡ w
 
--- One fault at most keeps octets from being a message.
+-- Octets have one first fault at most.
 abbrev pub FailsOnce : Type 0
 FailsOnce = (m : List ℕ) (fault other : WireFault) → MessageFails m fault → MessageFails m other → fault ≡ other

@@ -3,7 +3,7 @@ use Rattle.std.specs.Prelude.{ℕ, ◌/◌, ◌%◌, ◌==◌, List}
 use Rattle.dns_wire.specs.declared.message.Head.{Head}
 use Rattle.dns_wire.specs.Read.Number.{u16_at}
 
--- From the high bit on: QR 1, OPCODE 4, AA 1, TC 1, RD 1, RA 1, Z 3, RCODE 4.
+-- the identifier and the flags, from the high bit on: QR 1, OPCODE 4, AA 1, TC 1, RD 1, RA 1, Z 3, RCODE 4
 abbrev pub head_of : ℕ → ℕ → Head
 head_of id flags = record {
   id = id;
@@ -17,17 +17,22 @@ head_of id flags = record {
   rcode = flags % 16;
 }
 
+-- the head of a message, without its counts
 abbrev pub head_in : List ℕ → Head
 head_in m = head_of (u16_at m 0) (u16_at m 2)
 
+-- QDCOUNT, the number of questions
 abbrev pub question_count : List ℕ → ℕ
 question_count m = u16_at m 4
 
+-- ANCOUNT, the number of records in the answer section
 abbrev pub answer_count : List ℕ → ℕ
 answer_count m = u16_at m 6
 
+-- NSCOUNT, the number of records in the authority section
 abbrev pub authority_count : List ℕ → ℕ
 authority_count m = u16_at m 8
 
+-- ARCOUNT, the number of records in the additional section
 abbrev pub additional_count : List ℕ → ℕ
 additional_count m = u16_at m 10

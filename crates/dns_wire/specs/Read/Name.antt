@@ -9,11 +9,11 @@ use Rattle.dns_wire.specs.declared.fault.WireFault.TheVariants.{Short, BadName, 
 use Rattle.dns_name.specs.Results.{◌>>=◌}
 use Rattle.dns_wire.specs.Read.Place.{next_at, label_at}
 
--- ---- which name stands at a place
+-- ---- the name at a place
 
--- At a place of a front of a message, in a run of labels that began at `run`, these labels stand, and `after` is the
--- place after them: a zero octet and no label; a label, and what stands after it in the same run; or a pointer to a
--- place before the run, and what stands there in the message.
+-- At a place of a front of a message these labels begin, in a run of labels that began at `run`, and `after` is the place
+-- after them. Either a zero octet ends the name; or a label is there, and more labels of the same run follow it; or a
+-- pointer is there, to a place before the run, and the labels at that place of the message follow.
 pub data NameAt (m : List ℕ) : List ℕ → ℕ → ℕ → ℕ → Labels → Type 0 where
   finish : {front : List ℕ} {at run after : ℕ} → next_at front at ≡ Finish → after ≡ at + 1 → NameAt m front at run after []
   label : {front : List ℕ} {at run after n : ℕ} {labels : Labels} → next_at front at ≡ Label n → at + 1 + n ≤ length front
@@ -21,22 +21,22 @@ pub data NameAt (m : List ℕ) : List ℕ → ℕ → ℕ → ℕ → Labels →
   pointer : {front : List ℕ} {at run after to end : ℕ} {labels : Labels} → next_at front at ≡ Pointer to → to < run → after ≡ at + 2
       → NameAt m m to to end labels → NameAt m front at run after labels
 
--- At a place of a front of a message stands a name of at most `MAX_NAME_OCTETS`, its zero octet counted, and `after` is
--- the place after it. Its own octets, those before a pointer's end or the zero octet, are within the front.
+-- At a place of a front of a message is a name of at most `MAX_NAME_OCTETS`, its zero octet counted, and `after` is the
+-- place after it. The name's own octets, up to its zero octet or the end of its first pointer, are within the front.
 pub record SpelledIn (m front : List ℕ) (at after : ℕ) (labels : Labels) : Type 0 where
   pub stands : NameAt m front at at after labels
   pub short : wire_len labels ≤ MAX_NAME_OCTETS
 
--- At a place of a message stands such a name.
+-- At a place of a message is such a name.
 abbrev pub SpelledName : List ℕ → ℕ → ℕ → Labels → Type 0
 SpelledName m at after labels = SpelledIn m m at after labels
 
--- ---- which fault keeps a name from standing at a place
+-- ---- the first fault of a name at a place
 
--- A name that began at `start` and has taken `used` octets can't go on at a place of a front, which ends with this
--- fault, in a run that began at `run`, by a fault, the first that is met. A label of n octets takes one for its length,
--- and leaves one for the zero octet. One too long for the name is told even where its octets are missing too. Behind a
--- pointer the message ends with `Short`.
+-- A name that began at `start` and has taken `used` octets can't go on at a place of a front, in a run of labels that began
+-- at `run`: this is its first fault. Reading past the front gives the fault `ending`; behind a pointer the whole message is
+-- the front, and reading past it gives `Short`. A label of n octets takes one more for its length, and leaves one for the
+-- zero octet. A label too long for the name is `BadName` even if its octets are missing too.
 pub data NameFails (m : List ℕ) (start : ℕ) : List ℕ → WireFault → ℕ → ℕ → ℕ → WireFault → Type 0 where
   cut : {front : List ℕ} {ending fault : WireFault} {used at run : ℕ} → next_at front at ≡ Cut → fault ≡ ending
       → NameFails m start front ending used at run fault
@@ -54,18 +54,18 @@ pub data NameFails (m : List ℕ) (start : ℕ) : List ℕ → WireFault → ℕ
   after_pointer : {front : List ℕ} {ending fault : WireFault} {used at run to : ℕ} → next_at front at ≡ Pointer to → to < run
       → NameFails m start m Short used to to fault → NameFails m start front ending used at run fault
 
--- The octets from a place of a front on, which ends with this fault, spell no name, by a fault.
+-- The octets from a place of a front on spell no name: this is the first fault. Reading past the front gives `ending`.
 abbrev pub UnspelledIn : List ℕ → List ℕ → WireFault → ℕ → WireFault → Type 0
 UnspelledIn m front ending at fault = NameFails m at front ending 0 at at fault
 
--- The octets of a message from a place on spell no name, by a fault.
+-- The octets from a place of a message on spell no name: this is the first fault.
 abbrev pub UnspelledName : List ℕ → ℕ → WireFault → Type 0
 UnspelledName m at fault = UnspelledIn m m Short at fault
 
 -- ---- reading
 
--- By what stands at a place: the labels from there and the place after the name, where `go` reads on with this many
--- octets used, at this place, in this run, and `jump` reads on behind a pointer to this place.
+-- the labels from a place on and the place after the name, by what is at the place. `go` reads on with this many octets
+-- used, at this place, in this run; `jump` reads on at the place that a pointer points to.
 abbrev pub name_by : List ℕ → WireFault → ℕ → ℕ → ℕ → ℕ → (ℕ → ℕ → ℕ → Result (Labels × ℕ) WireFault) → (ℕ → ℕ → Result (Labels × ℕ) WireFault) → Next
     → Result (Labels × ℕ) WireFault
 name_by front ending start used at run go jump Finish = Ok ([], at + 1)
@@ -77,13 +77,13 @@ name_by front ending start used at run go jump (Pointer to) =
 name_by front ending start used at run go jump Reserved = Err (BadName start)
 name_by front ending start used at run go jump Cut = Err ending
 
--- in as many steps as are more than enough
+-- the same, in a number of steps that is always enough
 unfoldable pub name_in : ℕ → List ℕ → List ℕ → WireFault → ℕ → ℕ → ℕ → ℕ → Result (Labels × ℕ) WireFault
 name_in zero m front ending start used at run = Err Short
 name_in (suc more) m front ending start used at run =
     name_by front ending start used at run (λ u a r. name_in more m front ending start u a r) (λ u to. name_in more m m Short start u to to) (next_at front at)
 
--- how far a place is from where no name can go on
+-- a number of steps after which no name can go on from a place
 abbrev pub steps_left : List ℕ → ℕ → ℕ → ℕ
 steps_left m at run = run * (length m + 1) + (length m - at)
 

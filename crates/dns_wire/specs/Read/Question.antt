@@ -9,7 +9,7 @@ use Rattle.dns_wire.specs.Read.Name.{SpelledName, UnspelledName, name_read}
 use Rattle.dns_wire.specs.Read.Number.{u16_at}
 use Rattle.dns_name.specs.Results.{◌>>=◌}
 
--- At a place stands this question, and `after` is the place after it.
+-- At a place is this question, and `after` is the place after it.
 pub record QuestionAt (m : List ℕ) (at : ℕ) (q : Classed Question) (after : ℕ) : Type 0 where
   pub fixed : ℕ
   pub owner : SpelledName m at fixed q.item.owner
@@ -18,7 +18,7 @@ pub record QuestionAt (m : List ℕ) (at : ℕ) (q : Classed Question) (after : 
   pub ends : after ≡ fixed + 4
   pub within : after ≤ length m
 
--- No question stands at a place, by this fault, the first that is met.
+-- At a place is no question: this is the first fault.
 pub data QuestionFails (m : List ℕ) (at : ℕ) : WireFault → Type 0 where
   bad_owner : {fault : WireFault} → UnspelledName m at fault → QuestionFails m at fault
   short : {fixed : ℕ} {name : Labels} → SpelledName m at fixed name → length m < fixed + 4 → QuestionFails m at Short
@@ -29,5 +29,6 @@ question_behind m owner =
     if nat_lt (length m) (owner.1 + 4) then Err Short else
     Ok (record { item = record { owner = owner.0; kind = u16_at m owner.1 }; class = u16_at m (owner.1 + 2) }, owner.1 + 4)
 
+-- the question at a place, and the place after it
 unfoldable pub question_read : List ℕ → ℕ → Result (Classed Question × ℕ) WireFault
 question_read m at = name_read m at >>= question_behind m

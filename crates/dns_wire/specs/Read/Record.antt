@@ -17,10 +17,11 @@ use Rattle.dns_name.specs.Results.{◌>>=◌}
 abbrev pub ttl_of : ℕ → ℕ
 ttl_of n = if nat_lt n 2147483648 then n else 0
 
--- where RDATA begins, and where it ends, by where the fields of fixed length begin
+-- the place where RDATA begins; `fixed` is where the fields of fixed length begin
 abbrev pub data_begin : ℕ → ℕ
 data_begin fixed = fixed + 10
 
+-- the place where RDATA ends
 abbrev pub data_end : List ℕ → ℕ → ℕ
 data_end m fixed = data_begin fixed + u16_at m (fixed + 8)
 
@@ -28,7 +29,7 @@ data_end m fixed = data_begin fixed + u16_at m (fixed + 8)
 abbrev pub form_at : List ℕ → ℕ → Form
 form_at m fixed = form_in (u16_at m (fixed + 2)) (u16_at m fixed)
 
--- At a place stands this record, and `after` is the place after it.
+-- At a place is this record, and `after` is the place after it.
 pub record RecordAt (m : List ℕ) (at : ℕ) (r : Classed Record) (after : ℕ) : Type 0 where
   pub fixed : ℕ
   pub owner : SpelledName m at fixed r.item.owner
@@ -39,7 +40,7 @@ pub record RecordAt (m : List ℕ) (at : ℕ) (r : Classed Record) (after : ℕ)
   pub within : after ≤ length m
   pub body : DataAt m (take after m) (data_begin fixed) (form_in r.class r.item.kind) r.item.body
 
--- No record stands at a place, by this fault, the first that is met.
+-- At a place is no record: this is the first fault.
 pub data RecordFails (m : List ℕ) (at : ℕ) : WireFault → Type 0 where
   bad_owner : {fault : WireFault} → UnspelledName m at fault → RecordFails m at fault
   short : {fixed : ℕ} {name : Labels} → SpelledName m at fixed name → length m < data_begin fixed → RecordFails m at Short
@@ -48,20 +49,22 @@ pub data RecordFails (m : List ℕ) (at : ℕ) : WireFault → Type 0 where
   bad_data : {fixed : ℕ} {name : Labels} {fault : WireFault} → SpelledName m at fixed name → data_end m fixed ≤ length m
       → DataFails m (take (data_end m fixed) m) (data_begin fixed) (form_at m fixed) fault → RecordFails m at fault
 
--- the record of an owner, and the place after it
+-- the record of an owner and data, and the place after it
 abbrev pub record_with : List ℕ → Labels × ℕ → Data → Result (Classed Record × ℕ) WireFault
 record_with m owner body =
     Ok (record { item = record { owner = owner.0; kind = u16_at m owner.1; ttl = ttl_of (u32_at m (owner.1 + 4)); body = body }; class = u16_at m (owner.1 + 2) }, data_end m owner.1)
 
--- where the RDATA is, and its form
+-- the frame of RDATA: where it begins and ends, and its form
 abbrev pub frame_read : List ℕ → ℕ → Result Frame WireFault
 frame_read m fixed =
     if nat_lt (length m) (data_begin fixed) then Err Short else
     if nat_lt (length m) (data_end m fixed) then Err Short else
     Ok (record { begin = data_begin fixed; end = data_end m fixed; form = form_at m fixed })
 
+-- the record behind its owner, and the place after it
 abbrev pub record_behind : List ℕ → Labels × ℕ → Result (Classed Record × ℕ) WireFault
 record_behind m owner = frame_read m owner.1 >>= λ frame. data_read m (take frame.end m) frame.begin frame.form >>= record_with m owner
 
+-- the record at a place, and the place after it
 unfoldable pub record_read : List ℕ → ℕ → Result (Classed Record × ℕ) WireFault
 record_read m at = name_read m at >>= record_behind m

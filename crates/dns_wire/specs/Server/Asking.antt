@@ -1,8 +1,10 @@
--- What octets that came to a server ask for (RFC 1035, section 4.1).
+-- The request in the octets that a server received (RFC 1035, section 4.1).
 use Rattle.std.specs.Prelude.{◌≡◌, ℕ, ◌+◌, ◌<◌, ◌≤◌, true, false, List, length, take, drop}
 use Rattle.dns_name.specs.Labels.{Labels}
 use Rattle.dns_text.specs.declared.record.Question.{Question}
 use Rattle.dns_text.specs.Kind.{is_excluded}
+use Rattle.dns_wire.specs.declared.message.TheConstants.{CLASS_IN}
+use Rattle.dns_wire.specs.declared.limits.TheConstants.{HEADER_OCTETS}
 use Rattle.dns_wire.specs.declared.message.Classed.{Classed}
 use Rattle.dns_wire.specs.declared.message.Message.{Message}
 use Rattle.dns_wire.specs.declared.read.place.Next.TheVariants.{Label, Pointer}
@@ -22,65 +24,66 @@ pub data HasPointer (m : List ℕ) : ℕ → Type 0 where
   here : {at to : ℕ} → next_at m at ≡ Pointer to → HasPointer m at
   behind_label : {at n : ℕ} → next_at m at ≡ Label n → HasPointer m (at + 1 + n) → HasPointer m at
 
--- A whole header that is no reply's, of a standard query.
+-- The octets have a whole header, which is that of a standard query and not of a response.
 pub record IsStandardQuery (m : List ℕ) : Type 0 where
-  pub header : 12 ≤ length m
+  pub header : HEADER_OCTETS ≤ length m
   pub request : (head_in m).qr ≡ false
   pub standard : (head_in m).opcode ≡ 0
 
--- It has not just one question, or is no message, or points in its question's name.
+-- The question count is not 1, or the octets are no message, or the question's name has a pointer.
 pub data IsMalformed (m : List ℕ) : Type 0 where
   other_count : ¬ (question_count m ≡ 1) → IsMalformed m
   no_message : IsUnspelled m → IsMalformed m
-  pointer : HasPointer m 12 → IsMalformed m
+  pointer : HasPointer m HEADER_OCTETS → IsMalformed m
 
--- It is a message of this question alone, the name whole, and `after` is the place after it.
+-- The octets are a message with this one question, whose name has no pointer. `after` is the place after the question.
 pub record AsksQuestion (m : List ℕ) (q : Classed Question) (after : ℕ) : Type 0 where
   pub one : question_count m ≡ 1
   pub message : Message
   pub spelled : SpelledMessage m message
-  pub question : QuestionAt m 12 q after
-  pub whole : ¬ (HasPointer m 12)
+  pub question : QuestionAt m HEADER_OCTETS q after
+  pub whole : ¬ (HasPointer m HEADER_OCTETS)
 
--- The same of its name, for contracts inside the crate: the labels, and the place after them.
+-- The same with the labels of the question's name and the place after them, for contracts inside the crate.
 pub record AsksName (m : List ℕ) (labels : Labels) (at : ℕ) : Type 0 where
   pub one : question_count m ≡ 1
   pub message : Message
   pub spelled : SpelledMessage m message
-  pub owner : SpelledName m 12 at labels
+  pub owner : SpelledName m HEADER_OCTETS at labels
   pub within : at + 4 ≤ length m
-  pub whole : ¬ (HasPointer m 12)
+  pub whole : ¬ (HasPointer m HEADER_OCTETS)
 
--- A question of class IN and of a type that records have.
+-- The question is of class IN and of a type that records may have.
 pub record IsAnswerable (q : Classed Question) : Type 0 where
-  pub class : q.class ≡ 1
+  pub class : q.class ≡ CLASS_IN
   pub kind : is_excluded q.item.kind ≡ false
 
--- The query has the identifier, the wish for recursion and the question of the octets, and the question's own octets.
+-- The query has the identifier, the RD bit and the question of the octets, and a copy of the question's octets.
 pub record IsQueryOf (m : List ℕ) (q : Classed Question) (after : ℕ) (query : Query) : Type 0 where
   pub id : query.id ≡ (head_in m).id
   pub rd : query.rd ≡ (head_in m).rd
   pub question : query.question ≡ q.item
-  pub octets : query.octets ≡ drop 12 (take after m)
+  pub octets : query.octets ≡ drop HEADER_OCTETS (take after m)
 
--- the question with this name, and the place after it
+-- the question with this name, whose type and class begin at a place
 abbrev pub question_with : List ℕ → Labels → ℕ → Classed Question
 question_with m labels at = record { item = record { owner = labels; kind = u16_at m at }; class = u16_at m (at + 2) }
 
+-- The query is that of the octets, and its question has this name.
 abbrev pub IsQueryFrom : List ℕ → Labels → ℕ → Query → Type 0
 IsQueryFrom m labels at query = IsQueryOf m (question_with m labels at) (at + 4) query
 
--- Octets ask for no reply, for a header with an RCODE (1, malformed; 4, not implemented), or for an answer.
+-- The octets ask for no reply, for a header alone with an RCODE (1, malformed; 4, not implemented), or for an answer.
 pub data AsksFor (m : List ℕ) : Asked → Type 0 where
-  no_header : length m < 12 → AsksFor m Drop
-  reply : 12 ≤ length m → (head_in m).qr ≡ true → AsksFor m Drop
-  other_opcode : 12 ≤ length m → (head_in m).qr ≡ false → ¬ ((head_in m).opcode ≡ 0) → AsksFor m (Fault 4)
+  no_header : length m < HEADER_OCTETS → AsksFor m Drop
+  reply : HEADER_OCTETS ≤ length m → (head_in m).qr ≡ true → AsksFor m Drop
+  other_opcode : HEADER_OCTETS ≤ length m → (head_in m).qr ≡ false → ¬ ((head_in m).opcode ≡ 0) → AsksFor m (Fault 4)
   malformed : IsStandardQuery m → IsMalformed m → AsksFor m (Fault 1)
   unanswerable : {q : Classed Question} {after : ℕ} → IsStandardQuery m → AsksQuestion m q after → ¬ (IsAnswerable q) → AsksFor m (Fault 4)
   good : {q : Classed Question} {after : ℕ} {query : Query} → IsStandardQuery m → AsksQuestion m q after → IsAnswerable q
       → IsQueryOf m q after query → AsksFor m (Good query)
 
--- They ask for an answer.
+-- The octets ask for an answer.
 pub record IsGood (m : List ℕ) : Type 0 where
   pub query : IsStandardQuery m
   pub q : Classed Question
@@ -88,7 +91,7 @@ pub record IsGood (m : List ℕ) : Type 0 where
   pub question : AsksQuestion m q after
   pub answerable : IsAnswerable q
 
--- Both are no reply, or the same fault, or queries of the same fields.
+-- Both are no reply, or the same RCODE, or queries with the same fields.
 abbrev pub SameAsked : Asked → Asked → Type 0
 SameAsked Drop Drop = Unit {0}
 SameAsked (Fault a) (Fault b) = a ≡ b

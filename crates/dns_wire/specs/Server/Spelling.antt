@@ -1,9 +1,9 @@
--- The octets of a query's question, as they are kept.
+-- The octets of a query's question, in each kind of storage.
 use Rattle.std.specs.Prelude.{ℕ, List, take}
-use Rattle.dns_wire.specs.declared.server.spelling.Kept.{Kept}
-use Rattle.dns_wire.specs.declared.server.spelling.Kept.TheVariants.{Short, Long}
+use Rattle.dns_wire.specs.declared.server.spelling.Storage.{Storage}
+use Rattle.dns_wire.specs.declared.server.spelling.Storage.TheVariants.{Short, Long}
 
--- in the value itself, or in a block
-abbrev pub kept_octets : Kept → List ℕ
-kept_octets (Short run) = take run.len run.octets
-kept_octets (Long octets) = octets.items
+-- the octets of a short question, held in the value itself, or of a longer one, held in a block
+abbrev pub stored_octets : Storage → List ℕ
+stored_octets (Short run) = take run.len run.octets
+stored_octets (Long octets) = octets.items

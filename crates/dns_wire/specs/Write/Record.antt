@@ -8,13 +8,15 @@ use Rattle.dns_wire.specs.Write.Number.{u16_octets, u32_octets}
 use Rattle.dns_wire.specs.Write.Name.{owner_octets}
 use Rattle.dns_wire.specs.Write.Rdata.{data_octets}
 
--- type, class, TTL, the length of the data, and the data
+-- the fields behind the owner: type, class, TTL, the length of the data, and the data
 abbrev pub behind_owner_octets : Classed Record → List ℕ
 behind_owner_octets r =
     u16_octets r.item.kind ++ u16_octets r.class ++ u32_octets r.item.ttl ++ u16_octets (length (data_octets r.item.body)) ++ data_octets r.item.body
 
+-- a record in a message whose first question has this name, if it has a question
 abbrev pub record_octets : Option Labels → Classed Record → List ℕ
 record_octets first r = owner_octets first r.item.owner ++ behind_owner_octets r
 
+-- records one after another, in such a message
 abbrev pub records_octets : Option Labels → List (Classed Record) → List ℕ
 records_octets first records = flat_map (λ r. record_octets first r) records

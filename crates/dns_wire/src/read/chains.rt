@@ -1,8 +1,9 @@
-//! Chains of pointers, whose ends are noted once where a message is long enough to have many.
+//! Chains of pointers. Their ends are noted once if a message may have many names.
 
 ghost use Rattle.std.specs.Prelude.{◌≡◌, ◌≤◌, ◌<◌, ◌-◌, ℕ, length};
 ghost use Rattle.dns_wire.specs.Read.Chains.{Leads, IsNotedAt, AreEnds};
 
+use crate::limits::{HEADER_OCTETS, MOST_OCTETS};
 use crate::read::number::u16_at;
 use crate::read::place::{Next, next_at};
 use std::marker::Model;
@@ -10,15 +11,15 @@ use std::marker::Model;
 /// How far a pointer reaches: its offset has 14 bits (RFC 1035, section 4.1.4).
 pub(crate) const POINTER_REACH: usize = 16384;
 
-/// So many steps along pointers are taken one by one.
+/// The most steps along pointers that are taken one by one.
 const MOST_STEPS: usize = 1 << 18;
 
-/// The octets of a message, and for the places that a pointer reaches where pointers lead from there. Contracts see the
-/// octets.
+/// The octets of a message, and for each place that a pointer can reach the end of the chain of pointers from there.
+/// Contracts see the octets.
 #[derive(Drop)]
 pub(crate) struct Wire<'a> {
     octets: &'a [u8],
-    // For a place where a pointer back stands, one more than the place where the chain from there ends; else 0. Empty where
+    // For a place that has a pointer back, one more than the place where the chain from there ends; else 0. Empty if
     // nothing is noted.
     ends: &'a [u16],
 }
@@ -35,14 +36,14 @@ impl<'a> Model for Wire<'a> {
 }
 
 impl<'a> Wire<'a> {
-    /// A message of which nothing is noted: each pointer is followed by itself.
+    /// A message without notes: each pointer is followed one by one.
     pub(crate) fn plain(octets: &'a [u8]) -> Wire<'a>
         ensures { result ≡ octets.now }
     {
         Wire { octets, ends: &[] }
     }
 
-    /// A message of which all chains are noted, by a walk over the places that a pointer reaches.
+    /// A message with all its chains noted, by one walk over the places that a pointer can reach.
     pub(crate) fn noted(octets: &'a [u8], ends: &'a mut [u16; POINTER_REACH]) -> Wire<'a>
         ensures { result ≡ octets.now }
     {
@@ -57,7 +58,7 @@ impl<'a> Wire<'a> {
         self.octets
     }
 
-    /// A place to which pointers lead from this one. Where all chains are noted, no pointer back stands there.
+    /// A place to which pointers lead from this one. If all chains are noted, that place has no pointer back.
     pub(crate) fn end_of(&self, at: usize) -> usize
         ensures { Leads self.now at result }
     {
@@ -76,7 +77,7 @@ fn end_in(octets: &[u8], ends: &[u16], at: usize) -> usize
     }
 }
 
-/// What to note for a place, where those before it are noted.
+/// The note for a place, if all places before it are noted.
 fn note_of(octets: &[u8], ends: &[u16], at: usize) -> u16
     requires reach { at < POINTER_REACH }
     requires noted { (place : ℕ) → place < at → IsNotedAt octets.now ends.now place }
@@ -88,7 +89,7 @@ fn note_of(octets: &[u8], ends: &[u16], at: usize) -> u16
     }
 }
 
-/// Notes for each place where the chain of pointers from there ends.
+/// Notes for each place the end of the chain of pointers from there.
 fn note_ends(octets: &[u8], ends: &mut [u16])
     requires { length ends.old ≤ POINTER_REACH }
     ensures { AreEnds octets.now ends.new }
@@ -104,14 +105,14 @@ pub(crate) fn blank_ends() -> [u16; POINTER_REACH] {
     [0; POINTER_REACH]
 }
 
-/// Whether so many names may stand in a message that following each pointer by itself could take long: as many steps as
-/// the names that the header counts, times the octets.
+/// Whether a message may have so many names that following each pointer one by one could take long: up to the number of
+/// names that the header counts, times the number of octets.
 pub(crate) fn has_many_names(octets: &[u8]) -> bool
-    requires { 12 ≤ length octets.now }
+    requires { HEADER_OCTETS ≤ length octets.now }
 {
     let records = usize::from(u16_at(octets, 6))
         + usize::from(u16_at(octets, 8))
         + usize::from(u16_at(octets, 10));
     let names = usize::from(u16_at(octets, 4)) + 3 * records;
-    octets.len() > 65535 || names * octets.len() > MOST_STEPS
+    octets.len() > MOST_OCTETS || names * octets.len() > MOST_STEPS
 }

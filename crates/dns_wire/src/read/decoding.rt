@@ -1,4 +1,4 @@
-//! What octets are, as a whole.
+//! Decoding: the message that octets are, or their first fault.
 
 ghost use Rattle.std.specs.Prelude.{IfOk, IfErr};
 ghost use Rattle.dns_wire.specs.Read.Decoding.{IsUnspelled, HasTrailing, UnlessMemory, SpelledOrFails, NeverBoth, SpelledOnce, FailsOnce};
@@ -11,14 +11,14 @@ use crate::message::Message;
 use crate::read::message::message_of;
 use std::alloc::Global;
 
-/// The message that octets are, all of them, or else the first fault in the order of reading (RFC 1035, section 4).
+/// The message that all of the octets are, or else the first fault in the order of reading (RFC 1035, section 4).
 pub fn decode(alloc: Global, octets: &[u8]) -> Result<Message, WireFault>
     ensures spelled { IfOk result (SpelledMessage octets.now) }
     ensures well_formed { IfOk result IsWellFormed }
     ensures forms { IfOk result HasForms }
     ensures fault { IfErr result (λ fault. UnlessMemory fault (MessageFails octets.now fault)) }
 
-    // Only memory keeps what the octets spell from being read, and what they don't from being refused.
+    // A message is read, and octets that are no message are refused, unless memory runs out.
     ensures read { (v : Message) → SpelledMessage octets.now v → Gives result (Ok v) }
     ensures unspelled { IfErr result (λ fault. UnlessMemory fault (IsUnspelled octets.now)) }
     ensures trailing { HasTrailing octets.now → Gives result (Err WireFault.Trailing) }
@@ -26,7 +26,7 @@ pub fn decode(alloc: Global, octets: &[u8]) -> Result<Message, WireFault>
     message_of(alloc, octets)
 }
 
-/// Octets spell one message, or one fault is the first that keeps them from it, and never both.
+/// Octets spell one message or have one first fault, and never both.
 pub fn one_meaning()
     ensures either { SpelledOrFails }
     ensures never_both { NeverBoth }

@@ -3,6 +3,7 @@
 ghost use Rattle.std.specs.Prelude.{◌≡◌, ◌≤◌, length};
 ghost use Rattle.dns_wire.specs.Read.Header.{head_of, head_in};
 
+use crate::limits::HEADER_OCTETS;
 use crate::message::Head;
 use crate::opcode::Opcode;
 use crate::rcode::Rcode;
@@ -26,7 +27,7 @@ fn head_of(id: u16, flags: u16) -> Head
 }
 
 pub(crate) fn head_in(message: &[u8]) -> Head
-    requires { 12 ≤ length message.now }
+    requires { HEADER_OCTETS ≤ length message.now }
     ensures { result ≡ head_in message.now }
 {
     head_of(u16_at(message, 0), u16_at(message, 2))

@@ -1,10 +1,11 @@
-//! Messages from their octets.
+//! Messages read section after section.
 
 ghost use Rattle.std.specs.Prelude.{◌≤◌, length};
 ghost use Rattle.dns_wire.specs.Fault.{Gives};
 ghost use Rattle.dns_wire.specs.Read.Message.{message_behind, message_read};
 
 use crate::fault::WireFault;
+use crate::limits::HEADER_OCTETS;
 use crate::message::Message;
 use crate::read::chains::{Wire, blank_ends, has_many_names};
 use crate::read::header::head_in;
@@ -12,14 +13,14 @@ use crate::read::number::u16_at;
 use crate::read::section::section_at;
 use std::alloc::Global;
 
-/// The sections behind the header, with which the octets end.
+/// The message of a whole header and the sections behind it, which end with the octets.
 #[tactic(auto, unfolding(crate::specs::Read::Message::sections_read))]
 fn message_in(alloc: Global, message: &Wire<'_>) -> Result<Message, WireFault>
-    requires { 12 ≤ length message.now }
+    requires { HEADER_OCTETS ≤ length message.now }
     ensures { Gives result (message_behind message.now) }
 {
     let octets = message.as_slice();
-    let (questions, at) = section_at(alloc, message, u16_at(octets, 4), 12)?;
+    let (questions, at) = section_at(alloc, message, u16_at(octets, 4), HEADER_OCTETS)?;
     let (answer, at) = section_at(alloc, message, u16_at(octets, 6), at)?;
     let (authority, at) = section_at(alloc, message, u16_at(octets, 8), at)?;
     let (additional, at) = section_at(alloc, message, u16_at(octets, 10), at)?;
@@ -36,10 +37,10 @@ fn message_in(alloc: Global, message: &Wire<'_>) -> Result<Message, WireFault>
     })
 }
 
-/// The same of a message with chains of pointers to note. It stands apart, since the notes take much of the stack.
+/// The same for a message with many names, whose chains of pointers are noted. It is a function of its own because the notes take much of the stack.
 #[inline(never)]
 fn noted_message_in(alloc: Global, octets: &[u8]) -> Result<Message, WireFault>
-    requires { 12 ≤ length octets.now }
+    requires { HEADER_OCTETS ≤ length octets.now }
     ensures { Gives result (message_behind octets.now) }
 {
     let mut ends = blank_ends();
@@ -51,7 +52,7 @@ fn noted_message_in(alloc: Global, octets: &[u8]) -> Result<Message, WireFault>
 pub(crate) fn message_of(alloc: Global, octets: &[u8]) -> Result<Message, WireFault>
     ensures { Gives result (message_read octets.now) }
 {
-    if octets.len() < 12 {
+    if octets.len() < HEADER_OCTETS {
         return Err(WireFault::Short);
     }
     if has_many_names(octets) {

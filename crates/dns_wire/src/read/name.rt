@@ -13,8 +13,8 @@ use crate::read::place::{Next, next_at};
 use dns_name::{MAX_NAME_OCTETS, Name, NameBuilder};
 use std::alloc::Global;
 
-/// Follows a name from a place of a message on: the name, and the place after it. Its own octets end at the limit at the
-/// latest, or there is this fault.
+/// Follows a name from a place of a message on: the name, and the place after it. If the name's own octets pass the
+/// limit, the fault is `ending`.
 fn follow_name(
     alloc: Global,
     message: &Wire<'_>,
@@ -64,8 +64,8 @@ fn follow_name(
     }
 }
 
-/// The name at a place of a message, and the place after it. The name's own octets, those that a pointer ends, are in
-/// front of the limit, or there is this fault.
+/// The name at a place of a message, and the place after it. If the name's own octets, up to the end of its first pointer,
+/// pass the limit, the fault is `ending`.
 pub(crate) fn name_in(
     alloc: Global,
     message: &Wire<'_>,
@@ -142,8 +142,8 @@ fn follow_end(message: &Wire<'_>, limit: usize, start: usize) -> Option<usize>
     }
 }
 
-/// The place after the name at a place of a message, where one stands whose own octets are in front of the limit. It
-/// takes no memory.
+/// The place after the name at a place of a message, if one is there and its own octets do not pass the limit. It takes
+/// no memory.
 pub(crate) fn name_end(message: &Wire<'_>, limit: usize, at: usize) -> Option<usize>
     requires within { at ≤ limit }
     requires limit { limit ≤ length message.now }

@@ -1,9 +1,11 @@
-//! What stands at a place of a message where a name is read.
+//! The label, pointer or end of a name at a place of a message.
 
 ghost use Rattle.std.specs.Prelude.{◌≡◌};
 ghost use Rattle.dns_wire.specs.Read.Place.{next_at};
 
-/// What stands at one place of a name in a message.
+use crate::limits::{LABEL_END, POINTER_MARK};
+
+/// The part of a name that begins at one place of a message.
 #[derive(Clone, Copy)]
 pub enum Next {
     /// The zero octet that ends a name.
@@ -12,9 +14,9 @@ pub enum Next {
     Label(usize),
     /// A pointer to this place.
     Pointer(usize),
-    /// An octet that begins nothing.
+    /// A reserved octet, which begins nothing.
     Reserved,
-    /// The end of what may be read.
+    /// The end of the octets that may be read.
     Cut,
 }
 
@@ -25,15 +27,17 @@ pub(crate) fn next_at(message: &[u8], at: usize) -> Next
         None => Next::Cut,
         Some(0) => Next::Finish,
         Some(n) => {
-            if *n < 64 {
+            if *n < LABEL_END {
                 return Next::Label(*n as usize);
             }
-            if *n < 192 {
+            if *n < POINTER_MARK {
                 return Next::Reserved;
             }
             match message.get(at + 1) {
                 None => Next::Cut,
-                Some(low) => Next::Pointer((*n as usize - 192) * 256 + *low as usize),
+                Some(low) => Next::Pointer(
+                    (*n as usize - POINTER_MARK as usize) * 256 + *low as usize,
+                ),
             }
         }
     }

@@ -9,7 +9,7 @@ use crate::message::Classed;
 use crate::read::chains::Wire;
 use crate::read::name::name_at;
 use crate::read::number::u16_at;
-use crate::read::section::Entry;
+use crate::read::section::SectionItem;
 use dns_text::Question;
 use std::alloc::Global;
 
@@ -35,7 +35,7 @@ fn question_at(
     Ok((Classed { item, class }, at + 4))
 }
 
-impl Entry for Classed<Question> {
+impl SectionItem for Classed<Question> {
     ghost read = { question_read };
 
     fn read_at(

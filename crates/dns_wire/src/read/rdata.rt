@@ -25,7 +25,7 @@ pub(crate) fn form_in(class: u16, kind: u16) -> Form
     }
 }
 
-/// A name whose own octets have to end with the RDATA at the latest, which begins at a place.
+/// A name in the RDATA, which begins at a place. The name's own octets must end within the RDATA.
 #[tactic(auto, unfolding(crate::specs::Read::Rdata::data_name_read))]
 fn data_name_at(
     alloc: Global,
@@ -162,7 +162,7 @@ fn octets_from(alloc: Global, front: &[u8], at: usize) -> Result<Octets, AllocEr
     Ok(Octets::new(octets))
 }
 
-/// The string behind the length at the front, and what follows it.
+/// The string behind the length at the front, and the octets after it.
 pub(crate) fn split_string(octets: &[u8]) -> Option<(&[u8], &[u8])>
     ensures value { option_map (λ r. (r.0.now, r.1.now)) result ≡ first_string octets.now }
     ensures less { IfSome result (λ r. length r.1.now < length octets.now) }
@@ -196,7 +196,7 @@ fn txt_at(alloc: Global, front: &[u8], at: usize) -> Result<Data, WireFault>
     Ok(Data::Txt(Items::new(strings)))
 }
 
-/// The data of a form that begins at a place of a message and has an end.
+/// The data of a form that begins at one place of a message and ends at another.
 #[tactic(auto, unfolding(crate::specs::Read::Rdata::data_read))]
 pub(crate) fn data_at(
     alloc: Global,

@@ -10,11 +10,11 @@ use crate::read::chains::Wire;
 use crate::read::name::name_at;
 use crate::read::number::{u16_at, u32_at};
 use crate::read::rdata::{data_at, form_in};
-use crate::read::section::Entry;
+use crate::read::section::SectionItem;
 use dns_text::{Form, Record, Ttl};
 use std::alloc::Global;
 
-/// A time to live, of which one with its top bit set is none.
+/// The TTL of this number; 0 if its top bit is set (RFC 2181, section 8).
 fn ttl_of(ttl: u32) -> Ttl
     ensures { result ≡ ttl_of ttl }
 {
@@ -73,7 +73,7 @@ fn record_at(
     Ok((Classed { item, class }, frame.end))
 }
 
-impl Entry for Classed<Record> {
+impl SectionItem for Classed<Record> {
     ghost read = { record_read };
 
     fn read_at(

@@ -11,7 +11,7 @@ use dns_text::Items;
 use std::alloc::Global;
 
 /// What a section holds.
-pub(crate) trait Entry: Drop {
+pub(crate) trait SectionItem: Drop {
     ghost read: { List ℕ → ℕ → Result (Self × ℕ) WireFault };
 
     /// The one at a place, and the place after it.
@@ -22,7 +22,7 @@ pub(crate) trait Entry: Drop {
 }
 
 /// So many items, and the place after them.
-pub(crate) fn section_at<T: Entry>(
+pub(crate) fn section_at<T: SectionItem>(
     alloc: Global,
     message: &Wire<'_>,
     count: u16,

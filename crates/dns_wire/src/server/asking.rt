@@ -1,4 +1,4 @@
-//! What octets that came to a server ask for.
+//! The request in the octets that a server received.
 
 ghost use Rattle.std.specs.Prelude.{◌⊎◌, ◌≡◌, ◌≤◌, ◌+◌, length, IfOk, IfErr, MatchOption, IfSome};
 ghost use Rattle.dns_wire.specs.Server.Asking.{HasPointer, IsMalformed, AsksName, AsksFor, IsGood, IsQueryFrom, AskedOnce};
@@ -7,6 +7,7 @@ ghost use Rattle.dns_wire.specs.declared.fault.WireFault.{WireFault};
 ghost use Rattle.dns_wire.specs.Read.Name.{SpelledName, UnspelledName};
 ghost use Rattle.dns_wire.specs.Read.Number.{u16_at};
 
+use crate::limits::HEADER_OCTETS;
 use crate::message::CLASS_IN;
 use crate::rcode::Rcode;
 use crate::read::chains::Wire;
@@ -21,7 +22,7 @@ use dns_name::{MAX_NAME_OCTETS, NoMemory};
 use dns_text::{Question, is_excluded};
 use std::alloc::{AllocError, Global};
 
-/// The place after the name at a place of a message, where one stands whole.
+/// The place after the name at a place of a message, if the name is whole.
 fn whole_end(message: &[u8], start: usize) -> Option<usize>
     requires { start ≤ length message.now }
     ensures stands { MatchOption result
@@ -51,15 +52,15 @@ fn whole_end(message: &[u8], start: usize) -> Option<usize>
     }
 }
 
-/// The place after the question's name, where the octets are a message of one question whose name has no pointer.
+/// The place after the question's name, if the octets are a message with one question whose name has no pointer.
 fn one_question(message: &[u8]) -> Option<usize>
-    requires { 12 ≤ length message.now }
+    requires { HEADER_OCTETS ≤ length message.now }
     ensures { MatchOption result (IsMalformed message.now) (λ at. (labels : Labels) × AsksName message.now labels at) }
 {
     if u16_at(message, 4) != 1 {
         return None;
     }
-    let at = whole_end(message, 12)?;
+    let at = whole_end(message, HEADER_OCTETS)?;
     if message.len() < at + 4 {
         return None;
     }
@@ -73,19 +74,19 @@ fn one_question(message: &[u8]) -> Option<usize>
 /// The query of a question of class IN, by the place after its name.
 #[inline(always)]
 fn query_of(alloc: Global, message: &[u8], at: usize) -> Result<Query, NoMemory>
-    requires header { 12 ≤ length message.now }
+    requires header { HEADER_OCTETS ≤ length message.now }
     requires name { (labels : Labels) × AsksName message.now labels at }
-    requires class { u16_at message.now (at + 2) ≡ 1 }
+    requires class { u16_at message.now (at + 2) ≡ CLASS_IN }
     ensures { IfOk result (λ query. (labels : Labels) → AsksName message.now labels at → IsQueryFrom message.now labels at query) }
 {
-    let Ok((owner, _)) = name_at(alloc, &Wire::plain(message), 12) else {
-        // The name stands, so only memory was wanting.
+    let Ok((owner, _)) = name_at(alloc, &Wire::plain(message), HEADER_OCTETS) else {
+        // The name is valid, so only memory can have run out.
         return Err(AllocError);
     };
     let head = head_in(message);
     let kind = u16_at(message, at);
     let (front, _) = message.split_at(at + 4);
-    let (_, octets) = front.split_at(12);
+    let (_, octets) = front.split_at(HEADER_OCTETS);
     let octets = QuestionOctets::from_slice(alloc, octets)?;
     Ok(Query {
         id: head.id,
@@ -95,15 +96,15 @@ fn query_of(alloc: Global, message: &[u8], at: usize) -> Result<Query, NoMemory>
     })
 }
 
-/// What octets that came to a server ask for (RFC 1035, section 4.1). The bits of Z and what the other sections say are
-/// ignored, and take no memory.
+/// The request in the octets that a server received (RFC 1035, section 4.1). The Z bits and the contents of the other
+/// sections are ignored, and take no memory.
 pub fn read_question(alloc: Global, octets: &[u8]) -> Result<Asked, NoMemory>
     ensures asked { IfOk result (AsksFor octets.now) }
 
-    // Only what asks for an answer takes memory.
+    // Only a request for an answer takes memory.
     ensures memory { IfErr result (λ _. IsGood octets.now) }
 {
-    if octets.len() < 12 {
+    if octets.len() < HEADER_OCTETS {
         return Ok(Asked::Drop);
     }
     let head = head_in(octets);
@@ -122,7 +123,7 @@ pub fn read_question(alloc: Global, octets: &[u8]) -> Result<Asked, NoMemory>
     Ok(Asked::Good(query_of(alloc, octets, at)?))
 }
 
-/// Octets ask for one thing, and for no other.
+/// Octets ask for one thing at most.
 pub fn one_verdict()
     ensures { AskedOnce }
 {}

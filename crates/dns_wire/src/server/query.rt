@@ -9,24 +9,24 @@ use dns_text::Question;
 /// A query of one question of class IN, its name whole (RFC 1035, section 4.1.2).
 #[derive(Drop)]
 pub struct Query {
-    /// Its identifier, which a reply repeats.
+    /// The identifier, which a reply repeats.
     pub id: u16,
     /// Whether recursion is desired.
     pub rd: bool,
-    /// What it asks.
+    /// The question.
     pub question: Question,
-    /// The question's octets in the case in which they came, at most 259: a reply repeats them.
+    /// The question's octets as received, with their upper and lower case: at most 259. A reply repeats them.
     pub octets: QuestionOctets,
     pub ghost spelled: { IsQuestionOctets octets question },
 }
 
-/// What octets that came to a server ask for.
+/// The request in the octets that a server received.
 #[derive(Drop)]
 pub enum Asked {
-    /// No reply: they have no header, or are a reply themselves.
+    /// No reply: the octets have no header, or are a response themselves.
     Drop,
-    /// A reply of a header alone with this RCODE: `FORMAT_ERROR` where they are malformed, `NOT_IMPLEMENTED` where what
-    /// they ask is.
+    /// A reply of a header alone with this RCODE: `FORMAT_ERROR` if the octets are malformed, `NOT_IMPLEMENTED` if the
+    /// request is not supported.
     Fault(Rcode),
     /// An answer to this query.
     Good(Query),

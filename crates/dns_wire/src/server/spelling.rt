@@ -1,4 +1,4 @@
-//! The octets of a query's question: a few stand in the value itself, more in a block.
+//! The octets of a query's question: in the value itself if they are few, else in a block of memory.
 
 ghost use Rattle.std.specs.Prelude.{◌≡◌, ◌≤◌, length, take, IfOk};
 ghost use Rattle.dns_wire.specs.declared.server.spelling.TheConstants.{SHORT};
@@ -7,27 +7,27 @@ use dns_name::NoMemory;
 use std::alloc::Global;
 use std::marker::Model;
 
-/// The octets of most questions are no more than these: a name of 42 octets or fewer, its end among them, and four of type and class.
+/// The most octets kept in the value itself: a name of 42 octets, its zero octet included, and four of type and class. Most questions are shorter.
 const SHORT: usize = 46;
 
 /// At most `SHORT` octets: the first `len` of `octets`.
 #[derive(Clone, Copy)]
-struct Run {
+struct Inline {
     len: u8,
     octets: [u8; SHORT],
     ghost within: { len ≤ SHORT },
 }
 
 #[derive(Drop)]
-enum Kept {
-    Short(Run),
+enum Storage {
+    Short(Inline),
     Long(Vec<u8>),
 }
 
-/// The octets of a question, which take a block of memory where they are many.
+/// The octets of a question. They take a block of memory only if they are many.
 #[derive(Drop)]
 pub struct QuestionOctets {
-    kept: Kept,
+    storage: Storage,
 }
 
 impl Model for QuestionOctets {
@@ -35,20 +35,20 @@ impl Model for QuestionOctets {
 
     ghost Value = { List ℕ };
 
-    ghost use Rattle.dns_wire.specs.Server.Spelling.{kept_octets};
+    ghost use Rattle.dns_wire.specs.Server.Spelling.{stored_octets};
 
-    ghost view = { λ o. kept_octets o.kept };
+    ghost view = { λ o. stored_octets o.storage };
 }
 
-/// A few octets.
+/// Octets that fit into the value itself.
 #[inline(always)]
-fn run_of(octets: &[u8]) -> Run
+fn run_of(octets: &[u8]) -> Inline
     requires { length octets.now ≤ SHORT }
     ensures { take result.len result.octets ≡ octets.now }
 {
     let mut room = [0; SHORT];
     room[..octets.len()].copy_from_slice(octets);
-    Run {
+    Inline {
         len: octets.len() as u8,
         octets: room,
     }
@@ -60,21 +60,21 @@ impl QuestionOctets {
     pub(crate) fn from_slice(alloc: Global, octets: &[u8]) -> Result<QuestionOctets, NoMemory>
         ensures { IfOk result (λ o. o ≡ octets.now) }
     {
-        let kept = if octets.len() <= SHORT {
-            Kept::Short(run_of(octets))
+        let storage = if octets.len() <= SHORT {
+            Storage::Short(run_of(octets))
         } else {
-            Kept::Long(Vec::from_slice(alloc, octets)?)
+            Storage::Long(Vec::from_slice(alloc, octets)?)
         };
-        Ok(QuestionOctets { kept })
+        Ok(QuestionOctets { storage })
     }
 
     /// The octets, the first first.
     pub fn as_slice(&self) -> &[u8]
         ensures { result.now ≡ self.now }
     {
-        match &self.kept {
-            Kept::Short(run) => &run.octets[..usize::from(run.len)],
-            Kept::Long(octets) => octets,
+        match &self.storage {
+            Storage::Short(run) => &run.octets[..usize::from(run.len)],
+            Storage::Long(octets) => octets,
         }
     }
 }

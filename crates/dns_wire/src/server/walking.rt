@@ -1,4 +1,4 @@
-//! Messages walked without keeping what they say, and so without memory.
+//! Walking over a message without keeping its contents, and so without memory.
 
 ghost use Rattle.std.specs.Prelude.{◌≡◌, ◌≤◌, length, take, is_ok, IfSome};
 ghost use Rattle.dns_wire.specs.Read.Rdata.{data_read, txt_read};
@@ -6,6 +6,7 @@ ghost use Rattle.dns_wire.specs.Read.Record.{record_read};
 ghost use Rattle.dns_wire.specs.Server.Walking.{name_place, records_place, sections_place, data_name_place, ends_with_name, is_soa};
 ghost use Rattle.dns_wire.specs.Read.Name.{place_after};
 
+use crate::limits::HEADER_OCTETS;
 use crate::read::chains::{Wire, blank_ends, has_many_names};
 use crate::read::name::name_end;
 use crate::read::number::u16_at;
@@ -13,7 +14,7 @@ use crate::read::rdata::split_string;
 use crate::read::record::frame_at;
 use dns_text::Form;
 
-/// The place after a name, where one stands.
+/// The place after the name at a place, if one is there.
 fn owner_end(message: &Wire<'_>, at: usize) -> Option<usize>
     requires { at ≤ length message.now }
     ensures exact { result ≡ name_place message.now at }
@@ -22,7 +23,7 @@ fn owner_end(message: &Wire<'_>, at: usize) -> Option<usize>
     name_end(message, message.as_slice().len(), at)
 }
 
-/// The place after a name whose own octets end with the RDATA at the latest, which begins at a place.
+/// The place after a name in the RDATA, which begins at a place. The name's own octets must end within the RDATA.
 #[tactic(auto, unfolding(crate::specs::Read::Rdata::data_name_read))]
 fn data_name_end(message: &Wire<'_>, end: usize, at: usize, place: usize) -> Option<usize>
     requires within { place ≤ end }
@@ -33,7 +34,7 @@ fn data_name_end(message: &Wire<'_>, end: usize, at: usize, place: usize) -> Opt
     name_end(message, end, place)
 }
 
-/// Whether a name stands at a place of RDATA and ends with it.
+/// Whether a name begins at a place of RDATA and ends with it.
 fn ends_with_name(message: &Wire<'_>, end: usize, at: usize, place: usize) -> bool
     requires { end ≤ length message.now }
     ensures { result ≡ ends_with_name message.now (take end message.now) at place }
@@ -47,7 +48,7 @@ fn ends_with_name(message: &Wire<'_>, end: usize, at: usize, place: usize) -> bo
     }
 }
 
-/// Whether RDATA is the start of a zone of authority: two names and five numbers.
+/// Whether the RDATA is that of an SOA record: two names and five numbers.
 fn is_soa(message: &Wire<'_>, end: usize, at: usize) -> bool
     requires within { at ≤ end }
     requires end { end ≤ length message.now }
@@ -81,7 +82,7 @@ fn are_strings(front: &[u8], at: usize) -> bool
     true
 }
 
-/// Whether data of a form begins at a place of a message and has an end.
+/// Whether data of a form begins at one place of a message and ends at another.
 #[tactic(auto, unfolding(crate::specs::Read::Rdata::data_read))]
 fn has_form(message: &Wire<'_>, end: usize, at: usize, form: Form) -> bool
     requires within { at ≤ end }
@@ -101,7 +102,7 @@ fn has_form(message: &Wire<'_>, end: usize, at: usize, form: Form) -> bool
     }
 }
 
-/// The place after a record, where one stands.
+/// The place after the record at a place, if one is there.
 #[tactic(auto, unfolding(crate::specs::Read::Record::record_read))]
 fn record_end(message: &Wire<'_>, at: usize) -> Option<usize>
     requires { at ≤ length message.now }
@@ -118,7 +119,7 @@ fn record_end(message: &Wire<'_>, at: usize) -> Option<usize>
     Some(frame.end)
 }
 
-/// The place after so many records, where they stand.
+/// The place after this many records, if they are there.
 fn records_end(message: &Wire<'_>, count: u16, at: usize) -> Option<usize>
     requires { at ≤ length message.now }
     ensures exact { result ≡ records_place message.now count at }
@@ -131,10 +132,10 @@ fn records_end(message: &Wire<'_>, count: u16, at: usize) -> Option<usize>
     Some(place)
 }
 
-/// The place after the records of all sections, of which the first begins at a place, where they stand.
+/// The place after the records of all sections, if they are there. The first section begins at a place.
 #[tactic(auto, unfolding(crate::specs::Server::Walking::sections_place))]
 fn sections_end_in(message: &Wire<'_>, at: usize) -> Option<usize>
-    requires header { 12 ≤ length message.now }
+    requires header { HEADER_OCTETS ≤ length message.now }
     requires within { at ≤ length message.now }
     ensures { result ≡ sections_place message.now at }
 {
@@ -144,10 +145,10 @@ fn sections_end_in(message: &Wire<'_>, at: usize) -> Option<usize>
     records_end(message, u16_at(octets, 10), at)
 }
 
-/// The same in a message with chains of pointers to note. It stands apart, since the notes take much of the stack.
+/// The same for a message with many names, whose chains of pointers are noted. It is a function of its own because the notes take much of the stack.
 #[inline(never)]
 fn noted_sections_end(octets: &[u8], at: usize) -> Option<usize>
-    requires header { 12 ≤ length octets.now }
+    requires header { HEADER_OCTETS ≤ length octets.now }
     requires within { at ≤ length octets.now }
     ensures { result ≡ sections_place octets.now at }
 {
@@ -155,9 +156,9 @@ fn noted_sections_end(octets: &[u8], at: usize) -> Option<usize>
     sections_end_in(&Wire::noted(octets, &mut ends), at)
 }
 
-/// The place after the records of all sections, of which the first begins at a place, where they stand.
+/// The place after the records of all sections, if they are there. The first section begins at a place.
 pub(crate) fn sections_end(octets: &[u8], at: usize) -> Option<usize>
-    requires header { 12 ≤ length octets.now }
+    requires header { HEADER_OCTETS ≤ length octets.now }
     requires within { at ≤ length octets.now }
     ensures { result ≡ sections_place octets.now at }
 {

@@ -1,4 +1,4 @@
-//! A message as octets.
+//! Messages and replies written into a buffer.
 
 ghost use Rattle.std.specs.Prelude.{◌≡◌, ◌≤◌, ◌⊎◌, length, [], ◌∷◌, IfOk, IfErr, Err};
 ghost use Rattle.std.specs.List.{AllByRecursion};
@@ -22,12 +22,13 @@ use crate::write::size::{message_room, reply_room};
 use std::alloc::{AllocError, AllocFailed, Global};
 use thiserror::Error;
 
-/// Why a message has no octets.
+/// The fault of a message that is not written.
 #[derive(Clone, Copy, Debug, PartialEq, Eq, Error)]
 pub enum EncodeFault {
     /// More than 65,535 octets, or questions or records of a section (RFC 1035, sections 4.1.1 and 4.2.2).
     #[error("the message is too long")]
     TooLong,
+    /// Memory ran out.
     #[error("out of memory")]
     NoMemory,
 }
@@ -79,7 +80,7 @@ pub fn encode(alloc: Global, message: &Message) -> Result<Vec<u8>, EncodeFault>
     }
 }
 
-/// A reply that isn't too long, in place of what a buffer holds, which gets room for it.
+/// A reply that isn't too long. It replaces the contents of a buffer, which grows if it must.
 #[tactic(auto, unfolding(crate::specs::Write::Message::octets_with))]
 fn write_reply<A: Section, B: Section, C: Section>(
     mut out: Vec<u8>,
@@ -104,7 +105,7 @@ fn write_reply<A: Section, B: Section, C: Section>(
     Ok(out)
 }
 
-/// A reply as octets, its question in the case in which the query asked it, in place of what a buffer holds.
+/// A reply as octets, its question in the upper and lower case of the query's. It replaces the contents of a buffer.
 fn encode_sections<A: Section, B: Section, C: Section>(
     buffer: Vec<u8>,
     query: &Query,
@@ -121,7 +122,7 @@ fn encode_sections<A: Section, B: Section, C: Section>(
     }
 }
 
-/// A reply as octets, its question in the case in which the query asked it.
+/// A reply as octets, its question in the upper and lower case of the query's.
 pub fn encode_reply(alloc: Global, query: &Query, reply: &Message) -> Result<Vec<u8>, EncodeFault>
     requires forms { HasForms reply.now }
     requires question { reply.now.questions ≡ in_class_in query.now.question ∷ [] }
@@ -131,8 +132,8 @@ pub fn encode_reply(alloc: Global, query: &Query, reply: &Message) -> Result<Vec
     encode_sections(Vec::new(alloc), query, &reply.head, &reply.sections())
 }
 
-/// A reply as octets, of a head and of sections that are lent, its question in the case in which the query asked it. It
-/// stands in place of what a buffer holds; no name is copied, and memory is taken where the buffer has too little room.
+/// A reply as octets, from a head and borrowed sections, its question in the upper and lower case of the query's. It
+/// replaces the contents of a buffer, which grows only if it has too little room. No name is copied.
 pub fn encode_lent<A: Section, B: Section>(
     buffer: Vec<u8>,
     query: &Query,
@@ -142,7 +143,8 @@ pub fn encode_lent<A: Section, B: Section>(
 ) -> Result<Vec<u8>, EncodeFault>
     requires answer { AllByRecursion (AllByRecursion HasItsForm) (A.parts answer.now) }
     requires authority { AllByRecursion (AllByRecursion HasItsForm) (B.parts authority.now) }
-    ensures encoded { IfOk result (λ out. EncodesReply query.now (lent_reply head.now query.now.question (A.parts answer.now) (B.parts authority.now)) out.items) }
+    ensures encoded { IfOk result (λ out.
+        EncodesReply query.now (lent_reply head.now query.now.question (A.parts answer.now) (B.parts authority.now)) out.items) }
     ensures fails { FailsFor (lent_reply head.now query.now.question (A.parts answer.now) (B.parts authority.now)) result }
 {
     let sections = Sections {
@@ -153,7 +155,7 @@ pub fn encode_lent<A: Section, B: Section>(
     encode_sections(buffer, query, head, &sections)
 }
 
-/// What a message is written as is read back, and is no other message.
+/// A written message is read back as that message, and as no other.
 pub fn written_is_read()
     ensures messages { WrittenIsRead }
     ensures replies { RepliesAreRead }

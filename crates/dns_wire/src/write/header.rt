@@ -3,9 +3,10 @@
 ghost use Rattle.std.specs.Prelude.{◌≡◌, ◌++◌, ◌<◌, ◌≤◌, ◌+◌, length, OnOk};
 ghost use Rattle.dns_wire.specs.Lent.{in_order};
 ghost use Rattle.dns_wire.specs.WellFormed.{IsHead};
-ghost use Rattle.dns_wire.specs.Write.Header.{flags_of, header_octets, AreFew};
+ghost use Rattle.dns_wire.specs.Write.Header.{flags_of, header_octets, counted_header, AreFew};
 
 use crate::lent::{Section, Sections};
+use crate::limits::{HEADER_OCTETS, MOST_COUNT};
 use crate::message::Head;
 use std::alloc::AllocError;
 
@@ -25,7 +26,7 @@ fn flags_of(head: &Head) -> u16
         + u16::from(head.rcode.number())
 }
 
-/// A header that counts so many questions, and so many records of each section.
+/// A header with these counts of questions and of the records of each section.
 #[tactic(auto, unfolding(crate::specs::Write::Header::header_octets))]
 pub(crate) fn header_of(
     head: &Head,
@@ -33,7 +34,7 @@ pub(crate) fn header_of(
     answer: u16,
     authority: u16,
     additional: u16,
-) -> [u8; 12]
+) -> [u8; HEADER_OCTETS]
     ensures value { result ≡ header_octets head.now questions answer authority additional }
     ensures fits { IsHead head.now }
 {
@@ -61,7 +62,7 @@ pub(crate) fn header_of(
 
 /// How many records a section has.
 fn count_of<S: Section>(section: &S) -> u16
-    requires { length (in_order (S.parts section.now)) ≤ 65535 }
+    requires { length (in_order (S.parts section.now)) ≤ MOST_COUNT }
     ensures { result ≡ length (in_order (S.parts section.now)) }
 {
     let mut count = 0;
@@ -71,7 +72,7 @@ fn count_of<S: Section>(section: &S) -> u16
     count
 }
 
-/// The header of a message with so many questions.
+/// The header of a message with this many questions.
 pub(crate) fn push_header<A: Section, B: Section, C: Section>(
     out: &mut Vec<u8>,
     head: &Head,
@@ -80,7 +81,7 @@ pub(crate) fn push_header<A: Section, B: Section, C: Section>(
 ) -> Result<(), AllocError>
     requires { AreFew sections.now }
     ensures fits { IsHead head.now }
-    ensures octets { OnOk result (out.new.items ≡ out.old.items ++ header_octets head.now questions (length sections.now.answer) (length sections.now.authority) (length sections.now.additional)) }
+    ensures octets { OnOk result (out.new.items ≡ out.old.items ++ counted_header head.now questions sections.now) }
 {
     let answer = count_of(sections.answer);
     let authority = count_of(sections.authority);

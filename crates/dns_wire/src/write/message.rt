@@ -10,19 +10,21 @@ ghost use Rattle.dns_wire.specs.Write.Size.{records_len};
 ghost use Rattle.dns_wire.specs.Write.Message.{sections_octets};
 
 use crate::lent::{Section, Sections};
+use crate::limits::MOST_OCTETS;
 use crate::write::record::push_part;
 use dns_name::Name;
 use std::alloc::AllocError;
 
-/// A section of a message whose first question has this name.
+/// A section of a message whose first question has this name, if it has a question.
 fn push_section<S: Section>(
     out: &mut Vec<u8>,
     first: Option<&Name>,
     section: &S,
 ) -> Result<(), AllocError>
     requires forms { AllByRecursion HasItsForm (in_order (S.parts section.now)) }
-    requires short { length (records_octets (option_copied first) (in_order (S.parts section.now))) ≤ 65535 }
-    ensures octets { OnOk result (out.new.items ≡ out.old.items ++ records_octets (option_copied first.entry) (in_order (S.parts section.now))) }
+    requires short { length (records_octets (option_copied first) (in_order (S.parts section.now))) ≤ MOST_OCTETS }
+    ensures octets { OnOk result
+        (out.new.items ≡ out.old.items ++ records_octets (option_copied first.entry) (in_order (S.parts section.now))) }
     ensures fits { OnOk result (AllByRecursion IsRecord (in_order (S.parts section.now))) }
 {
     for part in 0..section.part_count() {
@@ -31,14 +33,14 @@ fn push_section<S: Section>(
     Ok(())
 }
 
-/// The sections behind the questions, of which the first has this name.
+/// The sections behind the questions. The first question, if there is one, has this name.
 pub(crate) fn push_sections<A: Section, B: Section, C: Section>(
     out: &mut Vec<u8>,
     first: Option<&Name>,
     sections: &Sections<'_, A, B, C>,
 ) -> Result<(), AllocError>
     requires forms { AreFormed sections.now }
-    requires short { records_len (option_copied first) sections.now ≤ 65535 }
+    requires short { records_len (option_copied first) sections.now ≤ MOST_OCTETS }
     ensures octets { OnOk result (out.new.items ≡ out.old.items ++ sections_octets (option_copied first.entry) sections.now) }
     ensures fits { OnOk result (AreRecords sections.now) }
 {

@@ -5,6 +5,7 @@ ghost use Rattle.std.specs.Option.{option_copied};
 ghost use Rattle.dns_name.specs.Labels.{IsName};
 ghost use Rattle.dns_wire.specs.Write.Name.{name_octets, owner_octets};
 
+use crate::limits::{POINTER_MARK, QUESTION_PLACE};
 use dns_name::Name;
 use std::alloc::AllocError;
 
@@ -30,7 +31,7 @@ pub(crate) fn push_owner(
 {
     let _len = owner.wire_len();
     match first {
-        Some(first) if *first == *owner => out.extend_from_slice(&[192, 12]),
+        Some(first) if *first == *owner => out.extend_from_slice(&[POINTER_MARK, QUESTION_PLACE]),
         _ => push_name(out, owner),
     }
 }

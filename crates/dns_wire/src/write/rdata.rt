@@ -1,4 +1,4 @@
-//! RDATA as octets, behind what `out` holds. Where memory runs out, a part of them may stand there.
+//! RDATA as octets, behind what `out` holds. If memory runs out, a part of them may have been written.
 
 ghost use Rattle.std.specs.Prelude.{◌≡◌, ◌++◌, ◌<◌, length, OnOk};
 ghost use Rattle.std.specs.List.{flat_map, AllByRecursion};
@@ -6,9 +6,7 @@ ghost use Rattle.dns_name.specs.Labels.{with_length};
 ghost use Rattle.dns_text.specs.Data.{IsSized};
 ghost use Rattle.dns_text.specs.String.{AreOctets};
 ghost use Rattle.dns_wire.specs.WellFormed.{IsData};
-ghost use Rattle.dns_wire.specs.Write.Number.{u32_octets};
-ghost use Rattle.dns_wire.specs.Write.Name.{name_octets};
-ghost use Rattle.dns_wire.specs.Write.Rdata.{data_octets};
+ghost use Rattle.dns_wire.specs.Write.Rdata.{data_octets, soa_octets};
 
 use crate::write::name::push_name;
 use crate::write::number::{push_u16, push_u32};
@@ -37,7 +35,7 @@ fn push_strings(out: &mut Vec<u8>, strings: &[Octets]) -> Result<(), AllocError>
     Ok(())
 }
 
-/// The start of a zone of authority.
+/// SOA data: primary server and mailbox, serial, and refresh, retry, expire and minimum.
 fn push_soa(
     out: &mut Vec<u8>,
     names: (&Name, &Name),
@@ -45,7 +43,8 @@ fn push_soa(
     times: (u32, u32, u32, u32),
 ) -> Result<(), AllocError>
     ensures fits { OnOk result (IsData (Data.Soa names.entry.0.now names.entry.1.now serial times.0 times.1 times.2 times.3)) }
-    ensures octets { OnOk result (out.new.items ≡ out.old.items ++ (name_octets names.entry.0.now ++ name_octets names.entry.1.now ++ u32_octets serial ++ u32_octets times.0 ++ u32_octets times.1 ++ u32_octets times.2 ++ u32_octets times.3)) }
+    ensures octets { OnOk result
+        (out.new.items ≡ out.old.items ++ soa_octets names.entry.0.now names.entry.1.now serial times.0 times.1 times.2 times.3) }
 {
     push_name(out, names.0)?;
     push_name(out, names.1)?;

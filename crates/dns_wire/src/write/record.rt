@@ -1,4 +1,4 @@
-//! Records as octets, each behind what `out` holds. Where memory runs out, a part of them may stand there.
+//! Records as octets, each behind what `out` holds. If memory runs out, a part of them may have been written.
 
 ghost use Rattle.std.specs.Prelude.{◌≡◌, ◌++◌, ◌≤◌, ◌<◌, length, OnOk};
 ghost use Rattle.std.specs.List.{AllByRecursion};
@@ -10,6 +10,7 @@ ghost use Rattle.dns_wire.specs.Write.Rdata.{data_octets};
 ghost use Rattle.dns_wire.specs.Write.Record.{behind_owner_octets, record_octets, records_octets};
 
 use crate::lent::{LentRecord, Section, record_in};
+use crate::limits::MOST_OCTETS;
 use crate::write::name::push_owner;
 use crate::write::number::{push_u16, push_u32};
 use crate::write::rdata::push_data;
@@ -17,10 +18,10 @@ use crate::write::size::data_len;
 use dns_name::Name;
 use std::alloc::AllocError;
 
-/// What follows the owner of a record.
+/// The fields of a record behind its owner.
 fn push_behind_owner(out: &mut Vec<u8>, entry: &LentRecord<'_>) -> Result<(), AllocError>
     requires form { HasItsForm entry.now }
-    requires short { length (data_octets entry.now.item.body) ≤ 65535 }
+    requires short { length (data_octets entry.now.item.body) ≤ MOST_OCTETS }
     ensures octets { OnOk result (out.new.items ≡ out.old.items ++ behind_owner_octets entry.now) }
     ensures fits { OnOk result (IsName entry.now.item.owner → IsRecord entry.now) }
 {
@@ -39,7 +40,7 @@ fn push_record(
     entry: &LentRecord<'_>,
 ) -> Result<(), AllocError>
     requires form { HasItsForm entry.now }
-    requires short { length (data_octets entry.now.item.body) ≤ 65535 }
+    requires short { length (data_octets entry.now.item.body) ≤ MOST_OCTETS }
     ensures octets { OnOk result (out.new.items ≡ out.old.items ++ record_octets (option_copied first.entry) entry.now) }
     ensures fits { OnOk result (IsRecord entry.now) }
 {
@@ -55,8 +56,9 @@ pub(crate) fn push_part<S: Section>(
     part: usize,
 ) -> Result<(), AllocError>
     requires forms { AllByRecursion HasItsForm (part_at (S.parts section.now) part) }
-    requires short { length (records_octets (option_copied first) (part_at (S.parts section.now) part)) ≤ 65535 }
-    ensures octets { OnOk result (out.new.items ≡ out.old.items ++ records_octets (option_copied first.entry) (part_at (S.parts section.now) part)) }
+    requires short { length (records_octets (option_copied first) (part_at (S.parts section.now) part)) ≤ MOST_OCTETS }
+    ensures octets { OnOk result
+        (out.new.items ≡ out.old.items ++ records_octets (option_copied first.entry) (part_at (S.parts section.now) part)) }
     ensures fits { OnOk result (AllByRecursion IsRecord (part_at (S.parts section.now) part)) }
 {
     for place in 0..section.record_count(part) {

@@ -1,22 +1,22 @@
-//! How many octets a message takes, and room for them: `None` above 65,535.
+//! The number of octets of a message, and room for them: `None` above 65,535.
 
-ghost use Rattle.std.specs.Prelude.{◌≡◌, ◌≤◌, ◌+◌, length, IfSome, MatchOption};
+ghost use Rattle.std.specs.Prelude.{◌≡◌, ◌≤◌, ◌+◌, length, IfSome};
 ghost use Rattle.std.specs.List.{flat_map, AllByRecursion};
 ghost use Rattle.std.specs.Option.{option_copied};
 ghost use Rattle.dns_name.specs.declared.limits.TheConstants.{MAX_NAME_OCTETS};
 ghost use Rattle.dns_name.specs.Labels.{with_length};
 ghost use Rattle.dns_text.specs.Data.{IsSized};
-ghost use Rattle.dns_wire.specs.declared.message.Head.{Head};
-ghost use Rattle.dns_wire.specs.Lent.{part_at, in_order, reply_of};
-ghost use Rattle.dns_wire.specs.Write.Size.{within, records_len, IsRoom};
+ghost use Rattle.dns_wire.specs.Lent.{part_at, in_order};
+ghost use Rattle.dns_wire.specs.Write.Size.{within, records_len, IsRoom, IsRoomFor, IsRoomForReply};
 ghost use Rattle.dns_wire.specs.WellFormed.{HasItsForm, HasForms, AreFormed};
 ghost use Rattle.dns_wire.specs.Write.Name.{owner_octets};
 ghost use Rattle.dns_wire.specs.Write.Question.{question_octets};
 ghost use Rattle.dns_wire.specs.Write.Rdata.{data_octets};
 ghost use Rattle.dns_wire.specs.Write.Record.{record_octets, records_octets};
-ghost use Rattle.dns_wire.specs.Write.Message.{message_octets, octets_with, IsTooLong};
+ghost use Rattle.dns_wire.specs.Write.Message.{message_octets};
 
 use crate::lent::{LentRecord, Section, Sections, record_in};
+use crate::limits::{HEADER_OCTETS, MOST_OCTETS};
 use crate::message::{Classed, Message};
 use crate::server::query::Query;
 use dns_name::Name;
@@ -24,10 +24,10 @@ use dns_text::{Data, Octets, Question};
 
 /// A sum.
 fn sum_of(before: usize, more: usize) -> Option<usize>
-    requires { before ≤ 65535 }
+    requires { before ≤ MOST_OCTETS }
     ensures { result ≡ within (before + more) }
 {
-    if more > 65535 - before {
+    if more > MOST_OCTETS - before {
         return None;
     }
     Some(before + more)
@@ -87,14 +87,14 @@ fn record_len(first: Option<&Name>, entry: &LentRecord<'_>) -> Option<usize>
     sum_of(body, owner + 10)
 }
 
-/// A part of a section, behind so many octets.
+/// A part of a section, behind this many octets.
 fn part_len<S: Section>(
     before: usize,
     first: Option<&Name>,
     section: &S,
     part: usize,
 ) -> Option<usize>
-    requires few { before ≤ 65535 }
+    requires few { before ≤ MOST_OCTETS }
     requires forms { AllByRecursion HasItsForm (part_at (S.parts section.now) part) }
     ensures { result ≡ within (before + length (records_octets (option_copied first.entry) (part_at (S.parts section.now) part))) }
 {
@@ -106,9 +106,9 @@ fn part_len<S: Section>(
     Some(total)
 }
 
-/// A section, behind so many octets.
+/// A section, behind this many octets.
 fn section_len<S: Section>(before: usize, first: Option<&Name>, section: &S) -> Option<usize>
-    requires few { before ≤ 65535 }
+    requires few { before ≤ MOST_OCTETS }
     requires forms { AllByRecursion HasItsForm (in_order (S.parts section.now)) }
     ensures { result ≡ within (before + length (records_octets (option_copied first.entry) (in_order (S.parts section.now)))) }
 {
@@ -121,22 +121,22 @@ fn section_len<S: Section>(before: usize, first: Option<&Name>, section: &S) -> 
 
 /// A header and questions.
 fn questions_len(questions: &[Classed<Question>]) -> Option<usize>
-    ensures { result ≡ within (12 + length (flat_map question_octets questions.now)) }
+    ensures { result ≡ within (HEADER_OCTETS + length (flat_map question_octets questions.now)) }
 {
-    let mut total = 12;
+    let mut total = HEADER_OCTETS;
     for question in questions {
         total = sum_of(total, question.item.owner.wire_len() + 4)?;
     }
     Some(total)
 }
 
-/// All sections, behind so many octets.
+/// All sections, behind this many octets.
 fn sections_len<A: Section, B: Section, C: Section>(
     before: usize,
     first: Option<&Name>,
     sections: &Sections<'_, A, B, C>,
 ) -> Option<usize>
-    requires few { before ≤ 65535 }
+    requires few { before ≤ MOST_OCTETS }
     requires forms { AreFormed sections.now }
     ensures { result ≡ within (before + records_len (option_copied first.entry) sections.now) }
 {
@@ -145,15 +145,15 @@ fn sections_len<A: Section, B: Section, C: Section>(
     section_len(total, first, sections.additional)
 }
 
-/// The same with each owner whole, which is no bound where the question's name is the root: a pointer is longer.
+/// The same with each owner whole. This is no bound if the question's name is the root: a pointer is longer than that.
 fn whole_len<A: Section, B: Section, C: Section>(
     before: usize,
     first: Option<&Name>,
     sections: &Sections<'_, A, B, C>,
 ) -> Option<usize>
-    requires few { before ≤ 65535 }
+    requires few { before ≤ MOST_OCTETS }
     requires forms { AreFormed sections.now }
-    ensures { IfSome result (λ n. (before + records_len (option_copied first.entry) sections.now ≤ n) × (n ≤ 65535)) }
+    ensures { IfSome result (λ n. (before + records_len (option_copied first.entry) sections.now ≤ n) × (n ≤ MOST_OCTETS)) }
 {
     match first {
         Some(first) if first.wire_len() < 2 => None,
@@ -161,14 +161,14 @@ fn whole_len<A: Section, B: Section, C: Section>(
     }
 }
 
-/// Room for a message whose header and questions take so many octets. Owners are compared with the question's name only
-/// where the message might be too long with each of them whole.
+/// Room for a message whose header and questions take this many octets. Owners are compared with the question's name only
+/// if the message might be too long with each of them whole.
 fn room_behind<A: Section, B: Section, C: Section>(
     before: usize,
     first: Option<&Name>,
     sections: &Sections<'_, A, B, C>,
 ) -> Option<usize>
-    requires few { before ≤ 65535 }
+    requires few { before ≤ MOST_OCTETS }
     requires forms { AreFormed sections.now }
     ensures { IsRoom (before + records_len (option_copied first.entry) sections.now) result }
 {
@@ -181,7 +181,7 @@ fn room_behind<A: Section, B: Section, C: Section>(
 /// Room for a message.
 pub(crate) fn message_room(message: &Message) -> Option<usize>
     requires { HasForms message.now }
-    ensures { MatchOption result (IsTooLong message.now) (λ n. (length (message_octets message.now) ≤ n) × ¬ (IsTooLong message.now)) }
+    ensures { IsRoomFor message.now (message_octets message.now) result }
 {
     let before = questions_len(message.questions.as_slice())?;
     room_behind(before, message.first_name(), &message.sections())
@@ -193,8 +193,8 @@ pub(crate) fn reply_room<A: Section, B: Section, C: Section>(
     sections: &Sections<'_, A, B, C>,
 ) -> Option<usize>
     requires { AreFormed sections.now }
-    ensures { (head : Head) → MatchOption result (IsTooLong (reply_of head query.now.question sections.now)) (λ n. (length (octets_with query.now.octets (reply_of head query.now.question sections.now)) ≤ n) × ¬ (IsTooLong (reply_of head query.now.question sections.now))) }
+    ensures { IsRoomForReply query.now sections.now result }
 {
-    let before = sum_of(12, query.octets.as_slice().len())?;
+    let before = sum_of(HEADER_OCTETS, query.octets.as_slice().len())?;
     room_behind(before, Some(&query.question.owner), sections)
 }
