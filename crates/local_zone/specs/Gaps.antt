@@ -6,9 +6,11 @@ use Rattle.dns_text.specs.declared.record.Record.{Record}
 use Rattle.local_zone.specs.declared.taken.Taken.{Taken}
 use Rattle.local_zone.specs.Index.{of_owner}
 
+-- the records that were taken out
 abbrev pub records_of : List Taken → List Record
 records_of taken = map (λ t. t.item) taken
 
+-- the gaps before them
 abbrev pub gaps_of : List Taken → List ℕ
 gaps_of taken = map (λ t. t.gap) taken
 

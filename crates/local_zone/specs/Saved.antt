@@ -1,11 +1,11 @@
--- What a change saves for its way back.
+-- The way back of a change.
 use Rattle.std.specs.Prelude.{◌≡◌}
 use Rattle.local_zone.specs.declared.saved.SavedTables.{SavedTables}
 use Rattle.local_zone.specs.Tables.{Tables, AreTables}
 use Rattle.named_list.specs.Turn.{other_of, Fits}
 use Rattle.local_zone.specs.Added.{records_other, GoesBack}
 
--- the lists on the other side of a change, by what the change saved, from those on this side
+-- the lists on the other side of a change, from the saved value and those on this side
 abbrev pub before_of : SavedTables → Tables → Tables
 before_of saved left = record { zones = other_of saved.zones left.zones; records = records_other saved.records left.records }
 

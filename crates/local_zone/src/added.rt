@@ -1,9 +1,9 @@
-//! What a change of the records saves for its way back.
+//! The way back of a change of the records.
 
 use crate::removed::Removed;
 use dns_text::{Record, Shared, Ttl};
 
-/// The record, whether it was new, and the time to live that its set had.
+/// A record that was added, whether it was new, and the TTL that its set had before.
 #[derive(Drop)]
 pub(crate) struct Added {
     pub(crate) said: Shared<Record>,
@@ -11,17 +11,17 @@ pub(crate) struct Added {
     pub(crate) is_new: bool,
 }
 
-/// What the list on the other side of a change has that this one has not.
+/// The difference between the list and the one on the other side of a change.
 #[derive(Drop)]
 pub(crate) enum RecordTurn {
     /// Both are equal.
     Nothing,
-    /// This record was added, and is not there.
+    /// The other list lacks this record, which was added.
     Added(Added),
-    /// There this record is added.
+    /// The other list has this record added.
     Adds(Shared<Record>),
-    /// These records were taken out. There they are in their places.
+    /// The other list has these records, which were taken out, in their places.
     Removed(Removed),
-    /// The records at these gaps are not there.
+    /// The other list lacks the records at these gaps.
     Removes(Vec<usize>),
 }

@@ -1,11 +1,11 @@
-//! What a question is answered from the table. None of it takes memory.
+//! The answer to a question from the table. Finding it takes no memory.
 
 ghost use Rattle.std.specs.Prelude.{◌≡◌};
 ghost use Rattle.std.specs.List.{list_any};
 ghost use Rattle.std.specs.Option.{option_map};
-ghost use Rattle.local_zone.specs.Answer.{absent_in, absent_or_pass, answer_in, data_or, has_record, has_record_below, local_now, local_of, soa_of};
+ghost use Rattle.local_zone.specs.Answer.{absent_in, absent_or_pass, answer_in, data_or, has_record, has_record_below};
+ghost use Rattle.local_zone.specs.Answer.{in_redirect, in_static, in_transparent, local_now, local_of, soa_of};
 ghost use Rattle.local_zone.specs.Show.{data_shown, is_for};
-ghost use Rattle.local_zone.specs.declared.local.Local.TheVariants as local;
 
 use crate::local::{Local, LocalSet};
 use crate::next::is_for;
@@ -48,7 +48,7 @@ fn has_record_below(zones: &NamedList<Zone>, records: &RecordList, zone: &Zone, 
         && lies_in(zones, &zone.name, r.owner()))
 }
 
-/// The CNAME of an owner, else its set of the type, shown as of the name that is asked for; nothing where there is neither.
+/// The CNAME of an owner, else its set of the type, shown with the QNAME as owner. None if there is neither.
 fn data<'a>(
     records: &'a [LocalRecord],
     asked: &'a Name,
@@ -102,7 +102,7 @@ fn has_owner(records: &RecordList, name: &Name) -> bool
     has_record(records.of(name), name)
 }
 
-/// The data, or what is answered where there is none.
+/// The data, or another answer if there is none.
 fn data_or<'a>(
     found: Option<LocalSet<'a>>,
     otherwise: Local<LocalSet<'a>, &'a LocalRecord>,
@@ -115,7 +115,7 @@ fn data_or<'a>(
     }
 }
 
-/// What is not there in a static zone: data of the type, or the name.
+/// The negative answer of a static zone: no data of the type, or no such name.
 fn absent<'a>(
     zones: &NamedList<Zone>,
     records: &'a RecordList,
@@ -132,7 +132,7 @@ fn absent<'a>(
     }
 }
 
-/// What a transparent zone answers where it has no data of the type.
+/// The answer of a transparent zone that has no data of the type.
 fn absent_or_pass<'a>(
     records: &'a RecordList,
     zone: &Zone,
@@ -147,14 +147,14 @@ fn absent_or_pass<'a>(
     }
 }
 
-/// What a static zone answers.
+/// The answer of a static zone.
 fn in_static<'a>(
     zones: &NamedList<Zone>,
     records: &'a RecordList,
     zone: &Zone,
     question: &'a Question,
 ) -> Local<LocalSet<'a>, &'a LocalRecord>
-    ensures { local_now result ≡ data_or (absent_in (record { zones = zones.now; records = records.now }) question.now.owner zone.now) (data_shown question.now.owner question.now.owner question.now.kind records.now) }
+    ensures { local_now result ≡ in_static (record { zones = zones.now; records = records.now }) question.now zone.now }
 {
     let name = &question.owner;
     match data_of(records, name, name, question.kind) {
@@ -163,13 +163,13 @@ fn in_static<'a>(
     }
 }
 
-/// What a transparent zone answers.
+/// The answer of a transparent zone.
 fn in_transparent<'a>(
     records: &'a RecordList,
     zone: &Zone,
     question: &'a Question,
 ) -> Local<LocalSet<'a>, &'a LocalRecord>
-    ensures { local_now result ≡ data_or (absent_or_pass records.now question.now.owner zone.now) (data_shown question.now.owner question.now.owner question.now.kind records.now) }
+    ensures { local_now result ≡ in_transparent records.now question.now zone.now }
 {
     let name = &question.owner;
     match data_of(records, name, name, question.kind) {
@@ -178,13 +178,13 @@ fn in_transparent<'a>(
     }
 }
 
-/// What a redirect zone answers.
+/// The answer of a redirect zone.
 fn in_redirect<'a>(
     records: &'a RecordList,
     zone: &'a Zone,
     question: &'a Question,
 ) -> Local<LocalSet<'a>, &'a LocalRecord>
-    ensures { local_now result ≡ data_or (local.NoData (soa_of zone.now.name records.now)) (data_shown question.now.owner zone.now.name question.now.kind records.now) }
+    ensures { local_now result ≡ in_redirect records.now question.now zone.now }
 {
     match data_of(records, &question.owner, &zone.name, question.kind) {
         Some(set) => Local::Data(set),
@@ -192,7 +192,7 @@ fn in_redirect<'a>(
     }
 }
 
-/// What a zone answers.
+/// The answer of a zone, by its type.
 fn answer_in<'a>(
     zones: &'a NamedList<Zone>,
     records: &'a RecordList,
@@ -217,7 +217,7 @@ fn answer_in<'a>(
     }
 }
 
-/// What the table answers.
+/// The answer of the table.
 pub(crate) fn answer<'a>(
     zones: &'a NamedList<Zone>,
     records: &'a RecordList,

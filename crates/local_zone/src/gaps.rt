@@ -4,7 +4,7 @@ ghost use Rattle.std.specs.Prelude.{◌≡◌, Bool, ℕ, List, filter, not};
 ghost use Rattle.dns_text.specs.declared.record.Record.{Record};
 ghost use Rattle.local_zone.specs.Gaps.{at_gaps, gaps_where, put_back, rest_of, records_of, AreWithin};
 
-/// At the gaps of a test are the records that pass it; the others stay; and what is taken out goes back to its places.
+/// The records at the gaps of a test are those that pass it. The others stay. Records that are taken out go back to their places.
 pub fn gaps_law()
     ensures at { (p : Record → Bool) (records : List Record) → records_of (at_gaps (gaps_where p 0 records) records) ≡ filter p records }
     ensures rest { (p : Record → Bool) (records : List Record) →

@@ -1,42 +1,43 @@
-//! Local zones and local data: what the operator answers from a table.
+//! Local zones and local data: answers that the operator sets in a table.
 #![tactic(auto)]
 
 // In the order in which to read them.
 
-// What a zone does with questions that nothing in it answers.
+// The types of zones.
 mod zone_type;
-// A zone, with its name in the list of zones; a record, with a tag in which most owners differ.
+// A record, with a tag in which most owners differ.
 mod record;
 mod tag;
+// A zone, with its name in the list of zones.
 mod zone;
-// The zone that speaks for a name.
+// The zone that covers a name.
 mod closest;
 mod zones;
-// The records in order with an index by owner: `passes` takes many out, or puts them back, in one walk, and `groups` moves
-// what the index has of their owners.
+// The records in order with an index by owner. `passes` takes many out, or puts them back, in one walk. `groups` moves their
+// owners' groups out of the index, or back.
 mod groups;
 mod passes;
 mod record_list;
 mod removed;
 mod taken;
-// How each change makes the next list of records, and its way back.
+// The changes of the list of records, each with its way back.
 mod added;
 mod records;
-// Laws: what is taken out comes back in its places; what the number of records below a name says.
+// Laws: the number of records below a name says which names exist; records that are taken out come back in their places.
 mod counts;
 mod gaps;
-// What keeps a change from being made.
+// Reasons to refuse a change.
 mod reason;
-// What a question is answered.
+// The answer to a question.
 mod answer;
 mod local;
 mod next;
 mod seen;
 // The two lists together.
 mod table;
-// What a change saves.
+// The way back of a change.
 mod saved;
-// Why a change was refused.
+// Faults of a change.
 mod fault;
 
 pub use closest::closest_law;

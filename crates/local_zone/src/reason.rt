@@ -1,12 +1,10 @@
-//! What keeps a change from being made. None of it takes memory.
+//! Reasons to refuse a change. Finding one takes no memory.
 
-ghost use Rattle.std.specs.Prelude.{◌≡◌, ◌≤◌, ◌&&◌, not, length};
+ghost use Rattle.std.specs.Prelude.{◌≡◌, ◌≤◌, ◌&&◌, length};
 ghost use Rattle.std.specs.List.{list_any};
-ghost use Rattle.dns_name.specs.Order.{name_eq};
-ghost use Rattle.local_zone.specs.Reason.{clashes, differ, has_data_below, reason_of_add, reason_of_set, redirects_below};
-ghost use Rattle.local_zone.specs.Change.{zones_with};
+ghost use Rattle.local_zone.specs.Reason.{clashes, differ, has_data_below, reason_of_add, reason_of_set, redirects_below, would_lie_below};
 ghost use Rattle.local_zone.specs.ZoneType.{is_redirect};
-ghost use Rattle.local_zone.specs.Closest.{closest, lies_in};
+ghost use Rattle.local_zone.specs.Closest.{closest};
 ghost use Rattle.local_zone.specs.Tables.{is_cname};
 ghost use Rattle.local_zone.specs.declared.table.TheConstants.{MOST_ZONES, MOST_RECORDS};
 
@@ -34,7 +32,7 @@ fn is_redirect(kind: ZoneType) -> bool
     matches!(kind, ZoneType::Redirect)
 }
 
-/// Whether just one of two holds.
+/// Whether exactly one of two holds.
 fn differ(a: bool, b: bool) -> bool
     ensures { result ≡ differ a b }
 {
@@ -43,7 +41,7 @@ fn differ(a: bool, b: bool) -> bool
 
 /// Whether a record would lie in the new zone, strictly below its name.
 fn has_record_below(zones: &NamedList<Zone>, records: &RecordList, new: &Zone) -> bool
-    ensures { result ≡ list_any (λ r. lies_in (zones_with new.now zones.now) new.now.name r.owner && not (name_eq r.owner new.now.name)) records.now }
+    ensures { result ≡ list_any (λ r. would_lie_below new.now zones.now r.owner) records.now }
 {
     records
         .as_slice()
@@ -68,7 +66,7 @@ fn is_below_redirect(zones: &NamedList<Zone>, owner: &Name) -> bool
     }
 }
 
-/// Whether a CNAME would not stand alone at the owner.
+/// Whether a CNAME would not be alone at the owner.
 fn clashes(zones: &NamedList<Zone>, records: &[LocalRecord], new: &Record) -> bool
     ensures { result ≡ clashes new.now (record { zones = zones.now; records = records.now }) }
 {
@@ -84,7 +82,7 @@ fn clashes_in(zones: &NamedList<Zone>, records: &RecordList, new: &Record) -> bo
     clashes(zones, records.of(&new.owner), new)
 }
 
-/// Why a zone can't be set.
+/// The reason to refuse a zone, if there is one.
 pub(crate) fn reason_of_set(
     zones: &NamedList<Zone>,
     records: &RecordList,
@@ -103,7 +101,7 @@ pub(crate) fn reason_of_set(
     None
 }
 
-/// Why a record can't be added.
+/// The reason to refuse a record, if there is one.
 pub(crate) fn reason_of_add(
     zones: &NamedList<Zone>,
     records: &RecordList,

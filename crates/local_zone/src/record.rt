@@ -7,12 +7,12 @@ use dns_name::{Name, NoMemory};
 use dns_text::{Data, Record, Shared, Ttl};
 use std::marker::Model;
 
-/// A record of local data, which contracts see as one. Its owner and data are shared, so that saved lists and a new time to live copy neither.
+/// A record of local data. Its owner and RDATA are shared, so that a new TTL copies neither.
 #[derive(Drop)]
 pub struct LocalRecord {
     said: Shared<Record>,
     ttl: Ttl,
-    // A number of the owner's octets: most other owners differ in it, so that their names need not be read.
+    // A hash of the owner's octets. Most other owners have another one, so their names need not be read.
     tag: u32,
 }
 
@@ -41,7 +41,7 @@ impl LocalRecord {
         LocalRecord { said, ttl, tag }
     }
 
-    /// Another owner of the same record. It takes no memory; there can be too many owners to count.
+    /// Another share of the record. It takes no memory, and fails only if there are more shares than can be counted.
     pub fn share(&self) -> Result<LocalRecord, NoMemory>
         ensures { IfOk result (λ r. r ≡ self.now) }
     {
@@ -64,31 +64,35 @@ impl LocalRecord {
         self.ttl = ttl;
     }
 
+    /// The owner.
     pub fn owner(&self) -> &Name
         ensures { result.now ≡ self.now.owner }
     {
         &self.said.get().owner
     }
 
+    /// The TYPE.
     pub fn kind(&self) -> u16
         ensures { result ≡ self.now.kind }
     {
         self.said.get().kind
     }
 
+    /// The TTL of the record's set.
     pub fn ttl(&self) -> Ttl
         ensures { result ≡ self.now.ttl }
     {
         self.ttl
     }
 
+    /// The RDATA.
     pub fn body(&self) -> &Data
         ensures { result.now ≡ self.now.body }
     {
         &self.said.get().body
     }
 
-    /// Whether both have one owner and one type (RFC 2181, section 5).
+    /// Whether both have the same owner and TYPE (RFC 2181, section 5).
     pub(crate) fn is_of_set(&self, other: &Record) -> bool
         ensures { result ≡ is_of_set self.now other.now }
     {
@@ -104,7 +108,7 @@ impl LocalRecord {
         self.tag == tag && self.is_of_set(other)
     }
 
-    /// Whether a name, of which the tag is given too, is the owner.
+    /// Whether this name, which has this tag, is the owner.
     #[tactic(auto, using(crate::proofs::TagLaws::other_tag))]
     pub(crate) fn has_tagged_owner(&self, tag: u32, name: &Name) -> bool
         requires { tag ≡ tag_of name.now }
@@ -113,11 +117,11 @@ impl LocalRecord {
         self.tag == tag && *self.owner() == *name
     }
 
-    /// Whether both are of one set and say the same.
+    /// Whether both are of one set and have the same RDATA.
     pub(crate) fn is_same(&self, other: &Record) -> bool
         ensures { result ≡ is_same self.now other.now }
     {
-        // Data come first: those of most records are shorter than owners, and sooner compared.
+        // RDATA first: most are shorter than owners, so comparing them is faster.
         *self.body() == other.body && self.is_of_set(other)
     }
 }

@@ -1,4 +1,4 @@
-//! Records in the order in which they came, with an index by owner.
+//! Records in the order of their arrival, with an index by owner.
 
 ghost use Rattle.std.specs.Prelude.{◌≡◌, ◌++◌, ◌∷◌, [], IfOk, OnErr, OnOk};
 ghost use Rattle.local_zone.specs.Gaps.{at_gaps, gaps_of, put_back, rest_of, AreApart, AreWithin};
@@ -58,17 +58,17 @@ fn index_first(
     Ok(())
 }
 
-/// Whether a record of the set has another time to live.
+/// Whether a record of the set has another TTL.
 fn has_other_ttl(records: &[LocalRecord], set: &Record, ttl: Ttl) -> bool
     ensures { result ≡ list_any (λ r. is_of_set r set.now && not (r.ttl == ttl)) records.now }
 {
-    // The times come first: they seldom differ, and are compared sooner than owners.
+    // TTLs first: they seldom differ, and comparing them is faster than comparing owners.
     records
         .iter()
         .any(|r| r.ttl().seconds() != ttl.seconds() && r.is_of_set(set))
 }
 
-/// Gives the records of a set a time to live.
+/// Gives the records of a set a TTL.
 fn retime_each(records: &mut [LocalRecord], set: &Record, ttl: Ttl)
     ensures { records.new ≡ map (retimed_by (record set.now { ttl = ttl })) records.old }
 {
@@ -81,7 +81,7 @@ fn retime_each(records: &mut [LocalRecord], set: &Record, ttl: Ttl)
     }
 }
 
-/// Gives the records of a set in the index a time to live.
+/// Gives the records of a set in the index a TTL.
 fn retime_index(owners: &mut IndexMap<Vec<u8>, Vec<LocalRecord>>, set: &Record, ttl: Ttl)
     ensures { (records : List Record) → IsIndexed (λ k. k.items) (λ g. g.items) records owners.old.entries →
         IsIndexed (λ k. k.items) (λ g. g.items) (map (retimed_by (record set.now { ttl = ttl })) records) owners.new.entries }
@@ -118,7 +118,7 @@ fn pop_under(owners: &mut IndexMap<Vec<u8>, Vec<LocalRecord>>, owner: &Name) -> 
     }
 }
 
-/// Records in order. Contracts see the list alone; an index finds those of an owner in one look-up.
+/// Records in order. Contracts see the list alone; an index finds those of an owner in one lookup.
 #[derive(Drop)]
 pub(crate) struct RecordList {
     list: Vec<LocalRecord>,
@@ -167,7 +167,7 @@ impl RecordList {
         }
     }
 
-    /// Puts a record last. Without memory nothing has changed.
+    /// Puts a record last. If memory is refused, nothing has changed.
     pub(crate) fn push(&mut self, alloc: Global, new: LocalRecord) -> Result<(), NoMemory>
         ensures ok { OnOk result (self.new ≡ self.old ++ new ∷ []) }
         ensures err { OnErr result (self.new ≡ self.old) }
@@ -179,7 +179,7 @@ impl RecordList {
         Ok(())
     }
 
-    /// Gives the records of a set a time to live. It takes no memory.
+    /// Gives the records of a set a TTL. It takes no memory.
     pub(crate) fn retime(&mut self, set: &Record, ttl: Ttl)
         ensures { self.new ≡ map (retimed_by (record set.now { ttl = ttl })) self.old }
     {
@@ -189,7 +189,7 @@ impl RecordList {
         }
     }
 
-    /// Takes the last record out; where there is none, nothing. It takes no memory.
+    /// Takes the last record out, if there is one. It takes no memory.
     pub(crate) fn pop(&mut self)
         ensures { self.new ≡ take (length self.old - 1) self.old }
     {
@@ -198,7 +198,7 @@ impl RecordList {
         }
     }
 
-    /// Takes the records at the gaps out, in one pass. It takes all its memory first; without it nothing has changed.
+    /// Takes the records at the gaps out, in one pass. It takes all its memory first. If that is refused, nothing has changed.
     pub(crate) fn take_out(&mut self, alloc: Global, gaps: &[usize]) -> Result<Removed, NoMemory>
         requires within { AreWithin gaps.now self.old }
         requires apart { AreApart (at_gaps gaps.now self.old) (rest_of gaps.now self.old) }
@@ -216,8 +216,8 @@ impl RecordList {
         Ok(Removed { taken, groups })
     }
 
-    /// Puts records back in their places, in one pass, and gives the gaps. It takes all its memory first; without it nothing
-    /// has changed.
+    /// Puts records back in their places, in one pass, and returns the gaps. It takes all its memory first. If that is refused,
+    /// nothing has changed.
     pub(crate) fn put_in(
         &mut self,
         alloc: Global,

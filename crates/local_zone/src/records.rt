@@ -1,4 +1,4 @@
-//! How each change makes the next list of records, and its way back.
+//! The changes of the list of records, each with its way back.
 
 ghost use Rattle.std.specs.Prelude.{◌≡◌, ◌≤◌, filter, length, nat_lt, not, true, IfOk, OnOk, OnErr};
 ghost use Rattle.dns_name.specs.Order.{name_eq};
@@ -56,7 +56,7 @@ fn first_of_set<'a>(records: &'a [LocalRecord], new: &Record) -> Option<&'a Loca
     records.iter().find(|r| r.is_of_set(new))
 }
 
-/// The time to live of a record's set, or its own where it has none.
+/// The TTL of a record's set, or its own TTL if the set is empty.
 fn ttl_among(records: &[LocalRecord], new: &Record) -> Ttl
     ensures { result ≡ ttl_of new.now records.now }
 {
@@ -86,7 +86,7 @@ fn put_last(alloc: Global, records: &mut RecordList, new: &Shared<Record>) -> Re
     Ok(true)
 }
 
-/// Puts a record last unless it is there, and gives its time to live to its set.
+/// Puts a record last unless it is there, and gives its TTL to its set.
 pub(crate) fn put_record(
     alloc: Global,
     records: &mut RecordList,
@@ -115,7 +115,7 @@ pub(crate) fn take_back(records: &mut RecordList, added: &Added)
     records.retime(added.said.get(), added.ttl);
 }
 
-/// Takes back what was added, and leaves the way to add it again. It takes no memory.
+/// Takes back an addition, and returns the way to make it again. It takes no memory.
 fn take_added(records: &mut RecordList, added: Added) -> RecordTurn
     requires { GoesBack (RecordTurn.Added added) records.old }
     ensures list { records.new ≡ records_before added records.old }
@@ -126,7 +126,7 @@ fn take_added(records: &mut RecordList, added: Added) -> RecordTurn
     RecordTurn::Adds(said)
 }
 
-/// Adds a record once more. If there is no memory, `turn` is the way to do so later.
+/// Adds a record once more. If there is no memory, `turn` still leads to the other side.
 fn add_again(
     alloc: Global,
     records: &mut RecordList,
@@ -150,7 +150,7 @@ fn add_again(
     }
 }
 
-/// Puts records that were taken out back in their places. If there is no memory, `turn` is the way to do so later.
+/// Puts records back in their places. If there is no memory, `turn` still leads to the other side.
 fn put_again(
     alloc: Global,
     records: &mut RecordList,
@@ -175,7 +175,7 @@ fn put_again(
     }
 }
 
-/// Takes the records at the gaps out. If there is no memory, `turn` is the way to do so later.
+/// Takes the records at the gaps out. If there is no memory, `turn` still leads to the other side.
 fn take_again(
     alloc: Global,
     records: &mut RecordList,
@@ -199,7 +199,7 @@ fn take_again(
     }
 }
 
-/// Goes to the list on the other side of a change, and leaves the way back from there.
+/// Goes to the other side of a change, and leaves the way back in `turn`.
 pub(crate) fn turn_over(
     alloc: Global,
     records: &mut RecordList,
@@ -263,7 +263,7 @@ fn gaps_of(alloc: Global, records: &[LocalRecord], owner: &Name) -> Result<Vec<u
     Ok(gaps)
 }
 
-/// Takes the records at the gaps out, and gives the way back. If there are none, it copies nothing.
+/// Takes the records at the gaps out, and returns the way back. If there are none, it copies nothing.
 fn take_gaps(
     alloc: Global,
     records: &mut RecordList,
@@ -282,7 +282,7 @@ fn take_gaps(
     Ok(RecordTurn::Removed(removed))
 }
 
-/// Takes the records that lie in a zone out, and gives the way back. Without memory nothing has changed.
+/// Takes the records that lie in a zone out, and returns the way back. If memory is refused, nothing has changed.
 pub(crate) fn take_in(
     alloc: Global,
     records: &mut RecordList,
@@ -298,7 +298,7 @@ pub(crate) fn take_in(
     Ok(turn)
 }
 
-/// Takes the records of an owner out, and gives the way back. Without memory nothing has changed.
+/// Takes the records of an owner out, and returns the way back. If memory is refused, nothing has changed.
 pub(crate) fn take_of(
     alloc: Global,
     records: &mut RecordList,

@@ -5,7 +5,7 @@ use crate::taken::Taken;
 use std::alloc::Global;
 use std::marker::Model;
 
-/// Records that were taken out of the list, each with its gap. Contracts see these alone; the groups of the index came with them.
+/// Records that were taken out of the list, each with its gap. Contracts see these alone. The groups of the index came with them.
 #[derive(Drop)]
 pub(crate) struct Removed {
     pub(crate) taken: Vec<Taken>,
@@ -29,7 +29,7 @@ impl Model for Removed {
 impl Removed {
     ghost use Rattle.std.specs.Prelude.{◌≡◌, []};
 
-    /// Nothing. It takes no memory.
+    /// No records. It takes no memory.
     pub(crate) fn new(alloc: Global) -> Removed
         ensures { result ≡ [] }
     {

@@ -1,11 +1,10 @@
-//! What a change saves for its way back.
+//! The way back of a change.
 
 use crate::added::RecordTurn;
 use crate::zone::Zone;
 use named_list::Turn;
 
-/// The way from the lists that a change left to those before it, for `ZoneTable::back`. From there it leads back, for
-/// `ZoneTable::again`.
+/// The way back of a change, for `ZoneTable::back`. After `back` it is the way forward, for `ZoneTable::again`.
 #[derive(Drop)]
 pub struct SavedTables {
     pub(crate) zones: Turn<Zone>,

@@ -26,7 +26,7 @@ pub const MOST_ZONES: usize = 4096;
 /// The greatest number of local records.
 pub const MOST_RECORDS: usize = 65536;
 
-/// Local zones and local data, each a list in the order in which its items came.
+/// Local zones and local data, each a list in the order of arrival.
 #[derive(Drop)]
 pub struct ZoneTable {
     zones: NamedList<Zone>,
@@ -76,7 +76,7 @@ impl ZoneTable {
         self.records.as_slice()
     }
 
-    /// What a question is answered. It takes no memory.
+    /// The answer to a question. It takes no memory.
     pub fn answer<'a>(&'a self, question: &'a Question) -> Local<LocalSet<'a>, &'a LocalRecord>
         ensures { local_now result ≡ local_of self.now question.now }
     {
@@ -85,8 +85,10 @@ impl ZoneTable {
 
     /// Adds a zone, or gives the zone of this name another type. The only faults are `DataBelow`, `TooMany` and `NoMemory`.
     pub fn set(&mut self, name: Name, kind: ZoneType) -> Result<SavedTables, TableFault>
-        ensures ok { OnOk result ((reason_of_set (record { name = name; kind = kind }) self.old ≡ None) × (self.new ≡ after_set (record { name = name; kind = kind }) self.old)) }
-        ensures err { IfErr result (λ fault. IsFaultFor (reason_of_set (record { name = name; kind = kind }) self.old) fault × (self.new ≡ self.old)) }
+        ensures ok { OnOk result ((reason_of_set (record { name = name; kind = kind }) self.old ≡ None)
+            × (self.new ≡ after_set (record { name = name; kind = kind }) self.old)) }
+        ensures err { IfErr result (λ fault. IsFaultFor (reason_of_set (record { name = name; kind = kind }) self.old) fault
+            × (self.new ≡ self.old)) }
         ensures saved { IfOk result (λ saved. TakesBack saved self.new self.old) }
     {
         let new = Zone { name, kind };
@@ -101,8 +103,8 @@ impl ZoneTable {
         })
     }
 
-    /// Adds a record, with a zone for it where none covers its owner, and gives its time to live to its set. The only faults
-    /// are `BelowRedirect`, `CnameClash`, `TooMany` and `NoMemory`.
+    /// Adds a record, and a transparent zone of its owner if no zone covers it. All records of its set take its TTL. The only
+    /// faults are `BelowRedirect`, `CnameClash`, `TooMany` and `NoMemory`.
     pub fn add_record(&mut self, new: Shared<Record>) -> Result<SavedTables, TableFault>
         ensures ok { OnOk result ((reason_of_add new self.old ≡ None) × (self.new ≡ after_add new self.old)) }
         ensures err { IfErr result (λ fault. IsFaultFor (reason_of_add new self.old) fault × (self.new ≡ self.old)) }
@@ -124,7 +126,7 @@ impl ZoneTable {
         }
     }
 
-    /// Removes a zone and the records that lie in it; where there is none, nothing. The only fault is `NoMemory`.
+    /// Removes a zone and the records that lie in it, if there is one. The only fault is `NoMemory`.
     pub fn drop_zone(&mut self, name: &Name) -> Result<SavedTables, TableFault>
         ensures ok { OnOk result (self.new ≡ after_drop name.now self.old) }
         ensures err { IfErr result (λ fault. (fault ≡ TableFault.NoMemory) × (self.new ≡ self.old)) }
@@ -135,7 +137,7 @@ impl ZoneTable {
         Ok(SavedTables { zones, records })
     }
 
-    /// Removes all records of an owner; where there are none, nothing. The only fault is `NoMemory`.
+    /// Removes all records of an owner, if there are any. The only fault is `NoMemory`.
     pub fn drop_name(&mut self, name: &Name) -> Result<SavedTables, TableFault>
         ensures ok { OnOk result (self.new ≡ after_drop_name name.now self.old) }
         ensures err { IfErr result (λ fault. (fault ≡ TableFault.NoMemory) × (self.new ≡ self.old)) }
@@ -148,8 +150,8 @@ impl ZoneTable {
         })
     }
 
-    // Goes to the other side of a change, and leaves the way from there to here. A zone that goes in may need memory, and so may
-    // records; if they get none, the zone comes out again, which needs none.
+    // Goes to the other side of a change, and leaves the way back. A zone that goes in may need memory, and so may records. If
+    // the records get none, the zone is taken out again, which needs none.
     fn turn_over(&mut self, saved: &mut SavedTables) -> Result<(), NoMemory>
         requires { (other : Tables) × TakesBack saved.old self.old other }
         ensures ok { OnOk result (self.new ≡ before_of saved.old self.old) }
@@ -172,7 +174,7 @@ impl ZoneTable {
         }
     }
 
-    /// Takes a change back, where the lists are those that it left. The saved value is then that for `again`.
+    /// Takes back the change that left these lists. The saved value then serves `again`. If memory is refused, nothing has changed.
     pub fn back(&mut self, saved: &mut SavedTables) -> Result<(), NoMemory>
         requires { (before : Tables) × TakesBack saved.old self.old before }
         ensures ok { OnOk result (self.new ≡ before_of saved.old self.old) }
@@ -182,7 +184,7 @@ impl ZoneTable {
         self.turn_over(saved)
     }
 
-    /// Makes a change again that was taken back, where the lists are those before it. The saved value is then that for `back`.
+    /// Makes a change again that `back` took back. The saved value then serves `back`. If memory is refused, nothing has changed.
     pub fn again(&mut self, saved: &mut SavedTables) -> Result<(), NoMemory>
         requires { (left : Tables) × TakesBack saved.old self.old left }
         ensures ok { OnOk result (self.new ≡ before_of saved.old self.old) }
@@ -192,7 +194,7 @@ impl ZoneTable {
         self.turn_over(saved)
     }
 
-    /// Drops what a change saved, so that it can't be taken back or made again any more.
+    /// Drops the way back of a change, which can then no longer be taken back or made again.
     pub fn settle(&mut self, saved: SavedTables)
         ensures { self.new ≡ self.old }
     {

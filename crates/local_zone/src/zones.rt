@@ -1,10 +1,10 @@
-//! The zone that speaks for a name, where what has an owner lies, and how many zones there may be.
+//! The zone that covers a name, and the room for more zones.
 
-ghost use Rattle.std.specs.Prelude.{◌≡◌, ◌≤◌, ◌&&◌, not, length, nat_lt, IfOk, OnErr, OnOk};
+ghost use Rattle.std.specs.Prelude.{◌≡◌, ◌≤◌, length, nat_lt, IfOk, OnErr, OnOk};
 ghost use Rattle.std.specs.Option.{option_map};
-ghost use Rattle.dns_name.specs.Order.{name_eq};
 ghost use Rattle.local_zone.specs.Change.{zones_for, zones_with};
 ghost use Rattle.local_zone.specs.Closest.{closest, gives_way, lies_in};
+ghost use Rattle.local_zone.specs.Reason.{would_lie_below};
 ghost use Rattle.named_list.specs.Turn.{IsWayBack};
 ghost use Rattle.local_zone.specs.declared.table.TheConstants.{MOST_ZONES};
 
@@ -47,7 +47,7 @@ pub(crate) fn put_implied(
     zones.put(alloc, implied)
 }
 
-/// Whether what has this owner lies in the zone of that name.
+/// Whether records of this owner lie in the zone of that name.
 pub(crate) fn lies_in(zones: &NamedList<Zone>, name: &Name, owner: &Name) -> bool
     ensures { result ≡ lies_in zones.now name.now owner.now }
 {
@@ -61,7 +61,7 @@ pub(crate) fn lies_in(zones: &NamedList<Zone>, name: &Name, owner: &Name) -> boo
     }
 }
 
-/// Whether a zone leaves what is at or below a name to the zone of that name.
+/// Whether a zone gives way, at and below a name, to a zone of that name.
 fn gives_way(name: &Name, zone: Option<&Zone>) -> bool
     ensures { result ≡ gives_way name.now (option_map (λ z. z.now) zone.entry) }
 {
@@ -71,7 +71,7 @@ fn gives_way(name: &Name, zone: Option<&Zone>) -> bool
     }
 }
 
-/// Whether what has this owner would lie in the new zone.
+/// Whether records of this owner would lie in the new zone.
 fn would_lie_in(zones: &NamedList<Zone>, new: &Zone, owner: &Name) -> bool
     ensures { result ≡ lies_in (zones_with new.now zones.now) new.now.name owner.now }
 {
@@ -82,9 +82,9 @@ fn would_lie_in(zones: &NamedList<Zone>, new: &Zone, owner: &Name) -> bool
     }
 }
 
-/// Whether what has this owner would lie in the new zone, strictly below its name.
+/// Whether records of this owner would lie in the new zone, strictly below its name.
 pub(crate) fn would_lie_below(zones: &NamedList<Zone>, new: &Zone, owner: &Name) -> bool
-    ensures { result ≡ (lies_in (zones_with new.now zones.now) new.now.name owner.now && not (name_eq owner.now new.now.name)) }
+    ensures { result ≡ would_lie_below new.now zones.now owner.now }
 {
     would_lie_in(zones, new, owner) && *owner != new.name
 }

@@ -12,6 +12,7 @@ use Rattle.dns_name.specs.BelowLaws.{below_itself, below_from_fact, fact_from_be
 use Rattle.named_list.specs.Named.{has_named}
 use Rattle.named_list.specs.Closest.{find_named, closest_of, IsClosestOf}
 
+-- what is found has the name
 pub name_of_find : {T : Type 0} (name_of : T → Labels) → (things : List T) (name : Labels) (thing : T) → find_named name_of things name ≡ Some thing → (name_of thing) ≡ name
 name_of_find {T} name_of [] name thing e = absurd cc
 name_of_find {T} name_of (z ∷ things) name thing e =
@@ -55,11 +56,11 @@ any_is_found p [] = refl
 any_is_found p (x ∷ xs) =
     elim (p x) as (λ b. (b || list_any p xs) ≡ is_some (cond b (Some x) (find p xs))) [ true ↦ refl | false ↦ any_is_found p xs ]
 
--- a thing is found exactly where there is one
+-- a thing of a name is found exactly if there is one
 pub has_named-found : {T : Type 0} (name_of : T → Labels) → (things : List T) (name : Labels) → has_named name_of things name ≡ is_some (find_named name_of things name)
 has_named-found {T} name_of things name = any_is_found (λ z. name_eq (name_of z) name) things
 
--- the closest thing, where one of this name is at or above the name
+-- the closest thing, if one of this name is at or above the name
 pub record Reaches {T : Type 0} (name_of : T → Labels) (things : List T) (name above : Labels) (found : Option T) : Type 0 where
   pub thing : T
   pub is : found ≡ Some thing
@@ -81,6 +82,7 @@ reaches_in {T} name_of l name above things None there below found more =
       | inr higher ↦ let it = more higher in record { thing = it.thing; is = it.is; below = it.below }
     ]
 
+-- a name that has a thing above it has a closest thing
 pub closest_reaches : {T : Type 0} (name_of : T → Labels) → (things : List T) (name above : Labels) → has_named name_of things above ≡ true → is_at_or_below name above ≡ true → Reaches name_of things name above (closest_of name_of things name)
 closest_reaches {T} name_of things [] above there below =
     let same : [] ≡ above = name_eq_exact [] above below in
@@ -91,12 +93,15 @@ closest_reaches {T} name_of things (l ∷ name) above there below =
 
 -- ---- the closest thing is one of the list
 
+-- what the rest holds, the list holds
 pub in_tail : {X : Type 0} (x : X) (xs : List X) (y : X) → Contains xs y → Contains (x ∷ xs) y
 in_tail x xs y h = Contains-append_right (x ∷ []) xs y h
 
+-- a list holds its first item
 pub in_head : {X : Type 0} (x : X) (xs : List X) → Contains (x ∷ xs) x
 in_head x xs = (0, omega arith, refl)
 
+-- an item of a list is the first, or in the rest
 pub in_cases : {X : Type 0} (x : X) (xs : List X) (y : X) → Contains (x ∷ xs) y → (x ≡ y) ⊎ Contains xs y
 in_cases x xs y (zero, within, e) = inl e
 in_cases x xs y (suc k, within, e) = inr (k, omega arith, e)
@@ -114,6 +119,7 @@ there_in : {T : Type 0} (name_of : T → Labels) → (things : List T) (name : L
 there_in {T} name_of things name thing (Some z) here more e = here thing e
 there_in {T} name_of things name thing None here more e = more e
 
+-- the closest thing is in the list
 pub closest_there : {T : Type 0} (name_of : T → Labels) → (things : List T) (name : Labels) (thing : T) → closest_of name_of things name ≡ Some thing → Contains things thing
 closest_there {T} name_of things [] thing e = find_in (λ z. name_eq (name_of z) []) things thing e
 closest_there {T} name_of things (l ∷ name) thing e =
@@ -148,7 +154,7 @@ closest_is {T} name_of things name thing e =
           fact_from_below (name_of thing) (name_of other) (ap (λ (z : T). is_at_or_below (name_of z) (name_of other)) (sym same) ∙ it.below);
     }
 
--- Where there is none, no thing is at or above the name.
+-- If there is no closest thing, no thing is at or above the name.
 pub none_closest : {T : Type 0} (name_of : T → Labels) → (things : List T) (name : Labels) → closest_of name_of things name ≡ None → (thing : T) → Contains things thing → IsAtOrBelow name (name_of thing) → ⊥
 none_closest {T} name_of things name e thing within above =
     let has : has_named name_of things (name_of thing) ≡ true = any_from_in (λ z. name_eq (name_of z) (name_of thing)) things thing within (name_eq_itself (name_of thing)) in

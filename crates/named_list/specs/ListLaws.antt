@@ -1,4 +1,4 @@
--- What is in a list, and items that are told apart: lemmas for the crates above.
+-- Items of lists, and lists without equal items: lemmas for the crates above.
 use Rattle.std.proofs.Common.{◌≡◌, ◌≤◌, Bool, true, false, ◌||◌, cond, List, [], ◌∷◌, ◌++◌, length, map, filter, refl, sym, subst, inl, inr, arith, suc}
 use Rattle.std.specs.List.{list_any, Contains, IsDistinct, AllByRecursion}
 use Rattle.std.proofs.lemmas.Bool.{false≢true}
@@ -7,6 +7,7 @@ use Rattle.named_list.specs.ClosestLaws.{in_head, in_tail, in_cases}
 
 -- ---- what is in a list
 
+-- what a filter keeps is in the list, and passes
 pub in_filter : {X : Type 0} (p : X → Bool) (xs : List X) (y : X) → Contains (filter p xs) y → Contains xs y × (p y ≡ true)
 in_filter p [] y h = absurd (omega (arith, h.1))
 in_filter p (x ∷ xs) y h = by (p x) refl h (in_filter p xs y)
@@ -25,6 +26,7 @@ pub record IsMade {X Y : Type 0} (f : X → Y) (xs : List X) (y : Y) : Type 0 wh
   pub there : Contains xs of
   pub is : f of ≡ y
 
+-- what is in a mapped list was made of an item
 pub in_map : {X Y : Type 0} (f : X → Y) (xs : List X) (y : Y) → Contains (map f xs) y → IsMade f xs y
 in_map f [] y h = absurd (omega (arith, h.1))
 in_map f (x ∷ xs) y h =
@@ -35,6 +37,7 @@ in_map f (x ∷ xs) y h =
 
 -- ---- distinct items
 
+-- if none passes, all fail
 pub any_none : {X : Type 0} (p : X → Bool) (xs : List X) → list_any p xs ≡ false → AllByRecursion (λ x. p x ≡ false) xs
 any_none p [] e = tt
 any_none p (x ∷ xs) e = by (p x) refl e (any_none p xs)
@@ -43,6 +46,7 @@ any_none p (x ∷ xs) e = by (p x) refl e (any_none p xs)
     by true is none more = absurd (false≢true (sym none))
     by false is none more = (is, more none)
 
+-- an item that differs from all others can go last
 pub distinct_push : {X : Type 0} (eq : X → X → Bool) (xs : List X) (y : X) → IsDistinct eq xs → AllByRecursion (λ x. eq x y ≡ false) xs → IsDistinct eq (xs ++ y ∷ [])
 unfolding IsDistinct
 distinct_push eq [] y h none = (tt, tt)
@@ -53,6 +57,7 @@ all_filter f P p [] h = tt
 all_filter f P p (x ∷ xs) h =
     elim (p x) as (λ b. AllByRecursion P (map f (cond b (x ∷ filter p xs) (filter p xs)))) [ true ↦ (h.0, all_filter f P p xs h.1) | false ↦ all_filter f P p xs h.1 ]
 
+-- a filter keeps items distinct
 pub distinct_filter : {X Y : Type 0} (f : X → Y) (eq : Y → Y → Bool) (p : X → Bool) (xs : List X) → IsDistinct eq (map f xs) → IsDistinct eq (map f (filter p xs))
 unfolding IsDistinct
 distinct_filter f eq p [] h = tt
@@ -62,6 +67,7 @@ distinct_filter f eq p (x ∷ xs) h =
       | false ↦ distinct_filter f eq p xs h.1
     ]
 
+-- a filter makes no list longer
 pub length_filter : {X : Type 0} (p : X → Bool) (xs : List X) → length (filter p xs) ≤ length xs
 length_filter p [] = omega arith
 length_filter p (x ∷ xs) = elim (p x) as (λ b. length (cond b (x ∷ filter p xs) (filter p xs)) ≤ suc (length xs)) [ true ↦ omega (arith, length_filter p xs) | false ↦ omega (arith, length_filter p xs) ]

@@ -4,6 +4,7 @@ use Rattle.std.specs.List.{IsDistinct, list_any}
 use Rattle.dns_name.specs.Labels.{Labels}
 use Rattle.dns_name.specs.Order.{name_eq}
 
+-- the names of the things, in order
 abbrev pub names_of : {T : Type 0} → (T → Labels) → List T → List Labels
 names_of named things = map (λ x. named x) things
 
@@ -19,7 +20,7 @@ has_named named things name = list_any (λ x. name_eq (named x) name) things
 abbrev pub put_over : {T : Type 0} → (T → Labels) → T → T → T
 put_over named new x = if name_eq (named x) (named new) then new else x
 
--- A thing that exists gives its place to the new one of its name. Else the new one goes last.
+-- The new thing takes the place of the thing of its name. If there is none, it goes last.
 abbrev pub list_with : {T : Type 0} → (T → Labels) → T → List T → List T
 list_with named new things = if has_named named things (named new) then map (put_over named new) things else things ++ new ∷ []
 

@@ -1,6 +1,7 @@
--- The way from a list to the one on the other side of a change, and back.
+-- The step of a list to the other side of a change, and back.
 use Rattle.std.specs.Prelude.{◌≡◌, ◌<◌, ◌≤◌, ℕ, Bool, true, false, List, Option, Some, None, length, map, insert, remove, slice_set, ⊤}
 use Rattle.dns_name.specs.Labels.{Labels}
+use Rattle.named_list.specs.Named.{AreNamed}
 use Rattle.named_list.specs.declared.turn.Turn.{Turn}
 use Rattle.named_list.specs.declared.turn.Turn.TheVariants.{Nothing, Other, Without, With}
 
@@ -11,18 +12,22 @@ other_of (Other place thing) things = slice_set things place thing
 other_of (Without place) things = remove things place
 other_of (With place thing) things = insert things place thing
 
--- The place is one of the list, and the other thing there has the same name.
+-- The place is in the list, and another thing there has the same name.
 abbrev pub Fits : {T : Type 0} → (T → Labels) → Turn T → List T → Type 0
 Fits named Nothing things = ⊤
 Fits named (Other place thing) things = (place < length things) × (map (λ x. named x) (slice_set things place thing) ≡ map (λ x. named x) things)
 Fits named (Without place) things = place < length things
 Fits named (With place thing) things = place ≤ length things
 
+-- The list can go to the other side of the change, and no two things have the same name there.
+abbrev pub LeadsOn : {T : Type 0} → (T → Labels) → Turn T → List T → Type 0
+LeadsOn named turn things = Fits named turn things × AreNamed named (other_of turn things)
+
 -- The way leads from the list that is left to the one before.
 abbrev pub IsWayBack : {T : Type 0} → (T → Labels) → Turn T → List T → List T → Type 0
 IsWayBack named turn left before = Fits named turn left × (other_of turn left ≡ before)
 
--- whether a thing goes in on the way to the other side
+-- whether the step to the other side puts a thing in
 abbrev pub puts_in : {T : Type 0} → Turn T → Bool
 puts_in (With place thing) = true
 puts_in _ = false

@@ -11,7 +11,7 @@ use dns_name::Name;
 use dns_text::Shared;
 use indexmap::IndexMap;
 
-/// The thing with the longest name at or above a name: one look-up for each label, and one for the root.
+/// The thing with the longest name at or above a name: one lookup for each label, and one for the root.
 pub(crate) fn closest<'a, T: Named>(
     things: &'a IndexMap<Vec<u8>, Shared<T>>,
     name: &Name,

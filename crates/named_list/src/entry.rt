@@ -1,4 +1,4 @@
-//! How the index finds, gets and loses one thing.
+//! Lookups and changes of one thing in the index.
 
 ghost use Rattle.std.specs.Prelude.{◌≡◌, IfOk, OnErr, OnOk};
 ghost use Rattle.indexmap.specs.IndexMap.{values};
@@ -23,7 +23,7 @@ pub(crate) fn has<T: Named>(things: &IndexMap<Vec<u8>, Shared<T>>, name: &Name) 
     things.contains_key(name.octets())
 }
 
-/// Puts a thing in the place of that of its name, or last.
+/// Puts a thing in the place of the thing of its name, or last.
 pub(crate) fn put<T: Named>(
     alloc: Global,
     things: &mut IndexMap<Vec<u8>, Shared<T>>,

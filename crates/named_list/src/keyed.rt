@@ -1,4 +1,4 @@
-//! A thing with the key under which the index has it.
+//! A thing with its key in the index.
 
 ghost use Rattle.std.specs.Prelude.{◌≡◌, IfOk};
 ghost use Rattle.dns_name.specs.Labels.{octets_of};
@@ -9,7 +9,7 @@ use dns_text::Shared;
 use std::alloc::Global;
 use std::marker::Model;
 
-/// The octets of a name, in a block of their own, as a key of an index. A look-up needs no such block: it takes the name's octets.
+/// The octets of a name in a block of their own, as a key of an index. A lookup needs no such block: it takes the name's octets.
 pub fn key_of(alloc: Global, name: &Name) -> Result<Vec<u8>, NoMemory>
     ensures { IfOk result (λ key. key.items ≡ octets_of name.now) }
 {

@@ -1,4 +1,4 @@
-//! A list of named things in the order in which they came, with an index by name.
+//! A list of named things in the order of their arrival, with an index by name.
 #![tactic(auto)]
 
 // In the order in which to read them.
@@ -7,15 +7,15 @@
 mod named;
 // The list, its questions and its changes.
 mod list;
-// What a change leaves for its way back.
+// The way back that a change leaves.
 mod turn;
-// A thing with the key under which the index has it.
+// A thing with its key in the index.
 mod keyed;
 // The thing that is closest to a name.
 mod closest;
-// How the index finds, takes and gets one thing.
+// Lookups and changes of one thing in the index.
 mod entry;
-// How a list goes to the other side of a change.
+// The step of a list to the other side of a change.
 mod turning;
 
 pub use keyed::key_of;

@@ -18,9 +18,9 @@ use indexmap::IndexMap;
 use std::alloc::Global;
 use std::marker::Model;
 
-/// Things in the order in which they came, no two of the same name. Contracts see the list alone.
+/// Things in the order of their arrival, no two of the same name. Contracts see the list alone.
 ///
-/// An index finds the thing of a name in one look-up. To take one out, or to put it back in its place, moves the later ones.
+/// An index finds the thing of a name in one lookup. Taking one out, or putting it back in its place, moves the later ones.
 #[derive(Drop)]
 pub struct NamedList<T: Named> {
     // Each under the octets of its name.
@@ -58,7 +58,7 @@ impl<T: Named> NamedList<T> {
         self.things.values().as_slice()
     }
 
-    /// The thing with the longest name at or above a name: one look-up for each label. It takes no memory.
+    /// The thing with the longest name at or above a name: one lookup for each label. It takes no memory.
     pub fn closest(&self, name: &Name) -> Option<&Shared<T>>
         ensures { option_map (λ x. x.now) result ≡ closest_of T.named self.now name.now }
     {
@@ -72,7 +72,7 @@ impl<T: Named> NamedList<T> {
         has(&self.things, name)
     }
 
-    /// Puts a thing in the place of that of its name, or last.
+    /// Puts a thing in the place of the thing of its name, or last.
     pub fn put(&mut self, alloc: Global, new: Shared<T>) -> Result<Turn<T>, NoMemory>
         ensures ok { OnOk result (self.new ≡ list_with T.named new self.old) }
         ensures err { OnErr result (self.new ≡ self.old) }
@@ -89,7 +89,7 @@ impl<T: Named> NamedList<T> {
         take(&mut self.things, name)
     }
 
-    /// Goes to the other side of a change, and leaves in `turn` the way from there to here.
+    /// Goes to the other side of a change, and leaves the way back in `turn`.
     pub fn turn_over(&mut self, turn: &mut Turn<T>) -> Result<(), NoMemory>
         requires fits { Fits T.named turn.old self.old }
         requires sound { AreNamed T.named (other_of turn.old self.old) }
@@ -104,7 +104,7 @@ impl<T: Named> NamedList<T> {
         Ok(())
     }
 
-    /// Goes to the other side of a change that has one thing more.
+    /// Goes to the other side of a change, which has one more thing.
     pub fn put_in(&mut self, turn: &mut Turn<T>) -> Result<(), NoMemory>
         requires fits { Fits T.named turn.old self.old }
         requires sound { AreNamed T.named (other_of turn.old self.old) }
@@ -118,7 +118,7 @@ impl<T: Named> NamedList<T> {
         put_in(&mut self.things, turn)
     }
 
-    /// Goes to the other side of a change that has no thing more. It takes no memory.
+    /// Goes to the other side of a change, which has no more things. It takes no memory.
     pub fn turn_out(&mut self, turn: &mut Turn<T>)
         requires fits { Fits T.named turn.old self.old }
         requires sound { AreNamed T.named (other_of turn.old self.old) }

@@ -1,4 +1,4 @@
-//! What a change leaves for its way back.
+//! The way back that a change leaves.
 
 ghost use Rattle.std.specs.Prelude.{◌≡◌};
 ghost use Rattle.named_list.specs.Turn.{puts_in};
@@ -7,21 +7,21 @@ use crate::keyed::Keyed;
 use crate::named::Named;
 use dns_text::Shared;
 
-/// What the list on the other side of a change has that this one has not.
+/// The difference between a list and the one on the other side of a change.
 #[derive(Drop)]
 pub enum Turn<T: Named> {
     /// Both are equal.
     Nothing,
-    /// There another thing of the same name is at this place.
+    /// The other list has another thing of the same name at this place.
     Other { place: usize, thing: Shared<T> },
-    /// The thing at this place is not there.
+    /// The other list lacks the thing at this place.
     Without { place: usize },
-    /// There one thing more is at this place.
+    /// The other list has one more thing, at this place.
     With { place: usize, thing: Keyed<T> },
 }
 
 impl<T: Named> Turn<T> {
-    /// Whether the way to the other side puts a thing in, so that it may need memory.
+    /// Whether the step to the other side puts a thing in, so that it may need memory.
     pub fn puts_in(&self) -> bool
         ensures { result ≡ puts_in self.now }
     {

@@ -1,10 +1,10 @@
-//! How a list goes to the other side of a change.
+//! The step of a list to the other side of a change.
 
 ghost use Rattle.std.specs.Prelude.{◌≡◌, ◌<◌, ◌≤◌, ℕ, true, false, OnErr, OnOk, length, insert, remove, slice_get};
 ghost use Rattle.indexmap.specs.IndexMap.{values};
 ghost use Rattle.named_list.specs.Keyed.{AreKeyed};
 ghost use Rattle.named_list.specs.Named.{AreNamed};
-ghost use Rattle.named_list.specs.Turn.{other_of, puts_in, with_at, Fits, IsWayBack};
+ghost use Rattle.named_list.specs.Turn.{other_of, puts_in, with_at, Fits, IsWayBack, LeadsOn};
 ghost use Rattle.named_list.specs.declared.turn.Turn.TheVariants as Turn;
 
 use crate::keyed::Keyed;
@@ -32,7 +32,7 @@ fn take_at<T: Named>(things: &mut IndexMap<Vec<u8>, Shared<T>>, place: usize) ->
     }
 }
 
-/// Puts a thing in at a place. If there is no memory, `turn` is the way to do so later.
+/// Puts a thing in at a place. If there is no memory, `turn` still leads to the other side.
 fn put_at<T: Named>(
     things: &mut IndexMap<Vec<u8>, Shared<T>>,
     place: usize,
@@ -64,14 +64,13 @@ fn put_at<T: Named>(
     }
 }
 
-/// Goes to the other side of a change that has one thing more, and leaves in `turn` the way from there to here.
+/// Goes to the other side of a change, which has one more thing, and leaves the way back in `turn`.
 pub(crate) fn put_in<T: Named>(
     things: &mut IndexMap<Vec<u8>, Shared<T>>,
     turn: &mut Turn<T>,
 ) -> Result<(), NoMemory>
     requires keyed { AreKeyed T.named (λ k. k.items) things.old.entries }
-    requires fits { Fits T.named turn.old (values things.old) }
-    requires sound { AreNamed T.named (other_of turn.old (values things.old)) }
+    requires leads { LeadsOn T.named turn.old (values things.old) }
     requires puts { puts_in turn.old ≡ true }
     ensures ok { OnOk result (values things.new ≡ other_of turn.old (values things.old)) }
     ensures again { OnOk result (IsWayBack T.named turn.new (values things.new) (values things.old)) }
@@ -87,7 +86,7 @@ pub(crate) fn put_in<T: Named>(
     }
 }
 
-/// Goes to the other side of a change that has no thing more. It takes no memory.
+/// Goes to the other side of a change, which has no more things. It takes no memory.
 pub(crate) fn turn_out<T: Named>(things: &mut IndexMap<Vec<u8>, Shared<T>>, turn: &mut Turn<T>)
     requires keyed { AreKeyed T.named (λ k. k.items) things.old.entries }
     requires fits { Fits T.named turn.old (values things.old) }

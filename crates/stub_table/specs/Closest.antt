@@ -1,4 +1,4 @@
--- The stub that speaks for a name: the longest one at or above it.
+-- The stub that covers a name: the longest one at or above it.
 use Rattle.std.specs.Prelude.{Option}
 use Rattle.std.specs.List.{find}
 use Rattle.dns_name.specs.Labels.{Labels}

@@ -1,10 +1,10 @@
--- What a change saves for its way back.
+-- The way back of a change.
 use Rattle.std.specs.Prelude.{◌≡◌}
 use Rattle.named_list.specs.Turn.{other_of, Fits}
 use Rattle.stub_table.specs.declared.saved.SavedStubs.{SavedStubs}
 use Rattle.stub_table.specs.Stubs.{Stubs, AreStubs}
 
--- the list on the other side of a change, by what the change saved
+-- the list on the other side of a change, from the saved value
 abbrev pub before_of : SavedStubs → Stubs → Stubs
 before_of saved left = other_of saved.turn left
 

@@ -5,15 +5,15 @@
 
 // A stub.
 mod stub;
-// The stub that speaks for a name.
+// The stub that covers a name.
 mod closest;
-// What keeps a stub from being set.
+// Reasons to refuse a stub.
 mod reason;
 // The list.
 mod table;
-// What a change saves for its way back.
+// The way back of a change.
 mod saved;
-// Why a change was refused.
+// Faults of a change.
 mod fault;
 
 pub use closest::closest_law;

@@ -1,4 +1,4 @@
-//! What keeps a stub from being set. None of it takes memory.
+//! Reasons to refuse a stub. Finding one takes no memory.
 
 ghost use Rattle.std.specs.Prelude.{◌≡◌, ◌≤◌, length, nat_lt};
 ghost use Rattle.stub_table.specs.Change.{stubs_with};
@@ -10,7 +10,7 @@ use crate::stub::{MOST_ADDRS, Stub};
 use crate::table::MOST_STUBS;
 use named_list::NamedList;
 
-/// Whether the addresses of a stub are 1 to 8 in number.
+/// Whether a stub has 1 to 8 addresses.
 fn has_addrs(stub: &Stub) -> bool
     ensures { result ≡ has_addrs stub.now }
 {
@@ -26,7 +26,7 @@ fn has_no_room(stubs: &NamedList<Stub>, new: &Stub) -> bool
     stubs.as_slice().len() == MOST_STUBS && !stubs.has(&new.name)
 }
 
-/// Why a stub can't be set.
+/// The reason to refuse a stub, if there is one.
 pub(crate) fn reason_of_stub(stubs: &NamedList<Stub>, new: &Stub) -> Option<StubFault>
     requires { length stubs.now ≤ MOST_STUBS }
     ensures { result ≡ reason_of_stub new.now stubs.now }

@@ -16,7 +16,7 @@ use std::marker::Model;
 /// The greatest number of stubs.
 pub const MOST_STUBS: usize = 1024;
 
-/// Stubs, in the order in which they came.
+/// Stubs, in the order of their arrival.
 #[derive(Drop)]
 pub struct StubTable {
     stubs: NamedList<Stub>,
@@ -65,7 +65,7 @@ impl StubTable {
         self.stubs.closest(name)
     }
 
-    /// Adds a stub, or gives the stub of this name other addresses.
+    /// Adds a stub, or gives the stub of this name other addresses. The only faults are `TooMany` and `NoMemory`.
     pub fn set(&mut self, stub: Shared<Stub>) -> Result<SavedStubs, StubFault>
         ensures ok { OnOk result ((reason_of_stub stub self.old ≡ None) × (self.new ≡ stubs_with stub self.old)) }
         ensures err { IfErr result (λ fault. IsFaultFor (reason_of_stub stub self.old) fault × (self.new ≡ self.old)) }
@@ -78,7 +78,7 @@ impl StubTable {
         Ok(SavedStubs { turn })
     }
 
-    /// Removes a stub; where there is none, nothing.
+    /// Removes the stub of a name, if there is one.
     pub fn remove(&mut self, name: &Name) -> Result<SavedStubs, NoMemory>
         ensures ok { OnOk result (self.new ≡ stubs_without name.now self.old) }
         ensures err { OnErr result (self.new ≡ self.old) }
@@ -88,7 +88,7 @@ impl StubTable {
         Ok(SavedStubs { turn })
     }
 
-    /// Takes a change back, where the list is the one that it left. The saved value is then that for `again`.
+    /// Takes back the change that left this list. The saved value then serves `again`. If memory is refused, nothing has changed.
     pub fn back(&mut self, saved: &mut SavedStubs) -> Result<(), NoMemory>
         requires { (before : Stubs) × TakesBack saved.old self.old before }
         ensures ok { OnOk result (self.new ≡ before_of saved.old self.old) }
@@ -98,7 +98,7 @@ impl StubTable {
         self.stubs.turn_over(&mut saved.turn)
     }
 
-    /// Makes a change again that was taken back, where the list is the one before it. The saved value is then that for `back`.
+    /// Makes a change again that `back` took back. The saved value then serves `back`. If memory is refused, nothing has changed.
     pub fn again(&mut self, saved: &mut SavedStubs) -> Result<(), NoMemory>
         requires { (after : Stubs) × TakesBack saved.old self.old after }
         ensures ok { OnOk result (self.new ≡ before_of saved.old self.old) }
@@ -108,7 +108,7 @@ impl StubTable {
         self.stubs.turn_over(&mut saved.turn)
     }
 
-    /// Drops what a change saved, so that it can't be taken back or made again any more.
+    /// Drops the way back of a change, which can then no longer be taken back or made again.
     pub fn settle(&mut self, saved: SavedStubs)
         ensures { self.new ≡ self.old }
     {

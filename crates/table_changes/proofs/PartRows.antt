@@ -5,7 +5,7 @@ use Rattle.std.proofs.lemmas.List.{append-nil}
 use Rattle.dns_text.specs.declared.record.Question.{Question}
 use Rattle.ranked.specs.declared.cell.Admitted.{Admitted}
 use Rattle.ranked.specs.declared.find.Find.{Find}
-use Rattle.change_law.specs.declared.kept.Kept.{Kept}
+use Rattle.change_law.specs.declared.kept.KeptChange.{KeptChange}
 use Rattle.change_law.specs.declared.kept.Standing.TheVariants.{Done, Undone, Cleared}
 use Rattle.change_law.specs.Choice.{IsOneTable, IsChoice, cleared}
 use Rattle.change_law.specs.Effect.{effect}
@@ -32,10 +32,10 @@ module _ {W S T V U P Q : Type 0} (tab : W → V) (far : W → U) (both : V → 
     (table : S → Option ℕ) (number number' : ℕ)
     (numbered : (s : S) (p : P) → mine s ≡ Some p → table s ≡ Some number) (numbered' : (s : S) (q : Q) → theirs s ≡ Some q → table s ≡ Some number')
     (apart : (s : S) (p : P) → mine s ≡ Some p → theirs s ≡ None)
-    (keeps : W → List (Kept S) → Type 0)
-    (split : (w : W) (kept : List (Kept S)) → keeps w kept → KeepsRow other Leads (tab w) (part mine kept) × KeepsRow other' Leads' (far w) (part theirs kept))
-    (join : (w : W) (kept : List (Kept S)) → KeepsRow other Leads (tab w) (part mine kept) → KeepsRow other' Leads' (far w) (part theirs kept) → keeps w kept) where
-  abbrev pub face_both : W → List (Kept S) → (ℕ → Bool) → Face T
+    (keeps : W → List (KeptChange S) → Type 0)
+    (split : (w : W) (kept : List (KeptChange S)) → keeps w kept → KeepsRow other Leads (tab w) (part mine kept) × KeepsRow other' Leads' (far w) (part theirs kept))
+    (join : (w : W) (kept : List (KeptChange S)) → KeepsRow other Leads (tab w) (part mine kept) → KeepsRow other' Leads' (far w) (part theirs kept) → keeps w kept) where
+  abbrev pub face_both : W → List (KeptChange S) → (ℕ → Bool) → Face T
   face_both w kept chosen = face_of (both (table_by other (tab w) (part mine kept) chosen) (table_by other' (far w) (part theirs kept) chosen))
 
   abbrev mine_of : P → Option ℕ
@@ -50,13 +50,13 @@ module _ {W S T V U P Q : Type 0} (tab : W → V) (far : W → U) (both : V → 
   abbrev theirs_one : (a b : Q) → IsOneTable (theirs_of a) (theirs_of b)
   theirs_one = of_one theirs table number' numbered'
 
-  mine_with : (kept : List (Kept S)) (ticket : ℕ) (saved : S) (p : P) → mine saved ≡ Some p → part mine (with_change kept ticket saved) ≡ with_change (part mine kept) ticket p
-  mine_with kept ticket saved p e = part_at mine (cleared kept) Done ticket saved [] p e ∙ ap (λ (x : List (Kept P)). x ++ kept_as Done ticket p ∷ []) (part_cleared mine kept)
+  mine_with : (kept : List (KeptChange S)) (ticket : ℕ) (saved : S) (p : P) → mine saved ≡ Some p → part mine (with_change kept ticket saved) ≡ with_change (part mine kept) ticket p
+  mine_with kept ticket saved p e = part_at mine (cleared kept) Done ticket saved [] p e ∙ ap (λ (x : List (KeptChange P)). x ++ kept_as Done ticket p ∷ []) (part_cleared mine kept)
 
-  theirs_with : (kept : List (Kept S)) (ticket : ℕ) (saved : S) (p : P) → mine saved ≡ Some p → part theirs (with_change kept ticket saved) ≡ cleared (part theirs kept)
+  theirs_with : (kept : List (KeptChange S)) (ticket : ℕ) (saved : S) (p : P) → mine saved ≡ Some p → part theirs (with_change kept ticket saved) ≡ cleared (part theirs kept)
   theirs_with kept ticket saved p e = part_past theirs (cleared kept) Done ticket saved [] (apart saved p e) ∙ append-nil (part theirs (cleared kept)) ∙ part_cleared theirs kept
 
-  pub both_with : (after : V → V) (made : T → T) (empties : Question → Bool) (w w' : W) (kept : List (Kept S)) (ticket : ℕ) (saved : S) (p : P) → mine saved ≡ Some p →
+  pub both_with : (after : V → V) (made : T → T) (empties : Question → Bool) (w w' : W) (kept : List (KeptChange S)) (ticket : ℕ) (saved : S) (p : P) → mine saved ≡ Some p →
       other p (tab w') ≡ tab w → Leads p (tab w') (tab w) → tab w' ≡ after (tab w) → far w' ≡ far w → ((v : V) (u : U) → made (both v u) ≡ both (after v) u) → keeps w kept →
       IsRowAfter table keeps face_both (where_chosen ticket (effect made empties)) any w kept w' (with_change kept ticket saved)
   unfolding mine_with theirs_with
@@ -66,15 +66,15 @@ module _ {W S T V U P Q : Type 0} (tab : W → V) (far : W → U) (both : V → 
       let theirs_is = theirs_with kept ticket saved p e in
       record {
         keeps_left = join w' (with_change kept ticket saved)
-            (subst (λ (x : List (Kept P)). KeepsRow other Leads (tab w') x) (sym mine_is) (keeps_with other Leads (tab w) (tab w') (part mine kept) ticket p leads back rows.0))
-            (subst (λ (x : List (Kept Q)). KeepsRow other' Leads' (far w') x) (sym theirs_is)
+            (subst (λ (x : List (KeptChange P)). KeepsRow other Leads (tab w') x) (sym mine_is) (keeps_with other Leads (tab w) (tab w') (part mine kept) ticket p leads back rows.0))
+            (subst (λ (x : List (KeptChange Q)). KeepsRow other' Leads' (far w') x) (sym theirs_is)
             (subst (λ (u : U). KeepsRow other' Leads' u (cleared (part theirs kept))) (sym stays) (keeps_stale other' Leads' (far w) (part theirs kept) rows.1)));
         faces = λ chosen any_of choice.
-            let choice_mine = subst (λ (x : List (Kept P)). IsChoice mine_of x chosen) mine_is (part_choice mine table number numbered (with_change kept ticket saved) chosen choice) in
-            let choice_theirs = subst (λ (x : List (Kept Q)). IsChoice theirs_of x chosen) theirs_is (part_choice theirs table number' numbered' (with_change kept ticket saved) chosen choice) in
+            let choice_mine = subst (λ (x : List (KeptChange P)). IsChoice mine_of x chosen) mine_is (part_choice mine table number numbered (with_change kept ticket saved) chosen choice) in
+            let choice_theirs = subst (λ (x : List (KeptChange Q)). IsChoice theirs_of x chosen) theirs_is (part_choice theirs table number' numbered' (with_change kept ticket saved) chosen choice) in
             let laws = table_with other mine_of mine_one chosen (tab w) (tab w') (part mine kept) ticket p back choice_mine in
             let mine_same : table_by other (tab w') (part mine (with_change kept ticket saved)) chosen ≡ table_by other (tab w') (with_change (part mine kept) ticket p) chosen
-            = ap (λ (x : List (Kept P)). table_by other (tab w') x chosen) mine_is in
+            = ap (λ (x : List (KeptChange P)). table_by other (tab w') x chosen) mine_is in
             let theirs_same : table_by other' (far w') (part theirs (with_change kept ticket saved)) chosen ≡ table_by other' (far w) (part theirs kept) chosen
             = (λ i. table_by other' (stays i) (theirs_is i) chosen) ∙ table_stale other' Leads' theirs_of theirs_one (far w) (part theirs kept) chosen choice_theirs in
             let t = both (table_by other (tab w') (part mine (with_change kept ticket saved)) chosen) (table_by other' (far w') (part theirs (with_change kept ticket saved)) chosen) in
@@ -85,7 +85,7 @@ module _ {W S T V U P Q : Type 0} (tab : W → V) (far : W → U) (both : V → 
             (λ it. (λ i. both ((mine_same ∙ (laws.1 it).0 ∙ is ∙ ap after (sym (laws.1 it).1)) i) (theirs_same i)) ∙ sym (makes a b));
       }
 
-  pub both_back : (w w' : W) (earlier : List (Kept S)) (ticket : ℕ) (saved saved' : S) (later : List (Kept S)) (p p' : P) → mine saved ≡ Some p → mine saved' ≡ Some p' →
+  pub both_back : (w w' : W) (earlier : List (KeptChange S)) (ticket : ℕ) (saved saved' : S) (later : List (KeptChange S)) (p p' : P) → mine saved ≡ Some p → mine saved' ≡ Some p' →
       other p (tab w) ≡ tab w' → other p' (tab w') ≡ tab w → Leads p' (tab w') (tab w) → far w' ≡ far w → IsLast table keeps w earlier ticket saved later →
       IsRowAfter table keeps face_both same_face any w (earlier ++ kept_as Done ticket saved ∷ later) w' (earlier ++ kept_as Undone ticket saved' ∷ later)
   both_back w w' earlier ticket saved saved' later p p' e e' way again leads stays last =
@@ -96,23 +96,23 @@ module _ {W S T V U P Q : Type 0} (tab : W → V) (far : W → U) (both : V → 
       let mine_after = part_at mine earlier Undone ticket saved' later p' e' in
       let theirs_same = part_past theirs earlier Undone ticket saved' later (apart saved' p' e') ∙ sym (part_past theirs earlier Done ticket saved later (apart saved p e)) in
       let uncovered = part_uncovered mine table number numbered saved p later e last.uncovered in
-      let kept = subst (λ (x : List (Kept P)). KeepsRow other Leads (tab w) x) mine_before rows.0 in
+      let kept = subst (λ (x : List (KeptChange P)). KeepsRow other Leads (tab w) x) mine_before rows.0 in
       record {
         keeps_left = join w' after
-            (subst (λ (x : List (Kept P)). KeepsRow other Leads (tab w') x) (sym mine_after)
+            (subst (λ (x : List (KeptChange P)). KeepsRow other Leads (tab w') x) (sym mine_after)
             (keeps_back other Leads mine_of mine_one (tab w) (tab w') (part mine earlier) ticket p p' (part mine later) way again leads uncovered kept))
-            (subst (λ (x : List (Kept Q)). KeepsRow other' Leads' (far w') x) (sym theirs_same) (subst (λ (u : U). KeepsRow other' Leads' u (part theirs before)) (sym stays) rows.1));
+            (subst (λ (x : List (KeptChange Q)). KeepsRow other' Leads' (far w') x) (sym theirs_same) (subst (λ (u : U). KeepsRow other' Leads' u (part theirs before)) (sym stays) rows.1));
         faces = λ chosen any_of choice.
-            let choice_mine = subst (λ (x : List (Kept P)). IsChoice mine_of x chosen) mine_after (part_choice mine table number numbered after chosen choice) in
-            let one = ap (λ (x : List (Kept P)). table_by other (tab w') x chosen) mine_after
+            let choice_mine = subst (λ (x : List (KeptChange P)). IsChoice mine_of x chosen) mine_after (part_choice mine table number numbered after chosen choice) in
+            let one = ap (λ (x : List (KeptChange P)). table_by other (tab w') x chosen) mine_after
             ∙ table_back other Leads mine_of mine_one (tab w) (tab w') (part mine earlier) ticket p p' (part mine later) way again leads uncovered kept chosen choice_mine
-            ∙ ap (λ (x : List (Kept P)). table_by other (tab w) x chosen) (sym mine_before) in
+            ∙ ap (λ (x : List (KeptChange P)). table_by other (tab w) x chosen) (sym mine_before) in
             same_faces (both (table_by other (tab w') (part mine after) chosen) (table_by other' (far w') (part theirs after) chosen))
             (both (table_by other (tab w) (part mine before) chosen) (table_by other' (far w) (part theirs before) chosen))
             (λ i. both (one i) (table_by other' (stays i) (theirs_same i) chosen));
       }
 
-  pub both_again : (w w' : W) (earlier : List (Kept S)) (ticket : ℕ) (saved saved' : S) (later : List (Kept S)) (p p' : P) → mine saved ≡ Some p → mine saved' ≡ Some p' →
+  pub both_again : (w w' : W) (earlier : List (KeptChange S)) (ticket : ℕ) (saved saved' : S) (later : List (KeptChange S)) (p p' : P) → mine saved ≡ Some p → mine saved' ≡ Some p' →
       other p (tab w) ≡ tab w' → other p' (tab w') ≡ tab w → Leads p' (tab w') (tab w) → far w' ≡ far w → IsFirst table keeps w earlier ticket saved later →
       IsRowAfter table keeps face_both same_face any w (earlier ++ kept_as Undone ticket saved ∷ later) w' (earlier ++ kept_as Done ticket saved' ∷ later)
   both_again w w' earlier ticket saved saved' later p p' e e' way again leads stays first =
@@ -123,43 +123,43 @@ module _ {W S T V U P Q : Type 0} (tab : W → V) (far : W → U) (both : V → 
       let mine_after = part_at mine earlier Done ticket saved' later p' e' in
       let theirs_same = part_past theirs earlier Done ticket saved' later (apart saved' p' e') ∙ sym (part_past theirs earlier Undone ticket saved later (apart saved p e)) in
       let founded = part_founded mine table number numbered saved p earlier e first.founded in
-      let kept = subst (λ (x : List (Kept P)). KeepsRow other Leads (tab w) x) mine_before rows.0 in
+      let kept = subst (λ (x : List (KeptChange P)). KeepsRow other Leads (tab w) x) mine_before rows.0 in
       record {
         keeps_left = join w' after
-            (subst (λ (x : List (Kept P)). KeepsRow other Leads (tab w') x) (sym mine_after)
+            (subst (λ (x : List (KeptChange P)). KeepsRow other Leads (tab w') x) (sym mine_after)
             (keeps_again other Leads mine_of mine_one (tab w) (tab w') (part mine earlier) ticket p p' (part mine later) way again leads founded kept))
-            (subst (λ (x : List (Kept Q)). KeepsRow other' Leads' (far w') x) (sym theirs_same) (subst (λ (u : U). KeepsRow other' Leads' u (part theirs before)) (sym stays) rows.1));
+            (subst (λ (x : List (KeptChange Q)). KeepsRow other' Leads' (far w') x) (sym theirs_same) (subst (λ (u : U). KeepsRow other' Leads' u (part theirs before)) (sym stays) rows.1));
         faces = λ chosen any_of choice.
-            let choice_mine = subst (λ (x : List (Kept P)). IsChoice mine_of x chosen) mine_after (part_choice mine table number numbered after chosen choice) in
-            let one = ap (λ (x : List (Kept P)). table_by other (tab w') x chosen) mine_after
+            let choice_mine = subst (λ (x : List (KeptChange P)). IsChoice mine_of x chosen) mine_after (part_choice mine table number numbered after chosen choice) in
+            let one = ap (λ (x : List (KeptChange P)). table_by other (tab w') x chosen) mine_after
             ∙ table_again other Leads mine_of mine_one (tab w) (tab w') (part mine earlier) ticket p p' (part mine later) way again leads founded kept chosen choice_mine
-            ∙ ap (λ (x : List (Kept P)). table_by other (tab w) x chosen) (sym mine_before) in
+            ∙ ap (λ (x : List (KeptChange P)). table_by other (tab w) x chosen) (sym mine_before) in
             same_faces (both (table_by other (tab w') (part mine after) chosen) (table_by other' (far w') (part theirs after) chosen))
             (both (table_by other (tab w) (part mine before) chosen) (table_by other' (far w) (part theirs before) chosen))
             (λ i. both (one i) (table_by other' (stays i) (theirs_same i) chosen));
       }
 
-  pub both_oldest : (w w' : W) (ticket : ℕ) (saved : S) (later : List (Kept S)) (p : P) → mine saved ≡ Some p → tab w' ≡ tab w → far w' ≡ far w → keeps w (kept_as Done ticket saved ∷ later) →
+  pub both_oldest : (w w' : W) (ticket : ℕ) (saved : S) (later : List (KeptChange S)) (p : P) → mine saved ≡ Some p → tab w' ≡ tab w → far w' ≡ far w → keeps w (kept_as Done ticket saved ∷ later) →
       IsRowAfter table keeps face_both same_face (λ chosen. chosen ticket ≡ true) w (kept_as Done ticket saved ∷ later) w' later
   both_oldest w w' ticket saved later p e same stays h =
       let before = kept_as Done ticket saved ∷ later in
       let rows = split w before h in
       let mine_before : part mine before ≡ kept_as Done ticket p ∷ part mine later = ap (λ (x : Option P). with_part ticket Done x (part mine later)) e in
       let theirs_before : part theirs before ≡ part theirs later = ap (λ (x : Option Q). with_part ticket Done x (part theirs later)) (apart saved p e) in
-      let kept = subst (λ (x : List (Kept P)). KeepsRow other Leads (tab w) x) mine_before rows.0 in
+      let kept = subst (λ (x : List (KeptChange P)). KeepsRow other Leads (tab w) x) mine_before rows.0 in
       record {
         keeps_left = join w' later
             (subst (λ (v : V). KeepsRow other Leads v (part mine later)) (sym same) (keeps_oldest other Leads (tab w) ticket p (part mine later) kept))
-            (subst (λ (u : U). KeepsRow other' Leads' u (part theirs later)) (sym stays) (subst (λ (x : List (Kept Q)). KeepsRow other' Leads' (far w) x) theirs_before rows.1));
+            (subst (λ (u : U). KeepsRow other' Leads' u (part theirs later)) (sym stays) (subst (λ (x : List (KeptChange Q)). KeepsRow other' Leads' (far w) x) theirs_before rows.1));
         faces = λ chosen it choice.
             let one = ap (λ (v : V). table_by other v (part mine later) chosen) same ∙ table_oldest other Leads (tab w) ticket p (part mine later) chosen it
-            ∙ ap (λ (x : List (Kept P)). table_by other (tab w) x chosen) (sym mine_before) in
+            ∙ ap (λ (x : List (KeptChange P)). table_by other (tab w) x chosen) (sym mine_before) in
             same_faces (both (table_by other (tab w') (part mine later) chosen) (table_by other' (far w') (part theirs later) chosen))
             (both (table_by other (tab w) (part mine before) chosen) (table_by other' (far w) (part theirs before) chosen))
             (λ i. both (one i) (table_by other' (stays i) ((sym theirs_before) i) chosen));
       }
 
-  pub both_cleared : (w w' : W) (earlier : List (Kept S)) (ticket : ℕ) (saved : S) (later : List (Kept S)) (p : P) → mine saved ≡ Some p → tab w' ≡ tab w → far w' ≡ far w → keeps w (earlier ++ kept_as Cleared ticket saved ∷ later) →
+  pub both_cleared : (w w' : W) (earlier : List (KeptChange S)) (ticket : ℕ) (saved : S) (later : List (KeptChange S)) (p : P) → mine saved ≡ Some p → tab w' ≡ tab w → far w' ≡ far w → keeps w (earlier ++ kept_as Cleared ticket saved ∷ later) →
       IsRowAfter table keeps face_both same_face (λ chosen. chosen ticket ≡ false) w (earlier ++ kept_as Cleared ticket saved ∷ later) w' (earlier ++ later)
   both_cleared w w' earlier ticket saved later p e same stays h =
       let before = earlier ++ kept_as Cleared ticket saved ∷ later in
@@ -168,28 +168,28 @@ module _ {W S T V U P Q : Type 0} (tab : W → V) (far : W → U) (both : V → 
       let mine_before = part_at mine earlier Cleared ticket saved later p e in
       let mine_after = part_append mine earlier later in
       let theirs_same : part theirs after ≡ part theirs before = part_append theirs earlier later ∙ sym (part_past theirs earlier Cleared ticket saved later (apart saved p e)) in
-      let kept = subst (λ (x : List (Kept P)). KeepsRow other Leads (tab w) x) mine_before rows.0 in
+      let kept = subst (λ (x : List (KeptChange P)). KeepsRow other Leads (tab w) x) mine_before rows.0 in
       record {
         keeps_left = join w' after
-            (subst (λ (x : List (Kept P)). KeepsRow other Leads (tab w') x) (sym mine_after)
+            (subst (λ (x : List (KeptChange P)). KeepsRow other Leads (tab w') x) (sym mine_after)
             (subst (λ (v : V). KeepsRow other Leads v (part mine earlier ++ part mine later)) (sym same) (keeps_cleared other Leads (tab w) (part mine earlier) ticket p (part mine later) kept)))
-            (subst (λ (x : List (Kept Q)). KeepsRow other' Leads' (far w') x) (sym theirs_same) (subst (λ (u : U). KeepsRow other' Leads' u (part theirs before)) (sym stays) rows.1));
+            (subst (λ (x : List (KeptChange Q)). KeepsRow other' Leads' (far w') x) (sym theirs_same) (subst (λ (u : U). KeepsRow other' Leads' u (part theirs before)) (sym stays) rows.1));
         faces = λ chosen out choice.
             let one = (λ i. table_by other (same i) (mine_after i) chosen) ∙ table_cleared other Leads (tab w) (part mine earlier) ticket p (part mine later) chosen
-            ∙ ap (λ (x : List (Kept P)). table_by other (tab w) x chosen) (sym mine_before) in
+            ∙ ap (λ (x : List (KeptChange P)). table_by other (tab w) x chosen) (sym mine_before) in
             same_faces (both (table_by other (tab w') (part mine after) chosen) (table_by other' (far w') (part theirs after) chosen))
             (both (table_by other (tab w) (part mine before) chosen) (table_by other' (far w) (part theirs before) chosen))
             (λ i. both (one i) (table_by other' (stays i) (theirs_same i) chosen));
       }
 
-  pub both_last : (w : W) (earlier : List (Kept S)) (ticket : ℕ) (saved : S) (later : List (Kept S)) (p : P) → mine saved ≡ Some p → IsLast table keeps w earlier ticket saved later → Leads p (tab w) (other p (tab w))
+  pub both_last : (w : W) (earlier : List (KeptChange S)) (ticket : ℕ) (saved : S) (later : List (KeptChange S)) (p : P) → mine saved ≡ Some p → IsLast table keeps w earlier ticket saved later → Leads p (tab w) (other p (tab w))
   both_last w earlier ticket saved later p e last =
       leads_last other Leads mine_of mine_one (tab w) (part mine earlier) ticket p (part mine later)
-      (subst (λ (x : List (Kept P)). KeepsRow other Leads (tab w) x) (part_at mine earlier Done ticket saved later p e) (split w (earlier ++ kept_as Done ticket saved ∷ later) last.kept).0)
+      (subst (λ (x : List (KeptChange P)). KeepsRow other Leads (tab w) x) (part_at mine earlier Done ticket saved later p e) (split w (earlier ++ kept_as Done ticket saved ∷ later) last.kept).0)
       (part_uncovered mine table number numbered saved p later e last.uncovered)
 
-  pub both_first : (w : W) (earlier : List (Kept S)) (ticket : ℕ) (saved : S) (later : List (Kept S)) (p : P) → mine saved ≡ Some p → IsFirst table keeps w earlier ticket saved later → Leads p (tab w) (other p (tab w))
+  pub both_first : (w : W) (earlier : List (KeptChange S)) (ticket : ℕ) (saved : S) (later : List (KeptChange S)) (p : P) → mine saved ≡ Some p → IsFirst table keeps w earlier ticket saved later → Leads p (tab w) (other p (tab w))
   both_first w earlier ticket saved later p e first =
       leads_first other Leads mine_of mine_one (tab w) (part mine earlier) ticket p (part mine later)
-      (subst (λ (x : List (Kept P)). KeepsRow other Leads (tab w) x) (part_at mine earlier Undone ticket saved later p e) (split w (earlier ++ kept_as Undone ticket saved ∷ later) first.kept).0)
+      (subst (λ (x : List (KeptChange P)). KeepsRow other Leads (tab w) x) (part_at mine earlier Undone ticket saved later p e) (split w (earlier ++ kept_as Undone ticket saved ∷ later) first.kept).0)
       (part_founded mine table number numbered saved p earlier e first.founded)

@@ -1,6 +1,6 @@
--- What the changes of both tables do.
+-- The changes of both tables.
 use Rattle.std.specs.Prelude.{ℕ, Bool, Option, Some, None, List}
-use Rattle.change_law.specs.declared.kept.Kept.{Kept}
+use Rattle.change_law.specs.declared.kept.KeptChange.{KeptChange}
 use Rattle.change_law.specs.Face.{Face}
 use Rattle.local_zone.specs.declared.saved.SavedTables.{SavedTables}
 use Rattle.local_zone.specs.Saved as zone
@@ -21,20 +21,22 @@ use Rattle.table_changes.specs.declared.tables.SavedTable.TheVariants as saved
 use Rattle.table_changes.specs.declared.tables.TableChange.{TableChange}
 use Rattle.table_changes.specs.declared.tables.TableChange.TheVariants as change
 
--- what a change of the zones and records saved, and one of the stubs
+-- the saved value, if a change of the zones and records saved it
 abbrev pub of_zones : SavedTable → Option SavedTables
 of_zones (saved.Zones s) = Some s
 of_zones (saved.Stubs s) = None
 
+-- the saved value, if a change of the stubs saved it
 abbrev pub of_stubs : SavedTable → Option SavedStubs
 of_stubs (saved.Zones s) = None
 of_stubs (saved.Stubs s) = Some s
 
--- the number of the table
+-- the number of the table to which a saved value belongs
 abbrev pub saved_table : SavedTable → Option ℕ
 saved_table (saved.Zones s) = Some 1
 saved_table (saved.Stubs s) = Some 2
 
+-- the number of the table that a change touches
 abbrev pub change_table : TableChange → Option ℕ
 change_table (change.Zones c) = Some 1
 change_table (change.Stubs c) = Some 2
@@ -49,27 +51,30 @@ change_of (SetStub new) = Some (change.Stubs (stubs.Set new))
 change_of (DropStub name) = Some (change.Stubs (stubs.Drop name))
 change_of command = None
 
+-- both tables after a change
 abbrev pub change_after : TableChange → Tables → Tables
 change_after (change.Zones c) t = record { local = zones_after c t.local; stubs = t.stubs }
 change_after (change.Stubs c) t = record { local = t.local; stubs = stubs_after c t.stubs }
 
+-- the number of the reason to refuse a change, if there is one
 abbrev pub change_reason : TableChange → Tables → Option ℕ
 change_reason (change.Zones c) t = zone_reason c t.local
 change_reason (change.Stubs c) t = stub_reason c t.stubs
 
 -- Each table keeps its changes.
-abbrev pub KeepsBoth : TableWorld → List (Kept SavedTable) → Type 0
+abbrev pub KeepsBoth : TableWorld → List (KeptChange SavedTable) → Type 0
 KeepsBoth w kept =
     KeepsRow zone.before_of zone.TakesBack w.tables.local (part of_zones kept) × KeepsRow stub.before_of stub.TakesBack w.tables.stubs (part of_stubs kept)
 
 -- the tables, if only the chosen ones of their changes were in effect
-abbrev pub tables_by : TableWorld → List (Kept SavedTable) → (ℕ → Bool) → Tables
+abbrev pub tables_by : TableWorld → List (KeptChange SavedTable) → (ℕ → Bool) → Tables
 tables_by w kept chosen = record {
   local = table_by zone.before_of w.tables.local (part of_zones kept) chosen;
   stubs = table_by stub.before_of w.tables.stubs (part of_stubs kept) chosen;
 }
 
-abbrev pub face_by : TableWorld → List (Kept SavedTable) → (ℕ → Bool) → Face Tables
+-- the same, as a face of the world
+abbrev pub face_by : TableWorld → List (KeptChange SavedTable) → (ℕ → Bool) → Face Tables
 face_by w kept chosen = face_of (tables_by w kept chosen)
 
 -- the tables as they are

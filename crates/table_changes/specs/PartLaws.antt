@@ -1,7 +1,7 @@
 -- The laws of the changes of one table among those that are kept: lemmas.
 use Rattle.std.proofs.Common.{◌≡◌, ◌≢◌, ℕ, Bool, false, Option, Some, None, List, [], ◌∷◌, ◌++◌, refl, sym, ap, subst, ◌∙◌}
 use Rattle.std.specs.List.{AllByRecursion}
-use Rattle.change_law.specs.declared.kept.Kept.{Kept}
+use Rattle.change_law.specs.declared.kept.KeptChange.{KeptChange}
 use Rattle.change_law.specs.declared.kept.Standing.{Standing}
 use Rattle.change_law.specs.declared.kept.Standing.TheVariants.{Done, Undone, Cleared}
 use Rattle.change_law.specs.Choice.{IsOneTable, AllowsAt, IsChoice, IsPresent, IsUncovered, IsFounded, is_done, clear, cleared}
@@ -9,36 +9,36 @@ use Rattle.change_law.specs.Row.{kept_as}
 use Rattle.table_changes.specs.Part.{with_part, part}
 
 module _ {S P : Type 0} (mine : S → Option P) where
-  pub part_append : (xs ys : List (Kept S)) → part mine (xs ++ ys) ≡ part mine xs ++ part mine ys
+  pub part_append : (xs ys : List (KeptChange S)) → part mine (xs ++ ys) ≡ part mine xs ++ part mine ys
   part_append [] ys = refl
   part_append (k ∷ xs) ys = by (mine k.saved) (part_append xs ys)
     where
       by : (p : Option P) → part mine (xs ++ ys) ≡ part mine xs ++ part mine ys → with_part k.ticket k.standing p (part mine (xs ++ ys)) ≡ with_part k.ticket k.standing p (part mine xs) ++ part mine ys
       by None h = h
-      by (Some p) h = ap (λ (x : List (Kept P)). kept_as k.standing k.ticket p ∷ x) h
+      by (Some p) h = ap (λ (x : List (KeptChange P)). kept_as k.standing k.ticket p ∷ x) h
 
-  pub part_cleared : (kept : List (Kept S)) → part mine (cleared kept) ≡ cleared (part mine kept)
+  pub part_cleared : (kept : List (KeptChange S)) → part mine (cleared kept) ≡ cleared (part mine kept)
   part_cleared [] = refl
   part_cleared (k ∷ kept) = by (mine k.saved) (part_cleared kept)
     where
       by : (p : Option P) → part mine (cleared kept) ≡ cleared (part mine kept) → with_part k.ticket (clear k.standing) p (part mine (cleared kept)) ≡ cleared (with_part k.ticket k.standing p (part mine kept))
       by None h = h
-      by (Some p) h = ap (λ (x : List (Kept P)). kept_as (clear k.standing) k.ticket p ∷ x) h
+      by (Some p) h = ap (λ (x : List (KeptChange P)). kept_as (clear k.standing) k.ticket p ∷ x) h
 
   -- at a change of the table, and at one of another
-  pub part_at : (earlier : List (Kept S)) (standing : Standing) (ticket : ℕ) (saved : S) (later : List (Kept S)) (p : P) → mine saved ≡ Some p →
+  pub part_at : (earlier : List (KeptChange S)) (standing : Standing) (ticket : ℕ) (saved : S) (later : List (KeptChange S)) (p : P) → mine saved ≡ Some p →
       part mine (earlier ++ kept_as standing ticket saved ∷ later) ≡ part mine earlier ++ kept_as standing ticket p ∷ part mine later
   part_at earlier standing ticket saved later p e =
       part_append earlier (kept_as standing ticket saved ∷ later) ∙ ap (λ (x : Option P). part mine earlier ++ with_part ticket standing x (part mine later)) e
 
-  pub part_past : (earlier : List (Kept S)) (standing : Standing) (ticket : ℕ) (saved : S) (later : List (Kept S)) → mine saved ≡ None →
+  pub part_past : (earlier : List (KeptChange S)) (standing : Standing) (ticket : ℕ) (saved : S) (later : List (KeptChange S)) → mine saved ≡ None →
       part mine (earlier ++ kept_as standing ticket saved ∷ later) ≡ part mine earlier ++ part mine later
   part_past earlier standing ticket saved later e =
       part_append earlier (kept_as standing ticket saved ∷ later) ∙ ap (λ (x : Option P). part mine earlier ++ with_part ticket standing x (part mine later)) e
 
   -- what holds of all of the kept ones holds of the part
-  pub part_all : (Q : Kept S → Type 0) (R : Kept P → Type 0) → ((k : Kept S) (p : P) → mine k.saved ≡ Some p → Q k → R (kept_as k.standing k.ticket p)) →
-      (kept : List (Kept S)) → AllByRecursion Q kept → AllByRecursion R (part mine kept)
+  pub part_all : (Q : KeptChange S → Type 0) (R : KeptChange P → Type 0) → ((k : KeptChange S) (p : P) → mine k.saved ≡ Some p → Q k → R (kept_as k.standing k.ticket p)) →
+      (kept : List (KeptChange S)) → AllByRecursion Q kept → AllByRecursion R (part mine kept)
   part_all Q R gives [] h = tt
   part_all Q R gives (k ∷ kept) h = by (mine k.saved) refl (part_all Q R gives kept h.1)
     where
@@ -46,7 +46,7 @@ module _ {S P : Type 0} (mine : S → Option P) where
       by None e more = more
       by (Some p) e more = (gives k p e h.0, more)
 
-  pub part_present : (kept : List (Kept S)) (chosen : ℕ → Bool) → IsPresent kept chosen → IsPresent (part mine kept) chosen
+  pub part_present : (kept : List (KeptChange S)) (chosen : ℕ → Bool) → IsPresent kept chosen → IsPresent (part mine kept) chosen
   part_present kept chosen h = part_all (λ k. chosen k.ticket ≡ is_done k.standing) (λ k. chosen k.ticket ≡ is_done k.standing) (λ k p e q. q) kept h
 
   -- ---- where the changes of the table have one number
@@ -62,15 +62,15 @@ module _ {S P : Type 0} (mine : S → Option P) where
     same_table a b p q e f =
         subst (λ (x : Option ℕ). IsOneTable x (table b)) (sym (numbered a p e)) (subst (λ (y : Option ℕ). IsOneTable (Some number) y) (sym (numbered b q f)) refl)
 
-    pub part_uncovered : (saved : S) (p : P) (later : List (Kept S)) → mine saved ≡ Some p → IsUncovered table saved later → IsUncovered of_part p (part mine later)
+    pub part_uncovered : (saved : S) (p : P) (later : List (KeptChange S)) → mine saved ≡ Some p → IsUncovered table saved later → IsUncovered of_part p (part mine later)
     part_uncovered saved p later e h =
         part_all (λ k. IsOneTable (table saved) (table k.saved) → k.standing ≢ Done) (λ k. IsOneTable (of_part p) (of_part k.saved) → k.standing ≢ Done) (λ k q f g one. g (same_table saved k.saved p q e f)) later h
 
-    pub part_founded : (saved : S) (p : P) (earlier : List (Kept S)) → mine saved ≡ Some p → IsFounded table saved earlier → IsFounded of_part p (part mine earlier)
+    pub part_founded : (saved : S) (p : P) (earlier : List (KeptChange S)) → mine saved ≡ Some p → IsFounded table saved earlier → IsFounded of_part p (part mine earlier)
     part_founded saved p earlier e h =
         part_all (λ k. IsOneTable (table saved) (table k.saved) → k.standing ≢ Undone) (λ k. IsOneTable (of_part p) (of_part k.saved) → k.standing ≢ Undone) (λ k q f g one. g (same_table saved k.saved p q e f)) earlier h
 
-    pub part_choice : (kept : List (Kept S)) (chosen : ℕ → Bool) → IsChoice table kept chosen → IsChoice of_part (part mine kept) chosen
+    pub part_choice : (kept : List (KeptChange S)) (chosen : ℕ → Bool) → IsChoice table kept chosen → IsChoice of_part (part mine kept) chosen
     part_choice [] chosen h = tt
     part_choice (k ∷ kept) chosen h = by (mine k.saved) refl (part_choice kept chosen h.1)
       where

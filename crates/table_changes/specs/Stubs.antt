@@ -1,4 +1,4 @@
--- What the changes of stubs do.
+-- The changes of stubs.
 use Rattle.std.specs.Prelude.{ℕ, Option, Some, None}
 use Rattle.stub_table.specs.declared.fault.StubFault.{StubFault}
 use Rattle.stub_table.specs.declared.fault.StubFault.TheVariants.{TooMany, NoMemory}
@@ -8,19 +8,22 @@ use Rattle.stub_table.specs.Reason.{reason_of_stub}
 use Rattle.table_changes.specs.declared.stubs.StubChange.{StubChange}
 use Rattle.table_changes.specs.declared.stubs.StubChange.TheVariants.{Set, Drop}
 
+-- the stubs after a change
 abbrev pub stubs_after : StubChange → Stubs → Stubs
 stubs_after (Set new) stubs = stubs_with new stubs
 stubs_after (Drop name) stubs = stubs_without name stubs
 
--- the number of the reason that a fault gives
+-- the number of a fault's reason
 abbrev pub stub_code : StubFault → Option ℕ
 stub_code TooMany = Some 4
 stub_code NoMemory = None
 
+-- the number of a fault's reason, if there is a fault
 abbrev pub stub_code_in : Option StubFault → Option ℕ
 stub_code_in None = None
 stub_code_in (Some fault) = stub_code fault
 
+-- the number of the reason to refuse a change, if there is one
 abbrev pub stub_reason : StubChange → Stubs → Option ℕ
 stub_reason (Set new) stubs = stub_code_in (reason_of_stub new stubs)
 stub_reason (Drop name) stubs = None

@@ -4,7 +4,7 @@ use Rattle.std.specs.List.{AllByRecursion}
 use Rattle.std.proofs.lemmas.Bool.{false≢true}
 use Rattle.std.proofs.lemmas.List.{append-nil}
 use Rattle.dns_name.specs.ListLaws.{all-append, all_split, all_weaker}
-use Rattle.change_law.specs.declared.kept.Kept.{Kept}
+use Rattle.change_law.specs.declared.kept.KeptChange.{KeptChange}
 use Rattle.change_law.specs.declared.kept.Standing.{Standing}
 use Rattle.change_law.specs.declared.kept.Standing.TheVariants.{Done, Undone, Cleared}
 use Rattle.change_law.specs.Choice.{IsOneTable, AllowsAt, IsChoice, IsPresent, IsUncovered, IsFounded, is_done, clear, cleared, cleared_one}
@@ -60,31 +60,31 @@ module _ {S V : Type 0} (other : S → V → V) where
 
   -- ---- many
 
-  pub taken_same : (chosen : ℕ → Bool) (v : V) (kept : List (Kept S)) → AllByRecursion (λ k. (x : V) → back_over other (chosen k.ticket) k.standing k.saved x ≡ x) kept →
+  pub taken_same : (chosen : ℕ → Bool) (v : V) (kept : List (KeptChange S)) → AllByRecursion (λ k. (x : V) → back_over other (chosen k.ticket) k.standing k.saved x ≡ x) kept →
       taken_back other chosen v kept ≡ v
   taken_same chosen v [] h = refl
   taken_same chosen v (k ∷ kept) h = ap (back_over other (chosen k.ticket) k.standing k.saved) (taken_same chosen v kept h.1) ∙ h.0 v
 
-  pub made_same : (chosen : ℕ → Bool) (v : V) (kept : List (Kept S)) → AllByRecursion (λ k. (x : V) → again_over other (chosen k.ticket) k.standing k.saved x ≡ x) kept →
+  pub made_same : (chosen : ℕ → Bool) (v : V) (kept : List (KeptChange S)) → AllByRecursion (λ k. (x : V) → again_over other (chosen k.ticket) k.standing k.saved x ≡ x) kept →
       made_again other chosen v kept ≡ v
   made_same chosen v [] h = refl
   made_same chosen v (k ∷ kept) h = ap (λ (x : V). made_again other chosen x kept) (h.0 v) ∙ made_same chosen v kept h.1
 
-  pub taken_append : (chosen : ℕ → Bool) (v : V) (xs ys : List (Kept S)) → taken_back other chosen v (xs ++ ys) ≡ taken_back other chosen (taken_back other chosen v ys) xs
+  pub taken_append : (chosen : ℕ → Bool) (v : V) (xs ys : List (KeptChange S)) → taken_back other chosen v (xs ++ ys) ≡ taken_back other chosen (taken_back other chosen v ys) xs
   taken_append chosen v [] ys = refl
   taken_append chosen v (x ∷ xs) ys = ap (back_over other (chosen x.ticket) x.standing x.saved) (taken_append chosen v xs ys)
 
-  pub made_append : (chosen : ℕ → Bool) (v : V) (xs ys : List (Kept S)) → made_again other chosen v (xs ++ ys) ≡ made_again other chosen (made_again other chosen v xs) ys
+  pub made_append : (chosen : ℕ → Bool) (v : V) (xs ys : List (KeptChange S)) → made_again other chosen v (xs ++ ys) ≡ made_again other chosen (made_again other chosen v xs) ys
   made_append chosen v [] ys = refl
   made_append chosen v (x ∷ xs) ys = made_append chosen (again_over other (chosen x.ticket) x.standing x.saved v) xs ys
 
-  pub taken_no_done : (chosen : ℕ → Bool) (v : V) (kept : List (Kept S)) → AllByRecursion (λ k. k.standing ≢ Done) kept → taken_back other chosen v kept ≡ v
+  pub taken_no_done : (chosen : ℕ → Bool) (v : V) (kept : List (KeptChange S)) → AllByRecursion (λ k. k.standing ≢ Done) kept → taken_back other chosen v kept ≡ v
   taken_no_done chosen v kept h = taken_same chosen v kept (all_weaker _ _ (λ k n x. back_not_done (chosen k.ticket) k.standing k.saved x n) kept h)
 
-  pub made_no_undone : (chosen : ℕ → Bool) (v : V) (kept : List (Kept S)) → AllByRecursion (λ k. k.standing ≢ Undone) kept → made_again other chosen v kept ≡ v
+  pub made_no_undone : (chosen : ℕ → Bool) (v : V) (kept : List (KeptChange S)) → AllByRecursion (λ k. k.standing ≢ Undone) kept → made_again other chosen v kept ≡ v
   made_no_undone chosen v kept h = made_same chosen v kept (all_weaker _ _ (λ k n x. again_not_undone (chosen k.ticket) k.standing k.saved x n) kept h)
 
-  pub cleared_no_undone : (kept : List (Kept S)) → AllByRecursion (λ k. k.standing ≢ Undone) (cleared kept)
+  pub cleared_no_undone : (kept : List (KeptChange S)) → AllByRecursion (λ k. k.standing ≢ Undone) (cleared kept)
   cleared_no_undone [] = tt
   cleared_no_undone (k ∷ kept) = (never k.standing, cleared_no_undone kept)
     where
@@ -99,7 +99,7 @@ module _ {S V : Type 0} (other : S → V → V) where
   back_cleared false Undone saved v = refl
   back_cleared false Cleared saved v = refl
 
-  pub taken_cleared : (chosen : ℕ → Bool) (v : V) (kept : List (Kept S)) → taken_back other chosen v (cleared kept) ≡ taken_back other chosen v kept
+  pub taken_cleared : (chosen : ℕ → Bool) (v : V) (kept : List (KeptChange S)) → taken_back other chosen v (cleared kept) ≡ taken_back other chosen v kept
   taken_cleared chosen v [] = refl
   taken_cleared chosen v (k ∷ kept) =
       back_cleared (chosen k.ticket) k.standing k.saved (taken_back other chosen v (cleared kept)) ∙ ap (back_over other (chosen k.ticket) k.standing k.saved) (taken_cleared chosen v kept)
@@ -108,14 +108,14 @@ module _ {S V : Type 0} (other : S → V → V) where
 
 module _ {S : Type 0} (table : S → Option ℕ) (one : (a b : S) → IsOneTable (table a) (table b)) (chosen : ℕ → Bool) where
   -- with one, all before it that are not cleared
-  pub chosen_at : (s : Standing) (k : Kept S) (later : List (Kept S)) → AllowsAt table chosen s k later → (one_later : AllByRecursion (λ e. chosen e.ticket ≡ false) later → ⊥) → s ≢ Cleared → chosen k.ticket ≡ true
+  pub chosen_at : (s : Standing) (k : KeptChange S) (later : List (KeptChange S)) → AllowsAt table chosen s k later → (one_later : AllByRecursion (λ e. chosen e.ticket ≡ false) later → ⊥) → s ≢ Cleared → chosen k.ticket ≡ true
   chosen_at Cleared k later h none n = absurd (n refl)
   chosen_at Done k later h none n =
       elim (is_or_not (chosen k.ticket)) [ inl it ↦ it | inr out ↦ absurd (none (all_weaker _ _ (λ e f. f (one k.saved e.saved)) later (h out))) ]
   chosen_at Undone k later h none n =
       elim (is_or_not (chosen k.ticket)) [ inl it ↦ it | inr out ↦ absurd (none (all_weaker _ _ (λ e f. f (one k.saved e.saved)) later (h out))) ]
 
-  pub chosen_before : (earlier : List (Kept S)) (k : Kept S) (later : List (Kept S)) → IsChoice table (earlier ++ k ∷ later) chosen → chosen k.ticket ≡ true →
+  pub chosen_before : (earlier : List (KeptChange S)) (k : KeptChange S) (later : List (KeptChange S)) → IsChoice table (earlier ++ k ∷ later) chosen → chosen k.ticket ≡ true →
       AllByRecursion (λ e. e.standing ≢ Cleared → chosen e.ticket ≡ true) earlier
   chosen_before [] k later h it = tt
   chosen_before (e ∷ earlier) k later h it = (
@@ -126,27 +126,27 @@ module _ {S : Type 0} (table : S → Option ℕ) (one : (a b : S) → IsOneTable
 -- ---- the laws
 
 module _ {S V : Type 0} (other : S → V → V) (table : S → Option ℕ) (one : (a b : S) → IsOneTable (table a) (table b)) where
-  abbrev Leaves : (ℕ → Bool) → List (Kept S) → Type 0
+  abbrev Leaves : (ℕ → Bool) → List (KeptChange S) → Type 0
   Leaves chosen kept = AllByRecursion (λ k. k.standing ≡ Undone → chosen k.ticket ≡ false) kept
 
-  made_left : (chosen : ℕ → Bool) (v : V) (kept : List (Kept S)) → Leaves chosen kept → made_again other chosen v kept ≡ v
+  made_left : (chosen : ℕ → Bool) (v : V) (kept : List (KeptChange S)) → Leaves chosen kept → made_again other chosen v kept ≡ v
   made_left chosen v kept h = made_same other chosen v kept (all_weaker _ _ (λ k f x. one_left k.standing k f x) kept h)
     where
-      one_left : (s : Standing) (k : Kept S) → (s ≡ Undone → chosen k.ticket ≡ false) → (x : V) → again_over other (chosen k.ticket) s k.saved x ≡ x
+      one_left : (s : Standing) (k : KeptChange S) → (s ≡ Undone → chosen k.ticket ≡ false) → (x : V) → again_over other (chosen k.ticket) s k.saved x ≡ x
       one_left Undone k f x = again_left other (chosen k.ticket) Undone k.saved x (f refl)
       one_left Done k f x = again_not_undone other (chosen k.ticket) Done k.saved x Done≢Undone
       one_left Cleared k f x = again_not_undone other (chosen k.ticket) Cleared k.saved x Cleared≢Undone
 
-  taken_chosen : (chosen : ℕ → Bool) (v : V) (kept : List (Kept S)) → AllByRecursion (λ k. k.standing ≢ Cleared → chosen k.ticket ≡ true) kept → taken_back other chosen v kept ≡ v
+  taken_chosen : (chosen : ℕ → Bool) (v : V) (kept : List (KeptChange S)) → AllByRecursion (λ k. k.standing ≢ Cleared → chosen k.ticket ≡ true) kept → taken_back other chosen v kept ≡ v
   taken_chosen chosen v kept h = taken_same other chosen v kept (all_weaker _ _ (λ k f x. one_chosen k.standing k f x) kept h)
     where
-      one_chosen : (s : Standing) (k : Kept S) → (s ≢ Cleared → chosen k.ticket ≡ true) → (x : V) → back_over other (chosen k.ticket) s k.saved x ≡ x
+      one_chosen : (s : Standing) (k : KeptChange S) → (s ≢ Cleared → chosen k.ticket ≡ true) → (x : V) → back_over other (chosen k.ticket) s k.saved x ≡ x
       one_chosen Undone k f x = back_not_done other (chosen k.ticket) Undone k.saved x Undone≢Done
       one_chosen Done k f x = back_chosen other (chosen k.ticket) Done k.saved x (f (λ e. Cleared≢Done (sym e)))
       one_chosen Cleared k f x = back_not_done other (chosen k.ticket) Cleared k.saved x Cleared≢Done
 
   -- what is undone is not chosen where it is cleared
-  left_cleared : (chosen : ℕ → Bool) (kept tail : List (Kept S)) → IsChoice table (cleared kept ++ tail) chosen → Leaves chosen kept
+  left_cleared : (chosen : ℕ → Bool) (kept tail : List (KeptChange S)) → IsChoice table (cleared kept ++ tail) chosen → Leaves chosen kept
   left_cleared chosen [] tail h = tt
   left_cleared chosen (k ∷ kept) tail h = (one_out k.standing h.0, left_cleared chosen kept tail h.1)
     where
@@ -155,21 +155,21 @@ module _ {S V : Type 0} (other : S → V → V) (table : S → Option ℕ) (one 
       one_out Done a e = absurd (Done≢Undone e)
       one_out Cleared a e = absurd (Cleared≢Undone e)
 
-  chosen_cleared : (chosen : ℕ → Bool) (kept : List (Kept S)) → AllByRecursion (λ k. k.standing ≢ Cleared → chosen k.ticket ≡ true) (cleared kept) →
+  chosen_cleared : (chosen : ℕ → Bool) (kept : List (KeptChange S)) → AllByRecursion (λ k. k.standing ≢ Cleared → chosen k.ticket ≡ true) (cleared kept) →
       AllByRecursion (λ k. k.standing ≡ Done → chosen k.ticket ≡ true) kept
   chosen_cleared chosen [] h = tt
   chosen_cleared chosen (k ∷ kept) h = (λ e. h.0 (λ f. Cleared≢Done (sym f ∙ ap clear e)), chosen_cleared chosen kept h.1)
 
-  taken_done : (chosen : ℕ → Bool) (v : V) (kept : List (Kept S)) → AllByRecursion (λ k. k.standing ≡ Done → chosen k.ticket ≡ true) kept → taken_back other chosen v kept ≡ v
+  taken_done : (chosen : ℕ → Bool) (v : V) (kept : List (KeptChange S)) → AllByRecursion (λ k. k.standing ≡ Done → chosen k.ticket ≡ true) kept → taken_back other chosen v kept ≡ v
   taken_done chosen v kept h = taken_same other chosen v kept (all_weaker _ _ (λ k f x. one_done k.standing k f x) kept h)
     where
-      one_done : (s : Standing) (k : Kept S) → (s ≡ Done → chosen k.ticket ≡ true) → (x : V) → back_over other (chosen k.ticket) s k.saved x ≡ x
+      one_done : (s : Standing) (k : KeptChange S) → (s ≡ Done → chosen k.ticket ≡ true) → (x : V) → back_over other (chosen k.ticket) s k.saved x ≡ x
       one_done Undone k f x = back_not_done other (chosen k.ticket) Undone k.saved x Undone≢Done
       one_done Done k f x = back_chosen other (chosen k.ticket) Done k.saved x (f refl)
       one_done Cleared k f x = back_not_done other (chosen k.ticket) Cleared k.saved x Cleared≢Done
 
   -- after one more
-  pub table_with : (chosen : ℕ → Bool) (v v' : V) (kept : List (Kept S)) (ticket : ℕ) (saved : S) → other saved v' ≡ v → IsChoice table (with_change kept ticket saved) chosen →
+  pub table_with : (chosen : ℕ → Bool) (v v' : V) (kept : List (KeptChange S)) (ticket : ℕ) (saved : S) → other saved v' ≡ v → IsChoice table (with_change kept ticket saved) chosen →
       (chosen ticket ≡ false → table_by other v' (with_change kept ticket saved) chosen ≡ table_by other v kept chosen)
       × (chosen ticket ≡ true → (table_by other v' (with_change kept ticket saved) chosen ≡ v') × (table_by other v kept chosen ≡ v))
   unfolding made_left left_cleared chosen_cleared taken_done
@@ -193,35 +193,35 @@ module _ {S V : Type 0} (other : S → V → V) (table : S → Option ℕ) (one 
 -- ---- what leads where
 
 module _ {S V : Type 0} (other : S → V → V) (Leads : S → V → V → Type 0) where
-  ordered_no_undone : (kept : List (Kept S)) → AllByRecursion (λ k. k.standing ≢ Undone) kept → IsOrdered kept
+  ordered_no_undone : (kept : List (KeptChange S)) → AllByRecursion (λ k. k.standing ≢ Undone) kept → IsOrdered kept
   ordered_no_undone [] h = tt
   ordered_no_undone (k ∷ kept) h = (λ u. absurd (h.0 u), ordered_no_undone kept h.1)
 
-  on_no_undone : (v : V) (kept : List (Kept S)) → AllByRecursion (λ k. k.standing ≢ Undone) kept → LeadOn other Leads v kept
+  on_no_undone : (v : V) (kept : List (KeptChange S)) → AllByRecursion (λ k. k.standing ≢ Undone) kept → LeadOn other Leads v kept
   on_no_undone v [] h = tt
   on_no_undone v (k ∷ kept) h = (λ u. absurd (h.0 u), on_no_undone (again_over other true k.standing k.saved v) kept h.1)
 
-  back_no_done : (v : V) (kept : List (Kept S)) → AllByRecursion (λ k. k.standing ≢ Done) kept → LeadBack other Leads v kept
+  back_no_done : (v : V) (kept : List (KeptChange S)) → AllByRecursion (λ k. k.standing ≢ Done) kept → LeadBack other Leads v kept
   back_no_done v [] h = tt
   back_no_done v (k ∷ kept) h = (λ d. absurd (h.0 d), back_no_done v kept h.1)
 
   -- the part behind a place
-  lead_at : (v : V) (earlier : List (Kept S)) (k : Kept S) (later : List (Kept S)) → LeadBack other Leads v (earlier ++ k ∷ later) → LeadBack other Leads v (k ∷ later)
+  lead_at : (v : V) (earlier : List (KeptChange S)) (k : KeptChange S) (later : List (KeptChange S)) → LeadBack other Leads v (earlier ++ k ∷ later) → LeadBack other Leads v (k ∷ later)
   lead_at v [] k later h = h
   lead_at v (e ∷ earlier) k later h = lead_at v earlier k later h.1
 
-  on_past : (v : V) (earlier rest : List (Kept S)) → AllByRecursion (λ k. k.standing ≢ Undone) earlier → LeadOn other Leads v (earlier ++ rest) → LeadOn other Leads v rest
+  on_past : (v : V) (earlier rest : List (KeptChange S)) → AllByRecursion (λ k. k.standing ≢ Undone) earlier → LeadOn other Leads v (earlier ++ rest) → LeadOn other Leads v rest
   on_past v [] rest n h = h
   on_past v (e ∷ earlier) rest n h =
       on_past v earlier rest n.1 (subst (λ (x : V). LeadOn other Leads x (earlier ++ rest)) (again_not_undone other true e.standing e.saved v n.0) h.1)
 
-  on_before : (v : V) (earlier rest : List (Kept S)) → AllByRecursion (λ k. k.standing ≢ Undone) earlier → LeadOn other Leads v rest → LeadOn other Leads v (earlier ++ rest)
+  on_before : (v : V) (earlier rest : List (KeptChange S)) → AllByRecursion (λ k. k.standing ≢ Undone) earlier → LeadOn other Leads v rest → LeadOn other Leads v (earlier ++ rest)
   on_before v [] rest n h = h
   on_before v (e ∷ earlier) rest n h =
       (λ u. absurd (n.0 u), subst (λ (x : V). LeadOn other Leads x (earlier ++ rest)) (sym (again_not_undone other true e.standing e.saved v n.0)) (on_before v earlier rest n.1 h))
 
   -- the same before a place where the part behind it goes back to the same
-  back_before : (v v' : V) (earlier rest rest' : List (Kept S)) → taken_back other nothing v rest ≡ taken_back other nothing v' rest' →
+  back_before : (v v' : V) (earlier rest rest' : List (KeptChange S)) → taken_back other nothing v rest ≡ taken_back other nothing v' rest' →
       LeadBack other Leads v (earlier ++ rest) → LeadBack other Leads v' rest' → LeadBack other Leads v' (earlier ++ rest')
   back_before v v' [] rest rest' e h h' = h'
   back_before v v' (k ∷ earlier) rest rest' e h h' =
@@ -229,21 +229,21 @@ module _ {S V : Type 0} (other : S → V → V) (Leads : S → V → V → Type 
       = taken_append other nothing v earlier rest ∙ ap (λ (x : V). taken_back other nothing x earlier) e ∙ sym (taken_append other nothing v' earlier rest') in
       (λ d. subst (λ (x : V). Leads k.saved x (other k.saved x)) same (h.0 d), back_before v v' earlier rest rest' e h.1 h')
 
-  before_done : (earlier : List (Kept S)) (k : Kept S) (later : List (Kept S)) → k.standing ≡ Done → IsOrdered (earlier ++ k ∷ later) → AllByRecursion (λ e. e.standing ≢ Undone) earlier
+  before_done : (earlier : List (KeptChange S)) (k : KeptChange S) (later : List (KeptChange S)) → k.standing ≡ Done → IsOrdered (earlier ++ k ∷ later) → AllByRecursion (λ e. e.standing ≢ Undone) earlier
   before_done [] k later d h = tt
   before_done (e ∷ earlier) k later d h = (λ u. (all_split (λ x. x.standing ≢ Done) earlier (k ∷ later) (h.0 u)).1.0 d, before_done earlier k later d h.1)
 
-  behind : (earlier : List (Kept S)) (k : Kept S) (later : List (Kept S)) → IsOrdered (earlier ++ k ∷ later) → IsOrdered (k ∷ later)
+  behind : (earlier : List (KeptChange S)) (k : KeptChange S) (later : List (KeptChange S)) → IsOrdered (earlier ++ k ∷ later) → IsOrdered (k ∷ later)
   behind [] k later h = h
   behind (e ∷ earlier) k later h = behind earlier k later h.1
 
-  ordered_before : (earlier rest : List (Kept S)) → AllByRecursion (λ e. e.standing ≢ Undone) earlier → IsOrdered rest → IsOrdered (earlier ++ rest)
+  ordered_before : (earlier rest : List (KeptChange S)) → AllByRecursion (λ e. e.standing ≢ Undone) earlier → IsOrdered rest → IsOrdered (earlier ++ rest)
   ordered_before [] rest n h = h
   ordered_before (e ∷ earlier) rest n h = (λ u. absurd (n.0 u), ordered_before earlier rest n.1 h)
 
   -- ---- one more
 
-  pub keeps_with : (v v' : V) (kept : List (Kept S)) (ticket : ℕ) (saved : S) → Leads saved v' v → other saved v' ≡ v →
+  pub keeps_with : (v v' : V) (kept : List (KeptChange S)) (ticket : ℕ) (saved : S) → Leads saved v' v → other saved v' ≡ v →
       KeepsRow other Leads v kept → KeepsRow other Leads v' (with_change kept ticket saved)
   unfolding ordered_no_undone on_no_undone
   keeps_with v v' kept ticket saved leads is h =
@@ -260,7 +260,7 @@ module _ {S V : Type 0} (other : S → V → V) (Leads : S → V → V → Type 
       was_done Undone e = absurd (Cleared≢Done e)
       was_done Cleared e = absurd (Cleared≢Done e)
 
-      all_back : (kept : List (Kept S)) → LeadBack other Leads v kept → LeadBack other Leads v' (cleared kept ++ kept_as Done ticket saved ∷ [])
+      all_back : (kept : List (KeptChange S)) → LeadBack other Leads v kept → LeadBack other Leads v' (cleared kept ++ kept_as Done ticket saved ∷ [])
       all_back [] b = (λ d. subst (λ (x : V). Leads saved v' x) (sym is) leads, tt)
       all_back (k ∷ rest) b =
           let same : taken_back other nothing v' (cleared rest ++ kept_as Done ticket saved ∷ []) ≡ taken_back other nothing v rest
@@ -269,7 +269,7 @@ module _ {S V : Type 0} (other : S → V → V) (Leads : S → V → V → Type 
 
   -- ---- where a change of another table cleared what was undone
 
-  pub keeps_stale : (v : V) (kept : List (Kept S)) → KeepsRow other Leads v kept → KeepsRow other Leads v (cleared kept)
+  pub keeps_stale : (v : V) (kept : List (KeptChange S)) → KeepsRow other Leads v kept → KeepsRow other Leads v (cleared kept)
   unfolding ordered_no_undone on_no_undone
   keeps_stale v kept h = record {
     ordered = ordered_no_undone (cleared kept) (cleared_no_undone other kept);
@@ -282,47 +282,47 @@ module _ {S V : Type 0} (other : S → V → V) (Leads : S → V → V → Type 
       was_done Undone e = absurd (Cleared≢Done e)
       was_done Cleared e = absurd (Cleared≢Done e)
 
-      all_back : (kept : List (Kept S)) → LeadBack other Leads v kept → LeadBack other Leads v (cleared kept)
+      all_back : (kept : List (KeptChange S)) → LeadBack other Leads v kept → LeadBack other Leads v (cleared kept)
       all_back [] b = tt
       all_back (k ∷ rest) b =
           (λ d. subst (λ (x : V). Leads k.saved x (other k.saved x)) (sym (taken_cleared other nothing v rest)) (b.0 (was_done k.standing d)), all_back rest b.1)
 
-  pub table_stale : (table : S → Option ℕ) (one : (a b : S) → IsOneTable (table a) (table b)) (v : V) (kept : List (Kept S)) (chosen : ℕ → Bool) → IsChoice table (cleared kept) chosen →
+  pub table_stale : (table : S → Option ℕ) (one : (a b : S) → IsOneTable (table a) (table b)) (v : V) (kept : List (KeptChange S)) (chosen : ℕ → Bool) → IsChoice table (cleared kept) chosen →
       table_by other v (cleared kept) chosen ≡ table_by other v kept chosen
   unfolding made_left left_cleared
   table_stale table one v kept chosen choice =
-      let out = left_cleared other table one chosen kept [] (subst (λ (x : List (Kept S)). IsChoice table x chosen) (sym (append-nil (cleared kept))) choice) in
+      let out = left_cleared other table one chosen kept [] (subst (λ (x : List (KeptChange S)). IsChoice table x chosen) (sym (append-nil (cleared kept))) choice) in
       made_no_undone other chosen (taken_back other chosen v (cleared kept)) (cleared kept) (cleared_no_undone other kept)
       ∙ taken_cleared other chosen v kept ∙ sym (made_left other table one chosen (taken_back other chosen v kept) kept out)
 
   -- ---- settled
 
-  pub keeps_oldest : (v : V) (ticket : ℕ) (saved : S) (later : List (Kept S)) → KeepsRow other Leads v (kept_as Done ticket saved ∷ later) → KeepsRow other Leads v later
+  pub keeps_oldest : (v : V) (ticket : ℕ) (saved : S) (later : List (KeptChange S)) → KeepsRow other Leads v (kept_as Done ticket saved ∷ later) → KeepsRow other Leads v later
   keeps_oldest v ticket saved later h = record { ordered = h.ordered.1; back = h.back.1; on = h.on.1 }
 
-  pub table_oldest : (v : V) (ticket : ℕ) (saved : S) (later : List (Kept S)) (chosen : ℕ → Bool) → chosen ticket ≡ true →
+  pub table_oldest : (v : V) (ticket : ℕ) (saved : S) (later : List (KeptChange S)) (chosen : ℕ → Bool) → chosen ticket ≡ true →
       table_by other v later chosen ≡ table_by other v (kept_as Done ticket saved ∷ later) chosen
   table_oldest v ticket saved later chosen it =
       let rest = taken_back other chosen v later in
       ap (λ (b : Bool). made_again other chosen (again_over other b Done saved (back_over other b Done saved rest)) later) (sym it)
 
-  pub keeps_cleared : (v : V) (earlier : List (Kept S)) (ticket : ℕ) (saved : S) (later : List (Kept S)) → KeepsRow other Leads v (earlier ++ kept_as Cleared ticket saved ∷ later) → KeepsRow other Leads v (earlier ++ later)
+  pub keeps_cleared : (v : V) (earlier : List (KeptChange S)) (ticket : ℕ) (saved : S) (later : List (KeptChange S)) → KeepsRow other Leads v (earlier ++ kept_as Cleared ticket saved ∷ later) → KeepsRow other Leads v (earlier ++ later)
   keeps_cleared v earlier ticket saved later h = record {
     ordered = ordered_drop earlier h.ordered;
     back = back_before v v earlier (kept_as Cleared ticket saved ∷ later) later refl h.back (lead_at v earlier (kept_as Cleared ticket saved) later h.back).1;
     on = on_drop v earlier h.on;
   }
     where
-      ordered_drop : (earlier : List (Kept S)) → IsOrdered (earlier ++ kept_as Cleared ticket saved ∷ later) → IsOrdered (earlier ++ later)
+      ordered_drop : (earlier : List (KeptChange S)) → IsOrdered (earlier ++ kept_as Cleared ticket saved ∷ later) → IsOrdered (earlier ++ later)
       ordered_drop [] o = o.1
       ordered_drop (e ∷ earlier) o =
           (λ u. let parts = all_split (λ x. x.standing ≢ Done) earlier (kept_as Cleared ticket saved ∷ later) (o.0 u) in all-append _ earlier later parts.0 parts.1.1, ordered_drop earlier o.1)
 
-      on_drop : (x : V) (earlier : List (Kept S)) → LeadOn other Leads x (earlier ++ kept_as Cleared ticket saved ∷ later) → LeadOn other Leads x (earlier ++ later)
+      on_drop : (x : V) (earlier : List (KeptChange S)) → LeadOn other Leads x (earlier ++ kept_as Cleared ticket saved ∷ later) → LeadOn other Leads x (earlier ++ later)
       on_drop x [] o = o.1
       on_drop x (e ∷ earlier) o = (o.0, on_drop (again_over other true e.standing e.saved x) earlier o.1)
 
-  pub table_cleared : (v : V) (earlier : List (Kept S)) (ticket : ℕ) (saved : S) (later : List (Kept S)) (chosen : ℕ → Bool) →
+  pub table_cleared : (v : V) (earlier : List (KeptChange S)) (ticket : ℕ) (saved : S) (later : List (KeptChange S)) (chosen : ℕ → Bool) →
       table_by other v (earlier ++ later) chosen ≡ table_by other v (earlier ++ kept_as Cleared ticket saved ∷ later) chosen
   table_cleared v earlier ticket saved later chosen =
       let k = kept_as Cleared ticket saved in
@@ -339,7 +339,7 @@ module _ {S V : Type 0} (other : S → V → V) (Leads : S → V → V → Type 
 
   -- ---- back and again
 
-  module _ (table : S → Option ℕ) (one : (a b : S) → IsOneTable (table a) (table b)) (v v' : V) (earlier : List (Kept S)) (ticket : ℕ) (saved saved' : S) (later : List (Kept S))
+  module _ (table : S → Option ℕ) (one : (a b : S) → IsOneTable (table a) (table b)) (v v' : V) (earlier : List (KeptChange S)) (ticket : ℕ) (saved saved' : S) (later : List (KeptChange S))
       (way : other saved v ≡ v') (again : other saved' v' ≡ v) (leads : Leads saved' v' v) where
     leads_there : Leads saved' v' (other saved' v')
     leads_there = subst (λ (x : V). Leads saved' v' x) (sym again) leads
@@ -453,13 +453,13 @@ module _ {S V : Type 0} (other : S → V → V) (Leads : S → V → V → Type 
         ∙ sym (ap (λ (z : V). made_again other chosen z (earlier ++ k ∷ later)) taken ∙ made)
 
   -- what back and again ask of the saved value
-  pub leads_last : (table : S → Option ℕ) (one : (a b : S) → IsOneTable (table a) (table b)) (v : V) (earlier : List (Kept S)) (ticket : ℕ) (saved : S) (later : List (Kept S)) →
+  pub leads_last : (table : S → Option ℕ) (one : (a b : S) → IsOneTable (table a) (table b)) (v : V) (earlier : List (KeptChange S)) (ticket : ℕ) (saved : S) (later : List (KeptChange S)) →
       KeepsRow other Leads v (earlier ++ kept_as Done ticket saved ∷ later) → IsUncovered table saved later → Leads saved v (other saved v)
   leads_last table one v earlier ticket saved later h u =
       let none = all_weaker (λ k. IsOneTable (table saved) (table k.saved) → k.standing ≢ Done) (λ k. k.standing ≢ Done) (λ k f. f (one saved k.saved)) later u in
       subst (λ (x : V). Leads saved x (other saved x)) (taken_no_done other nothing v later none) ((lead_at v earlier (kept_as Done ticket saved) later h.back).0 refl)
 
-  pub leads_first : (table : S → Option ℕ) (one : (a b : S) → IsOneTable (table a) (table b)) (v : V) (earlier : List (Kept S)) (ticket : ℕ) (saved : S) (later : List (Kept S)) →
+  pub leads_first : (table : S → Option ℕ) (one : (a b : S) → IsOneTable (table a) (table b)) (v : V) (earlier : List (KeptChange S)) (ticket : ℕ) (saved : S) (later : List (KeptChange S)) →
       KeepsRow other Leads v (earlier ++ kept_as Undone ticket saved ∷ later) → IsFounded table saved earlier → Leads saved v (other saved v)
   leads_first table one v earlier ticket saved later h u =
       let first = all_weaker (λ k. IsOneTable (table saved) (table k.saved) → k.standing ≢ Undone) (λ k. k.standing ≢ Undone) (λ k f. f (one saved k.saved)) earlier u in
@@ -467,17 +467,18 @@ module _ {S V : Type 0} (other : S → V → V) (Leads : S → V → V → Type 
 
 -- ---- what is in effect
 
-pub table_present : {S V : Type 0} (other : S → V → V) (v : V) (kept : List (Kept S)) (chosen : ℕ → Bool) → IsPresent kept chosen → table_by other v kept chosen ≡ v
+-- a choice of what is in effect gives the table as it is
+pub table_present : {S V : Type 0} (other : S → V → V) (v : V) (kept : List (KeptChange S)) (chosen : ℕ → Bool) → IsPresent kept chosen → table_by other v kept chosen ≡ v
 table_present {S} {V} other v kept chosen h =
     ap (λ (x : V). made_again other chosen x kept) (taken_same other chosen v kept (all_weaker _ _ (λ k e x. back_is k.standing k e x) kept h))
     ∙ made_same other chosen v kept (all_weaker _ _ (λ k e x. again_is k.standing k e x) kept h)
   where
-    back_is : (s : Standing) (k : Kept S) → chosen k.ticket ≡ is_done s → (x : V) → back_over other (chosen k.ticket) s k.saved x ≡ x
+    back_is : (s : Standing) (k : KeptChange S) → chosen k.ticket ≡ is_done s → (x : V) → back_over other (chosen k.ticket) s k.saved x ≡ x
     back_is Done k e x = back_chosen other (chosen k.ticket) Done k.saved x e
     back_is Undone k e x = back_not_done other (chosen k.ticket) Undone k.saved x Undone≢Done
     back_is Cleared k e x = back_not_done other (chosen k.ticket) Cleared k.saved x Cleared≢Done
 
-    again_is : (s : Standing) (k : Kept S) → chosen k.ticket ≡ is_done s → (x : V) → again_over other (chosen k.ticket) s k.saved x ≡ x
+    again_is : (s : Standing) (k : KeptChange S) → chosen k.ticket ≡ is_done s → (x : V) → again_over other (chosen k.ticket) s k.saved x ≡ x
     again_is Done k e x = again_not_undone other (chosen k.ticket) Done k.saved x Done≢Undone
     again_is Undone k e x = again_left other (chosen k.ticket) Undone k.saved x e
     again_is Cleared k e x = again_left other (chosen k.ticket) Cleared k.saved x e

@@ -1,4 +1,4 @@
--- What the changes of zones and records do.
+-- The changes of zones and records.
 use Rattle.std.specs.Prelude.{ℕ, Option, Some, None}
 use Rattle.local_zone.specs.declared.fault.TableFault.{TableFault}
 use Rattle.local_zone.specs.declared.fault.TableFault.TheVariants.{BelowRedirect, DataBelow, CnameClash, TooMany, NoMemory}
@@ -8,13 +8,14 @@ use Rattle.local_zone.specs.Reason.{reason_of_set, reason_of_add}
 use Rattle.table_changes.specs.declared.zones.ZoneChange.{ZoneChange}
 use Rattle.table_changes.specs.declared.zones.ZoneChange.TheVariants.{SetZone, DropZone, AddRecord, DropName}
 
+-- the zones and records after a change
 abbrev pub zones_after : ZoneChange → Tables → Tables
 zones_after (SetZone name kind) t = after_set (record { name = name; kind = kind }) t
 zones_after (DropZone name) t = after_drop name t
 zones_after (AddRecord new) t = after_add new t
 zones_after (DropName name) t = after_drop_name name t
 
--- the number of the reason that a fault gives
+-- the number of a fault's reason
 abbrev pub zone_code : TableFault → Option ℕ
 zone_code BelowRedirect = Some 1
 zone_code DataBelow = Some 2
@@ -22,10 +23,12 @@ zone_code CnameClash = Some 3
 zone_code TooMany = Some 4
 zone_code NoMemory = None
 
+-- the number of a fault's reason, if there is a fault
 abbrev pub zone_code_in : Option TableFault → Option ℕ
 zone_code_in None = None
 zone_code_in (Some fault) = zone_code fault
 
+-- the number of the reason to refuse a change, if there is one
 abbrev pub zone_reason : ZoneChange → Tables → Option ℕ
 zone_reason (SetZone name kind) t = zone_code_in (reason_of_set (record { name = name; kind = kind }) t)
 zone_reason (DropZone name) t = None

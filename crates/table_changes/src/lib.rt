@@ -1,8 +1,9 @@
 //! Local zones and stubs as one world, whose changes can be undone and redone.
 #![tactic(auto)]
 
-// The changes of each table, and the number of each reason why it refuses one.
+// The changes of stubs, and the numbers of the reasons to refuse one.
 mod stubs;
+// The changes of local zones and records, and the numbers of the reasons to refuse one.
 mod zones;
 // Both tables as one world.
 mod tables;

@@ -12,7 +12,7 @@ use ranked::{Fate, SharedFind};
 use std::alloc::Global;
 use stub_table::SavedStubs;
 
-/// What the operator set: local zones and records, and stubs. It has no cells.
+/// The operator's settings: local zones, records and stubs. It has no cells.
 #[derive(Drop)]
 pub struct TableWorld {
     tables: Tables,
@@ -35,7 +35,7 @@ pub enum SavedTable {
 impl TableChange {
     ghost use Rattle.table_changes.specs.Both.{change_of};
 
-    /// The change that a command makes of the tables. A flush makes none. What can be shared is shared.
+    /// The change of the tables that a command makes. A flush makes none. Records and stubs are shared, not copied.
     pub fn of(command: &Command) -> Result<Option<TableChange>, NoMemory>
         ensures { IfOk result (λ change. change ≡ change_of command.now) }
     {
@@ -72,7 +72,8 @@ impl TableWorld {
     /// Empty tables, which keep no changes. They take no memory.
     pub fn new(alloc: Global) -> TableWorld
         ensures keeps { ⟦<TableWorld as World>⟧.keeps result [] }
-        ensures empty { (chosen : ℕ → Bool) → IsSame (⟦<TableWorld as World>⟧.face result [] chosen) (record { tables = no_tables; cell = λ q. None }) }
+        ensures empty { (chosen : ℕ → Bool) →
+            IsSame (⟦<TableWorld as World>⟧.face result [] chosen) (record { tables = no_tables; cell = λ q. None }) }
         ensures newest { ⟦<TableWorld as World>⟧.newest result ≡ 0 }
     {
         TableWorld {
