@@ -18,6 +18,7 @@ effect question cell moment (Admit given find) = if touches find question then a
 effect question cell moment (Do given command) = if covers command question then None else cell
 effect question cell moment event = cell
 
+-- the cell of a question after one entry more
 abbrev pub cell_after : Question → Option (Admitted Find) → Entry → Option (Admitted Find)
 cell_after question cell entry = effect question cell entry.moment entry.event
 

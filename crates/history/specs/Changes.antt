@@ -1,4 +1,4 @@
--- What the commands make of local zones, records and stubs, and why one is refused.
+-- The local zones, records and stubs that commands make, and why one is refused.
 use Rattle.std.specs.Prelude.{List, [], Option, Some, None, fold}
 use Rattle.local_zone.specs.declared.fault.TableFault.{TableFault}
 use Rattle.local_zone.specs.declared.fault.TableFault.TheVariants as fault
@@ -43,10 +43,12 @@ after_command_on (DropName name) t = with_local t (after_drop_name name t.local)
 after_command_on (SetStub new) t = with_stubs t (stubs_with new t.stubs)
 after_command_on (DropStub name) t = with_stubs t (stubs_without name t.stubs)
 
+-- the tables after an event: commands alone change them
 abbrev pub after_event_on : Event → Tables → Tables
 after_event_on (Do moment command) t = after_command_on command t
 after_event_on event t = t
 
+-- the tables after one entry more
 abbrev pub tables_after : Tables → Entry → Tables
 tables_after t entry = after_event_on entry.event t
 
@@ -59,7 +61,7 @@ abbrev pub unless_refused : Option Reason → Command → Tables → Tables
 unless_refused None command t = after_command_on command t
 unless_refused (Some reason) command t = t
 
--- the reason that a fault of the table tells
+-- the reason for a fault of the table; want of memory is none
 abbrev pub reason_told : TableFault → Option Reason
 reason_told fault.BelowRedirect = Some BelowRedirect
 reason_told fault.DataBelow = Some DataBelow
@@ -67,20 +69,22 @@ reason_told fault.CnameClash = Some CnameClash
 reason_told fault.TooMany = Some TooMany
 reason_told fault.NoMemory = None
 
+-- the reason for a fault of the table, if there is one
 abbrev pub reason_in : Option TableFault → Option Reason
 reason_in None = None
 reason_in (Some told) = reason_told told
 
--- the reason that a fault of the stubs tells
+-- the reason for a fault of the stubs; want of memory is none
 abbrev pub stub_reason_told : StubFault → Option Reason
 stub_reason_told stub_fault.TooMany = Some TooMany
 stub_reason_told stub_fault.NoMemory = None
 
+-- the reason for a fault of the stubs, if there is one
 abbrev pub stub_reason_in : Option StubFault → Option Reason
 stub_reason_in None = None
 stub_reason_in (Some told) = stub_reason_told told
 
--- why a command is refused where the tables are these; a flush never is, and neither is what drops
+-- Why these tables refuse a command. They never refuse a flush or a drop.
 abbrev pub reason_on : Tables → Command → Option Reason
 reason_on t (FlushType target) = None
 reason_on t (Flush name) = None

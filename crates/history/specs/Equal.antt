@@ -1,7 +1,7 @@
 -- The values of `==`.
 use Rattle.std.specs.Prelude.{Bool}
 use Rattle.history.specs.declared.servers.Servers.{Servers}
-use Rattle.history.specs.declared.servers.Source.{Source}
+use Rattle.history.specs.declared.servers.Origin.{Origin}
 use Rattle.history.specs.declared.event.Ask.{Ask}
 use Rattle.history.specs.declared.event.Command.{Command}
 use Rattle.history.specs.declared.event.Journalled.{Journalled}
@@ -10,7 +10,7 @@ use Rattle.history.specs.declared.event.Seen.{Seen}
 use Rattle.history.specs.declared.event.Reason.{Reason}
 use Rattle.history.specs.declared.event.Reply.{Reply}
 use Rattle.history.specs.contracts.servers.ServersPartialEq.TheImpl as servers_impl
-use Rattle.history.specs.contracts.servers.SourcePartialEq.TheImpl as source_impl
+use Rattle.history.specs.contracts.servers.OriginPartialEq.TheImpl as source_impl
 use Rattle.history.specs.contracts.event.AskPartialEq.TheImpl as ask_impl
 use Rattle.history.specs.contracts.event.CommandPartialEq.TheImpl as command_impl
 use Rattle.history.specs.contracts.event.JournalledPartialEq.TheImpl as journalled_impl
@@ -19,29 +19,38 @@ use Rattle.history.specs.contracts.event.SeenPartialEq.TheImpl as seen_impl
 use Rattle.history.specs.contracts.event.ReasonPartialEq.TheImpl as reason_impl
 use Rattle.history.specs.contracts.event.ReplyPartialEq.TheImpl as reply_impl
 
+-- whether `==` calls two questions of a look equal
 abbrev pub ask_eq : Ask → Ask → Bool
 ask_eq a b = ask_impl.ghosts.eq a b
 
+-- whether `==` calls two commands equal
 abbrev pub command_eq : Command → Command → Bool
 command_eq a b = command_impl.ghosts.eq a b
 
+-- whether `==` calls two commands of the journal equal
 abbrev pub journalled_eq : Journalled → Journalled → Bool
 journalled_eq a b = journalled_impl.ghosts.eq a b
 
+-- whether `==` calls two events equal
 abbrev pub event_eq : Event → Event → Bool
 event_eq a b = event_impl.ghosts.eq a b
 
+-- whether `==` calls what two looks see equal
 abbrev pub seen_eq : Seen → Seen → Bool
 seen_eq a b = seen_impl.ghosts.eq a b
 
+-- whether `==` calls two reasons equal
 abbrev pub reason_eq : Reason → Reason → Bool
 reason_eq a b = reason_impl.ghosts.eq a b
 
+-- whether `==` calls two replies equal
 abbrev pub reply_eq : Reply → Reply → Bool
 reply_eq a b = reply_impl.ghosts.eq a b
 
-abbrev pub source_eq : Source → Source → Bool
+-- whether `==` calls two origins of servers equal
+abbrev pub source_eq : Origin → Origin → Bool
 source_eq a b = source_impl.ghosts.eq a b
 
+-- whether `==` calls two lists of servers equal
 abbrev pub servers_eq : Servers → Servers → Bool
 servers_eq a b = servers_impl.ghosts.eq a b

@@ -25,8 +25,8 @@ use Rattle.dns_text.specs.declared.addr.Addr.{Addr}
 use Rattle.dns_text.specs.Equal.{addr_eq}
 use Rattle.dns_text.specs.EqualLaws.{addr_eq_exact, addr_eq_itself}
 use Rattle.history.specs.declared.servers.Servers.{Servers}
-use Rattle.history.specs.declared.servers.Source.{Source}
-use Rattle.history.specs.declared.servers.Source.TheVariants.{Hints, Stub as FromStub, Cache}
+use Rattle.history.specs.declared.servers.Origin.{Origin}
+use Rattle.history.specs.declared.servers.Origin.TheVariants.{Hints, Stub as FromStub, Cache}
 use Rattle.history.specs.declared.event.Ask.{Ask}
 use Rattle.history.specs.declared.event.Ask.TheVariants as ask
 use Rattle.history.specs.declared.event.Command.{Command}
@@ -172,13 +172,13 @@ addr_eq-Decides a b = (addr_eq_exact a b, λ is. ap (addr_eq a) (sym is) ∙ add
 name_eq-Decides : (a b : Labels) → Decides (name_eq a b) (a ≡ b)
 name_eq-Decides a b = (name_eq_exact a b, λ is. ap (name_eq a) (sym is) ∙ name_eq_itself a)
 
-source_eq_exact : (a b : Source) → source_eq a b ≡ true → a ≡ b
+source_eq_exact : (a b : Origin) → source_eq a b ≡ true → a ≡ b
 source_eq_exact Hints Hints e = refl
 source_eq_exact FromStub FromStub e = refl
 source_eq_exact Cache Cache e = refl
 source_eq_exact _ _ e = absurd (false≢true e)
 
-source_eq_itself : (a : Source) → source_eq a a ≡ true
+source_eq_itself : (a : Origin) → source_eq a a ≡ true
 source_eq_itself Hints = refl
 source_eq_itself FromStub = refl
 source_eq_itself Cache = refl

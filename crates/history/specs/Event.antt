@@ -20,6 +20,7 @@ moment_of (Do moment command) = moment
 moment_of (Undo moment) = moment
 moment_of (Redo moment) = moment
 
+-- whether an event admits a find
 abbrev pub is_admission : Event → Bool
 is_admission (Admit moment find) = true
 is_admission _ = false

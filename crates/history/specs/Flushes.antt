@@ -1,11 +1,14 @@
 -- The last command of a choice that empties a cell.
-use Rattle.std.specs.Prelude.{ℕ, Bool, false, ◌==◌, Option, Some, None, List, [], ◌∷◌, if◌then◌else◌}
+use Rattle.std.specs.Prelude.{◌≡◌, ℕ, Bool, false, IsTrue, ◌==◌, Option, Some, None, List, [], ◌∷◌, ◌++◌, if◌then◌else◌}
 use Rattle.std.specs.Option.{option_or}
 use Rattle.dns_text.specs.declared.record.Question.{Question}
 use Rattle.history.specs.declared.event.Event.{Event}
 use Rattle.history.specs.declared.event.Event.TheVariants.{Do}
 use Rattle.history.specs.declared.event.Entry.{Entry}
+use Rattle.history.specs.declared.event.Command.{Command}
 use Rattle.history.specs.Event.{covers}
+use Rattle.history.specs.History.{standing_with}
+use Rattle.history.specs.Cells.{cell_by}
 
 -- the ticket that an event took, if it gave a command that covers the question
 abbrev pub ticket_covering : Question → Event → Option ℕ → Option ℕ
@@ -21,3 +24,13 @@ last_covering question (entry ∷ entries) = option_or (last_covering question e
 abbrev pub only : Option ℕ → ℕ → Bool
 only None ticket = false
 only (Some chosen) ticket = chosen == ticket
+
+-- A cell that a flush covers is the one that what stands after the flush gives.
+abbrev pub ForgetsBefore : Question → Entry → Type 0
+ForgetsBefore question flush = (before after : List Entry) (moment : ℕ) (command : Command) → flush.event ≡ Do moment command → IsTrue (covers command question) →
+    cell_by question (before ++ flush ∷ after) ≡ cell_by question after
+
+-- Whichever commands are chosen to stand, a cell is the same if of them only the last flush that covers it stands.
+abbrev pub LastFlushDecides : Question → Type 0
+LastFlushDecides question = (chosen : ℕ → Bool) (log : List Entry) →
+    cell_by question (standing_with chosen log) ≡ cell_by question (standing_with (only (last_covering question (standing_with chosen log))) log)

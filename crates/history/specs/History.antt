@@ -1,4 +1,4 @@
--- What a list of events comes to: its greatest moment, its marks, and what stands of it.
+-- The replay of a list of events: its greatest moment, its marks, and the entries that stand.
 use Rattle.std.specs.Prelude.{ℕ, ◌+◌, max, Bool, true, false, not, Option, Some, None, List, [], ◌∷◌, ◌++◌, fold, filter}
 use Rattle.history.specs.declared.event.Event.{Event}
 use Rattle.history.specs.declared.event.Event.TheVariants.{Admit, Do, Undo, Redo}
@@ -27,6 +27,7 @@ stands_by chosen (Admit moment find) ticket = true
 stands_by chosen (Do moment command) (Some ticket) = chosen ticket
 stands_by chosen event ticket = false
 
+-- the entries that stand if these tickets are chosen
 abbrev pub standing_with : (ℕ → Bool) → List Entry → List Entry
 standing_with chosen log = filter (λ entry. stands_by chosen entry.event entry.ticket) log
 
@@ -46,6 +47,7 @@ standing_of past = standing_with (is_unstruck past.marks) past.log
 abbrev pub tables_of : Past → Tables
 tables_of past = tables_by (standing_of past)
 
+-- stubs, by what stands
 abbrev pub stubs_of : Past → Stubs
 stubs_of past = (tables_of past).stubs
 
@@ -58,6 +60,7 @@ abbrev pub ticket_unless : Marks → Option Reason → Option ℕ
 ticket_unless marks None = Some (marks.tickets + 1)
 ticket_unless marks (Some reason) = None
 
+-- the ticket that an event takes: commands alone take one
 abbrev pub ticket_for : Past → Event → Option ℕ
 ticket_for past (Do moment command) = ticket_unless past.marks (reason_of past command)
 ticket_for past event = None
@@ -70,7 +73,7 @@ marks_after bound marks (Undo moment) ticket = after_undo marks
 marks_after bound marks (Redo moment) ticket = after_redo marks
 marks_after bound marks event ticket = marks
 
--- one event more, where the newest `bound` commands can be undone
+-- one event more, if the newest `bound` commands can be undone
 abbrev pub followed_by : ℕ → Past → Event → Past
 followed_by bound past event =
     let now = max past.now (moment_of event) in

@@ -1,5 +1,5 @@
 -- The commands that the journal holds: those that can be undone or redone.
-use Rattle.std.specs.Prelude.{ℕ, Bool, true, false, ◌==◌, Option, Some, None, List, map, filter_map, if◌then◌else◌}
+use Rattle.std.specs.Prelude.{ℕ, Bool, true, false, ◌==◌, Option, Some, None, List, map, filter, not, filter_map, if◌then◌else◌}
 use Rattle.std.specs.List.{list_any}
 use Rattle.std.specs.Option.{option_map}
 use Rattle.history.specs.declared.event.Command.{Command}
@@ -9,6 +9,7 @@ use Rattle.history.specs.declared.event.Journalled.{Journalled}
 use Rattle.history.specs.Marks.{Marks}
 use Rattle.history.specs.History.{Past}
 
+-- whether a ticket is one of these
 abbrev pub is_among : List ℕ → ℕ → Bool
 is_among tickets ticket = list_any (λ t. t == ticket) tickets
 
@@ -29,5 +30,14 @@ journalled_of marks event ticket = None
 abbrev pub commands_of : Past → List Journalled
 commands_of past = filter_map (λ entry. journalled_of past.marks entry.event entry.ticket) past.log
 
+-- the tickets of these commands, in their order
 abbrev pub tickets_of : List Journalled → List ℕ
 tickets_of commands = map (λ command. command.ticket) commands
+
+-- the tickets of the commands of the journal that are done
+abbrev pub tickets_done : Past → List ℕ
+tickets_done past = tickets_of (filter (λ command. command.done) (commands_of past))
+
+-- the tickets of the commands of the journal that are undone
+abbrev pub tickets_undone : Past → List ℕ
+tickets_undone past = tickets_of (filter (λ command. not command.done) (commands_of past))

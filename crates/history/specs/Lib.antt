@@ -15,5 +15,6 @@ pub mod Equal
 pub mod EqualLaws
 pub mod Runs
 pub mod Refusal
+pub mod Undo
 pub mod Redo
 pub mod Counts

@@ -1,11 +1,12 @@
--- What a refusal leaves as it was.
-use Rattle.std.specs.Prelude.{◌≡◌, max, Bool, true, false}
+-- What a refusal leaves as it was: all but the clock.
+use Rattle.std.specs.Prelude.{◌≡◌, ℕ, max, Bool, true, false, List, [], ◌∷◌, ◌++◌}
 use Rattle.history.specs.declared.event.Event.{Event}
 use Rattle.history.specs.declared.event.Reply.{Reply}
 use Rattle.history.specs.declared.event.Reply.TheVariants.{Refused, NothingToUndo, NothingToRedo}
 use Rattle.history.specs.Event.{moment_of}
-use Rattle.history.specs.History.{Past, standing_of, stubs_of, tables_of}
+use Rattle.history.specs.History.{Past, past_of, standing_of, stubs_of, tables_of}
 
+-- whether a command, an undo or a redo was refused
 abbrev pub is_refusal : Reply → Bool
 is_refusal (Refused reason) = true
 is_refusal NothingToUndo = true
@@ -19,3 +20,7 @@ pub record SameButClock (before after : Past) (event : Event) : Type 0 where
   pub stubs : stubs_of after ≡ stubs_of before
   pub marks : after.marks ≡ before.marks
   pub now : after.now ≡ max before.now (moment_of event)
+
+-- An event that follows a history changes nothing but the clock.
+abbrev pub ChangesOnlyClock : ℕ → List Event → Event → Type 0
+ChangesOnlyClock bound history event = SameButClock (past_of bound history) (past_of bound (history ++ event ∷ [])) event

@@ -1,4 +1,4 @@
--- What is replied to an event, by the events before it.
+-- The reply to an event, by the events before it.
 use Rattle.std.specs.Prelude.{ℕ, ◌+◌, max, nat_lt, Bool, true, false, Option, Some, None, List, [], ◌∷◌, ◌++◌, if◌then◌else◌}
 use Rattle.ranked.specs.declared.find.Find.{Find}
 use Rattle.ranked.specs.declared.find.Scope.{Scope}
@@ -39,7 +39,7 @@ abbrev pub passes_on : Local (List Record) Record → Bool
 passes_on local.Pass = true
 passes_on answer = false
 
--- What local zones answer comes first, and what is held where they say nothing.
+-- The answer of local zones comes first, and what is cached if they have none.
 abbrev pub seen_first : Local (List Record) Record → SeenValue → SeenValue
 seen_first answer held = if passes_on answer then held else LocalSeen answer
 
@@ -64,14 +64,17 @@ reply_to_admission past find moment (One kind) =
     if turns_away (cell_of past (record { owner = find.owner; kind = kind })) (admission_of find find (max past.now moment)) then Outranked else Taken
 reply_to_admission past find moment Whole = Taken
 
+-- An accepted command takes the next ticket. A refused one has the reason.
 abbrev pub reply_to_command : Marks → Option Reason → Reply
 reply_to_command marks None = Done (marks.tickets + 1)
 reply_to_command marks (Some reason) = Refused reason
 
+-- An undo names the ticket that it takes back.
 abbrev pub reply_to_undo : Option ℕ → Reply
 reply_to_undo None = NothingToUndo
 reply_to_undo (Some ticket) = Undone ticket
 
+-- A redo names the ticket that it puts back.
 abbrev pub reply_to_redo : Option ℕ → Reply
 reply_to_redo None = NothingToRedo
 reply_to_redo (Some ticket) = Redone ticket
@@ -89,6 +92,10 @@ reply_of settings past (Redo moment) = reply_to_redo (last_of past.marks.undone)
 abbrev pub ticket_taken : Reply → Option ℕ
 ticket_taken (Done ticket) = Some ticket
 ticket_taken _ = None
+
+-- the reply to an event that follows a history
+abbrev pub reply_to : Settings → List Event → Event → Reply
+reply_to settings history event = reply_of settings (past_of settings.journal history) event
 
 -- the replies to a list of events that follow a history, each by those before it
 abbrev pub replies_of : Settings → List Event → List Event → List Reply

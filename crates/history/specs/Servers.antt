@@ -1,4 +1,4 @@
--- Which servers to ask about a name, by the stubs and by what is shown of each question.
+-- The servers to ask about a name, by the stubs and by what the cache shows of each question.
 use Rattle.std.specs.Prelude.{ℕ, ◌==◌, Bool, not, ◌||◌, nat_lt, Option, Some, None, List, [], ◌∷◌, ◌++◌, length, filter, unwrap_or, if◌then◌else◌}
 use Rattle.std.specs.List.{flat_map, list_any}
 use Rattle.std.specs.Option.{option_map, option_or}
@@ -19,7 +19,7 @@ use Rattle.stub_table.specs.Stubs.{Stubs}
 use Rattle.stub_table.specs.Closest.{stub_named}
 use Rattle.history.specs.declared.event.Settings.{Settings}
 use Rattle.history.specs.declared.servers.Servers.{Servers}
-use Rattle.history.specs.declared.servers.Source.TheVariants as source
+use Rattle.history.specs.declared.servers.Origin.TheVariants as source
 use Rattle.history.specs.History.{Past, stubs_of}
 use Rattle.history.specs.Cells.{shows}
 
@@ -50,8 +50,13 @@ abbrev pub addrs_at : Settings → (Question → Option (Shown Find)) → Labels
 addrs_at settings shown name =
     flat_map (addr_of settings.server_port) (data_at shown number.A name) ++ flat_map (addr_of settings.server_port) (data_at shown number.AAAA name)
 
+-- whether the cache has no address of a server
 abbrev pub has_no_addr : Settings → (Question → Option (Shown Find)) → Labels → Bool
 has_no_addr settings shown name = length (addrs_at settings shown name) == 0
+
+-- those of these servers whose address the cache has not
+abbrev pub without_addr : Settings → (Question → Option (Shown Find)) → List Labels → List Labels
+without_addr settings shown targets = filter (has_no_addr settings shown) targets
 
 -- the servers of these names, for a zone
 abbrev pub servers_named : Settings → (Question → Option (Shown Find)) → Labels → List Labels → Servers
@@ -59,17 +64,18 @@ servers_named settings shown zone targets = record {
   zone = zone;
   source = source.Cache;
   addrs = flat_map (addrs_at settings shown) targets;
-  missing = filter (has_no_addr settings shown) targets;
+  missing = without_addr settings shown targets;
 }
 
 -- Of a zone's servers one has an address, or one is not at or below the zone, so that its address can be asked of other servers.
 abbrev pub is_usable : Servers → List Labels → Bool
 is_usable servers targets = nat_lt 0 (length servers.addrs) || list_any (λ target. not (is_at_or_below target servers.zone)) targets
 
+-- these servers, if they are usable
 abbrev pub if_usable : List Labels → Servers → Option Servers
 if_usable targets servers = if is_usable servers targets then Some servers else None
 
--- what the NS set of this very name leads to, where that is usable
+-- what the NS set of this very name leads to, if that is usable
 abbrev pub cached_servers : Settings → (Question → Option (Shown Find)) → Labels → Option Servers
 cached_servers settings shown name =
     let targets = flat_map target_of (data_at shown number.NS name) in
@@ -77,6 +83,7 @@ cached_servers settings shown name =
 
 -- ---- the closest
 
+-- the servers that a stub names
 abbrev pub servers_in_stub : Labels → Stub → Servers
 servers_in_stub name stub = record { zone = name; source = source.Stub; addrs = stub.addrs; missing = [] }
 

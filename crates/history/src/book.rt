@@ -18,7 +18,7 @@ use std::alloc::{AllocError, AllocFailed};
 use stub_table::StubTable;
 use thiserror::Error;
 
-/// Why an event is not taken. Then nothing has changed, the greatest moment included.
+/// The reason that an event is not taken. Then nothing has changed, the greatest moment included.
 #[derive(Clone, Copy, Debug, PartialEq, Eq, Error)]
 pub enum StepFault {
     /// The moment is `MOMENT_END` or later.
@@ -27,7 +27,7 @@ pub enum StepFault {
     /// `MOST_EVENTS` events were taken.
     #[error("no more events are counted")]
     CountEnded,
-    /// As many cells are stored as there may be. It comes to an admission alone.
+    /// As many cells are stored as there may be. Only an admission meets this.
     #[error("{stored} cells are stored")]
     Full { stored: usize },
     /// Memory was refused.
@@ -55,12 +55,13 @@ impl<T: Drop> From<AllocFailed<T>> for StepFault {
     }
 }
 
-/// A book of what was found. What it replies is what a replay of its history from nothing gives, with the undone commands struck out.
+/// A cache with local zones and stubs. Each reply is the one that a replay of its history from nothing gives, with the undone
+/// commands struck out.
 pub trait Book: Drop {
-    /// The book is what this history comes to.
+    /// The book is in the state that a replay of this history gives.
     ghost stands_for: { Self → List Event → Type 0 };
 
-    /// What the book was made with.
+    /// The settings that the book was made with.
     ghost settings: { Self → Settings };
 
     /// How many cells are stored.
@@ -68,23 +69,23 @@ pub trait Book: Drop {
 
     /// Takes an event.
     fn step(&mut self, event: Event) -> Result<Reply, StepFault>
-        // The reply is that of the replay; a fault comes only for its reason.
+        // The reply is that of the replay, and each fault has its reason.
         ensures answers { (h : List Event) → stands_for self.old h → Answers (settings self.old) h event result }
 
-        // The book stands for the history with the event, and after a fault for the history as it was.
+        // The book stands for the history with the event, or after a fault for the history as it was.
         ensures stands { (h : List Event) → stands_for self.old h → stands_for self.new (history_after h event result) }
 
-        // It is full only where as many cells are stored as there may be.
+        // It is full only if as many cells are stored as there may be.
         ensures full { (n : ℕ) → IsErrOf result (StepFault.Full n) → stored self.old ≡ n }
         ensures same_store { OnErr result (stored self.new ≡ stored self.old) }
         ensures settings { settings self.new ≡ settings self.old };
 
-    /// What a look that gives this moment would see. It moves no clock, and no moment is too late for it.
+    /// The reply that a lookup at this moment would get. It moves no clock, and no moment is too late for it.
     fn seen(&self, ask: &Ask, moment: u64) -> Result<Seen, NoMemory>
         ensures { (h : List Event) → stands_for self.now h →
             IfOk result (λ s. s ≡ seen_of (settings self.now) (past_of (settings self.now).journal h) ask.now moment) };
 
-    /// What a look at a question would see, with no memory taken.
+    /// The reply that a lookup of a question would get. It takes no memory.
     fn look<'a>(&'a self, question: &'a Question, moment: u64) -> Look<'a>
         ensures { (h : List Event) → stands_for self.now h →
             look_seen result ≡ seen_of (settings self.now) (past_of (settings self.now).journal h) (Ask.Answer question.now) moment };
@@ -109,9 +110,9 @@ pub trait Book: Drop {
     /// The journal has room for a command.
     ghost has_journal: { (book : Self) (h : List Event) → stands_for book h → 1 ≤ (settings book).journal };
 
-    /// No more is stored than was admitted.
+    /// No more cells are stored than finds were admitted.
     ghost stores_few: { (book : Self) (h : List Event) → stands_for book h → stored book ≤ count_by is_admission h };
 
-    /// The histories that it stands for have as many events.
+    /// All histories that the book stands for have as many events.
     ghost one_count: { (book : Self) (h k : List Event) → stands_for book h → stands_for book k → length h ≡ length k };
 }

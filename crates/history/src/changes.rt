@@ -1,4 +1,4 @@
-//! What a command makes of local zones, records and stubs.
+//! The change that a command makes of local zones, records and stubs.
 
 ghost use Rattle.std.specs.Prelude.{◌≡◌, IfOk, OnErr, OnOk, None, Some};
 ghost use Rattle.history.specs.Changes.{after_command_on, reason_on, reason_told, stub_reason_told, unless_refused};
@@ -12,7 +12,7 @@ use std::alloc::AllocError;
 use stub_table::{Stub, StubFault};
 
 impl Tables {
-    /// Makes the change of a command, or returns why it is refused. Then, and where memory is refused, nothing has changed.
+    /// Makes the change of a command, or returns why it is refused. Then, and if memory is refused, nothing has changed.
     pub fn change(&mut self, command: &Command) -> Result<Option<Reason>, NoMemory>
         ensures told { IfOk result (λ o. o ≡ reason_on self.old command.now) }
         ensures changed { IfOk result (λ o. self.new ≡ unless_refused o command.now self.old) }
@@ -29,7 +29,7 @@ impl Tables {
         }
     }
 
-    /// Obeys a command that stands. It was accepted where what stands before it stood, so nothing but memory keeps it from being made.
+    /// Obeys a command that stands. The tables that stand before it accepted it, so only want of memory can refuse it.
     pub fn obey(&mut self, command: &Command) -> Result<(), NoMemory>
         ensures { OnOk result (self.new ≡ after_command_on command.now self.old) }
     {
@@ -106,7 +106,7 @@ fn drop_stub(tables: &mut Tables, name: &Name) -> Result<Option<Reason>, NoMemor
     }
 }
 
-/// The reason that a fault of the local tables tells.
+/// The reason for a fault of the local tables.
 fn reason(fault: TableFault) -> Result<Reason, NoMemory>
     ensures { IfOk result (λ reason. reason_told fault ≡ Some reason) }
 {
@@ -119,7 +119,7 @@ fn reason(fault: TableFault) -> Result<Reason, NoMemory>
     }
 }
 
-/// The reason that a fault of the stubs tells.
+/// The reason for a fault of the stubs.
 fn stub_reason(fault: StubFault) -> Result<Reason, NoMemory>
     ensures { IfOk result (λ reason. stub_reason_told fault ≡ Some reason) }
 {

@@ -7,7 +7,7 @@ ghost use Rattle.history.specs.Servers.{servers_at, servers_by, servers_in_hints
 
 use crate::delegation::cached_servers;
 use crate::event::Settings;
-use crate::servers::{Servers, Source};
+use crate::servers::{Origin, Servers};
 use crate::source::CellSource;
 use dns_name::{Name, NoMemory};
 use dns_text::{Addr, Items};
@@ -34,7 +34,7 @@ pub fn servers<C: CellSource>(
     }
 }
 
-/// What this very name has: its stub, else what the cache has.
+/// The servers that this very name has: those of its stub, else those that the cache has.
 fn servers_at<C: CellSource>(
     alloc: Global,
     settings: &Settings,
@@ -68,7 +68,7 @@ fn servers_in_stub(alloc: Global, name: &Name, stub: &Stub) -> Result<Servers, N
 {
     Ok(Servers {
         zone: name.clone()?,
-        source: Source::Stub,
+        source: Origin::Stub,
         addrs: copy_addrs(alloc, &stub.addrs)?,
         missing: Items::new(Vec::new(alloc)),
     })
@@ -79,7 +79,7 @@ fn servers_in_hints(alloc: Global, settings: &Settings) -> Result<Servers, NoMem
 {
     Ok(Servers {
         zone: Name::root(alloc),
-        source: Source::Hints,
+        source: Origin::Hints,
         addrs: copy_addrs(alloc, &settings.hints)?,
         missing: Items::new(Vec::new(alloc)),
     })

@@ -1,20 +1,20 @@
 //! The servers of a zone, by what the cache holds.
 
-ghost use Rattle.std.specs.Prelude.{◌≡◌, ◌++◌, ◌∷◌, [], IfOk, OnOk, not, filter};
+ghost use Rattle.std.specs.Prelude.{◌≡◌, ◌++◌, ◌∷◌, [], IfOk, OnOk, not};
 ghost use Rattle.std.specs.List.{flat_map, list_any};
 ghost use Rattle.dns_name.specs.Below.{is_at_or_below};
 ghost use Rattle.ranked.specs.Body.{data_of};
-ghost use Rattle.history.specs.Servers.{addr_of, addrs_at, cached_servers, data_at, has_no_addr, is_usable, servers_named, target_of};
+ghost use Rattle.history.specs.Servers.{addr_of, addrs_at, cached_servers, data_at, is_usable, servers_named, target_of, without_addr};
 
 use crate::event::Settings;
-use crate::servers::{Servers, Source};
+use crate::servers::{Origin, Servers};
 use crate::source::CellSource;
 use dns_name::{Name, NoMemory};
 use dns_text::{Addr, Data, Ip, Items, types};
 use ranked::Body;
 use std::alloc::Global;
 
-/// What the cache has at this very name, where that is usable.
+/// The servers that the cache has at this very name, if they are usable.
 pub(crate) fn cached_servers<C: CellSource>(
     alloc: Global,
     settings: &Settings,
@@ -98,7 +98,7 @@ fn servers_named<C: CellSource>(
     }
     Ok(Servers {
         zone: zone.clone()?,
-        source: Source::Cache,
+        source: Origin::Cache,
         addrs: Items::new(addrs),
         missing: Items::new(missing),
     })
@@ -115,7 +115,7 @@ fn add_server<C: CellSource>(
     missing: &mut Vec<Name>,
 ) -> Result<(), NoMemory>
     ensures addrs { OnOk result (addrs.new.items ≡ addrs.old.items ++ addrs_at settings.now (C.shows_at cells.now moment) target.now) }
-    ensures missing { OnOk result (missing.new.items ≡ missing.old.items ++ filter (has_no_addr settings.now (C.shows_at cells.now moment)) (target.now ∷ [])) }
+    ensures missing { OnOk result (missing.new.items ≡ missing.old.items ++ without_addr settings.now (C.shows_at cells.now moment) (target.now ∷ [])) }
 {
     let own = addrs_at(alloc, settings, cells, moment, target)?;
     if own.is_empty() {

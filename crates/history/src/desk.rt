@@ -1,4 +1,4 @@
-//! What a caller can hand an event to.
+//! The desk: a book behind whatever a caller can hand an event to.
 
 ghost use Rattle.std.specs.Prelude.{◌≡◌, Result};
 ghost use Rattle.history.specs.declared.event.Event.{Event};
@@ -10,10 +10,10 @@ use crate::book::{Book, StepFault};
 use crate::event::{Event, Reply};
 use thiserror::Error;
 
-/// Why a call gets no reply.
+/// The reason that a call gets no reply.
 #[derive(Clone, Copy, Debug, PartialEq, Eq, Error)]
 pub enum DeskFault {
-    /// The book does not take the event.
+    /// The book does not take the event: this is its fault.
     #[error("{0}")]
     Step(StepFault),
     /// The caller has seen more calls than were made: it is a caller of another book.
@@ -21,17 +21,17 @@ pub enum DeskFault {
     Behind { at: u64 },
 }
 
-/// Anything that a caller can hand an event to.
+/// A book behind anything that a caller can hand an event to.
 pub trait Desk {
     /// One call: the desk before, the event, the answer, the desk after.
     ghost calls: { Self → Event → Result Reply DeskFault → Self → Type 0 };
 
-    /// Hands in an event.
+    /// Hands an event to the book.
     fn call(&mut self, event: Event) -> Result<Reply, DeskFault>
         ensures { calls self.old event result self.new };
 }
 
-/// A book is a desk for whoever has it alone. It is never behind.
+/// A book is a desk for its only owner. It is never behind.
 impl<B: Book> Desk for B {
     ghost calls = { BookCall B.stands_for B.settings B.stored };
 

@@ -1,4 +1,4 @@
-//! What a book is given and asked, and what it replies.
+//! Events, lookups and replies of a book.
 
 ghost use Rattle.std.specs.Prelude.{◌≡◌, IfOk, Some};
 ghost use Rattle.std.specs.Option.{option_map};
@@ -12,10 +12,10 @@ use ranked::{Flush, Held, Reach, SharedFind, Shown};
 use std::alloc::Global;
 use stub_table::Stub;
 
-/// What a book is asked.
+/// A question to a book.
 #[derive(Drop, PartialEq)]
 pub enum Ask {
-    /// What is known about a question.
+    /// The answer that the local zones or the cache have for a question.
     Answer(Question),
     /// The local zones.
     Zones,
@@ -29,7 +29,7 @@ pub enum Ask {
     Servers(Name),
 }
 
-/// What the operator gives, and can take back.
+/// A command of the operator, which can be undone.
 #[derive(Drop, PartialEq)]
 pub enum Command {
     /// Empties the cell of one question.
@@ -69,7 +69,7 @@ impl Command {
         }
     }
 
-    /// The flush that it gives, if it gives one.
+    /// The flush that this command is, if it is one.
     pub fn flush(&self) -> Result<Option<Flush>, NoMemory>
         ensures { IfOk result (λ flush. flush ≡ flush_of self.now) }
     {
@@ -92,17 +92,17 @@ fn flush_at(name: &Name, reach: Reach) -> Result<Option<Flush>, NoMemory>
 /// One event, with the moment that it gives, in seconds.
 #[derive(Drop, PartialEq)]
 pub enum Event {
-    /// A find comes to the cache.
+    /// A find is admitted to the cache.
     Admit { moment: u64, find: SharedFind },
-    /// Something is asked.
+    /// A caller looks something up.
     Look { moment: u64, ask: Ask },
-    /// What can never be shown again may be given up. It changes nothing but the clock.
+    /// The book may drop what it can never show again. Nothing but the clock changes.
     Sweep { moment: u64 },
     /// The operator gives a command.
     Do { moment: u64, command: Command },
-    /// The newest command that can be undone is taken back.
+    /// The operator undoes the newest command that can be undone.
     Undo { moment: u64 },
-    /// The command that was undone last is put back at its place.
+    /// The operator redoes the command that was undone last. It is back at the place that it had.
     Redo { moment: u64 },
 }
 
@@ -131,21 +131,21 @@ impl Event {
     }
 }
 
-/// What is seen, with the data lent.
+/// What a lookup sees, with the data borrowed.
 #[derive(Drop)]
 pub enum Look<'a> {
     /// Nothing that may be shown.
     Unknown,
     /// A find that is alive, with the seconds left.
     Held(Held<'a>),
-    /// What local zones answer, which is not `Pass`.
+    /// The answer of local zones, which is not `Pass`.
     Local(Local<LocalSet<'a>, &'a LocalRecord>),
 }
 
 impl Look<'_> {
     ghost use Rattle.history.specs.Reply.{look_seen};
 
-    /// The same with a share of the data. It fails where a find has more owners than can be counted.
+    /// The same with a share of the data. It fails if a find has more owners than can be counted.
     pub fn to_seen(&self, alloc: Global) -> Result<Seen, NoMemory>
         ensures { IfOk result (λ seen. seen ≡ look_seen self.now) }
     {
@@ -187,14 +187,14 @@ fn share_soa(soa: &Option<&LocalRecord>) -> Result<Option<LocalRecord>, NoMemory
     }
 }
 
-/// What is seen, with a share of the data.
+/// What a lookup sees, with a share of the data.
 #[derive(Drop, PartialEq)]
 pub enum Seen {
     /// Nothing that may be shown.
     Unknown,
     /// A find that is alive, with the seconds left.
     Held(Shown<SharedFind>),
-    /// What local zones answer, which is not `Pass`.
+    /// The answer of local zones, which is not `Pass`.
     Local(Local<Items<SeenRecord>, LocalRecord>),
     /// The local zones, in order.
     Zones(Items<Shared<Zone>>),
@@ -230,20 +230,20 @@ pub enum Reason {
     TooMany,
 }
 
-/// What is replied to an event.
+/// The reply to an event.
 #[derive(Drop, PartialEq)]
 pub enum Reply {
-    /// The find is held.
+    /// The find is cached.
     Taken,
-    /// The find is not held: what is held is alive and of higher rank.
+    /// The find is not cached: the cache has one that is alive and of higher rank.
     Outranked,
     /// What the look sees.
     Seen(Seen),
-    /// What can never be shown again may have been given up.
+    /// The book may have dropped what it can never show again.
     Swept,
     /// The command is accepted, and took this ticket.
     Done { ticket: u64 },
-    /// The command is not accepted.
+    /// The command is refused, and nothing changes.
     Refused(Reason),
     /// The command of this ticket is taken back.
     Undone { ticket: u64 },
@@ -258,7 +258,7 @@ pub enum Reply {
 impl Reply {
     ghost use Rattle.history.specs.Reply.{ticket_taken};
 
-    /// The ticket that a command took, where this is the reply to one.
+    /// The ticket that a command took, if this is the reply to one.
     pub fn ticket_taken(&self) -> Option<u64>
         ensures { result ≡ ticket_taken self.now }
     {
@@ -278,7 +278,7 @@ pub struct Entry {
     pub ticket: Option<u64>,
 }
 
-/// What a book is made with.
+/// The settings that a book is made with.
 #[derive(Drop, PartialEq)]
 pub struct Settings {
     /// How many of the newest commands can be undone, from 1 to `MOST_COMMANDS`.

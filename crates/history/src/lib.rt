@@ -1,4 +1,4 @@
-//! The promise of a book of what was found, in which every command can be undone.
+//! The promise of a book: a cache, local zones and stubs in which every command can be undone.
 #![tactic(auto)]
 
 // The servers to ask about a name.
@@ -15,19 +15,19 @@ mod made;
 mod changes;
 // The promise that every book keeps.
 mod book;
-// The desk: whatever a caller can hand an event to.
+// The desk: a book behind whatever a caller can hand an event to.
 mod desk;
 // A run of any book over a list of events.
 mod runs;
 // Laws of undoing and refusing, by the definitions alone.
 mod laws;
-// The trait of what shows cells.
+// The trait of a cache that shows cells.
 mod source;
 // The servers of a zone, by the cells shown.
 mod delegation;
 // The servers that are closest to a name.
 mod closest;
-// What a lookup sees, with a share of the data.
+// The reply to a lookup, with a share of the data.
 mod sight;
 
 pub use book::{Book, StepFault};
@@ -43,6 +43,6 @@ pub use limits::{
 };
 pub use made::Tables;
 pub use runs::{RunFault, run};
-pub use servers::{Servers, Source};
+pub use servers::{Origin, Servers};
 pub use sight::{share_records, share_stubs, share_zones, sight as question_sight};
 pub use source::CellSource;

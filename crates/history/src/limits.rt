@@ -1,4 +1,4 @@
-//! How far moments, counts and settings go.
+//! The limits of moments, counts and settings.
 
 ghost use Rattle.std.specs.Prelude.{◌↔◌, IsTrue};
 ghost use Rattle.history.specs.Event.{AreSettings};

@@ -1,4 +1,4 @@
-//! What the operator's commands make.
+//! The tables that the operator's commands make.
 
 ghost use Rattle.std.specs.Prelude.{◌≡◌};
 ghost use Rattle.history.specs.Changes.{no_tables};

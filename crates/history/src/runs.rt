@@ -1,10 +1,8 @@
 //! Any book, over a list of events.
 
-ghost use Rattle.std.specs.Prelude.{◌≡◌, ◌++◌, ◌∷◌, [], ℕ, List, MatchResult};
+ghost use Rattle.std.specs.Prelude.{◌≡◌, List};
 ghost use Rattle.history.specs.declared.event.Event.{Event};
-ghost use Rattle.history.specs.History.{past_of};
-ghost use Rattle.history.specs.Reply.{reply_of, replies_of};
-ghost use Rattle.history.specs.Runs.{Meets, StopsAfter};
+ghost use Rattle.history.specs.Runs.{Runs, Steps};
 
 use crate::book::{Book, StepFault};
 use crate::event::{Event, Reply};
@@ -48,11 +46,8 @@ pub fn run<B: Book>(
     events: Vec<Event>,
     replies: &mut Vec<Reply>,
 ) -> Result<(), RunFault>
-    // Each reply is that of the replay of the events before it. After a fault that is so of the events before the one that met it, and the fault is what its step told.
-    ensures replies { (h : List Event) → B.stands_for book.old h → MatchResult result
-        (λ _. (replies.new.items ≡ replies.old.items ++ replies_of (B.settings book.old) h events.items) × B.stands_for book.new (h ++ events.items))
-        (λ fault. (taken : List Event) × StopsAfter (B.settings book.old) h events.items taken fault
-        × (replies.new.items ≡ replies.old.items ++ replies_of (B.settings book.old) h taken) × B.stands_for book.new (h ++ taken)) }
+    ensures replies { (h : List Event) → B.stands_for book.old h →
+        Runs (B.settings book.old) (B.stands_for book.new) h events.items replies.old.items replies.new.items result }
     ensures settings { B.settings book.new ≡ B.settings book.old }
 {
     for event in events {
@@ -63,9 +58,8 @@ pub fn run<B: Book>(
 
 /// Takes an event and adds its reply.
 fn step_one<B: Book>(book: &mut B, event: Event, replies: &mut Vec<Reply>) -> Result<(), RunFault>
-    ensures answered { (h : List Event) → B.stands_for book.old h → MatchResult result
-        (λ _. (replies.new.items ≡ replies.old.items ++ reply_of (B.settings book.old) (past_of (B.settings book.old).journal h) event ∷ []) × B.stands_for book.new (h ++ event ∷ []))
-        (λ fault. Meets (B.settings book.old) h event fault × (replies.new.items ≡ replies.old.items) × B.stands_for book.new h) }
+    ensures answered { (h : List Event) → B.stands_for book.old h →
+        Steps (B.settings book.old) (B.stands_for book.new) h event replies.old.items replies.new.items result }
     ensures settings { B.settings book.new ≡ B.settings book.old }
 {
     replies.reserve(1)?;

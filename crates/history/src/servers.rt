@@ -1,11 +1,11 @@
-//! Which servers to ask about a name.
+//! The servers to ask about a name.
 
 use dns_name::Name;
 use dns_text::{Addr, Items};
 
-/// What tells of servers.
+/// The origin of a list of servers.
 #[derive(Clone, Copy, PartialEq, Eq)]
-pub enum Source {
+pub enum Origin {
     /// The settings, for the root.
     Hints,
     /// A stub.
@@ -19,7 +19,7 @@ pub enum Source {
 pub struct Servers {
     /// The zone that they serve. The name is at or below it.
     pub zone: Name,
-    pub source: Source,
+    pub source: Origin,
     /// Where they listen, in the order of the servers, and of each those of IPv4 first.
     pub addrs: Items<Addr>,
     /// The servers of which the cache has no address.

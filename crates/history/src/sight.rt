@@ -1,4 +1,4 @@
-//! What a look sees, with a share of the data.
+//! The reply to a lookup, with a share of the data.
 
 ghost use Rattle.std.specs.Prelude.{◌≡◌, IfOk};
 ghost use Rattle.history.specs.Reply.{look_seen, passes_on, seen_by, seen_first};
@@ -12,7 +12,7 @@ use local_zone::{Local, LocalRecord, LocalSet, Zone, ZoneTable};
 use std::alloc::Global;
 use stub_table::{Stub, StubTable};
 
-/// What a look at a question sees: what the table answers, and the cell where it says nothing.
+/// The reply to a lookup of a question: the answer of the table, or the cell if the table has none.
 pub fn sight<'a, C: CellSource>(
     cells: &'a C,
     table: &'a ZoneTable,

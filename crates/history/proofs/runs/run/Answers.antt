@@ -45,4 +45,4 @@ returns-in_err-step_one-clause-replies g c = λ h s.
     let one = c.in_err-step_one.ensures.answered (h ++ before) (so_far.taken h s) in
     let met = subst (λ (s : Settings). Meets s (h ++ before) event p.0) so_far.settings
     (subst (λ (f : RunFault). Meets (g.B.Book.settings c.loop-event.book) (h ++ before) event f) (sym p.2) one.0) in
-    rw (p.1) (before, record { next = event; later = into_iter_items c.next.new.self; are = split; met = met }, one.1 ∙ so_far.told h s, one.2)
+    rw (p.1) (before, record { next = event; later = into_iter_items c.next.new.self; are = split; met = met }, record { replies = one.1 ∙ so_far.told h s; stands = one.2 })
