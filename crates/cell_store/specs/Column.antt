@@ -1,4 +1,4 @@
--- A column as its users see it.
+-- A column: the versions of one name and type, and the find that each has.
 use Rattle.std.specs.Prelude.{ℕ, ◌≤◌, Bool, List, Option, Some, None, length, map, nat_lt, is_some, Vec, vec_capacity, if◌then◌else◌}
 use Rattle.std.specs.Global.{Global}
 use Rattle.std.specs.List.{AllByRecursion, list_any}
@@ -14,15 +14,16 @@ use Rattle.cell_store.specs.Version.{nothing, place_at, IsFromStart}
 use Rattle.cell_store.specs.Few.{AreRanked}
 use Rattle.cell_store.specs.Slots.{version_of, IsWithin, AreNamed}
 
--- the content from each version on, and the last version that an admission has reached
+-- the entries of a column, each with the content from its version on, and the last version that an admission has reached
 pub record Cells : Type 0 where
   pub versions : List (Version Find)
   pub upto : ℕ
 
--- The content in a version. Versions past the last that an admission has reached are empty.
+-- the content in a version; versions past the last that an admission has reached are empty
 abbrev pub place_in : Cells → ℕ → Place Find
 place_in cells v = if nat_lt cells.upto v then nothing else place_at cells.versions v
 
+-- the cells of a column, with the finds in place of their slots
 abbrev pub cells_of : Vec (Version ℕ) Global → Vec Find Global → ℕ → Cells
 cells_of versions finds upto = record { versions = map (version_of finds.items) versions.items; upto = upto }
 
@@ -36,10 +37,11 @@ pub record IsColumn (versions : Vec (Version ℕ) Global) (finds : Vec Find Glob
   pub room : 6 ≤ vec_capacity versions
   pub slots : 6 ≤ vec_capacity finds
 
--- the answer of a place at a moment, or none if the answer is that of the whole name
+-- the answer of a place at a moment, or None if it refers to the find of the whole name
 abbrev pub sight_at : Place Find → ℕ → Option (Option (Shown Find))
 sight_at place moment = if place.left then None else Some (shown_at place.cell.held moment)
 
+-- the answer of a place, with the find itself
 abbrev pub sight_now : Sight → Option (Option (Shown Find))
 sight_now Left = None
 sight_now (Own shown) = Some (option_map (shown_map (λ find. find.now)) shown)

@@ -1,5 +1,5 @@
 -- The places that count against the limit: a find of a whole name, and a column that has a find in some version.
-use Rattle.std.specs.Prelude.{ℕ, ◌+◌, Bool, false, List, [], ◌∷◌, is_some, if◌then◌else◌}
+use Rattle.std.specs.Prelude.{◌≡◌, ℕ, ◌+◌, Bool, false, List, [], ◌∷◌, is_some, if◌then◌else◌}
 use Rattle.std.specs.Option.{option_map_or}
 use Rattle.indexmap.specs.IndexMap.{IndexMap, get}
 use Rattle.dns_name.specs.Labels.{Labels}
@@ -12,6 +12,7 @@ use Rattle.cell_store.specs.declared.owner.OwnerCells.{OwnerCells}
 pub use Rattle.cell_store.specs.Column.{has_find, is_counted}
 use Rattle.cell_store.specs.Owner.{column_of}
 
+-- 1 if it is so, else 0
 abbrev pub one_if : Bool → ℕ
 one_if b = if b then 1 else 0
 
@@ -24,6 +25,7 @@ count_kinds (own ∷ kinds) = one_if (is_counted own.column) + count_kinds kinds
 abbrev pub count_of : OwnerCells → ℕ
 count_of cells = one_if (is_some cells.whole) + count_kinds cells.kinds.items
 
+-- the number of places of some names that count
 abbrev pub count_entries : List (Labels × OwnerCells) → ℕ
 count_entries [] = 0
 count_entries (entry ∷ entries) = count_of entry.1 + count_entries entries
@@ -40,3 +42,8 @@ has_place cells Whole = is_some cells.whole
 -- whether the place of a find counts: that of its owner, and of its type or of the whole name
 abbrev pub has_place_for : {S : Type 0} → IndexMap Labels OwnerCells S → Find → Bool
 has_place_for owners find = option_map_or (λ cells. has_place cells find.scope) (get name_eq owners find.owner) false
+
+-- The same places of a name count, and as many.
+pub record HasSamePlaces (old new : OwnerCells) : Type 0 where
+  pub count : count_of new ≡ count_of old
+  pub places : (scope : Scope) → has_place new scope ≡ has_place old scope

@@ -5,6 +5,7 @@ use Rattle.ranked.specs.declared.cell.Admitted.{Admitted}
 use Rattle.ranked.specs.Rank.{level_of}
 use Rattle.cell_store.specs.declared.version.Version.{Version}
 
+-- whether two cells have the same content
 abbrev pub same_held : Option (Admitted ℕ) → Option (Admitted ℕ) → Bool
 same_held None None = true
 same_held (Some a) (Some b) = level_of a.rank == level_of b.rank && (a.ttl == b.ttl && (a.since == b.since && a.body == b.body))

@@ -25,14 +25,16 @@ abbrev pub whole_cell : Option WholeFind → Option (Admitted Find)
 whole_cell None = None
 whole_cell (Some whole) = Some (admission_of whole.find whole.find whole.since)
 
--- The same in a version. Versions opened after its admission do not have it.
+-- the find of the whole name in a version, as a cell; versions opened after its admission do not have it
 abbrev pub whole_held : Option WholeFind → ℕ → Option (Admitted Find)
 whole_held None v = None
 whole_held (Some whole) v = if nat_lt whole.upto v then None else Some (admission_of whole.find whole.find whole.since)
 
+-- the content of a cell by its place, which may refer to the find of the whole name
 abbrev pub place_held : Option (Admitted Find) → Place Find → Option (Admitted Find)
 place_held whole place = if place.left then whole else place.cell.held
 
+-- the cell of a type in a version, by the find of the whole name and the column of the type
 abbrev pub column_held : Option WholeFind → Option Cells → ℕ → Option (Admitted Find)
 column_held whole None v = whole_held whole v
 column_held whole (Some cells) v = place_held (whole_cell whole) (place_in cells v)
@@ -41,32 +43,33 @@ column_held whole (Some cells) v = place_held (whole_cell whole) (place_in cells
 abbrev pub cell_in : OwnerCells → ℕ → ℕ → Option (Admitted Find)
 cell_in cells kind v = column_held cells.whole (column_of cells.kinds.items kind) v
 
--- no admission has reached a version past this one
+-- The find of the whole name has reached no version past this one.
 abbrev pub IsWholeUpTo : ℕ → Option WholeFind → Type 0
 IsWholeUpTo top None = Unit {0}
 IsWholeUpTo top (Some whole) = whole.upto ≤ top
 
--- a version has the find of the whole name, if there is one
+-- A version has the find of the whole name, if there is one.
 abbrev pub IsWholeIn : Option WholeFind → ℕ → Type 0
 IsWholeIn None v = Unit {0}
 IsWholeIn (Some whole) v = v ≤ whole.upto
 
--- A place refers to the whole name only in versions that have its find. If there is none, such a place is empty.
+-- A column refers to the find of the whole name only in versions that have it. If there is none, such a place is empty.
 abbrev pub IsLeftWithin : Option WholeFind → Cells → Type 0
 IsLeftWithin whole cells = (v : ℕ) → (place_in cells v).left ≡ true → IsWholeIn whole v
 
+-- No admission to a name has reached a version past this one, and columns refer to the find of the whole name only where it is.
 pub record IsUpTo (top : ℕ) (cells : OwnerCells) : Type 0 where
   pub whole : IsWholeUpTo top cells.whole
   pub kinds : AllByRecursion (λ own. own.column.upto ≤ top) cells.kinds.items
   pub left : AllByRecursion (λ own. IsLeftWithin cells.whole own.column) cells.kinds.items
 
--- the first place of a column of this type
+-- It is the first place of a column of this type.
 pub record IsPlaceOf (kinds : List KindColumn) (kind place : ℕ) : Type 0 where
   pub low : place < length kinds
   pub here : (d : KindColumn) → (slice_index_or kinds place d).kind ≡ kind
   pub before : (i : ℕ) (d : KindColumn) → i < place → ((slice_index_or kinds i d).kind == kind) ≡ false
 
--- the lent answer, with the find itself
+-- a borrowed answer, with the find itself
 abbrev pub held_now : Option (Shown (Bor Find)) → Option (Shown Find)
 held_now held = option_map (shown_map (λ find. find.now)) held
 
@@ -75,10 +78,23 @@ abbrev pub CanSettleColumn : ℕ → Option WholeFind → Option Cells → Type 
 CanSettleColumn number (Some whole) None = number ≤ whole.upto
 CanSettleColumn number _ _ = Unit {0}
 
+-- A flush of a type of a name can become permanent with no memory.
 abbrev pub CanSettle : ℕ → ℕ → OwnerCells → Type 0
 CanSettle number kind cells = CanSettleColumn number cells.whole (column_of cells.kinds.items kind)
 
--- the column of a type, once a flush is permanent
+-- Every flush of a type that could become permanent with no memory still can.
+abbrev pub KeepsSettling : OwnerCells → OwnerCells → Type 0
+KeepsSettling old new = (number kind : ℕ) → CanSettle number kind old → CanSettle number kind new
+
+-- Admissions have reached no version past those that they had reached.
+abbrev pub KeepsUpTo : OwnerCells → OwnerCells → Type 0
+KeepsUpTo old new = (top : ℕ) → IsUpTo top old → IsUpTo top new
+
+-- Each cell of a name has the same content in every version.
+abbrev pub HasSameCells : OwnerCells → OwnerCells → Type 0
+HasSameCells old new = (kind v : ℕ) → cell_in new kind v ≡ cell_in old kind v
+
+-- The column of a type before and after a flush becomes permanent.
 abbrev pub IsSettled : ℕ → KindColumn → KindColumn → Type 0
 IsSettled number old new = (new.kind ≡ old.kind) × (new.column.upto ≡ old.column.upto) × ((v : ℕ) → place_in new.column v ≡ place_in old.column (max number v)) × (is_counted new.column ≡ true → is_counted old.column ≡ true)
 
@@ -87,10 +103,10 @@ abbrev pub whole_settled : ℕ → Option WholeFind → Option WholeFind
 whole_settled number None = None
 whole_settled number (Some whole) = if nat_lt whole.upto number then None else Some whole
 
--- the cell after an admission, if the find is about its question
+-- the content of a cell after an admission, if the find is about its question
 abbrev pub after_touch : {B : Type 0} → Bool → Option (Admitted B) → Admitted B → Option (Admitted B)
 after_touch touched cell new = if touched then after_admission cell new else cell
 
--- The old version whose content a version has once a flush is permanent: no version before the flush is left.
+-- the version whose content a version gets when a flush becomes permanent: its own, or that of the flush if it is older
 abbrev pub after_settle : Bool → ℕ → ℕ → ℕ
 after_settle covered number v = if covered then max number v else v

@@ -1,5 +1,5 @@
 -- The cells of all names.
-use Rattle.std.specs.Prelude.{ℕ, Option, None, IfSome}
+use Rattle.std.specs.Prelude.{◌≡◌, ◌<◌, ◌^◌, ℕ, Option, None, IfSome}
 use Rattle.indexmap.specs.IndexMap.{IndexMap, get}
 use Rattle.std.specs.Option.{option_map_or}
 use Rattle.dns_name.specs.Labels.{Labels}
@@ -9,19 +9,38 @@ use Rattle.ranked.specs.declared.find.Find.{Find}
 use Rattle.ranked.specs.declared.cell.Admitted.{Admitted}
 use Rattle.cell_store.specs.declared.owner.OwnerCells.{OwnerCells}
 use Rattle.cell_store.specs.Owner.{cell_in, IsUpTo, CanSettle}
+use Rattle.cell_store.specs.Count.{stored_in}
 
--- the cell of a type in a version, by the cells of its name
+-- the content of a cell in a version, by the cells of its name
 abbrev pub cell_by_owner : Option OwnerCells → ℕ → ℕ → Option (Admitted Find)
 cell_by_owner cells kind v = option_map_or (λ own. cell_in own kind v) cells None
 
--- the cell of a question in a version
+-- the content of the cell of a question in a version
 abbrev pub cell_of : {S : Type 0} → IndexMap Labels OwnerCells S → Question → ℕ → Option (Admitted Find)
 cell_of owners question v = cell_by_owner (get name_eq owners question.owner) question.kind v
 
--- no admission has reached a version past this one
+-- No admission has reached a version past this one.
 abbrev pub AreUpTo : {S : Type 0} → ℕ → IndexMap Labels OwnerCells S → Type 0
 AreUpTo top owners = (name : Labels) → IfSome (get name_eq owners name) (IsUpTo top)
 
 -- A flush of a type of a name can become permanent with no memory.
 abbrev pub CanSettleAt : {S : Type 0} → ℕ → ℕ → Labels → IndexMap Labels OwnerCells S → Type 0
 CanSettleAt number kind name owners = IfSome (get name_eq owners name) (CanSettle number kind)
+
+-- Each cell of each name has the same content in every version.
+abbrev pub AreSameCells : {S : Type 0} → IndexMap Labels OwnerCells S → IndexMap Labels OwnerCells S → Type 0
+AreSameCells old new = (question : Question) (v : ℕ) → cell_of new question v ≡ cell_of old question v
+
+-- Every flush of a type of a name that could become permanent with no memory still can.
+abbrev pub KeepSettling : {S : Type 0} → IndexMap Labels OwnerCells S → IndexMap Labels OwnerCells S → Type 0
+KeepSettling old new = (number kind : ℕ) (name : Labels) → CanSettleAt number kind name old → CanSettleAt number kind name new
+
+-- Admissions have reached no version past those that they had reached.
+abbrev pub KeepUpTo : {S : Type 0} → IndexMap Labels OwnerCells S → IndexMap Labels OwnerCells S → Type 0
+KeepUpTo old new = (top : ℕ) → AreUpTo top old → AreUpTo top new
+
+-- The counted places are as many as it says, and no admission has reached a version past `top`.
+pub record IsIndex {S : Type 0} (top stored : ℕ) (owners : IndexMap Labels OwnerCells S) : Type 0 where
+  pub upto : AreUpTo top owners
+  pub counted : stored ≡ stored_in owners
+  pub few : stored < 2 ^ 63

@@ -5,6 +5,7 @@ use Rattle.dns_name.specs.Labels.{Labels}
 use Rattle.cell_store.specs.declared.owner.OwnerCells.{OwnerCells}
 use Rattle.cell_store.specs.Count.{count_of, count_entries}
 
+-- The cells of one name are replaced: the number changes by the difference.
 pub count_set_at : (entries : List (Labels × OwnerCells)) (place : ℕ) (key : Labels) (old new : OwnerCells) → slice_get entries place ≡ Some (key, old)
     → count_entries (set_value_at entries place new) + count_of old ≡ count_entries entries + count_of new
 count_set_at [] place key old new is = let none : None ≡ Some (key, old) = is in absurd cc
@@ -14,6 +15,7 @@ count_set_at (e ∷ entries) zero key old new is =
     omega (arith, ap (λ (x : Labels × OwnerCells). count_of x.1) one)
 count_set_at (e ∷ entries) (suc place) key old new is = omega (arith, count_set_at entries place key old new is)
 
+-- The places of one name are at most those of all.
 pub count_found_at : (entries : List (Labels × OwnerCells)) (place : ℕ) (key : Labels) (old : OwnerCells) → slice_get entries place ≡ Some (key, old) → count_of old ≤ count_entries entries
 count_found_at [] place key old is = let none : None ≡ Some (key, old) = is in absurd cc
 count_found_at (e ∷ entries) zero key old is =

@@ -1,4 +1,4 @@
--- The content of cells after a sweep.
+-- The sweep: the content of cells after it.
 use Rattle.std.specs.Prelude.{◌≡◌, ℕ, ◌-◌, Bool, true, false, not, nat_lt, List, Option, Some, None, is_some, if◌then◌else◌}
 use Rattle.ranked.specs.declared.cell.Admitted.{Admitted}
 use Rattle.ranked.specs.Cell.{is_alive}
@@ -18,10 +18,11 @@ alive_at t (Some held) = if is_alive held t then Some held else None
 abbrev pub swept : {B : Type 0} → ℕ → Place B → Place B
 swept t place = if place.left then whole else own (alive_at t place.cell.held)
 
+-- an entry without a find that is dead at a moment
 abbrev pub version_swept : {B : Type 0} → ℕ → Version B → Version B
 version_swept t version = record { from = version.from; place = swept t version.place }
 
--- A version that is asked for has a find.
+-- A version in use has a find.
 abbrev pub IsSeenAt : List ℕ → Cells → Type 0
 IsSeenAt numbers cells = (v : ℕ) × ((is_asked numbers v ≡ true) × (is_some (place_in cells v).cell.held ≡ true))
 
@@ -30,5 +31,6 @@ abbrev pub is_dead : ℕ → Option WholeFind → Bool
 is_dead t None = false
 is_dead t (Some whole) = not (nat_lt (t - whole.since) whole.find.ttl)
 
+-- the find of the whole name, if it is alive at a moment
 abbrev pub whole_swept : ℕ → Option WholeFind → Option WholeFind
 whole_swept t whole = if is_dead t whole then None else whole

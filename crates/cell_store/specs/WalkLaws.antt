@@ -1,10 +1,11 @@
--- Lists whose elements change one after the other: lemmas for walks.
+-- Walks: lemmas for loops that change one element after the other.
 use Rattle.std.proofs.Common.{◌≡◌, ℕ, zero, suc, ◌+◌, ◌<◌, ◌≤◌, Bool, true, false, cond, Some, List, [], ◌∷◌, length, get_or, refl, sym, ap, ◌∙◌, subst, arith, slice_set, slice_get, inl, inr}
 use Rattle.std.proofs.lemmas.Bool.{cases_Bool}
 use Rattle.std.specs.Map.{lookup}
 use Rattle.indexmap.specs.IndexMap.{set_value_at}
 use Rattle.cell_store.specs.Walk.{IsWalked, IsEach, IsEntry, IsFound}
 
+-- A walk keeps the length.
 pub walk_length : {X : Type 0} (P : X → X → Type 0) (i : ℕ) (olds news : List X) → IsWalked P i olds news → length news ≡ length olds
 walk_length P zero olds news is = ap length is
 walk_length P (suc i) [] news is = ap length is
@@ -25,6 +26,7 @@ walk_more {X} P i olds news lent new is low read here =
     let next : suc i ≡ i + 1 = omega arith in
     subst (λ n. IsWalked P n olds (slice_set news i new)) next (step P i olds news lent new is low (subst (λ (x : X). P x new) read here))
 
+-- A walk to the end has changed each element.
 pub walk_all : {X : Type 0} (P : X → X → Type 0) (i : ℕ) (olds news : List X) → length olds ≤ i → IsWalked P i olds news → IsEach P olds news
 walk_all {X} P zero [] news high is = subst (λ (l : List X). IsEach P [] l) (sym is) tt
 walk_all P zero (old ∷ olds) news high is = absurd (omega arith)

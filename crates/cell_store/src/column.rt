@@ -19,16 +19,16 @@ use ranked::{Cell, SharedFind, Shown};
 use std::alloc::Global;
 use std::marker::Model;
 
-/// The room of a column: five entries, and one more while a find is admitted. Two finds of one column have different ranks,
-/// since the newer one left only what outranks it. So no admission takes more, however many flushes can be undone.
+// The room of a column: five entries, and one more during an admission. Two finds of one column have different ranks,
+// since the newer one left only finds that outrank it. So no admission takes more room, however many flushes can be undone.
 const ENTRIES: usize = 6;
 
-/// The cells of one name and type, one for each version. A find is kept once, however many versions have it.
+/// The cells of one name and type, one for each version. It keeps a find once, however many versions have it.
 #[derive(Drop)]
 pub struct Column {
     versions: Vec<Version<usize>>,
     finds: Vec<SharedFind>,
-    // The last version that an admission has reached. Later ones are empty.
+    // The last version that an admission has reached. Later versions are empty.
     upto: u64,
 }
 
@@ -47,7 +47,7 @@ impl Model for Column {
 }
 
 impl Column {
-    /// An empty column.
+    /// An empty column. It allocates all the room that it will ever need.
     pub fn new(alloc: Global, upto: u64) -> Result<Column, NoMemory>
         ensures places { IfOk result (λ column. (v : ℕ) → place_in column v ≡ nothing) }
         ensures upto { IfOk result (λ column. column.upto ≡ upto) }
@@ -69,7 +69,7 @@ impl Column {
         })
     }
 
-    /// A column that refers to the find of the whole name, in the versions up to one.
+    /// A column that refers to the find of the whole name in the versions up to `upto`.
     pub fn left(alloc: Global, upto: u64) -> Result<Column, NoMemory>
         ensures places { IfOk result (λ column. (v : ℕ) → place_in column v ≡ (if nat_lt upto v then nothing else whole)) }
         ensures upto { IfOk result (λ column. column.upto ≡ upto) }
@@ -91,7 +91,7 @@ impl Column {
         })
     }
 
-    /// The last version that an admission has reached. Later ones are empty.
+    /// The last version that an admission has reached. Later versions are empty.
     pub fn upto(&self) -> u64
         ensures { result ≡ self.now.upto }
     {
@@ -105,7 +105,7 @@ impl Column {
         has_find(&self.versions)
     }
 
-    /// The answer in a version, at a moment in seconds.
+    /// The answer of a version, at a moment in seconds.
     pub fn at(&self, version: u64, moment: u64) -> Sight<'_>
         ensures { sight_now result ≡ sight_at (place_in self.now version) moment }
     {
@@ -151,7 +151,7 @@ impl Column {
         release(&mut self.versions, &mut self.finds);
     }
 
-    /// Makes a flush permanent: the versions before it get the content of its own version. It takes no memory.
+    /// Makes a flush permanent: it gives the versions before it the content of its own version. It takes no memory.
     pub fn forget_before(&mut self, number: u64)
         requires upto { number ≤ self.old.upto }
         ensures places { (v : ℕ) → place_in self.new v ≡ place_in self.old (max number v) }
@@ -162,7 +162,7 @@ impl Column {
         release(&mut self.versions, &mut self.finds);
     }
 
-    /// The same for any flush. If no admission has come since, the column becomes empty.
+    /// Makes any flush permanent. If no admission has come since the flush, the column becomes empty.
     pub fn settle(&mut self, number: u64)
         ensures places { (v : ℕ) → place_in self.new v ≡ place_in self.old (max number v) }
         ensures upto { self.new.upto ≡ self.old.upto }
@@ -175,7 +175,7 @@ impl Column {
         }
     }
 
-    /// Empties every version.
+    // Empties every version.
     fn clear(&mut self)
         ensures places { (v : ℕ) → place_in self.new v ≡ nothing }
         ensures upto { self.new.upto ≡ self.old.upto }
@@ -192,8 +192,8 @@ impl Column {
         self.finds.clear();
     }
 
-    /// Drops what is dead at a moment, and what only versions have that nobody asks for. Version 0 is asked for, and those of some numbers.
-    /// What refers to the whole name stays. It takes no memory.
+    /// Drops the finds that are dead at a moment, and those that no version in use has. Version 0 and those of `numbers` are in use.
+    /// References to the find of the whole name stay. It takes no memory.
     pub fn sweep(&mut self, numbers: &[u64], moment: u64)
         ensures places { (v : ℕ) → is_asked numbers.now v ≡ true → place_in self.new v ≡ swept moment (place_in self.old v) }
         ensures left { (v : ℕ) → (place_in self.new v).left ≡ true → (place_in self.old v).left ≡ true }

@@ -1,8 +1,8 @@
-//! The cells of the cache, by version, so that a flush can be undone and redone without a history.
+//! The cells of the cache, by version. With versions, a flush can be undone and redone without a history.
 //!
 //! Each flush that can still be undone has a number. Version 0 of a cell is its content if none of these flushes is in force.
 //! Version `n` is its content if the flush of number `n` is the last in force that covers it.
-//! A column is the versions of one name and type. It says nothing of the versions opened after its last admission: those are empty.
+//! A column has the versions of one name and type. It has no entry for the versions after its last admission: those are empty.
 //! So a flush needs to visit no column.
 #![tactic(auto)]
 

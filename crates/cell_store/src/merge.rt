@@ -1,4 +1,4 @@
-//! Equal neighbours among the versions of a column. Later admissions treat them alike, so they stay equal, and one entry serves for both.
+//! Equal neighbours among the versions of a column. Later admissions change them alike, so one entry is enough for both.
 
 ghost use Rattle.std.specs.Prelude.{◌≡◌, ◌≤◌, ℕ, true, length, vec_capacity};
 ghost use Rattle.std.specs.List.{AllByRecursion, list_any};
@@ -12,7 +12,7 @@ use crate::version::Version;
 use ranked::Admitted;
 
 impl Version<usize> {
-    /// Whether another entry has the same content.
+    // Whether another entry has the same content.
     fn holds_same(&self, other: &Version<usize>) -> bool
         ensures { result ≡ holds_same self.now other.now }
     {
@@ -20,7 +20,7 @@ impl Version<usize> {
             && same_held(&self.place.cell.held, &other.place.cell.held)
     }
 
-    /// Starts at a version, if it started later.
+    // Moves the start to a version, if it was later.
     fn start_by(&mut self, number: u64)
         ensures { self.new ≡ started number self.old }
     {
@@ -50,7 +50,7 @@ fn same_held(a: &Option<Admitted<usize>>, b: &Option<Admitted<usize>>) -> bool
     }
 }
 
-/// Removes each entry whose content is that of the entry before it. If that one started later, it starts as early.
+// Removes each entry that has the content of the entry before it, and moves the start of that one if it was later.
 pub(crate) fn merge(versions: &mut Vec<Version<usize>>)
     ensures places { (v : ℕ) → place_at versions.new.items v ≡ place_at versions.old.items v }
     ensures within { (slots : ℕ) →

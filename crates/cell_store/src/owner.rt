@@ -28,13 +28,13 @@ pub struct KindColumn {
     pub column: Column,
 }
 
-/// A find about every type of a name. Nothing outranks it, so its admission reaches every version that there is.
+/// A find about every type of a name. Nothing outranks it, so its admission reaches every version.
 #[derive(Drop)]
 pub struct WholeFind {
     pub find: SharedFind,
     /// The moment at which it was admitted, in seconds.
     pub since: u64,
-    /// The last version that there was then. Later ones don't have it.
+    /// The last version at its admission. Later versions do not have it.
     pub upto: u64,
 }
 
@@ -46,7 +46,7 @@ pub struct OwnerCells {
     pub kinds: Vec<KindColumn>,
 }
 
-/// The place of the column of a type.
+// The place of the column of a type.
 fn place_of(kinds: &[KindColumn], kind: u16) -> Option<usize>
     ensures some { IfSome result (IsPlaceOf kinds.now kind) }
     ensures none { IfNone result (column_of kinds.now kind ≡ None) }
@@ -68,7 +68,7 @@ fn whole_count(whole: &Option<WholeFind>) -> u64
     }
 }
 
-/// The number of columns that have a find in some version.
+// The number of columns that have a find in some version.
 fn count_kinds(kinds: &[KindColumn]) -> u64
     ensures count { result ≡ count_kinds kinds.now }
     ensures few { result < 2 ^ 63 }
@@ -88,7 +88,7 @@ fn one_if(counted: bool) -> u64
     if counted { 1 } else { 0 }
 }
 
-/// Makes a flush of every type permanent, in each column.
+// Makes a flush of every type permanent, in each column.
 fn settle_each(kinds: &mut Vec<KindColumn>, number: u64)
     ensures { IsEach (IsSettled number) kinds.old.items kinds.new.items }
 {
@@ -100,8 +100,8 @@ fn settle_each(kinds: &mut Vec<KindColumn>, number: u64)
 }
 
 impl OwnerCells {
-    ghost use Rattle.cell_store.specs.Owner.{cell_in, CanSettle, IsUpTo, whole_cell, whole_settled};
-    ghost use Rattle.cell_store.specs.Count.{count_of, has_place};
+    ghost use Rattle.cell_store.specs.Owner.{cell_in, CanSettle, HasSameCells, IsUpTo, KeepsSettling, KeepsUpTo, whole_cell, whole_settled};
+    ghost use Rattle.cell_store.specs.Count.{count_of, has_place, HasSamePlaces};
 
     /// No cells.
     pub fn new(alloc: Global) -> OwnerCells
@@ -133,7 +133,7 @@ impl OwnerCells {
         });
     }
 
-    /// A column for a type that has none, with the content that the type has.
+    // A column for a type that has none, with the content of that type.
     fn derived(&self, top: u64) -> Result<Column, NoMemory>
         requires upto { IsWholeUpTo top self.now.whole }
         ensures cells { IfOk result (λ column. (v : ℕ) →
@@ -148,18 +148,16 @@ impl OwnerCells {
         }
     }
 
-    /// Adds a column for a type that has none. No cell changes.
+    // Adds a column for a type that has none. No cell changes.
     fn open_kind(&mut self, kind: u16, top: u64) -> Result<(), NoMemory>
         requires upto { IsUpTo top self.old }
         requires fresh { column_of self.old.kinds.items kind ≡ None }
-        ensures cells { (k v : ℕ) → cell_in self.new k v ≡ cell_in self.old k v }
+        ensures cells { HasSameCells self.old self.new }
         ensures whole { self.new.whole ≡ self.old.whole }
         ensures upto { IsUpTo top self.new }
-        ensures settles { (n k : ℕ) → CanSettle n k self.old → CanSettle n k self.new }
-        ensures count { count_of self.new ≡ count_of self.old }
-        ensures places { (scope : Scope) → has_place self.new scope ≡ has_place self.old scope }
-        ensures opened { OnOk result (IsPlaceOf self.new.kinds.items kind (vec_len self.new.kinds - 1)) }
-        ensures some { OnOk result (1 ≤ vec_len self.new.kinds) }
+        ensures settles { KeepsSettling self.old self.new }
+        ensures places { HasSamePlaces self.old self.new }
+        ensures opened { OnOk result ((1 ≤ vec_len self.new.kinds) × IsPlaceOf self.new.kinds.items kind (vec_len self.new.kinds - 1)) }
     {
         let column = self.derived(top)?;
         self.kinds.reserve_exact(1)?;
@@ -167,12 +165,12 @@ impl OwnerCells {
         Ok(())
     }
 
-    /// Adds a column for a type, if only the find of the whole name is cached. So `settle_kind` needs no memory later. No cell changes.
+    /// Adds a column for a type, if a find of the whole name is cached, so that `settle_kind` needs no memory later. No cell changes.
     pub fn open(&mut self, kind: u16, top: u64) -> Result<(), NoMemory>
         requires upto { IsUpTo top self.old }
-        ensures cells { (k v : ℕ) → cell_in self.new k v ≡ cell_in self.old k v }
+        ensures cells { HasSameCells self.old self.new }
         ensures upto { IsUpTo top self.new }
-        ensures settles { (n k : ℕ) → CanSettle n k self.old → CanSettle n k self.new }
+        ensures settles { KeepsSettling self.old self.new }
         ensures count { count_of self.new ≡ count_of self.old }
         ensures opened { OnOk result ((n : ℕ) → CanSettle n kind self.new) }
     {
@@ -183,12 +181,12 @@ impl OwnerCells {
         Ok(())
     }
 
-    /// The same for some types. If memory runs out, some of them may have a column.
+    /// Does the same for some types. If memory runs out, some of them may have a column.
     pub fn open_each(&mut self, kinds: &[u16], top: u64) -> Result<(), NoMemory>
         requires upto { IsUpTo top self.old }
-        ensures cells { (k v : ℕ) → cell_in self.new k v ≡ cell_in self.old k v }
+        ensures cells { HasSameCells self.old self.new }
         ensures upto { IsUpTo top self.new }
-        ensures settles { (n k : ℕ) → CanSettle n k self.old → CanSettle n k self.new }
+        ensures settles { KeepsSettling self.old self.new }
         ensures count { count_of self.new ≡ count_of self.old }
         ensures opened { OnOk result (AllByRecursion (λ kind. (n : ℕ) → CanSettle n kind self.new) kinds.now) }
     {
@@ -198,15 +196,14 @@ impl OwnerCells {
         Ok(())
     }
 
-    /// The place of the column of a type. It is added if there is none.
+    // The place of the column of a type. It adds one if there is none.
     fn place_for(&mut self, kind: u16, top: u64) -> Result<usize, NoMemory>
         requires upto { IsUpTo top self.old }
-        ensures cells { (k v : ℕ) → cell_in self.new k v ≡ cell_in self.old k v }
+        ensures cells { HasSameCells self.old self.new }
         ensures whole { self.new.whole ≡ self.old.whole }
         ensures upto { IsUpTo top self.new }
-        ensures settles { (n k : ℕ) → CanSettle n k self.old → CanSettle n k self.new }
-        ensures count { count_of self.new ≡ count_of self.old }
-        ensures places { (scope : Scope) → has_place self.new scope ≡ has_place self.old scope }
+        ensures settles { KeepsSettling self.old self.new }
+        ensures places { HasSamePlaces self.old self.new }
         ensures place { IfOk result (IsPlaceOf self.new.kinds.items kind) }
         ensures free { has_place self.old (One kind) ≡ true → IsOk result }
     {
@@ -217,7 +214,7 @@ impl OwnerCells {
         Ok(self.kinds.len() - 1)
     }
 
-    /// Whether the find of the whole name is alive at a moment and outranks a find.
+    // Whether the find of the whole name is alive at a moment and outranks a find.
     fn turns_away(&self, find: &Find, moment: u64) -> bool
         ensures { result ≡ turns_away (whole_cell self.now.whole) (admission_of find.now find.now moment) }
     {
@@ -231,7 +228,7 @@ impl OwnerCells {
         }
     }
 
-    /// Caches a find of a type in each version, unless what is cached there is alive at the moment and of higher rank.
+    /// Caches a find of a type in each version, unless the content there is alive at the moment and of higher rank. On an error nothing changes.
     pub fn admit_kind(
         &mut self,
         find: SharedFind,
@@ -242,11 +239,10 @@ impl OwnerCells {
         requires upto { IsUpTo top self.old }
         ensures cells { OnOk result ((k v : ℕ) → v ≤ top →
             cell_in self.new k v ≡ after_touch (kind == k) (cell_in self.old k v) (admission_of find find moment)) }
-        ensures err { OnErr result ((k v : ℕ) → cell_in self.new k v ≡ cell_in self.old k v) }
+        ensures err { OnErr result (HasSameCells self.old self.new × (count_of self.new ≡ count_of self.old)) }
         ensures upto { IsUpTo top self.new }
-        ensures settles { (n k : ℕ) → CanSettle n k self.old → CanSettle n k self.new }
+        ensures settles { KeepsSettling self.old self.new }
         ensures count { count_of self.new ≤ count_of self.old + one_if (not (has_place self.old (One kind))) }
-        ensures same { OnErr result (count_of self.new ≡ count_of self.old) }
         ensures free { has_place self.old (One kind) ≡ true → IsOk result }
     {
         let place = self.place_for(kind, top)?;
@@ -255,16 +251,15 @@ impl OwnerCells {
         Ok(())
     }
 
-    /// The same for each type that the find is about.
+    /// Does the same for each type that the find is about.
     pub fn admit(&mut self, find: SharedFind, moment: u64, top: u64) -> Result<(), NoMemory>
         requires upto { IsUpTo top self.old }
         ensures cells { OnOk result ((k v : ℕ) → v ≤ top →
             cell_in self.new k v ≡ after_touch (has_kind find.scope k) (cell_in self.old k v) (admission_of find find moment)) }
-        ensures err { OnErr result ((k v : ℕ) → cell_in self.new k v ≡ cell_in self.old k v) }
+        ensures err { OnErr result (HasSameCells self.old self.new × (count_of self.new ≡ count_of self.old)) }
         ensures upto { IsUpTo top self.new }
         ensures settles { (n k : ℕ) → n ≤ top → CanSettle n k self.old → CanSettle n k self.new }
         ensures count { count_of self.new ≤ count_of self.old + one_if (not (has_place self.old find.scope)) }
-        ensures same { OnErr result (count_of self.new ≡ count_of self.old) }
         ensures free { has_place self.old find.scope ≡ true → IsOk result }
     {
         match find.find().scope {
@@ -277,7 +272,7 @@ impl OwnerCells {
         }
     }
 
-    /// The find of the whole name, if it is alive at a moment.
+    // The find of the whole name, if it is alive at a moment.
     fn whole_at(&self, moment: u64) -> Option<Held<'_>>
         ensures { held_now result ≡ shown_at (whole_cell self.now.whole) moment }
     {
@@ -298,7 +293,7 @@ impl OwnerCells {
         }
     }
 
-    /// The cached data of a type in a version, if they are alive at a moment.
+    /// The find of a type in a version, if it is alive at a moment.
     pub fn at(&self, kind: u16, version: u64, moment: u64) -> Option<Held<'_>>
         ensures { held_now result ≡ shown_at (cell_in self.now kind version) moment }
     {
@@ -311,7 +306,7 @@ impl OwnerCells {
         }
     }
 
-    /// The same of a type that has no column.
+    // The same for a type that has no column.
     fn unopened_at(&self, version: u64, moment: u64) -> Option<Held<'_>>
         ensures { held_now result ≡ shown_at (whole_held self.now.whole version) moment }
     {
@@ -327,7 +322,7 @@ impl OwnerCells {
         }
     }
 
-    /// The number of its places that count against the limit: that of the whole name, and each column that has a find in some version.
+    /// The number of places that count against the limit: the find of the whole name, and each column that has a find in some version.
     pub fn counted(&self) -> u64
         ensures { result ≡ count_of self.now }
     {
@@ -357,8 +352,8 @@ impl OwnerCells {
     pub fn settle_kind(&mut self, kind: u16, number: u64)
         requires settles { CanSettle number kind self.old }
         ensures cells { (k v : ℕ) → cell_in self.new k v ≡ cell_in self.old k (after_settle (kind == k) number v) }
-        ensures upto { (top : ℕ) → IsUpTo top self.old → IsUpTo top self.new }
-        ensures settles { (n k : ℕ) → CanSettle n k self.old → CanSettle n k self.new }
+        ensures upto { KeepsUpTo self.old self.new }
+        ensures settles { KeepsSettling self.old self.new }
         ensures count { count_of self.new ≤ count_of self.old }
     {
         if let Some(place) = place_of(&self.kinds, kind) {
@@ -366,13 +361,13 @@ impl OwnerCells {
         }
     }
 
-    /// The same for some types.
+    /// Makes a flush of some types permanent.
     pub fn settle_kinds(&mut self, kinds: &[u16], number: u64)
         requires settles { AllByRecursion (λ kind. CanSettle number kind self.old) kinds.now }
         ensures cells { (k v : ℕ) →
             cell_in self.new k v ≡ cell_in self.old k (after_settle (list_any (λ kind. kind == k) kinds.now) number v) }
-        ensures upto { (top : ℕ) → IsUpTo top self.old → IsUpTo top self.new }
-        ensures settles { (n k : ℕ) → CanSettle n k self.old → CanSettle n k self.new }
+        ensures upto { KeepsUpTo self.old self.new }
+        ensures settles { KeepsSettling self.old self.new }
         ensures count { count_of self.new ≤ count_of self.old }
     {
         for kind in kinds {
@@ -380,23 +375,23 @@ impl OwnerCells {
         }
     }
 
-    /// The same for every type.
+    /// Makes a flush of every type permanent.
     pub fn settle_all(&mut self, number: u64)
         ensures cells { (top : ℕ) → IsUpTo top self.old → (k v : ℕ) → cell_in self.new k v ≡ cell_in self.old k (max number v) }
-        ensures upto { (top : ℕ) → IsUpTo top self.old → IsUpTo top self.new }
-        ensures settles { (n k : ℕ) → CanSettle n k self.old → CanSettle n k self.new }
+        ensures upto { KeepsUpTo self.old self.new }
+        ensures settles { KeepsSettling self.old self.new }
         ensures count { count_of self.new ≤ count_of self.old }
     {
         settle_each(&mut self.kinds, number);
         self.settle_whole(number);
     }
 
-    /// The same, if the flush covers the name.
+    // Makes a flush of every type permanent, if it covers the name.
     pub(crate) fn settle_where(&mut self, covered: bool, number: u64)
         ensures cells { (top : ℕ) → IsUpTo top self.old → (k v : ℕ) →
             cell_in self.new k v ≡ cell_in self.old k (after_settle covered number v) }
-        ensures upto { (top : ℕ) → IsUpTo top self.old → IsUpTo top self.new }
-        ensures settles { (n k : ℕ) → CanSettle n k self.old → CanSettle n k self.new }
+        ensures upto { KeepsUpTo self.old self.new }
+        ensures settles { KeepsSettling self.old self.new }
         ensures count { count_of self.new ≤ count_of self.old }
     {
         if covered {
@@ -404,7 +399,7 @@ impl OwnerCells {
         }
     }
 
-    /// Drops the find of the whole name, if it is older than a flush.
+    // Drops the find of the whole name, if it is older than a flush.
     fn settle_whole(&mut self, number: u64)
         ensures whole { self.new.whole ≡ whole_settled number self.old.whole }
         ensures kinds { self.new.kinds.items ≡ self.old.kinds.items }
@@ -421,8 +416,8 @@ impl OwnerCells {
     /// Drops the find of the whole name, if it is dead at a moment. It takes no memory.
     pub fn sweep_whole(&mut self, moment: u64)
         ensures cells { (k v : ℕ) → alive_at moment (cell_in self.new k v) ≡ alive_at moment (cell_in self.old k v) }
-        ensures upto { (top : ℕ) → IsUpTo top self.old → IsUpTo top self.new }
-        ensures settles { (n k : ℕ) → CanSettle n k self.old → CanSettle n k self.new }
+        ensures upto { KeepsUpTo self.old self.new }
+        ensures settles { KeepsSettling self.old self.new }
         ensures kinds { self.new.kinds.items ≡ self.old.kinds.items }
         ensures whole { self.new.whole ≡ whole_swept moment self.old.whole }
         ensures count { count_of self.new ≤ count_of self.old }
@@ -439,7 +434,7 @@ impl OwnerCells {
         }
     }
 
-    /// Drops what is dead of a type at a moment, and what only versions have that nobody asks for. Version 0 is asked for, and those of some numbers.
+    /// Drops the finds of a type that are dead at a moment, and those that no version in use has. Version 0 and those of `numbers` are in use.
     /// It takes no memory.
     pub fn sweep_kind(&mut self, kind: u16, numbers: &[u64], moment: u64)
         ensures cells { (k v : ℕ) → ((kind == k) ≡ true → is_asked numbers.now v ≡ true) →
@@ -449,8 +444,8 @@ impl OwnerCells {
         ensures others { (k : ℕ) → (kind == k) ≡ false → column_of self.new.kinds.items k ≡ column_of self.old.kinds.items k }
         ensures kinds { map (λ own. own.kind) self.new.kinds.items ≡ map (λ own. own.kind) self.old.kinds.items }
         ensures whole { self.new.whole ≡ self.old.whole }
-        ensures upto { (top : ℕ) → IsUpTo top self.old → IsUpTo top self.new }
-        ensures settles { (n k : ℕ) → CanSettle n k self.old → CanSettle n k self.new }
+        ensures upto { KeepsUpTo self.old self.new }
+        ensures settles { KeepsSettling self.old self.new }
         ensures count { count_of self.new ≤ count_of self.old }
     {
         if let Some(place) = place_of(&self.kinds, kind) {
@@ -459,7 +454,7 @@ impl OwnerCells {
     }
 }
 
-/// Whether the find of the whole name is dead at a moment.
+// Whether the find of the whole name is dead at a moment.
 fn is_dead(whole: &Option<WholeFind>, moment: u64) -> bool
     ensures { result ≡ is_dead moment whole.now }
 {

@@ -1,4 +1,4 @@
-//! Versions that no flush needs any more: nobody asks for the version of a flush that can no longer be undone.
+//! Unused versions: those of flushes that can no longer be undone.
 
 ghost use Rattle.std.specs.Prelude.{◌≡◌, ◌<◌, ◌+◌, ℕ, length, drop, slice_index_or, vec_capacity};
 ghost use Rattle.std.specs.List.{list_any};
@@ -8,7 +8,7 @@ use crate::version::{Place, Version};
 use ranked::Cell;
 
 impl Version<usize> {
-    /// Whether it starts at a version or before.
+    // Whether it starts at a version or before.
     fn is_from(&self, number: u64) -> bool
         ensures { result ≡ is_from number self.now }
     {
@@ -16,7 +16,7 @@ impl Version<usize> {
     }
 }
 
-/// Whether a version has the content of an entry: the entry starts there or before, and no later one does.
+// Whether a version has the content of an entry: the entry starts there or before, and no later one does.
 fn is_held_at(versions: &[Version<usize>], place: usize, number: u64) -> bool
     requires { place < length versions.now }
     ensures { (d : Version ℕ) → result ≡ is_held_at number (slice_index_or versions.now place d) (drop (place + 1) versions.now) }
@@ -30,7 +30,7 @@ fn any_from(versions: &[Version<usize>], number: u64) -> bool
     versions.iter().any(|version| version.is_from(number))
 }
 
-/// Whether a version that is asked for has the content of an entry.
+// Whether a version in use has the content of an entry.
 fn is_seen(versions: &[Version<usize>], place: usize, numbers: &[u64], upto: u64) -> bool
     requires { place < length versions.now }
     ensures { (d : Version ℕ) →
@@ -45,7 +45,7 @@ fn is_seen(versions: &[Version<usize>], place: usize, numbers: &[u64], upto: u64
     seen
 }
 
-/// The entry, emptied if no version that is asked for has its content.
+// The entry, emptied if no version in use has its content.
 fn kept_entry(
     versions: &[Version<usize>],
     place: usize,
@@ -69,7 +69,7 @@ fn kept_entry(
     }
 }
 
-/// Empties the entries that no version that is asked for has. Version 0 is asked for, and those of some numbers.
+// Empties the entries whose content no version in use has. Version 0 and those of `numbers` are in use.
 pub(crate) fn prune(versions: &mut Vec<Version<usize>>, numbers: &[u64], upto: u64)
     ensures each { versions.new.items ≡ pruned numbers.now upto versions.old.items }
     ensures capacity { vec_capacity versions.new ≡ vec_capacity versions.old }

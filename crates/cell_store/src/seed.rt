@@ -6,7 +6,7 @@ ghost use Rattle.cell_store.specs.Seed.{seeded};
 use std::hash::{BuildHasher, DefaultHasher, Hasher};
 
 /// Begins the hash of each name with a seed. Strangers choose the names that are cached.
-/// Without the seed they can't tell which names collide, so they can't slow lookups down by their choice.
+/// Without the seed they cannot know which names collide, so they cannot slow lookups down by their choice.
 #[derive(Clone, Copy)]
 pub struct NameSeed {
     initial: DefaultHasher,
@@ -22,7 +22,7 @@ impl NameSeed {
         NameSeed { initial }
     }
 
-    /// The same seed in every run. It is for scripts and tests, whose input isn't a stranger's.
+    /// The same seed in every run, for scripts and tests. Their input is not a stranger's.
     pub fn fixed() -> NameSeed
         ensures { ⟦<NameSeed as BuildHasher>⟧.build_hasher result ≡ seeded 0 }
     {

@@ -1,4 +1,4 @@
-//! The finds of a column. Each is kept once, and the cells of all versions refer to it by its slot.
+//! The finds of a column, each in one slot. The cells of all versions refer to a find by its slot.
 
 ghost use Rattle.std.specs.Prelude.{◌≡◌, ◌==◌, ℕ, map, length, vec_capacity};
 ghost use Rattle.std.specs.List.{AllByRecursion, list_any};
@@ -10,13 +10,14 @@ use crate::version::Version;
 use ranked::SharedFind;
 
 impl Version<usize> {
+    // Whether it has a find.
     fn has_find(&self) -> bool
         ensures { result ≡ has_find self.now }
     {
         self.place.cell.held.is_some()
     }
 
-    /// Whether its cell refers to a slot.
+    // Whether its cell refers to a slot.
     fn names(&self, slot: usize) -> bool
         ensures { result ≡ names slot self.now }
     {
@@ -26,7 +27,7 @@ impl Version<usize> {
         }
     }
 
-    /// Refers to another slot, if it referred to the old one.
+    // Refers to another slot, if it referred to the old one.
     fn rename(&mut self, old: usize, new: usize)
         ensures { self.new ≡ renamed old new self.old }
     {
@@ -39,21 +40,21 @@ impl Version<usize> {
     }
 }
 
-/// Whether some version has a find.
+// Whether some version has a find.
 pub(crate) fn has_find(versions: &[Version<usize>]) -> bool
     ensures { result ≡ list_any has_find versions.now }
 {
     versions.iter().any(|version| version.has_find())
 }
 
-/// Whether some cell refers to a slot.
+// Whether some cell refers to a slot.
 fn is_named(versions: &[Version<usize>], slot: usize) -> bool
     ensures { result ≡ list_any (names slot) versions.now }
 {
     versions.iter().any(|version| version.names(slot))
 }
 
-/// Lets each cell that refers to the old slot refer to the new one.
+// Replaces the old slot by the new one in each cell that refers to it.
 fn rename(versions: &mut Vec<Version<usize>>, old: usize, new: usize)
     ensures each { versions.new.items ≡ map (renamed old new) versions.old.items }
     ensures capacity { vec_capacity versions.new ≡ vec_capacity versions.old }
@@ -63,7 +64,7 @@ fn rename(versions: &mut Vec<Version<usize>>, old: usize, new: usize)
     }
 }
 
-/// Drops the finds to which no cell refers. The last find moves into the gap.
+// Drops the finds to which no cell refers. The last find moves into the gap.
 pub(crate) fn release(versions: &mut Vec<Version<usize>>, finds: &mut Vec<SharedFind>)
     requires within { AllByRecursion (IsWithin (length finds.old.items)) versions.old.items }
     ensures same { map (version_of finds.new.items) versions.new.items ≡ map (version_of finds.old.items) versions.old.items }

@@ -1,4 +1,4 @@
-//! The cells of all names, in an index whose hasher is seeded.
+//! The cells of all names, in an index with a seeded hasher.
 
 ghost use Rattle.std.specs.Prelude.{◌≡◌, ◌<◌, ◌≤◌, ◌==◌, ◌&&◌, ◌+◌, ◌^◌, ℕ, None, not, true, IsOk, OnOk, OnErr, if◌then◌else◌};
 ghost use Rattle.std.specs.List.{AllByRecursion, list_any};
@@ -10,7 +10,7 @@ ghost use Rattle.ranked.specs.Find.{admission_of, touches};
 ghost use Rattle.ranked.specs.Cell.{shown_at};
 ghost use Rattle.cell_store.specs.Owner.{after_settle, after_touch, held_now};
 ghost use Rattle.cell_store.specs.Count.{has_place_for, one_if, stored_in};
-ghost use Rattle.cell_store.specs.Store.{cell_of, AreUpTo, CanSettleAt};
+ghost use Rattle.cell_store.specs.Store.{cell_of, AreSameCells, AreUpTo, CanSettleAt, IsIndex, KeepSettling, KeepUpTo};
 
 use crate::owner::OwnerCells;
 use crate::seed::NameSeed;
@@ -19,11 +19,11 @@ use indexmap::IndexMap;
 use ranked::{Find, Held, SharedFind};
 use std::alloc::Global;
 
-/// The cells of each name. The order of names means nothing: a removal moves the last name into the gap.
+/// The cells of each name. Their order means nothing: a removal moves the last name into the gap.
 pub type Owners = IndexMap<Name, OwnerCells, NameSeed>;
 
-/// Caches a find in each version, for each question that it is about, unless what is cached there is alive and of higher rank.
-/// It takes no memory if the place of the find is counted already. `stored` counts the places that `stored_in` counts.
+/// Caches a find in each version, for each question that it is about, unless the content there is alive and of higher rank.
+/// It takes no memory if the place of the find is counted already. `stored` is the number of counted places. On an error nothing changes.
 pub fn admit(
     alloc: Global,
     owners: &mut Owners,
@@ -32,17 +32,14 @@ pub fn admit(
     moment: u64,
     top: u64,
 ) -> Result<(), NoMemory>
-    requires upto { AreUpTo top owners.old }
-    requires counted { stored.old ≡ stored_in owners.old }
-    requires few { stored.old < 2 ^ 63 }
+    requires index { IsIndex top stored.old owners.old }
     ensures cells { OnOk result ((q : Question) (v : ℕ) → v ≤ top →
         cell_of owners.new q v ≡ after_touch (touches find q) (cell_of owners.old q v) (admission_of find find moment)) }
-    ensures err { OnErr result ((q : Question) (v : ℕ) → cell_of owners.new q v ≡ cell_of owners.old q v) }
+    ensures err { OnErr result (AreSameCells owners.old owners.new × (stored.new ≡ stored.old)) }
     ensures upto { AreUpTo top owners.new }
     ensures settles { (n k : ℕ) (name : Labels) → n ≤ top → CanSettleAt n k name owners.old → CanSettleAt n k name owners.new }
     ensures counted { stored.new ≡ stored_in owners.new }
     ensures bound { stored.new ≤ stored.old + one_if (not (has_place_for owners.old find)) }
-    ensures same { OnErr result (stored.new ≡ stored.old) }
     ensures free { has_place_for owners.old find ≡ true → IsOk result }
 {
     if let Some(cells) = owners.get_mut(&find.find().owner) {
@@ -60,7 +57,7 @@ pub fn admit(
     Ok(())
 }
 
-/// The cached data of a question in a version, if it is alive at the moment. It looks the name up once, and takes no memory.
+/// The find of a question in a version, if it is alive at the moment. It looks the name up once, and takes no memory.
 pub fn at<'a>(
     owners: &'a Owners,
     owner: &Name,
@@ -76,7 +73,7 @@ pub fn at<'a>(
     }
 }
 
-/// Makes room for a flush of some types of a name, so that `settle_kinds` needs no memory later. Every cell stays as it is, even if memory runs out.
+/// Makes room for a flush of some types of a name, so that `settle_kinds` needs no memory later. No cell changes, even if memory runs out.
 pub fn open_kinds(
     owners: &mut Owners,
     owner: &Name,
@@ -84,9 +81,9 @@ pub fn open_kinds(
     top: u64,
 ) -> Result<(), NoMemory>
     requires upto { AreUpTo top owners.old }
-    ensures cells { (q : Question) (v : ℕ) → cell_of owners.new q v ≡ cell_of owners.old q v }
+    ensures cells { AreSameCells owners.old owners.new }
     ensures upto { AreUpTo top owners.new }
-    ensures settles { (n k : ℕ) (name : Labels) → CanSettleAt n k name owners.old → CanSettleAt n k name owners.new }
+    ensures settles { KeepSettling owners.old owners.new }
     ensures opened { OnOk result (AllByRecursion (λ kind. (n : ℕ) → CanSettleAt n kind owner.now owners.new) kinds.now) }
     ensures counted { stored_in owners.new ≡ stored_in owners.old }
 {
@@ -96,15 +93,15 @@ pub fn open_kinds(
     Ok(())
 }
 
-/// Makes a flush of some types of a name permanent: no version before it is kept. It takes no memory.
+/// Makes a flush of some types of a name permanent: the versions before it go. It takes no memory.
 pub fn settle_kinds(owners: &mut Owners, stored: &mut u64, owner: &Name, kinds: &[u16], number: u64)
     requires settles { AllByRecursion (λ kind. CanSettleAt number kind owner.now owners.old) kinds.now }
     requires counted { stored.old ≡ stored_in owners.old }
     ensures cells { (q : Question) (v : ℕ) →
         cell_of owners.new q v ≡
         cell_of owners.old q (after_settle (name_eq owner.now q.owner && list_any (λ kind. kind == q.kind) kinds.now) number v) }
-    ensures upto { (top : ℕ) → AreUpTo top owners.old → AreUpTo top owners.new }
-    ensures settles { (n k : ℕ) (name : Labels) → CanSettleAt n k name owners.old → CanSettleAt n k name owners.new }
+    ensures upto { KeepUpTo owners.old owners.new }
+    ensures settles { KeepSettling owners.old owners.new }
     ensures counted { stored.new ≡ stored_in owners.new }
     ensures fewer { stored.new ≤ stored.old }
 {
@@ -120,8 +117,8 @@ pub fn settle_below(owners: &mut Owners, stored: &mut u64, zone: &Name, number: 
     requires counted { stored.old ≡ stored_in owners.old }
     ensures cells { (top : ℕ) → AreUpTo top owners.old → (q : Question) (v : ℕ) →
         cell_of owners.new q v ≡ cell_of owners.old q (after_settle (is_at_or_below q.owner zone.now) number v) }
-    ensures upto { (top : ℕ) → AreUpTo top owners.old → AreUpTo top owners.new }
-    ensures settles { (n k : ℕ) (name : Labels) → CanSettleAt n k name owners.old → CanSettleAt n k name owners.new }
+    ensures upto { KeepUpTo owners.old owners.new }
+    ensures settles { KeepSettling owners.old owners.new }
     ensures counted { stored.new ≡ stored_in owners.new }
     ensures fewer { stored.new ≤ stored.old }
 {
@@ -136,7 +133,7 @@ pub fn settle_below(owners: &mut Owners, stored: &mut u64, zone: &Name, number: 
     }
 }
 
-/// Whether the place of a find is counted already: that of its owner, and of its type or of the whole name.
+/// Whether the place of a find is counted already. A place is that of a name and type, or of a whole name.
 pub fn has_place(owners: &Owners, find: &Find) -> bool
     ensures { result ≡ has_place_for owners.now find.now }
 {
@@ -151,8 +148,8 @@ pub fn forget(owners: &mut Owners, stored: &mut u64, owner: &Name)
     requires counted { stored.old ≡ stored_in owners.old }
     ensures cells { (q : Question) (v : ℕ) →
         cell_of owners.new q v ≡ (if name_eq owner.now q.owner then None else cell_of owners.old q v) }
-    ensures upto { (top : ℕ) → AreUpTo top owners.old → AreUpTo top owners.new }
-    ensures settles { (n k : ℕ) (name : Labels) → CanSettleAt n k name owners.old → CanSettleAt n k name owners.new }
+    ensures upto { KeepUpTo owners.old owners.new }
+    ensures settles { KeepSettling owners.old owners.new }
     ensures counted { stored.new ≡ stored_in owners.new }
     ensures fewer { stored.new ≤ stored.old }
 {

@@ -9,7 +9,7 @@ use ranked::{Cell, Find, Held};
 /// The content of a cell in one version.
 #[derive(Clone, Copy, PartialEq, Eq)]
 pub struct Place<B> {
-    /// Whether the find of the whole name is cached here. Then the cell is empty.
+    /// Whether it refers to the find of the whole name. Then the cell is empty.
     pub left: bool,
     pub cell: Cell<B>,
 }
@@ -25,15 +25,15 @@ pub struct Version<B> {
 /// The answer of a column to a lookup.
 #[derive(Clone, Copy)]
 pub enum Sight<'a> {
-    /// The answer is that of the whole name.
+    /// The answer is that of the find of the whole name.
     Left,
-    /// The answer is that of the type, if it has one.
+    /// The answer is the type's own, if it has one.
     Own(Option<Held<'a>>),
 }
 
 impl<B: Copy> Place<B> {
-    /// Caches a find, unless what is cached here is alive at the moment and of higher rank.
-    /// `outranked` says whether that is so of the find of the whole name.
+    // Caches a find, unless the content here is alive at the moment and of higher rank.
+    // `outranked` says whether the find of the whole name is.
     pub(crate) fn admit(&mut self, find: &Find, body: B, moment: u64, outranked: bool)
         ensures { self.new ≡ after_find (admission_of find.now body moment) outranked self.old }
     {

@@ -13,7 +13,7 @@ use crate::version::{Place, Version};
 use ranked::{Cell, Find};
 
 impl<B: Copy> Version<B> {
-    /// Caches a find, as its place does.
+    // Caches a find, as its place does.
     fn admit(&mut self, find: &Find, body: B, moment: u64, outranked: bool)
         ensures { self.new ≡ version_after (admission_of find.now body moment) outranked self.old }
     {
@@ -22,7 +22,7 @@ impl<B: Copy> Version<B> {
 }
 
 impl<B: Copy> Version<B> {
-    /// Starts at version 0, if it starts at a number or before.
+    // Moves the start to version 0, if it is at a number or before.
     fn lower(&mut self, number: u64)
         ensures { self.new ≡ lowered number self.old }
     {
@@ -41,7 +41,7 @@ fn lower_each(versions: &mut Vec<Version<usize>>, number: u64)
     }
 }
 
-/// The place of the last entry that starts at version 0.
+// The place of the last entry that starts at version 0.
 fn last_start(versions: &[Version<usize>]) -> usize
     requires starts { IsFromStart versions.now }
     ensures within { result < length versions.now }
@@ -64,7 +64,7 @@ fn drop_front(versions: &mut Vec<Version<usize>>, count: usize)
     versions.drain(..count);
 }
 
-/// Gives every version before one the content of that one.
+// Gives every version before one the content of that one.
 pub(crate) fn forget_before(versions: &mut Vec<Version<usize>>, number: u64)
     requires starts { IsFromStart versions.old.items }
     ensures places { (v : ℕ) → place_at versions.new.items v ≡ place_at versions.old.items (max number v) }
@@ -81,7 +81,7 @@ pub(crate) fn forget_before(versions: &mut Vec<Version<usize>>, number: u64)
     drop_front(versions, before);
 }
 
-/// Caches a find in each version.
+// Caches a find in each version.
 pub(crate) fn admit_each(
     versions: &mut Vec<Version<usize>>,
     find: &Find,
@@ -97,7 +97,7 @@ pub(crate) fn admit_each(
     }
 }
 
-/// The content in a version.
+// The content in a version.
 pub(crate) fn place_at(versions: &[Version<usize>], number: u64) -> Place<usize>
     ensures { result ≡ place_at versions.now number }
 {
@@ -114,7 +114,7 @@ pub(crate) fn place_at(versions: &[Version<usize>], number: u64) -> Place<usize>
 }
 
 impl<B: Copy> Place<B> {
-    /// Drops the find, if it is dead at a moment.
+    // Drops the find, if it is dead at a moment.
     fn sweep(&mut self, moment: u64)
         ensures { self.new ≡ swept moment self.old }
     {
@@ -139,7 +139,7 @@ impl<B: Copy> Version<B> {
     }
 }
 
-/// Makes the emptiness of the versions up to a number explicit, as an entry that an admission can change.
+// Adds an empty entry for the versions from `upto` to `top`, which an admission can change.
 pub(crate) fn reach(versions: &mut Vec<Version<usize>>, upto: u64, top: u64)
     requires { length versions.old.items < vec_capacity versions.old }
     ensures items { versions.new.items ≡ reached upto top versions.old.items }
@@ -156,7 +156,7 @@ pub(crate) fn reach(versions: &mut Vec<Version<usize>>, upto: u64, top: u64)
     }
 }
 
-/// Drops the finds that are dead at a moment, from each version.
+// Drops the finds that are dead at a moment, from each version.
 pub(crate) fn sweep_each(versions: &mut Vec<Version<usize>>, moment: u64)
     ensures each { versions.new.items ≡ map (version_swept moment) versions.old.items }
     ensures capacity { vec_capacity versions.new ≡ vec_capacity versions.old }

@@ -1,52 +1,55 @@
 -- Choices of the kept changes, by their tickets.
 use Rattle.std.specs.Prelude.{◌≡◌, ◌≢◌, ℕ, Bool, true, false, Option, Some, List, [], ◌∷◌, map}
 use Rattle.std.specs.List.{AllByRecursion}
-use Rattle.change_law.specs.declared.kept.Kept.{Kept}
+use Rattle.change_law.specs.declared.kept.KeptChange.{KeptChange}
 use Rattle.change_law.specs.declared.kept.Standing.{Standing}
 use Rattle.change_law.specs.declared.kept.Standing.TheVariants.{Done, Undone, Cleared}
 
--- Two changes are of the same table.
+-- Two changes have the same table.
 abbrev pub IsOneTable : Option ℕ → Option ℕ → Type 0
 IsOneTable (Some a) (Some b) = a ≡ b
 IsOneTable _ _ = ⊥
 
--- The later changes of a table are not chosen.
-abbrev pub AreLeftOut : {S : Type 0} → (S → Option ℕ) → (ℕ → Bool) → S → List (Kept S) → Type 0
+-- No later change of the table is chosen.
+abbrev pub AreLeftOut : {S : Type 0} → (S → Option ℕ) → (ℕ → Bool) → S → List (KeptChange S) → Type 0
 AreLeftOut table chosen saved later = AllByRecursion (λ k. IsOneTable (table saved) (table k.saved) → chosen k.ticket ≡ false) later
 
--- What is cleared is not chosen. Where another change is not, no later one of its table is.
-abbrev pub AllowsAt : {S : Type 0} → (S → Option ℕ) → (ℕ → Bool) → Standing → Kept S → List (Kept S) → Type 0
+-- A cleared change is not chosen. If another change is not chosen, no later one of its table is.
+abbrev pub AllowsAt : {S : Type 0} → (S → Option ℕ) → (ℕ → Bool) → Standing → KeptChange S → List (KeptChange S) → Type 0
 AllowsAt table chosen Cleared k later = chosen k.ticket ≡ false
 AllowsAt table chosen _ k later = chosen k.ticket ≡ false → AreLeftOut table chosen k.saved later
 
--- With a change of a table all earlier ones of that table that are kept are chosen, and nothing that is cleared. A change of no table is free.
-abbrev pub IsChoice : {S : Type 0} → (S → Option ℕ) → List (Kept S) → (ℕ → Bool) → Type 0
+-- A choice of kept changes: with a change of a table, all earlier ones of that table are chosen, and no cleared one is. A change without a table is free.
+abbrev pub IsChoice : {S : Type 0} → (S → Option ℕ) → List (KeptChange S) → (ℕ → Bool) → Type 0
 IsChoice table [] chosen = Unit {0}
 IsChoice table (k ∷ later) chosen = AllowsAt table chosen k.standing k later × IsChoice table later chosen
 
+-- whether a change is in effect
 abbrev pub is_done : Standing → Bool
 is_done Done = true
 is_done _ = false
 
--- The choice of what is in effect.
-abbrev pub IsPresent : {S : Type 0} → List (Kept S) → (ℕ → Bool) → Type 0
+-- The choice of the changes in effect.
+abbrev pub IsPresent : {S : Type 0} → List (KeptChange S) → (ℕ → Bool) → Type 0
 IsPresent kept chosen = AllByRecursion (λ k. chosen k.ticket ≡ is_done k.standing) kept
 
--- No later one of its table is in effect.
-abbrev pub IsUncovered : {S : Type 0} → (S → Option ℕ) → S → List (Kept S) → Type 0
+-- No later change of its table is in effect.
+abbrev pub IsUncovered : {S : Type 0} → (S → Option ℕ) → S → List (KeptChange S) → Type 0
 IsUncovered table saved later = AllByRecursion (λ k. IsOneTable (table saved) (table k.saved) → k.standing ≢ Done) later
 
--- No earlier one of its table waits to be redone.
-abbrev pub IsFounded : {S : Type 0} → (S → Option ℕ) → S → List (Kept S) → Type 0
+-- No earlier change of its table is undone.
+abbrev pub IsFounded : {S : Type 0} → (S → Option ℕ) → S → List (KeptChange S) → Type 0
 IsFounded table saved earlier = AllByRecursion (λ k. IsOneTable (table saved) (table k.saved) → k.standing ≢ Undone) earlier
 
+-- the standing of a change when nothing can be redone any more
 abbrev pub clear : Standing → Standing
 clear Done = Done
 clear _ = Cleared
 
-abbrev pub cleared_one : {S : Type 0} → Kept S → Kept S
+-- a kept change when nothing can be redone any more
+abbrev pub cleared_one : {S : Type 0} → KeptChange S → KeptChange S
 cleared_one k = record { ticket = k.ticket; standing = clear k.standing; saved = k.saved }
 
--- the kept changes where nothing can be redone any more
-abbrev pub cleared : {S : Type 0} → List (Kept S) → List (Kept S)
+-- the kept changes when nothing can be redone any more
+abbrev pub cleared : {S : Type 0} → List (KeptChange S) → List (KeptChange S)
 cleared kept = map cleared_one kept

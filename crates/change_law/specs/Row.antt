@@ -1,107 +1,120 @@
 -- The row of a world: its face for each choice of the changes that it keeps. `table`, `keeps` and `face` are the world's own.
-use Rattle.std.specs.Prelude.{◌≡◌, ◌<◌, ◌≤◌, ℕ, Bool, Option, List, [], ◌∷◌, ◌++◌, if◌then◌else◌}
+use Rattle.std.specs.Prelude.{◌≡◌, ◌<◌, ◌≤◌, ℕ, Bool, true, false, Option, List, [], ◌∷◌, ◌++◌, if◌then◌else◌}
 use Rattle.std.proofs.Common.{refl, sym, subst}
 use Rattle.std.specs.List.{AllByRecursion}
-use Rattle.change_law.specs.declared.kept.Kept.{Kept}
+use Rattle.change_law.specs.declared.kept.KeptChange.{KeptChange}
 use Rattle.change_law.specs.declared.kept.Standing.{Standing}
-use Rattle.change_law.specs.declared.kept.Standing.TheVariants.{Done, Undone}
+use Rattle.change_law.specs.declared.kept.Standing.TheVariants.{Done, Undone, Cleared}
 use Rattle.change_law.specs.Face.{Face, IsSame, IsSameAt}
 use Rattle.change_law.specs.Choice.{IsChoice, IsUncovered, IsFounded, cleared}
 
--- a kept change, by its ticket and what it saved
-abbrev pub kept_as : {S : Type 0} → Standing → ℕ → S → Kept S
+-- a kept change, by its ticket and the data that it saved
+abbrev pub kept_as : {S : Type 0} → Standing → ℕ → S → KeptChange S
 kept_as standing ticket saved = record { ticket = ticket; standing = standing; saved = saved }
 
--- the kept changes after one more, where nothing can be redone any more
-abbrev pub with_change : {S : Type 0} → List (Kept S) → ℕ → S → List (Kept S)
+-- the kept changes after one more, when nothing can be redone any more
+abbrev pub with_change : {S : Type 0} → List (KeptChange S) → ℕ → S → List (KeptChange S)
 with_change kept ticket saved = cleared kept ++ kept_as Done ticket saved ∷ []
 
--- The ticket is above those of the kept changes.
-abbrev pub IsNext : {S : Type 0} → ℕ → List (Kept S) → Type 0
+-- The ticket is greater than those of the kept changes.
+abbrev pub IsNext : {S : Type 0} → ℕ → List (KeptChange S) → Type 0
 IsNext ticket kept = AllByRecursion (λ k. k.ticket < ticket) kept
 
--- The change of this ticket is in effect, and no later one of its table is.
-pub record IsLast {W S : Type 0} (table : S → Option ℕ) (keeps : W → List (Kept S) → Type 0)
-    (world : W) (earlier : List (Kept S)) (ticket : ℕ) (saved : S) (later : List (Kept S)) : Type 0 where
+-- The world keeps a change that is in effect, and no later one of its table is.
+pub record IsLast {W S : Type 0} (table : S → Option ℕ) (keeps : W → List (KeptChange S) → Type 0)
+    (world : W) (earlier : List (KeptChange S)) (ticket : ℕ) (saved : S) (later : List (KeptChange S)) : Type 0 where
   pub kept : keeps world (earlier ++ kept_as Done ticket saved ∷ later)
   pub uncovered : IsUncovered table saved later
 
--- The change of this ticket is undone, and no earlier one of its table is.
-pub record IsFirst {W S : Type 0} (table : S → Option ℕ) (keeps : W → List (Kept S) → Type 0)
-    (world : W) (earlier : List (Kept S)) (ticket : ℕ) (saved : S) (later : List (Kept S)) : Type 0 where
+-- The world keeps a change that is undone, and no earlier one of its table is.
+pub record IsFirst {W S : Type 0} (table : S → Option ℕ) (keeps : W → List (KeptChange S) → Type 0)
+    (world : W) (earlier : List (KeptChange S)) (ticket : ℕ) (saved : S) (later : List (KeptChange S)) : Type 0 where
   pub kept : keeps world (earlier ++ kept_as Undone ticket saved ∷ later)
   pub founded : IsFounded table saved earlier
 
--- The world keeps these changes now. For each choice of them with this property, its face is made of the one before.
-pub record IsRowAfter {W S T : Type 0} (table : S → Option ℕ) (keeps : W → List (Kept S) → Type 0) (face : W → List (Kept S) → (ℕ → Bool) → Face T)
-    (made : (ℕ → Bool) → Face T → Face T) (P : (ℕ → Bool) → Type 0) (before : W) (kept : List (Kept S)) (after : W) (left : List (Kept S)) : Type 0 where
+-- The world keeps these changes now. For each choice of them with a property, the face is a function of the face before.
+pub record IsRowAfter {W S T : Type 0} (table : S → Option ℕ) (keeps : W → List (KeptChange S) → Type 0) (face : W → List (KeptChange S) → (ℕ → Bool) → Face T)
+    (made : (ℕ → Bool) → Face T → Face T) (P : (ℕ → Bool) → Type 0) (before : W) (kept : List (KeptChange S)) (after : W) (left : List (KeptChange S)) : Type 0 where
   pub keeps_left : keeps after left
   pub faces : (chosen : ℕ → Bool) → P chosen → IsChoice table left chosen → IsSame (face after left chosen) (made chosen (face before kept chosen))
 
+-- Every choice.
 abbrev pub any : (ℕ → Bool) → Type 0
 any chosen = Unit {0}
 
+-- the same face as before
 abbrev pub same_face : {T : Type 0} → (ℕ → Bool) → Face T → Face T
 same_face chosen face = face
 
--- The change has its effect where it is chosen.
+-- the effect of a change on a face, if it is chosen
 abbrev pub where_chosen : {T : Type 0} → ℕ → (Face T → Face T) → (ℕ → Bool) → Face T → Face T
 where_chosen ticket effect chosen face = if chosen ticket then effect face else face
 
--- The world keeps what it kept, and each face is the same.
-abbrev pub IsSameRow : {W S T : Type 0} → (S → Option ℕ) → (W → List (Kept S) → Type 0) → (W → List (Kept S) → (ℕ → Bool) → Face T) → W → W → Type 0
-IsSameRow {S = S} table keeps face before after = (kept : List (Kept S)) → keeps before kept → IsRowAfter table keeps face same_face any before kept after kept
+-- The world keeps the same changes, and each face is the same.
+abbrev pub IsSameRow : {W S T : Type 0} → (S → Option ℕ) → (W → List (KeptChange S) → Type 0) → (W → List (KeptChange S) → (ℕ → Bool) → Face T) → W → W → Type 0
+IsSameRow {S = S} table keeps face before after = (kept : List (KeptChange S)) → keeps before kept → IsRowAfter table keeps face same_face any before kept after kept
 
--- An equal world has the same row: a lemma for those that implement the laws.
-pub same_row : {W S T : Type 0} (table : S → Option ℕ) (keeps : W → List (Kept S) → Type 0) (face : W → List (Kept S) → (ℕ → Bool) → Face T) (before after : W) →
+-- An equal world has the same row: a lemma for implementors of the laws.
+pub same_row : {W S T : Type 0} (table : S → Option ℕ) (keeps : W → List (KeptChange S) → Type 0) (face : W → List (KeptChange S) → (ℕ → Bool) → Face T) (before after : W) →
     after ≡ before → IsSameRow table keeps face before after
 same_row {W} {S} {T} table keeps face before after e = λ kept h.
     subst (λ (w : W). IsRowAfter table keeps face same_face any before kept w kept) (sym e)
     (record { keeps_left = h; faces = λ chosen p choice. record { tables = refl; cell = λ q. refl } })
 
--- The world keeps what it kept. Each face is made of the one before, as far as it is alive at a moment.
-pub record IsRowFrom {W S T : Type 0} (table : S → Option ℕ) (keeps : W → List (Kept S) → Type 0) (face : W → List (Kept S) → (ℕ → Bool) → Face T)
-    (moment : ℕ) (made : Face T → Face T) (before : W) (kept : List (Kept S)) (after : W) : Type 0 where
+-- The world keeps the same changes. Each face is a function of the face before, as far as its content is alive at a moment.
+pub record IsRowFrom {W S T : Type 0} (table : S → Option ℕ) (keeps : W → List (KeptChange S) → Type 0) (face : W → List (KeptChange S) → (ℕ → Bool) → Face T)
+    (moment : ℕ) (made : Face T → Face T) (before : W) (kept : List (KeptChange S)) (after : W) : Type 0 where
   pub keeps_still : keeps after kept
   pub faces : (chosen : ℕ → Bool) → IsChoice table kept chosen → IsSameAt moment (face after kept chosen) (made (face before kept chosen))
 
--- The same for all that the world may keep.
-abbrev pub IsEachRowFrom : {W S T : Type 0} → (S → Option ℕ) → (W → List (Kept S) → Type 0) → (W → List (Kept S) → (ℕ → Bool) → Face T) →
+-- The same, whatever the world keeps.
+abbrev pub IsEachRowFrom : {W S T : Type 0} → (S → Option ℕ) → (W → List (KeptChange S) → Type 0) → (W → List (KeptChange S) → (ℕ → Bool) → Face T) →
     ℕ → (Face T → Face T) → W → W → Type 0
-IsEachRowFrom {S = S} table keeps face moment made before after = (kept : List (Kept S)) → keeps before kept → IsRowFrom table keeps face moment made before kept after
+IsEachRowFrom {S = S} table keeps face moment made before after = (kept : List (KeptChange S)) → keeps before kept → IsRowFrom table keeps face moment made before kept after
 
--- The world keeps one change more, under a new ticket, and has cleared what was undone. Each face is made of the one before.
-abbrev pub IsMade : {W S T : Type 0} → (S → Option ℕ) → (W → List (Kept S) → Type 0) → (W → List (Kept S) → (ℕ → Bool) → Face T) → (W → ℕ) →
+-- The world keeps one more change, under a new ticket, and has cleared the undone ones. Each face is a function of the face before.
+abbrev pub IsMade : {W S T : Type 0} → (S → Option ℕ) → (W → List (KeptChange S) → Type 0) → (W → List (KeptChange S) → (ℕ → Bool) → Face T) → (W → ℕ) →
     ((ℕ → Bool) → Face T → Face T) → ℕ → S → W → W → Type 0
 IsMade {S = S} table keeps face newest made ticket saved before after =
-    (kept : List (Kept S)) → keeps before kept → IsNext ticket kept → newest before < ticket → IsRowAfter table keeps face made any before kept after (with_change kept ticket saved)
+    (kept : List (KeptChange S)) → keeps before kept → IsNext ticket kept → newest before < ticket → IsRowAfter table keeps face made any before kept after (with_change kept ticket saved)
 
--- Somewhere among what the world keeps this change is in effect, and no later one of its table is.
-abbrev pub CanGoBack : {W S : Type 0} → (S → Option ℕ) → (W → List (Kept S) → Type 0) → W → S → Type 0
-CanGoBack {S = S} table keeps world saved = (earlier : List (Kept S)) × ((ticket : ℕ) × ((later : List (Kept S)) × IsLast table keeps world earlier ticket saved later))
+-- Among the changes that the world keeps, this one is in effect, and no later one of its table is.
+abbrev pub CanGoBack : {W S : Type 0} → (S → Option ℕ) → (W → List (KeptChange S) → Type 0) → W → S → Type 0
+CanGoBack {S = S} table keeps world saved = (earlier : List (KeptChange S)) × ((ticket : ℕ) × ((later : List (KeptChange S)) × IsLast table keeps world earlier ticket saved later))
 
--- Somewhere among what the world keeps this change is undone, and no earlier one of its table is.
-abbrev pub CanGoAgain : {W S : Type 0} → (S → Option ℕ) → (W → List (Kept S) → Type 0) → W → S → Type 0
-CanGoAgain {S = S} table keeps world saved = (earlier : List (Kept S)) × ((ticket : ℕ) × ((later : List (Kept S)) × IsFirst table keeps world earlier ticket saved later))
+-- Among the changes that the world keeps, this one is undone, and no earlier one of its table is.
+abbrev pub CanGoAgain : {W S : Type 0} → (S → Option ℕ) → (W → List (KeptChange S) → Type 0) → W → S → Type 0
+CanGoAgain {S = S} table keeps world saved = (earlier : List (KeptChange S)) × ((ticket : ℕ) × ((later : List (KeptChange S)) × IsFirst table keeps world earlier ticket saved later))
 
--- The change is undone, wherever the world kept it, and each face is the same.
-abbrev pub GoesBack : {W S T : Type 0} → (S → Option ℕ) → (W → List (Kept S) → Type 0) → (W → List (Kept S) → (ℕ → Bool) → Face T) → W → S → W → S → Type 0
-GoesBack {S = S} table keeps face before saved after left = (earlier : List (Kept S)) (ticket : ℕ) (later : List (Kept S)) → IsLast table keeps before earlier ticket saved later →
+-- The change is undone at its place among the kept ones, and each face is the same.
+abbrev pub GoesBack : {W S T : Type 0} → (S → Option ℕ) → (W → List (KeptChange S) → Type 0) → (W → List (KeptChange S) → (ℕ → Bool) → Face T) → W → S → W → S → Type 0
+GoesBack {S = S} table keeps face before saved after left = (earlier : List (KeptChange S)) (ticket : ℕ) (later : List (KeptChange S)) → IsLast table keeps before earlier ticket saved later →
     IsRowAfter table keeps face same_face any before (earlier ++ kept_as Done ticket saved ∷ later) after (earlier ++ kept_as Undone ticket left ∷ later)
 
--- The change is in effect again, wherever the world kept it, and each face is the same.
-abbrev pub GoesAgain : {W S T : Type 0} → (S → Option ℕ) → (W → List (Kept S) → Type 0) → (W → List (Kept S) → (ℕ → Bool) → Face T) → W → S → W → S → Type 0
-GoesAgain {S = S} table keeps face before saved after left = (earlier : List (Kept S)) (ticket : ℕ) (later : List (Kept S)) → IsFirst table keeps before earlier ticket saved later →
+-- The change is in effect again at its place among the kept ones, and each face is the same.
+abbrev pub GoesAgain : {W S T : Type 0} → (S → Option ℕ) → (W → List (KeptChange S) → Type 0) → (W → List (KeptChange S) → (ℕ → Bool) → Face T) → W → S → W → S → Type 0
+GoesAgain {S = S} table keeps face before saved after left = (earlier : List (KeptChange S)) (ticket : ℕ) (later : List (KeptChange S)) → IsFirst table keeps before earlier ticket saved later →
     IsRowAfter table keeps face same_face any before (earlier ++ kept_as Undone ticket saved ∷ later) after (earlier ++ kept_as Done ticket left ∷ later)
 
--- What a change saved is of the same table, needs memory where it did, and says the same of the change.
+-- The world does not keep its oldest change any more. Each choice with it has the face that it had.
+abbrev pub SettlesOldest : {W S T : Type 0} → (S → Option ℕ) → (W → List (KeptChange S) → Type 0) → (W → List (KeptChange S) → (ℕ → Bool) → Face T) → W → S → W → Type 0
+SettlesOldest {S = S} table keeps face before saved after = (ticket : ℕ) (later : List (KeptChange S)) → keeps before (kept_as Done ticket saved ∷ later) →
+    IsRowAfter table keeps face same_face (λ chosen. chosen ticket ≡ true) before (kept_as Done ticket saved ∷ later) after later
+
+-- The world does not keep a cleared change any more. Each choice without it has the face that it had.
+abbrev pub SettlesCleared : {W S T : Type 0} → (S → Option ℕ) → (W → List (KeptChange S) → Type 0) → (W → List (KeptChange S) → (ℕ → Bool) → Face T) → W → S → W → Type 0
+SettlesCleared {S = S} table keeps face before saved after = (earlier : List (KeptChange S)) (ticket : ℕ) (later : List (KeptChange S)) →
+    keeps before (earlier ++ kept_as Cleared ticket saved ∷ later) →
+    IsRowAfter table keeps face same_face (λ chosen. chosen ticket ≡ false) before (earlier ++ kept_as Cleared ticket saved ∷ later) after (earlier ++ later)
+
+-- The data that a change saved have the same table, need memory if they did, and have the same description.
 abbrev pub IsSameKind : {S D : Type 0} → (S → Option ℕ) → (S → Bool) → (S → D) → S → S → Type 0
 IsSameKind table needs_memory told before after = (table after ≡ table before) × (needs_memory after ≡ needs_memory before) × (told after ≡ told before)
 
--- No newer ticket was given to the world, it stores no more cells, and may store as many.
+-- The world has no newer ticket, stores no more cells, and has the same limit.
 abbrev pub IsNoMore : {W : Type 0} → (W → ℕ) → (W → ℕ) → (W → ℕ) → W → W → Type 0
 IsNoMore newest stored limit before after = (newest after ≤ newest before) × (stored after ≤ stored before) × (limit after ≡ limit before)
 
--- The world refused, and is as it was: its row, its tickets, its cells.
-abbrev pub IsRefused : {W S T : Type 0} → (S → Option ℕ) → (W → List (Kept S) → Type 0) → (W → List (Kept S) → (ℕ → Bool) → Face T) → (W → ℕ) → (W → ℕ) → W → W → Type 0
+-- The world refused the call and is as it was: its faces, its tickets and its number of cells.
+abbrev pub IsRefused : {W S T : Type 0} → (S → Option ℕ) → (W → List (KeptChange S) → Type 0) → (W → List (KeptChange S) → (ℕ → Bool) → Face T) → (W → ℕ) → (W → ℕ) → W → W → Type 0
 IsRefused table keeps face newest stored before after = IsSameRow table keeps face before after × (newest after ≤ newest before) × (stored after ≡ stored before)

@@ -1,12 +1,10 @@
 //! A change of a world, with its way back.
 
-ghost use Rattle.std.specs.Prelude.{◌≡◌, ◌≤◌, ◌<◌, max, ℕ, Bool, true, false, List, ◌∷◌, ◌++◌, Option, None, IfOk, IfErr, IsOk, OnOk, OnErr};
+ghost use Rattle.std.specs.Prelude.{◌≡◌, ◌≤◌, ◌<◌, max, ℕ, Bool, false, Option, None, IfOk, IfErr, IsOk, OnOk, OnErr};
 ghost use Rattle.dns_text.specs.declared.record.Question.{Question};
-ghost use Rattle.change_law.specs.declared.kept.Kept.{Kept};
-ghost use Rattle.change_law.specs.declared.kept.Standing.TheVariants.{Done, Cleared};
 ghost use Rattle.change_law.specs.Effect.{effect, IsFaultFor};
-ghost use Rattle.change_law.specs.Row.{kept_as, CanGoBack, CanGoAgain, GoesBack, GoesAgain, IsSameKind, IsMade};
-ghost use Rattle.change_law.specs.Row.{IsRowAfter, IsNoMore, IsRefused, same_face, where_chosen};
+ghost use Rattle.change_law.specs.Row.{CanGoBack, CanGoAgain, GoesBack, GoesAgain, IsSameKind, IsMade, SettlesOldest, SettlesCleared};
+ghost use Rattle.change_law.specs.Row.{IsNoMore, IsRefused, where_chosen};
 
 use crate::fault::ChangeFault;
 use crate::world::World;
@@ -16,7 +14,7 @@ use dns_name::NoMemory;
 pub trait Change: Drop {
     type World: World;
 
-    /// Why the world refuses it where the tables are these, if it does.
+    /// The code of the reason why these tables do not allow it, if they do not.
     ghost reason: { Self → Self.World.Tables → Option ℕ };
 
     /// The tables after it.
@@ -25,13 +23,13 @@ pub trait Change: Drop {
     /// The questions whose cells it empties.
     ghost empties: { Self → Question → Bool };
 
-    /// The table that it is of, if it is of one.
+    /// The table that it changes, if it changes one.
     ghost table: { Self → Option ℕ };
 
-    /// What it says of itself.
+    /// Its description.
     ghost told: { Self → Self.World.Told };
 
-    /// Makes the change under a new ticket. Nothing can be redone after that.
+    /// Makes the change under a new ticket. After that nothing can be redone.
     fn apply(
         self,
         world: &mut Self::World,
@@ -41,18 +39,19 @@ pub trait Change: Drop {
         ensures reason { OnOk result (reason self (Self.World.shown world.old).tables ≡ None) }
         ensures kind { IfOk result (λ saved. (Self.World.table saved ≡ table self) × (Self.World.told saved ≡ told self)) }
 
-        // The world keeps it and clears what was undone. It has its effect in each choice that it is part of.
+        // The world keeps it and clears the undone changes. In each choice with it, it has its effect.
         ensures row { IfOk result (λ saved. IsMade Self.World.table Self.World.keeps Self.World.face Self.World.newest
             (where_chosen ticket (effect (after self) (empties self))) ticket saved world.old world.new) }
         ensures newest { OnOk result (Self.World.newest world.new ≤ max (Self.World.newest world.old) ticket) }
 
-        // Without a reason only memory can be wanting.
+        // If the tables allow it, the only fault is that there is no memory.
         ensures err { IfErr result (λ fault. IsFaultFor (reason self (Self.World.shown world.old).tables) fault) }
         ensures same { OnErr result (IsRefused Self.World.table Self.World.keeps Self.World.face Self.World.newest Self.World.stored
             world.old world.new) }
-        ensures store { (Self.World.stored world.new ≤ Self.World.stored world.old) × (Self.World.limit world.new ≡ Self.World.limit world.old) };
+        ensures store { (Self.World.stored world.new ≤ Self.World.stored world.old)
+            × (Self.World.limit world.new ≡ Self.World.limit world.old) };
 
-    /// Undoes a change, where no later one of its table is in effect. No face changes.
+    /// Undoes a change. No later change of its table is in effect. No face changes.
     fn back(
         world: &mut Self::World,
         saved: &mut <Self::World as World>::Saved,
@@ -65,7 +64,7 @@ pub trait Change: Drop {
             world.old world.new × (saved.new ≡ saved.old)) }
         ensures counts { IsNoMore Self.World.newest Self.World.stored Self.World.limit world.old world.new };
 
-    /// Redoes an undone change, where no earlier one of its table is undone. No face changes.
+    /// Redoes an undone change. No earlier change of its table is undone. No face changes.
     fn again(
         world: &mut Self::World,
         saved: &mut <Self::World as World>::Saved,
@@ -78,17 +77,9 @@ pub trait Change: Drop {
             world.old world.new × (saved.new ≡ saved.old)) }
         ensures counts { IsNoMore Self.World.newest Self.World.stored Self.World.limit world.old world.new };
 
-    /// Stops keeping a change: the oldest, which is in effect for good, or a cleared one, which never will be again.
+    /// Stops keeping a change: the oldest, which stays in effect for good, or a cleared one, which never will be again.
     fn settle(world: &mut Self::World, saved: <Self::World as World>::Saved)
-        // The choices with the oldest remain.
-        ensures oldest { (ticket : ℕ) (later : List (Kept Self.World.Saved)) → Self.World.keeps world.old (kept_as Done ticket saved ∷ later) →
-            IsRowAfter Self.World.table Self.World.keeps Self.World.face same_face (λ chosen. chosen ticket ≡ true)
-            world.old (kept_as Done ticket saved ∷ later) world.new later }
-
-        // The choices without the cleared one remain.
-        ensures cleared { (earlier : List (Kept Self.World.Saved)) (ticket : ℕ) (later : List (Kept Self.World.Saved)) →
-            Self.World.keeps world.old (earlier ++ kept_as Cleared ticket saved ∷ later) →
-            IsRowAfter Self.World.table Self.World.keeps Self.World.face same_face (λ chosen. chosen ticket ≡ false)
-            world.old (earlier ++ kept_as Cleared ticket saved ∷ later) world.new (earlier ++ later) }
+        ensures oldest { SettlesOldest Self.World.table Self.World.keeps Self.World.face world.old saved world.new }
+        ensures cleared { SettlesCleared Self.World.table Self.World.keeps Self.World.face world.old saved world.new }
         ensures counts { IsNoMore Self.World.newest Self.World.stored Self.World.limit world.old world.new };
 }

@@ -1,4 +1,4 @@
-//! Why an admission or a change is refused.
+//! Refusals of an admission and of a change.
 
 ghost use Rattle.std.specs.Prelude.{◌≡◌};
 ghost use Rattle.change_law.specs.declared.fault.WorldFault.TheVariants as world;
@@ -7,14 +7,13 @@ ghost use Rattle.change_law.specs.declared.fault.ChangeFault.TheVariants as chan
 use std::alloc::{AllocError, AllocFailed};
 use thiserror::Error;
 
-/// Why a world refuses an admission. Nothing has changed then.
+/// The reason why a world refuses an admission, which then leaves it as it was.
 #[derive(Clone, Copy, Debug, PartialEq, Eq, Error)]
 pub enum WorldFault {
+    /// The world stores as many cells as its limit allows.
     #[error("{stored} cells are stored")]
-    /// As many cells are stored as there may be.
-    Full {
-        stored: usize,
-    },
+    Full { stored: usize },
+    /// There was no memory.
     #[error("out of memory")]
     NoMemory,
 }
@@ -35,12 +34,13 @@ impl<T: Drop> From<AllocFailed<T>> for WorldFault {
     }
 }
 
-/// Why a world refuses a change. Nothing has changed then.
+/// The reason why a world refuses a change, which then leaves it as it was.
 #[derive(Clone, Copy, Debug, PartialEq, Eq, Error)]
 pub enum ChangeFault {
-    /// The tables don't allow it. Which number is which reason, the change's own crate says.
+    /// The tables do not allow it. The number is the code of the reason, which the change's own crate defines.
     #[error("the change is refused for reason {0}")]
     Refused(u8),
+    /// There was no memory.
     #[error("out of memory")]
     NoMemory,
 }

@@ -1,4 +1,4 @@
-//! A change that a world keeps, so that it can be undone and redone.
+//! A kept change: one that can be undone and redone.
 
 /// Whether a kept change is in effect.
 #[derive(Clone, Copy, PartialEq, Eq, Drop)]
@@ -7,13 +7,13 @@ pub enum Standing {
     Done,
     /// It was undone, and can be redone.
     Undone,
-    /// It was undone and can't be redone any more. It waits to be settled.
+    /// It was undone and cannot be redone any more. The next settling removes it.
     Cleared,
 }
 
-/// A kept change: its ticket, its standing, and what it saved for its way back.
+/// A kept change: its ticket, whether it is in effect, and the data for its way back.
 #[derive(Drop)]
-pub struct Kept<S> {
+pub struct KeptChange<S> {
     pub ticket: u64,
     pub standing: Standing,
     pub saved: S,

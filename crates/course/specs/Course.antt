@@ -1,40 +1,40 @@
--- What happened to a world, and the face that a replay of it gives, for each choice of its changes.
+-- The deeds of a world, and the face that a replay of them gives, for each choice of its changes.
 use Rattle.std.specs.Prelude.{◌≡◌, ◌≢◌, ℕ, ◌<◌, ◌≤◌, ◌==◌, Bool, true, false, not, Option, Some, None, List, [], ◌∷◌, fold, if◌then◌else◌}
 use Rattle.std.specs.List.{AllByRecursion}
 use Rattle.dns_text.specs.declared.record.Question.{Question}
 use Rattle.ranked.specs.declared.find.Find.{Find}
-use Rattle.change_law.specs.declared.kept.Kept.{Kept}
+use Rattle.change_law.specs.declared.kept.KeptChange.{KeptChange}
 use Rattle.change_law.specs.Choice.{IsChoice}
 use Rattle.change_law.specs.Effect.{effect}
 use Rattle.change_law.specs.Face.{Face, IsSameAt, face_with}
 use Rattle.change_law.specs.Row.{where_chosen}
 use Rattle.undo_journal.specs.Journal.{Changes, tickets_of, done_of, undone_of}
 
--- A find came at a moment, or a change was made under a ticket.
+-- a deed: a find came at a moment, or a change was made under a ticket
 pub data Deed (T : Type 0) : Type 0 where
   Came : Find → ℕ → Deed T
   Made : ℕ → (T → T) → (Question → Bool) → Deed T
 
--- a face after one of these; a change acts where it is chosen
+-- a face after a deed; a change acts if it is chosen
 abbrev pub face_after : {T : Type 0} → Bool → (ℕ → Bool) → Face T → Deed T → Face T
 face_after has_cells chosen face (Came find moment) = face_with has_cells find moment face
 face_after has_cells chosen face (Made ticket after empties) = where_chosen ticket (effect after empties) chosen face
 
--- a replay of all that happened, with the chosen changes
+-- the face by a replay of all deeds, with the chosen changes
 abbrev pub face_by : {T : Type 0} → Bool → (ℕ → Bool) → Face T → List (Deed T) → Face T
 face_by has_cells chosen start deeds = fold (face_after has_cells chosen) start deeds
 
--- Each ticket is below the later ones.
+-- Each ticket is less than the later ones.
 abbrev pub AreAscending : List ℕ → Type 0
 AreAscending [] = Unit {0}
 AreAscending (ticket ∷ tickets) = AllByRecursion (λ t. ticket < t) tickets × AreAscending tickets
 
--- Of the changes that are kept no more, all that are not struck are chosen.
+-- Among the changes that are not kept any more, exactly those that are not struck are chosen.
 abbrev pub IsFair : {S : Type 0} → Changes S → (ℕ → Bool) → (ℕ → Bool) → Type 0
 IsFair changes struck chosen = (t : ℕ) → t ≤ changes.tickets → AllByRecursion (λ u. u ≢ t) (tickets_of changes.kept) → chosen t ≡ not (struck t)
 
--- For each choice of the kept changes, the face of the world is what a replay of what happened gives.
-pub record Stands {W S T : Type 0} (has_cells : Bool) (table : S → Option ℕ) (keeps : W → List (Kept S) → Type 0) (face : W → List (Kept S) → (ℕ → Bool) → Face T)
+-- For each choice of the kept changes, the face of the world is that of a replay of its deeds.
+pub record Stands {W S T : Type 0} (has_cells : Bool) (table : S → Option ℕ) (keeps : W → List (KeptChange S) → Type 0) (face : W → List (KeptChange S) → (ℕ → Bool) → Face T)
     (start : Face T) (world : W) (changes : Changes S) (now : ℕ) (deeds : List (Deed T)) (struck : ℕ → Bool) : Type 0 where
   pub kept : keeps world changes.kept
   pub ascending : AreAscending (tickets_of changes.kept)
@@ -45,12 +45,12 @@ pub record Stands {W S T : Type 0} (has_cells : Bool) (table : S → Option ℕ)
   pub faces : (chosen : ℕ → Bool) → IsChoice table changes.kept chosen → IsFair changes struck chosen →
       IsSameAt now (face world changes.kept chosen) (face_by has_cells chosen start deeds)
 
--- the struck tickets and one more
+-- whether a ticket is struck, when one more is
 abbrev pub struck_with : (ℕ → Bool) → Option ℕ → ℕ → Bool
 struck_with struck None t = struck t
 struck_with struck (Some ticket) t = if t == ticket then true else struck t
 
--- the struck tickets without one
+-- whether a ticket is struck, when one is not any more
 abbrev pub struck_without : (ℕ → Bool) → Option ℕ → ℕ → Bool
 struck_without struck None t = struck t
 struck_without struck (Some ticket) t = if t == ticket then false else struck t

@@ -1,4 +1,4 @@
--- Whatever happens next, the world is still what a replay gives: lemmas for the book above.
+-- The course of a world: lemmas by which a book shows that after each event its faces are those of a replay.
 use Rattle.std.proofs.Common.{◌≡◌, ◌≢◌, ℕ, zero, suc, ◌+◌, ◌-◌, ◌<◌, ◌≤◌, Bool, true, false, not, cond, eqb, eq-eqb, ltb, Option, Some, None, ◌⊎◌, inl, inr, List, [], ◌∷◌, ◌++◌, length, take, drop, map, refl, sym, ap, subst, ◌∙◌, arith, rules, length-append, append_assoc}
 use Rattle.std.specs.Prelude.{⊤, fold, nat_lt, ◌==◌, ◌&&◌, if◌then◌else◌}
 use Rattle.std.specs.List.{AllByRecursion}
@@ -11,7 +11,7 @@ use Rattle.ranked.specs.declared.find.Find.{Find}
 use Rattle.ranked.specs.Cell.{is_alive, turns_away, after_admission}
 use Rattle.ranked.specs.Find.{touches, admission_of}
 use Rattle.ranked.specs.Rank.{level_of}
-use Rattle.change_law.specs.declared.kept.Kept.{Kept}
+use Rattle.change_law.specs.declared.kept.KeptChange.{KeptChange}
 use Rattle.change_law.specs.declared.kept.Standing.{Standing}
 use Rattle.change_law.specs.declared.kept.Standing.TheVariants.{Done, Undone, Cleared}
 use Rattle.change_law.specs.Choice.{IsChoice, IsPresent, AllowsAt, AreLeftOut, is_done}
@@ -23,6 +23,7 @@ use Rattle.course.specs.Course.{Deed, Came, Made, face_after, face_by, AreAscend
 
 -- ---- cells where they are alive
 
+-- Content that is alive at a later moment is alive at an earlier one.
 pub alive_later : (t m : ℕ) (a : Option (Admitted Find)) → t ≤ m → alive_at m a ≡ alive_at m (alive_at t a)
 alive_later t m None less = refl
 alive_later t m (Some held) less = by_life (is_alive held t) refl
@@ -48,6 +49,7 @@ admitted_alive m find (Some held) = by_life (is_alive held m) refl
     by_life false e =
         ap (λ (b : Bool). alive_at m (if b && nat_lt (level_of find.rank) (level_of held.rank) then Some held else Some (admission_of find find m))) e
 
+-- Cells with the same living content have the same after an admission.
 pub cell_alive : (m : ℕ) (find : Find) (q : Question) (a b : Option (Admitted Find)) → alive_at m a ≡ alive_at m b → alive_at m (cell_with find m q a) ≡ alive_at m (cell_with find m q b)
 cell_alive m find q a b e = by_touch (touches find q)
   where
@@ -89,24 +91,29 @@ module _ {T : Type 0} where
       by_choice true = effect_alive t after empties a b h
       by_choice false = h
 
+-- A fold over one more item.
 pub fold_push : {A B : Type 0} (f : A → B → A) (a : A) (xs : List B) (x : B) → fold f a (xs ++ x ∷ []) ≡ f (fold f a xs) x
 fold_push f a [] x = refl
 fold_push f a (y ∷ xs) x = fold_push f (f a y) xs x
 
 -- ---- tickets
 
+-- If all images have a property, all items have it of their image.
 pub all_back : {X Y : Type 0} (f : X → Y) (P : Y → Type 0) (xs : List X) → AllByRecursion P (map f xs) → AllByRecursion (λ x. P (f x)) xs
 all_back f P [] h = tt
 all_back f P (x ∷ xs) h = (h.0, all_back f P xs h.1)
 
+-- The front of an ascending list ascends.
 pub asc_front : (xs ys : List ℕ) → AreAscending (xs ++ ys) → AreAscending xs
 asc_front [] ys h = tt
 asc_front (x ∷ xs) ys h = ((all_split (λ t. x < t) xs ys h.0).0, asc_front xs ys h.1)
 
+-- An ascending list with a greater ticket at the end ascends.
 pub asc_push : (xs : List ℕ) (t : ℕ) → AreAscending xs → AllByRecursion (λ u. u < t) xs → AreAscending (xs ++ t ∷ [])
 asc_push [] t h less = (tt, tt)
 asc_push (x ∷ xs) t h less = (all-append _ xs (t ∷ []) h.0 (less.0, tt), asc_push xs t h.1 less.1)
 
+-- The rest of an ascending list ascends.
 pub asc_drop : (n : ℕ) (xs : List ℕ) → AreAscending xs → AreAscending (drop n xs)
 asc_drop zero xs h = h
 asc_drop (suc n) [] h = tt
@@ -118,6 +125,7 @@ asc_apart zero xs h = tt
 asc_apart (suc n) [] h = tt
 asc_apart (suc n) (x ∷ xs) h = (all_weaker _ _ (λ v less e. omega (arith, less, e)) (drop n xs) (all-drop (λ v. x < v) n xs h.0), asc_apart n xs h.1)
 
+-- In an ascending list, the first tickets are less than the later ones.
 pub asc_cross : (xs ys : List ℕ) → AreAscending (xs ++ ys) → AllByRecursion (λ u. AllByRecursion (λ v. v < u) xs) ys
 asc_cross [] ys h = all_weaker (λ u. ⊤) _ (λ u t. tt) ys (all_true ys)
   where
@@ -130,20 +138,24 @@ asc_cross (x ∷ xs) ys h = both ys (all_split (λ t. x < t) xs ys h.0).1 (asc_c
     both [] a b = tt
     both (y ∷ ys) a b = ((a.0, b.0), both ys a.1 b.1)
 
+-- Two properties of all items give a third.
 pub all_both : {X : Type 0} (P Q R : X → Type 0) → ((x : X) → P x → Q x → R x) → (xs : List X) → AllByRecursion P xs → AllByRecursion Q xs → AllByRecursion R xs
 all_both P Q R f [] p q = tt
 all_both P Q R f (x ∷ xs) p q = (f x p.0 q.0, all_both P Q R f xs p.1 q.1)
 
+-- The first images are the images of the first items.
 pub take_map : {X Y : Type 0} (f : X → Y) (n : ℕ) (xs : List X) → map f (take n xs) ≡ take n (map f xs)
 take_map f zero xs = refl
 take_map f (suc n) [] = refl
 take_map f (suc n) (x ∷ xs) = ap (λ l. f x ∷ l) (take_map f n xs)
 
+-- The later images are the images of the later items.
 pub drop_map : {X Y : Type 0} (f : X → Y) (n : ℕ) (xs : List X) → map f (drop n xs) ≡ drop n (map f xs)
 drop_map f zero xs = refl
 drop_map f (suc n) [] = refl
 drop_map f (suc n) (x ∷ xs) = drop_map f n xs
 
+-- The first items of the first items.
 pub take_less : {X : Type 0} (m n : ℕ) (xs : List X) → m ≤ n → take m (take n xs) ≡ take m xs
 take_less zero n xs less = refl
 take_less (suc m) zero xs less = absurd (omega arith)
@@ -155,31 +167,37 @@ take_within zero xs ys less = refl
 take_within (suc n) [] ys less = absurd (omega arith)
 take_within (suc n) (x ∷ xs) ys less = ap (λ l. x ∷ l) (take_within n xs ys (omega arith))
 
+-- The number of the first items.
 pub length_taken : {X : Type 0} (n : ℕ) (xs : List X) → n ≤ length xs → length (take n xs) ≡ n
 length_taken zero xs within = refl
 length_taken (suc n) [] within = absurd (omega arith)
 length_taken (suc n) (x ∷ xs) within = ap suc (length_taken n xs (omega arith))
 
+-- A map keeps the length.
 pub map_length : {X Y : Type 0} (f : X → Y) (xs : List X) → length (map f xs) ≡ length xs
 map_length f [] = refl
 map_length f (x ∷ xs) = ap suc (map_length f xs)
 
+-- A Boolean is true or false.
 pub is_or_not : (b : Bool) → (b ≡ true) ⊎ (b ≡ false)
 is_or_not true = inl refl
 is_or_not false = inr refl
 
+-- Numbers that differ are not equal by `==`.
 pub differs : (u t : ℕ) → u ≢ t → (u == t) ≡ false
 differs u t n = elim (is_or_not (u == t)) [ inl e ↦ absurd (n (eqb-true u t e)) | inr e ↦ e ]
 
+-- A change of one ticket leaves the others as they are.
 pub other_struck : (struck : ℕ → Bool) (b : Bool) (t u : ℕ) → u ≢ t → (if u == t then b else struck u) ≡ struck u
 other_struck struck b t u n = ap (λ (c : Bool). if c then b else struck u) (differs u t n)
 
+-- The ticket that changes has its new value.
 pub this_struck : (struck : ℕ → Bool) (b : Bool) (t : ℕ) → (if t == t then b else struck t) ≡ b
 this_struck struck b t = ap (λ (c : Bool). if c then b else struck t) (eq-eqb t t refl)
 
 -- ---- the course goes on
 
-module _ {W S T : Type 0} (has_cells : Bool) (table : S → Option ℕ) (keeps : W → List (Kept S) → Type 0) (face : W → List (Kept S) → (ℕ → Bool) → Face T) (start : Face T) where
+module _ {W S T : Type 0} (has_cells : Bool) (table : S → Option ℕ) (keeps : W → List (KeptChange S) → Type 0) (face : W → List (KeptChange S) → (ℕ → Bool) → Face T) (start : Face T) where
   pub stands_admitted : (w w' : W) (changes : Changes S) (now moment : ℕ) (deeds : List (Deed T)) (struck : ℕ → Bool) (find : Find) → now ≤ moment →
       IsRowFrom table keeps face moment (face_with has_cells find moment) w changes.kept w' →
       Stands has_cells table keeps face start w changes now deeds struck → Stands has_cells table keeps face start w' changes moment (deeds ++ Came find moment ∷ []) struck
@@ -236,7 +254,7 @@ module _ {W S T : Type 0} (has_cells : Bool) (table : S → Option ℕ) (keeps :
       (subst (λ (l : List ℕ). AllByRecursion (λ u. u ≢ t) l) (sym now_all) (all-drop (λ u. u ≢ t) m (D ++ ticket ∷ []) (all-append (λ u. u ≢ t) D (ticket ∷ []) parts.0 (λ e. omega (arith, h, e, is.next), tt)))) in
       let settled : (chosen : ℕ → Bool) → IsFair after struck chosen → IsPresent (settled_by before) chosen
       = λ chosen fair.
-      let ticket_of : Kept S → ℕ = λ k. k.ticket in
+      let ticket_of : KeptChange S → ℕ = λ k. k.ticket in
       let long : length D ≡ before.done = length_taken before.done (tickets_of before.kept) (omega (arith, are.within, map_length ticket_of before.kept)) in
       let m' = before.done + 1 - before.limit in
       let same : m ≡ m' = omega (arith, long, length-append D (ticket ∷ [])) in
@@ -253,7 +271,7 @@ module _ {W S T : Type 0} (has_cells : Bool) (table : S → Option ℕ) (keeps :
       (take m (D ++ ticket ∷ [])) (all_both _ _ (λ u. (u ≤ after.tickets) × (struck u ≡ false)) (λ u x y. (x, y)) (take m (D ++ ticket ∷ [])) known free) apart in
       let old = all_both (λ k. chosen k.ticket ≡ true) (λ k. k.standing ≡ Done) (λ k. chosen k.ticket ≡ is_done k.standing) (λ k x y. x ∙ sym (ap is_done y)) (take m' before.kept)
       (all_back ticket_of (λ u. chosen u ≡ true) (take m' before.kept) (subst (λ (l : List ℕ). AllByRecursion (λ u. chosen u ≡ true) l) (sym old_tickets) chosen_old))
-      (subst (λ (l : List (Kept S)). AllByRecursion (λ k. k.standing ≡ Done) l) (take_less m' before.done before.kept (omega (arith, are.room))) (all-take _ m' (take before.done before.kept) are.first)) in
+      (subst (λ (l : List (KeptChange S)). AllByRecursion (λ k. k.standing ≡ Done) l) (take_less m' before.done before.kept (omega (arith, are.room))) (all-take _ m' (take before.done before.kept) are.first)) in
       let gone_tickets : map ticket_of (drop before.done before.kept) ≡ U = drop_map ticket_of before.done before.kept in
       let chosen_gone : AllByRecursion (λ u. chosen u ≡ false) U
       = all_both (λ u. (u ≤ before.tickets) × (struck u ≡ true)) (λ u. AllByRecursion (λ v. v < u) D) (λ u. chosen u ≡ false)
@@ -388,31 +406,31 @@ module _ {W S T : Type 0} (has_cells : Bool) (table : S → Option ℕ) (keeps :
   stands_redo w w' before after now deeds struck (Some t) is row choices st = stands_redone w w' before after now deeds struck t is row choices st
 
   -- what the world shows is what a replay gives, with what is struck left out
-  pub stands_shown : (shown : W → Face T) → ((w : W) (kept : List (Kept S)) (chosen : ℕ → Bool) → keeps w kept → IsPresent kept chosen → IsSame (face w kept chosen) (shown w)) →
+  pub stands_shown : (shown : W → Face T) → ((w : W) (kept : List (KeptChange S)) (chosen : ℕ → Bool) → keeps w kept → IsPresent kept chosen → IsSame (face w kept chosen) (shown w)) →
       (w : W) (changes : Changes S) (now : ℕ) (deeds : List (Deed T)) (struck : ℕ → Bool) → AreChanges changes →
       Stands has_cells table keeps face start w changes now deeds struck → IsSameAt now (shown w) (face_by has_cells (λ t. not (struck t)) start deeds)
   stands_shown shown shows w changes now deeds struck are st =
-      let ticket_of : Kept S → ℕ = λ k. k.ticket in
+      let ticket_of : KeptChange S → ℕ = λ k. k.ticket in
       let stand : ℕ → Bool = λ t. not (struck t) in
       let old = all_both (λ k. struck k.ticket ≡ false) (λ k. k.standing ≡ Done) (λ k. stand k.ticket ≡ is_done k.standing) (λ k x y. ap not x ∙ sym (ap is_done y)) (take changes.done changes.kept)
       (all_back ticket_of (λ u. struck u ≡ false) (take changes.done changes.kept) (subst (λ (l : List ℕ). AllByRecursion (λ u. struck u ≡ false) l) (sym (take_map ticket_of changes.done changes.kept)) st.done)) are.first in
       let gone = all_both (λ k. struck k.ticket ≡ true) (λ k. k.standing ≡ Undone) (λ k. stand k.ticket ≡ is_done k.standing) (λ k x y. ap not x ∙ sym (ap is_done y)) (drop changes.done changes.kept)
       (all_back ticket_of (λ u. struck u ≡ true) (drop changes.done changes.kept) (subst (λ (l : List ℕ). AllByRecursion (λ u. struck u ≡ true) l) (sym (drop_map ticket_of changes.done changes.kept)) st.undone)) are.others in
       let present : IsPresent changes.kept stand
-      = subst (λ (l : List (Kept S)). IsPresent l stand) (take-append-drop changes.done changes.kept) (all-append (λ k. stand k.ticket ≡ is_done k.standing) (take changes.done changes.kept) (drop changes.done changes.kept) old gone) in
+      = subst (λ (l : List (KeptChange S)). IsPresent l stand) (take-append-drop changes.done changes.kept) (all-append (λ k. stand k.ticket ≡ is_done k.standing) (take changes.done changes.kept) (drop changes.done changes.kept) old gone) in
       let choice : IsChoice table changes.kept stand
-      = subst (λ (l : List (Kept S)). IsChoice table l stand) (take-append-drop changes.done changes.kept)
+      = subst (λ (l : List (KeptChange S)). IsChoice table l stand) (take-append-drop changes.done changes.kept)
       (done_first (take changes.done changes.kept) (drop changes.done changes.kept) are.first are.others old gone) in
       same_at_then (same_at now (shown w) (face w changes.kept stand) (record { tables = sym (shows w changes.kept stand st.kept present).tables; cell = λ q. sym ((shows w changes.kept stand st.kept present).cell q) }))
       (st.faces stand choice (λ t h absent. refl))
     where
-      done_first : (xs ys : List (Kept S)) → AllByRecursion (λ k. k.standing ≡ Done) xs → AllByRecursion (λ k. k.standing ≡ Undone) ys →
+      done_first : (xs ys : List (KeptChange S)) → AllByRecursion (λ k. k.standing ≡ Done) xs → AllByRecursion (λ k. k.standing ≡ Undone) ys →
           IsPresent xs (λ t. not (struck t)) → IsPresent ys (λ t. not (struck t)) → IsChoice table (xs ++ ys) (λ t. not (struck t))
       done_first [] [] d u p q = tt
       done_first [] (y ∷ ys) d u p q =
           (subst (λ (s : Standing). AllowsAt table (λ t. not (struck t)) s y ys) (sym u.0) (λ out. rest_out ys u.1 q.1), done_first [] ys tt u.1 tt q.1)
         where
-          rest_out : (ys : List (Kept S)) → AllByRecursion (λ k. k.standing ≡ Undone) ys → IsPresent ys (λ t. not (struck t)) → AreLeftOut table (λ t. not (struck t)) y.saved ys
+          rest_out : (ys : List (KeptChange S)) → AllByRecursion (λ k. k.standing ≡ Undone) ys → IsPresent ys (λ t. not (struck t)) → AreLeftOut table (λ t. not (struck t)) y.saved ys
           rest_out [] u q = tt
           rest_out (z ∷ zs) u q = (λ same. q.0 ∙ ap is_done u.0, rest_out zs u.1 q.1)
       done_first (x ∷ xs) ys d u p q =

@@ -1,4 +1,4 @@
-//! What a world with its journal is after all that happened to it: a replay, without the changes that are undone.
+//! The course of a world with its journal: after any events its faces are those of a replay, without the undone changes.
 #![tactic(auto)]
 
 ghost use Rattle.std.specs.Prelude.{◌≡◌, ℕ, ◌≤◌, ◌<◌, ◌^◌, Bool, not, List, [], ◌∷◌, ◌++◌, IfOk, OnOk};
@@ -10,7 +10,7 @@ use dns_name::NoMemory;
 use ranked::{Fate, SharedFind};
 use undo_journal::Journal;
 
-/// Admits a find to the world.
+/// Admits a find to the world. The replay gains the admission.
 pub fn admit<C: Change>(
     journal: &Journal<C>,
     world: &mut C::World,
@@ -28,7 +28,7 @@ pub fn admit<C: Change>(
     Ok(fate)
 }
 
-/// Drops what is dead at a moment. Nothing has happened by that.
+/// Drops content that is dead at a moment. The replay stays the same.
 pub fn sweep<C: Change>(journal: &Journal<C>, world: &mut C::World, moment: u64)
     ensures { (start : Face C.World.Tables) (now : ℕ) (deeds : List (Deed C.World.Tables)) (struck : ℕ → Bool) →
         now ≤ moment →
@@ -39,7 +39,7 @@ pub fn sweep<C: Change>(journal: &Journal<C>, world: &mut C::World, moment: u64)
     world.sweep(moment);
 }
 
-/// Makes a change, under the journal's next ticket.
+/// Makes a change, under the journal's next ticket. The replay gains the change.
 pub fn make<C: Change>(
     journal: &mut Journal<C>,
     world: &mut C::World,
@@ -58,7 +58,7 @@ pub fn make<C: Change>(
     Ok(ticket)
 }
 
-/// Undoes the newest change that is in effect, whose ticket is struck then.
+/// Undoes the newest change in effect, and strikes its ticket from the replay.
 pub fn undo<C: Change>(
     journal: &mut Journal<C>,
     world: &mut C::World,
@@ -74,7 +74,7 @@ pub fn undo<C: Change>(
     Ok(ticket)
 }
 
-/// Redoes the change that was undone last, whose ticket is not struck any more.
+/// Redoes the change that was undone last. Its ticket is not struck any more.
 pub fn redo<C: Change>(
     journal: &mut Journal<C>,
     world: &mut C::World,
@@ -90,7 +90,7 @@ pub fn redo<C: Change>(
     Ok(ticket)
 }
 
-/// What the world shows is a replay of what happened, without what is struck. It answers how many changes are undone.
+/// The face that the world shows is that of a replay without the struck changes. It returns the number of undone changes.
 pub fn shown<C: Change>(journal: &Journal<C>, world: &C::World) -> usize
     ensures { (start : Face C.World.Tables) (now : ℕ) (deeds : List (Deed C.World.Tables)) (struck : ℕ → Bool) →
         Stands C.World.has_cells C.World.table C.World.keeps C.World.face start world.now journal.now now deeds struck →

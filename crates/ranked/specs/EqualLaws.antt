@@ -1,4 +1,4 @@
--- What `==` calls equal is one find, and each find is equal to itself: lemmas for the crates above.
+-- Equality by `==` is equality of finds, and each find is equal to itself: lemmas for the crates above.
 use Rattle.std.proofs.Common.{◌≡◌, ℕ, ◌≤◌, true, eqb, eq-eqb, refl, ap, sym, ◌∙◌, Decides}
 use Rattle.std.proofs.lemmas.Bool.{and_parts, false≢true, eqb-true}
 use Rattle.std.proofs.lemmas.Slice.Eq.{slice_eq-Decides}
@@ -21,6 +21,7 @@ use Rattle.ranked.specs.declared.find.Body.TheVariants.{Set, NoData, NoName}
 use Rattle.ranked.specs.Body.{has_data, has_rank, longest_ttl, HasForms, HasForms-prop}
 use Rattle.ranked.specs.Equal.{rank_eq, scope_eq, body_eq, find_eq}
 
+-- Ranks that `==` calls equal are the same.
 pub rank_eq_exact : (a b : Rank) → rank_eq a b ≡ true → a ≡ b
 rank_eq_exact Additional Additional e = refl
 rank_eq_exact Answer Answer e = refl
@@ -57,6 +58,7 @@ find_path a b o s r t y = λ i. record {
   formed = is_prop→PathP (λ j. HasForms (s j) (y j)) (λ j. HasForms-prop (s j) (y j)) a.formed b.formed i;
 }
 
+-- Finds that `==` calls equal are the same.
 pub find_eq_exact : (a b : Find) → find_eq a b ≡ true → a ≡ b
 find_eq_exact a b e =
     let p = and_parts _ _ e in
@@ -70,6 +72,7 @@ find_eq_exact a b e =
 same : (n : ℕ) → eqb n n ≡ true
 same n = eq-eqb n n refl
 
+-- A rank equals itself.
 pub rank_eq_itself : (a : Rank) → rank_eq a a ≡ true
 rank_eq_itself Additional = refl
 rank_eq_itself Answer = refl
@@ -85,5 +88,6 @@ body_eq_itself (Set xs) = (slice_eq-Decides data_eq-Decides xs xs _ refl).1 refl
 body_eq_itself (NoData soa) = record_eq_itself soa
 body_eq_itself (NoName soa) = record_eq_itself soa
 
+-- A find equals itself.
 pub find_eq_itself : (a : Find) → find_eq a a ≡ true
 find_eq_itself a = both_true (name_eq_itself a.owner) (both_true (scope_eq_itself a.scope) (both_true (rank_eq_itself a.rank) (both_true (same a.ttl) (body_eq_itself a.body))))

@@ -1,4 +1,4 @@
-//! A flush: the cells that one command empties.
+//! A flush: the cache cells that one command empties.
 
 ghost use Rattle.std.specs.Prelude.{◌≡◌, IfOk};
 ghost use Rattle.ranked.specs.Flush.{is_flushed};
@@ -6,14 +6,14 @@ ghost use Rattle.ranked.specs.Flush.{is_flushed};
 use dns_name::{Name, NoMemory};
 use dns_text::types;
 
-/// Which cells a flush of a name empties, as the three commands of `unbound-control(8)` have it.
+/// The cells that a flush of a name empties, by the three commands of `unbound-control(8)`.
 #[derive(Clone, Copy, PartialEq, Eq)]
 pub enum Reach {
     /// `flush_type`: the cell of this type.
     OneType(u16),
-    /// `flush`: the cells of the types that the manual page names.
+    /// `flush`: the cells of the ten types that the manual page lists.
     Name,
-    /// `flush_zone`: the cells of every type, of every name at or below the name.
+    /// `flush_zone`: the cells of every type, for every name at or below the name.
     Zone,
 }
 
@@ -21,7 +21,7 @@ impl Reach {
     ghost use Rattle.ranked.specs.Flush.{reaches};
     ghost use Rattle.dns_text.specs.declared.record.Question.{Question};
 
-    /// Whether a flush of a name empties the cell of the question of this owner and type.
+    /// Whether a flush of the name empties the cell of this owner and type.
     pub fn covers(self, name: &Name, owner: &Name, kind: u16) -> bool
         ensures { result ≡ reaches self name.now (record { owner = owner.now; kind = kind }) }
     {
@@ -33,7 +33,7 @@ impl Reach {
     }
 }
 
-/// A name, and which of its cells are emptied.
+/// A name, and the cells that its flush empties.
 #[derive(Drop, PartialEq)]
 pub struct Flush {
     pub name: Name,
@@ -44,7 +44,7 @@ impl Flush {
     ghost use Rattle.ranked.specs.Flush.{covers};
     ghost use Rattle.dns_text.specs.declared.record.Question.{Question};
 
-    /// Another of the same.
+    /// A copy. It allocates if the name is long.
     pub fn copy(&self) -> Result<Flush, NoMemory>
         ensures { IfOk result (λ flush. flush ≡ self.now) }
     {
@@ -55,7 +55,7 @@ impl Flush {
         })
     }
 
-    /// Whether it empties the cell of the question of this owner and type.
+    /// Whether it empties the cell of this owner and type.
     pub fn covers(&self, owner: &Name, kind: u16) -> bool
         ensures { result ≡ covers self.now (record { owner = owner.now; kind = kind }) }
     {
@@ -63,7 +63,7 @@ impl Flush {
     }
 }
 
-/// Whether `flush` of a name empties its cell of this type.
+// Whether `flush` of a name empties its cell of this type.
 fn is_flushed(kind: u16) -> bool
     ensures { result ≡ is_flushed kind }
 {

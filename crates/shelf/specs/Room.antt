@@ -1,4 +1,4 @@
--- Whether a find would be cached, and whether there is room for its place.
+-- Room for a find: whether a version would cache it, and whether there is room for its place.
 use Rattle.std.specs.Prelude.{◌≡◌, ℕ, Bool, true, false, ◌==◌, ◌&&◌, not, List, fold, if◌then◌else◌}
 use Rattle.indexmap.specs.IndexMap.{IndexMap}
 use Rattle.dns_name.specs.Labels.{Labels}
@@ -22,18 +22,19 @@ use Rattle.shelf.specs.declared.fault.StoreFault.TheVariants.{Full, NoMemory}
 use Rattle.ranked.specs.Flush.{covers}
 use Rattle.shelf.specs.Told.{shown_version}
 
--- whether a version would cache the find: what it has is dead by then, or not of higher rank
+-- whether a version would cache the find: its content is dead by then, or not of higher rank
 abbrev pub takes : {S : Type 0} → IndexMap Labels OwnerCells S → Find → ℕ → Question → ℕ → Bool
 takes owners find moment question v = not (turns_away (cell_of owners question v) (admission_of find find moment))
 
+-- whether a version so far would, or that of this flush if it covers the question
 abbrev pub taken_by : {S : Type 0} → IndexMap Labels OwnerCells S → Find → ℕ → Question → Bool → KeptFlush → Bool
 taken_by owners find moment question taken own = if covers own.flush question && takes owners find moment question own.number then true else taken
 
--- whether some version would: version 0, or that of a kept flush that covers the question
+-- whether some version would cache the find: version 0, or that of a kept flush that covers the question
 abbrev pub is_taken : {S : Type 0} → IndexMap Labels OwnerCells S → List KeptFlush → Find → ℕ → Question → Bool
 is_taken owners kept find moment question = fold (taken_by owners find moment question) (takes owners find moment question 0) kept
 
--- the same for the scope of the find: a find of every type is always cached
+-- whether some version would cache a find of this scope: a find about every type is always cached
 abbrev pub is_wanted : Shelf → Find → ℕ → Scope → Bool
 is_wanted shelf find moment (One kind) = is_taken shelf.owners shelf.kept.items find moment (record { owner = find.owner; kind = kind })
 is_wanted shelf find moment Whole = true
@@ -42,22 +43,23 @@ is_wanted shelf find moment Whole = true
 abbrev pub needs_place : Shelf → Find → ℕ → Bool
 needs_place shelf find moment = not (has_place_for shelf.owners find) && is_wanted shelf find moment find.scope
 
+-- whether there is room for a find
 abbrev pub room_for : Shelf → Find → ℕ → Room
 room_for shelf find moment =
     if has_place_for shelf.owners find then room.Free else
     if is_wanted shelf find moment find.scope then (if shelf.stored == shelf.limit then room.Full else room.Free) else room.Unwanted
 
--- A find of a type is outranked if the cell in force is alive then and of higher rank.
+-- the outcome for a find about one type: it is outranked if the content in force is alive then and of higher rank
 abbrev pub kind_fate : Shelf → Find → ℕ → ℕ → Fate
 kind_fate shelf find moment kind =
     if turns_away (cell_of shelf.owners (record { owner = find.owner; kind = kind }) (shown_version shelf.kept.items (record { owner = find.owner; kind = kind }))) (admission_of find find moment) then Outranked else Taken
 
--- Nothing outranks a find of every type.
+-- the outcome of an admission; nothing outranks a find about every type
 abbrev pub fate_of : Shelf → Find → ℕ → Scope → Fate
 fate_of shelf find moment (One kind) = kind_fate shelf find moment kind
 fate_of shelf find moment Whole = Taken
 
--- Memory was refused, for a find whose place is not counted yet; or the find needs a new place, and as many are counted as may be.
+-- The fault of an admission: no memory, for a find whose place is not counted yet. Or the find needs a new place, and the counted ones are at the limit.
 abbrev pub IsFault : Shelf → Find → ℕ → StoreFault → Type 0
 IsFault shelf find moment NoMemory = has_place_for shelf.owners find ≡ false
 IsFault shelf find moment (Full stored) = (stored ≡ shelf.stored) × (shelf.stored ≡ shelf.limit) × (needs_place shelf find moment ≡ true)

@@ -1,4 +1,4 @@
--- The cells after a sweep.
+-- The sweep: the cells after it.
 use Rattle.std.specs.Prelude.{◌≡◌, ◌≤◌, ℕ, true, is_some, List, [], ◌∷◌, ◌++◌, fold, if◌then◌else◌}
 use Rattle.dns_name.specs.Labels.{Labels}
 use Rattle.dns_text.specs.declared.record.Question.{Question}
@@ -11,10 +11,11 @@ use Rattle.shelf.specs.declared.shelf.KeptFlush.{KeptFlush}
 use Rattle.ranked.specs.Flush.{covers}
 use Rattle.shelf.specs.Told.{is_version}
 
--- the numbers of the kept flushes that cover a question
+-- the numbers so far, and that of a flush if it covers the question
 abbrev pub number_more : Question → List ℕ → KeptFlush → List ℕ
 number_more question done own = if covers own.flush question then done ++ own.number ∷ [] else done
 
+-- the numbers of the kept flushes that cover a question
 abbrev pub numbers_of : List KeptFlush → Question → List ℕ
 numbers_of kept question = fold (number_more question) [] kept
 

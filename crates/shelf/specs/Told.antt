@@ -1,5 +1,5 @@
--- The admissions and flushes that a shelf was given, and the cells by a replay of them.
-use Rattle.std.specs.Prelude.{ℕ, Bool, true, ◌==◌, ◌&&◌, ◌||◌, ◌≡◌, ◌≤◌, ◌<◌, ◌^◌, length, vec_capacity, List, [], ◌∷◌, Option, None, fold, if◌then◌else◌}
+-- The replay of a shelf: its admissions and flushes in order, and the cells that they give.
+use Rattle.std.specs.Prelude.{ℕ, Bool, true, ◌++◌, ◌==◌, ◌&&◌, ◌||◌, ◌≡◌, ◌≤◌, ◌<◌, ◌^◌, length, vec_capacity, List, [], ◌∷◌, Option, None, fold, if◌then◌else◌}
 use Rattle.std.specs.List.{AllByRecursion, list_any}
 use Rattle.dns_name.specs.Labels.{Labels}
 use Rattle.dns_text.specs.declared.record.Question.{Question}
@@ -11,6 +11,7 @@ use Rattle.indexmap.specs.IndexMap.{IndexMap}
 use Rattle.cell_store.specs.declared.owner.OwnerCells.{OwnerCells}
 use Rattle.cell_store.specs.Store.{cell_of, AreUpTo, CanSettleAt}
 use Rattle.cell_store.specs.Count.{stored_in}
+use Rattle.cell_store.specs.Owner.{after_touch}
 use Rattle.ranked.specs.declared.flush.Flush.{Flush}
 use Rattle.ranked.specs.declared.flush.Reach.{Reach}
 use Rattle.ranked.specs.declared.flush.Reach.TheVariants.{OneType, Name, Zone}
@@ -23,38 +24,40 @@ pub data Told : Type 0 where
   admitted : Find → ℕ → Told
   flushed : Flush → ℕ → Told
 
--- A find about the question is cached unless it is outranked. A flush that covers the question, and is chosen, empties its cell.
+-- the content of a cell after one of these: a find about the question is cached unless it is outranked, and a chosen flush that covers it empties the cell
 abbrev pub told_after : Question → (ℕ → Bool) → Option (Admitted Find) → Told → Option (Admitted Find)
 told_after question chosen cell (admitted find moment) = if touches find question then after_admission cell (admission_of find find moment) else cell
 told_after question chosen cell (flushed flush number) = if covers flush question && chosen number then None else cell
 
--- the cell of a question, from nothing
+-- the content of the cell of a question, by a replay from nothing
 abbrev pub cell_by : Question → (ℕ → Bool) → List Told → Option (Admitted Find)
 cell_by question chosen told = fold (told_after question chosen) None told
 
--- the choice of one flush. Number 0 is that of no flush.
+-- the choice of one flush; number 0 is that of no flush
 abbrev pub only : ℕ → ℕ → Bool
 only version number = version == number
 
--- The versions of a question: 0, and the numbers of the kept flushes that cover it.
+-- whether a kept flush of this number covers the question
 abbrev pub is_kept : List KeptFlush → Question → ℕ → Bool
 is_kept kept question version = list_any (λ own. own.number == version && covers own.flush question) kept
 
+-- whether it is a version of the question: 0, or the number of a kept flush that covers it
 abbrev pub is_version : List KeptFlush → Question → ℕ → Bool
 is_version kept question version = version == 0 || is_kept kept question version
 
--- the number of the last flush in force that covers the question, or 0
+-- the version so far, or that of a flush if it is in force and covers the question
 abbrev pub later_shown : Question → ℕ → KeptFlush → ℕ
 later_shown question version own = if own.shown && covers own.flush question then own.number else version
 
+-- the version in force of a question: the number of the last flush in force that covers it, or 0
 abbrev pub shown_version : List KeptFlush → Question → ℕ
 shown_version kept question = fold (later_shown question) 0 kept
 
--- the cell of a question by the flushes in force
+-- the content of the cell of a question, by the flushes in force
 abbrev pub shown_cell : Shelf → Question → Option (Admitted Find)
 shown_cell shelf question = cell_of shelf.owners question (shown_version shelf.kept.items question)
 
--- the same by a replay
+-- the content of the cell of a question by a replay, with the flushes in force
 abbrev pub replayed_cell : List KeptFlush → Question → List Told → Option (Admitted Find)
 replayed_cell kept question told = cell_by question (only (shown_version kept question)) told
 
@@ -73,6 +76,7 @@ types_of Zone = []
 abbrev pub CanSettleFlush : {S : Type 0} → IndexMap Labels OwnerCells S → ℕ → Flush → Type 0
 CanSettleFlush owners number flush = AllByRecursion (λ kind. CanSettleAt number kind flush.name owners) (types_of flush.reach)
 
+-- A kept flush can become permanent with no memory.
 abbrev pub CanSettleKept : {S : Type 0} → IndexMap Labels OwnerCells S → KeptFlush → Type 0
 CanSettleKept owners own = CanSettleFlush owners own.number own.flush
 
@@ -87,14 +91,15 @@ pub record IsShelf (shelf : Shelf) : Type 0 where
   pub small : shelf.limit ≤ 2 ^ 32
   pub room : length shelf.kept.items ≤ vec_capacity shelf.numbers
 
--- the number of the last chosen flush that covers the question, or 0
+-- the version so far, or that of a flush if it is chosen and covers the question
 abbrev pub later_chosen : Question → (ℕ → Bool) → ℕ → KeptFlush → ℕ
 later_chosen question chosen version own = if chosen own.number && covers own.flush question then own.number else version
 
+-- the version of a question by a choice: the number of the last chosen flush that covers it, or 0
 abbrev pub chosen_version : List KeptFlush → Question → (ℕ → Bool) → ℕ
 chosen_version kept question chosen = fold (later_chosen question chosen) 0 kept
 
--- the cell of a question, if just the chosen ones of the kept flushes were in force
+-- the content of the cell of a question, if only the chosen ones of the kept flushes were in force
 abbrev pub face_of : Shelf → (ℕ → Bool) → Question → Option (Admitted Find)
 face_of shelf chosen question = cell_of shelf.owners question (chosen_version shelf.kept.items question chosen)
 
@@ -118,3 +123,17 @@ pub record IsSame (old new : Shelf) : Type 0 where
 -- The same flushes can be undone or redone, under the same limit.
 abbrev pub KeepsFlushes : Shelf → Shelf → Type 0
 KeepsFlushes old new = (new.kept.items ≡ old.kept.items) × (new.top ≡ old.top) × (new.limit ≡ old.limit)
+
+-- A find was admitted: to the replay, and to each cell that it is about, whatever choice of the kept flushes is in force.
+pub record HasAdmitted (find : Find) (moment : ℕ) (old new : Shelf) : Type 0 where
+  pub cells : (told : List Told) → IsShelfOf old told → IsShelfOf new (told ++ admitted find moment ∷ [])
+  pub faces : (chosen : ℕ → Bool) (question : Question) →
+      face_of new chosen question ≡ after_touch (touches find question) (face_of old chosen question) (admission_of find find moment)
+
+-- A flush was made and is kept under its number. If it is chosen, the cells that it covers are empty.
+pub record HasFlushed (flush : Flush) (number : ℕ) (old new : Shelf) : Type 0 where
+  pub cells : (told : List Told) → IsShelfOf old told → IsShelfOf new (told ++ flushed flush number ∷ [])
+  pub kept : new.kept.items ≡ old.kept.items ++ record { flush = flush; number = number; shown = true } ∷ []
+  pub faces : (chosen : ℕ → Bool) (question : Question) →
+      face_of new chosen question ≡ (if chosen number && covers flush question then None else face_of old chosen question)
+  pub top : new.top ≡ number

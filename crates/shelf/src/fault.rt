@@ -1,4 +1,4 @@
-//! Why a find is not cached.
+//! Faults of an admission.
 
 ghost use Rattle.std.specs.Prelude.{◌≡◌};
 ghost use Rattle.shelf.specs.declared.fault.StoreFault.TheVariants.{NoMemory};
@@ -6,13 +6,13 @@ ghost use Rattle.shelf.specs.declared.fault.StoreFault.TheVariants.{NoMemory};
 use std::alloc::{AllocError, AllocFailed};
 use thiserror::Error;
 
-/// Why a find is not cached. Every cell is as it was.
+/// The reason why a find is not cached. No cell has changed.
 #[derive(Clone, Copy, Debug, PartialEq, Eq, Error)]
 pub enum StoreFault {
-    /// It needs a new place, and as many are counted as may be.
+    /// The find needs a new place, and the counted places are at the limit.
     #[error("{stored} cells are stored")]
     Full { stored: u64 },
-    /// Memory was refused. It needs none if its place is counted already.
+    /// There was no memory. It comes only if the place of the find is not counted yet.
     #[error("out of memory")]
     NoMemory,
 }

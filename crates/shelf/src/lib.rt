@@ -1,15 +1,15 @@
 //! The cache without a history: cells by version, and the flushes that can be undone or redone.
 //!
-//! An undone flush is a flag: each cell keeps its content with the flush and without it, until the flush leaves the list.
+//! To undo a flush is to clear a flag: each cell keeps its content with the flush and without it, until the flush leaves the list.
 #![tactic(auto)]
 
-// Why a find is not cached.
+// Faults of an admission.
 mod fault;
-// Whether there is room for a find.
+// Room for a find.
 mod room;
-// The cells and the flushes.
+// The shelf: cells and flushes.
 mod shelf;
-// What is dead, and what no flush needs.
+// The sweep of dead finds and unused versions.
 mod sweep;
 
 pub use fault::StoreFault;

@@ -1,12 +1,12 @@
-//! Whether there is room for a find.
+//! Room for a find: whether it can be cached.
 
 /// Whether a find can be cached.
 #[derive(Clone, Copy, PartialEq, Eq)]
 pub enum Room {
-    /// Every version has data that outrank it.
+    /// Every version has content that outranks it.
     Unwanted,
-    /// It needs a new place, and as many are counted as may be.
+    /// It needs a new place, and the counted places are at the limit.
     Full,
-    /// Its place is counted already, or one more may be.
+    /// Its place is counted already, or the limit allows one more.
     Free,
 }

@@ -1,6 +1,6 @@
-//! The cached cells, and the flushes that can be undone or redone.
+//! The shelf: cached cells, and the flushes that can be undone or redone.
 
-ghost use Rattle.std.specs.Prelude.{◌≡◌, ◌<◌, ◌≤◌, ◌+◌, ◌^◌, ◌++◌, ◌∷◌, ◌&&◌, [], ℕ, Bool, List, None, true, false, not, map, vec_capacity};
+ghost use Rattle.std.specs.Prelude.{◌≡◌, ◌<◌, ◌≤◌, ◌+◌, ◌^◌, ◌∷◌, ◌&&◌, [], ℕ, Bool, List, None, true, false, not, map, vec_capacity};
 ghost use Rattle.std.specs.Prelude.{IfSome, IfErr, IsErr, IsOk, OnOk, OnErr, if◌then◌else◌};
 ghost use Rattle.std.specs.List.{AllByRecursion};
 ghost use Rattle.indexmap.specs.IndexMap.{get, hasher_of};
@@ -9,10 +9,10 @@ ghost use Rattle.dns_name.specs.Order.{name_eq};
 ghost use Rattle.dns_text.specs.declared.record.Question.{Question};
 ghost use Rattle.ranked.specs.declared.find.Scope.TheVariants.{One};
 ghost use Rattle.ranked.specs.Cell.{shown_at, turns_away};
-ghost use Rattle.ranked.specs.Find.{admission_of, touches};
+ghost use Rattle.ranked.specs.Find.{admission_of};
 ghost use Rattle.ranked.specs.Flush.{covers, flushed_types};
 ghost use Rattle.cell_store.specs.Count.{has_place, has_place_for, one_if, stored_in};
-ghost use Rattle.cell_store.specs.Owner.{after_settle, after_touch, held_now};
+ghost use Rattle.cell_store.specs.Owner.{after_settle, held_now};
 ghost use Rattle.cell_store.specs.Store.{cell_of, AreUpTo};
 ghost use Rattle.cell_store.specs.Sweep.{alive_at, is_dead};
 ghost use Rattle.shelf.specs.declared.shelf.KeptFlush.{KeptFlush};
@@ -38,11 +38,11 @@ use std::alloc::Global;
 pub struct KeptFlush {
     pub flush: Flush,
     pub number: u64,
-    /// Whether it is in force: an undone flush is not.
+    /// Whether it is in force. An undone flush is not.
     pub shown: bool,
 }
 
-/// The cache without a history. Of each cell it keeps the content without the flushes that can be undone,
+/// The cache without a history. For each cell it keeps the content without the flushes that can be undone,
 /// and the content since each of these flushes that covers it.
 #[derive(Drop)]
 pub struct Shelf {
@@ -52,15 +52,16 @@ pub struct Shelf {
     pub kept: Vec<KeptFlush>,
     /// The greatest number of a flush so far.
     pub top: u64,
-    /// The number of places that are counted.
+    /// The number of counted places.
     pub stored: u64,
-    /// The most that may be.
+    /// The most places that may be counted.
     pub limit: u64,
     /// Room for the numbers of the kept flushes, so that a sweep takes no memory.
     pub numbers: Vec<u64>,
 }
 
 impl KeptFlush {
+    // Sets the flag, if the flush has this number.
     fn set_shown(&mut self, number: u64, shown: bool)
         ensures { self.new ≡ with_shown number shown self.old }
     {
@@ -70,6 +71,7 @@ impl KeptFlush {
     }
 }
 
+// Sets the flag of the flush with this number.
 fn set_shown(kept: &mut Vec<KeptFlush>, number: u64, shown: bool)
     ensures { kept.new.items ≡ map (with_shown number shown) kept.old.items }
 {
@@ -79,10 +81,9 @@ fn set_shown(kept: &mut Vec<KeptFlush>, number: u64, shown: bool)
 }
 
 impl Shelf {
-    ghost use Rattle.shelf.specs.Told.{Told, IsShelf, IsShelfOf, IsSame, KeepsFlushes, shown_version, shown_cell, replayed_cell, face_of};
-    ghost use Rattle.shelf.specs.Told.Told.{admitted, flushed};
+    ghost use Rattle.shelf.specs.Told.{Told, HasAdmitted, HasFlushed, IsShelf, IsShelfOf, IsSame, KeepsFlushes, shown_version, shown_cell, replayed_cell, face_of};
 
-    /// An empty cache of at most so many places, whose index hashes with the fixed seed. It is for scripts and tests.
+    /// An empty cache of at most `limit` places, whose index hashes with the fixed seed. It is for scripts and tests.
     pub fn new(alloc: Global, limit: u64) -> Shelf
         requires { limit ≤ 2 ^ 32 }
         ensures cells { IsShelfOf result [] }
@@ -95,7 +96,7 @@ impl Shelf {
         Shelf::seeded(alloc, limit, NameSeed::fixed())
     }
 
-    /// The same, whose index hashes with a seed that the program drew, since strangers choose the names.
+    /// An empty cache whose index hashes with a seed that the program drew, since strangers choose the names.
     pub fn seeded(alloc: Global, limit: u64, seed: NameSeed) -> Shelf
         requires { limit ≤ 2 ^ 32 }
         ensures cells { IsShelfOf result [] }
@@ -117,7 +118,7 @@ impl Shelf {
         }
     }
 
-    /// The version of a question that is in force.
+    // The version of a question that is in force.
     fn version(&self, owner: &Name, kind: u16) -> u64
         ensures { result ≡ shown_version self.now.kept.items (record { owner = owner.now; kind = kind }) }
     {
@@ -130,14 +131,14 @@ impl Shelf {
         version
     }
 
-    /// The number of places that are counted.
+    /// The number of counted places.
     pub fn stored(&self) -> u64
         ensures { result ≡ self.now.stored }
     {
         self.stored
     }
 
-    /// Whether a version has data of a type that are alive at the moment and outrank a find.
+    // Whether a version has content of a type that is alive at the moment and outranks a find.
     fn turns_away(&self, find: &Find, kind: u16, version: u64, moment: u64) -> bool
         ensures { result ≡ turns_away
             (cell_of self.now.owners (record { owner = find.now.owner; kind = kind }) version) (admission_of find.now find.now moment) }
@@ -148,7 +149,7 @@ impl Shelf {
         }
     }
 
-    /// Whether some version would cache a find of a type.
+    // Whether some version would cache a find of a type.
     fn is_taken(&self, find: &Find, kind: u16, moment: u64) -> bool
         ensures { result ≡ is_taken self.now.owners self.now.kept.items find.now moment (record { owner = find.now.owner; kind = kind }) }
     {
@@ -163,7 +164,7 @@ impl Shelf {
         taken
     }
 
-    /// Whether some version would cache a find.
+    // Whether some version would cache a find.
     fn is_wanted(&self, find: &Find, moment: u64) -> bool
         ensures { result ≡ is_wanted self.now find.now moment find.now.scope }
     {
@@ -173,7 +174,7 @@ impl Shelf {
         }
     }
 
-    /// Whether there is room for a find.
+    // Whether there is room for a find.
     fn room_for(&self, find: &Find, moment: u64) -> Room
         ensures { result ≡ room_for self.now find.now moment }
     {
@@ -189,7 +190,7 @@ impl Shelf {
         Room::Free
     }
 
-    /// Whether the version in force would cache a find, or has data that are alive at the moment and outrank it.
+    /// Whether the version in force would cache a find, or has content that is alive at the moment and outranks it.
     pub fn fate(&self, find: &Find, moment: u64) -> Fate
         ensures { result ≡ fate_of self.now find.now moment find.now.scope }
     {
@@ -199,6 +200,7 @@ impl Shelf {
         }
     }
 
+    // The same for a find of a type.
     fn kind_fate(&self, find: &Find, kind: u16, moment: u64) -> Fate
         ensures { result ≡ kind_fate self.now find.now moment kind }
     {
@@ -210,16 +212,13 @@ impl Shelf {
         }
     }
 
-    /// Caches a find in each version, unless what is cached there is alive at the moment and outranks it.
-    /// It is `Full` only if the find needs a new place, and as many are counted as may be.
-    /// If its place is counted already, it takes no memory.
+    /// Caches a find in each version, unless the content there is alive at the moment and outranks it.
+    /// The fault is `Full` only if the find needs a new place and the counted places are at the limit.
+    /// If its place is counted already, it takes no memory and is not refused.
     pub fn admit(&mut self, find: SharedFind, moment: u64) -> Result<(), StoreFault>
         requires whole { IsShelf self.old }
         ensures whole { IsShelf self.new }
-        ensures cells { (told : List Told) → IsShelfOf self.old told →
-            OnOk result (IsShelfOf self.new (told ++ admitted find moment ∷ [])) }
-        ensures faces { OnOk result ((chosen : ℕ → Bool) (q : Question) →
-            face_of self.new chosen q ≡ after_touch (touches find q) (face_of self.old chosen q) (admission_of find find moment)) }
+        ensures admitted { OnOk result (HasAdmitted find moment self.old self.new) }
         ensures full { IfErr result (λ fault. IsFault self.old find moment fault) }
         ensures room { (self.old.stored ≡ self.old.limit) × (needs_place self.old find moment ≡ true) → IsErr result }
         ensures same { OnErr result (IsSame self.old self.new) }
@@ -235,17 +234,13 @@ impl Shelf {
         }
     }
 
-    /// The same, if there is room for its place.
+    // Caches a find, if there is room for its place.
     fn hold(&mut self, find: SharedFind, moment: u64) -> Result<(), StoreFault>
         requires whole { IsShelf self.old }
         requires room { self.old.stored + one_if (not (has_place_for self.old.owners find)) ≤ self.old.limit }
         ensures whole { IsShelf self.new }
-        ensures cells { (told : List Told) → IsShelfOf self.old told →
-            OnOk result (IsShelfOf self.new (told ++ admitted find moment ∷ [])) }
-        ensures faces { OnOk result ((chosen : ℕ → Bool) (q : Question) →
-            face_of self.new chosen q ≡ after_touch (touches find q) (face_of self.old chosen q) (admission_of find find moment)) }
-        ensures fault { IfErr result (λ fault. fault ≡ StoreFault.NoMemory) }
-        ensures free { has_place_for self.old.owners find ≡ true → IsOk result }
+        ensures admitted { OnOk result (HasAdmitted find moment self.old self.new) }
+        ensures fault { IfErr result (λ fault. fault ≡ StoreFault.NoMemory) × (has_place_for self.old.owners find ≡ true → IsOk result) }
         ensures same { OnErr result (IsSame self.old self.new) }
         ensures flushes { KeepsFlushes self.old self.new }
         ensures stored { self.new.stored ≤ self.old.stored + 1 }
@@ -261,7 +256,7 @@ impl Shelf {
         Ok(())
     }
 
-    /// The cached data of a question, by the flushes in force, if they are alive at the moment. It takes no memory.
+    /// The find of a question, by the flushes in force, if it is alive at the moment. It takes no memory.
     pub fn show(&self, owner: &Name, kind: u16, moment: u64) -> Option<Held<'_>>
         ensures cell { held_now result ≡ shown_at (shown_cell self.now (record { owner = owner.now; kind = kind })) moment }
         ensures cells { (told : List Told) → IsShelfOf self.now told →
@@ -270,7 +265,7 @@ impl Shelf {
         at(&self.owners, owner, kind, self.version(owner, kind), moment)
     }
 
-    /// Undoes a flush. It changes one flag, however much the flush covers.
+    /// Undoes a flush. It clears one flag, however much the flush covers.
     pub fn hide(&mut self, number: u64)
         ensures cells { (told : List Told) → IsShelfOf self.old told → IsShelfOf self.new told }
         ensures faces { (chosen : ℕ → Bool) (q : Question) → face_of self.new chosen q ≡ face_of self.old chosen q }
@@ -283,7 +278,7 @@ impl Shelf {
         set_shown(&mut self.kept, number, false);
     }
 
-    /// Redoes a flush, in its place among the others. It changes one flag.
+    /// Redoes a flush, in its place among the others. It sets one flag.
     pub fn unhide(&mut self, number: u64)
         ensures cells { (told : List Told) → IsShelfOf self.old told → IsShelfOf self.new told }
         ensures faces { (chosen : ℕ → Bool) (q : Question) → face_of self.new chosen q ≡ face_of self.old chosen q }
@@ -296,20 +291,14 @@ impl Shelf {
         set_shown(&mut self.kept, number, true);
     }
 
-    /// Makes a flush that can be undone or redone. It visits no cell: the versions from its number on are empty by themselves.
-    /// It takes memory for its entry, and for columns of the name if a denial of the whole name is cached.
+    /// Makes a flush that can be undone or redone. It visits no cell: the versions from its number on have no entry, and so are empty.
+    /// It takes memory for its entry, and for columns of the name if NXDOMAIN is cached for it.
     pub fn open_flush(&mut self, flush: Flush, number: u64) -> Result<(), NoMemory>
         requires newest { self.old.top < number }
         requires whole { IsShelf self.old }
         ensures whole { IsShelf self.new }
-        ensures cells { (told : List Told) → IsShelfOf self.old told →
-            OnOk result (IsShelfOf self.new (told ++ flushed flush number ∷ [])) }
-        ensures kept { OnOk result
-            (self.new.kept.items ≡ self.old.kept.items ++ record { flush = flush; number = number; shown = true } ∷ []) }
-        ensures faces { OnOk result ((chosen : ℕ → Bool) (q : Question) →
-            face_of self.new chosen q ≡ (if chosen number && covers flush q then None else face_of self.old chosen q)) }
+        ensures flushed { OnOk result (HasFlushed flush number self.old self.new) }
         ensures same { OnErr result (IsSame self.old self.new) }
-        ensures top { OnOk result (self.new.top ≡ number) }
         ensures limit { self.new.limit ≡ self.old.limit }
         ensures stored { self.new.stored ≡ self.old.stored }
     {
@@ -324,7 +313,7 @@ impl Shelf {
         Ok(())
     }
 
-    /// Drops the finds that are dead at a moment, and the versions that no choice of the kept flushes needs. It takes no memory.
+    /// Drops the finds that are dead at a moment, and the versions that no kept flush needs. It takes no memory.
     pub fn sweep(&mut self, moment: u64)
         requires whole { IsShelf self.old }
         ensures whole { IsShelf self.new }
@@ -358,7 +347,7 @@ impl Shelf {
         forget(&mut self.owners, &mut self.stored, owner);
     }
 
-    /// Makes a flush permanent if it is the oldest and in force, or else drops it for good. It takes no memory.
+    /// Makes a flush permanent if it is the oldest and in force. Else drops it for good. It takes no memory.
     pub fn settle(&mut self, number: u64)
         requires whole { IsShelf self.old }
         ensures whole { IsShelf self.new }
@@ -410,7 +399,7 @@ impl Shelf {
     }
 }
 
-/// Whether the oldest flush has a number and is in force.
+// Whether the oldest flush has a number and is in force.
 fn stands_first(kept: &[KeptFlush], number: u64) -> bool
     ensures { result ≡ stands_first number kept.now }
 {
@@ -420,7 +409,7 @@ fn stands_first(kept: &[KeptFlush], number: u64) -> bool
     }
 }
 
-/// Makes room for one number more than `count`.
+// Makes room for one number more than `count`.
 fn reserve(numbers: &mut Vec<u64>, count: usize) -> Result<(), NoMemory>
     requires few { count < 2 ^ 63 }
     ensures room { OnOk result (count + 1 ≤ vec_capacity numbers.new) }
@@ -431,7 +420,7 @@ fn reserve(numbers: &mut Vec<u64>, count: usize) -> Result<(), NoMemory>
     Ok(())
 }
 
-/// The types of the cells that `flush` of a name empties.
+// The types of the cells that `flush` of a name empties.
 fn flushed_types() -> [u16; 10]
     ensures { result ≡ flushed_types }
 {
@@ -449,7 +438,7 @@ fn flushed_types() -> [u16; 10]
     ]
 }
 
-/// Makes room for a flush, so that `settle_flush` needs no memory later. No cell changes.
+// Makes room for a flush, so that `settle_flush` needs no memory later. No cell changes.
 fn open_flush(owners: &mut Owners, flush: &Flush, top: u64) -> Result<(), NoMemory>
     requires upto { AreUpTo top owners.old }
     ensures cells { (q : Question) (v : ℕ) → cell_of owners.new q v ≡ cell_of owners.old q v }
@@ -466,7 +455,7 @@ fn open_flush(owners: &mut Owners, flush: &Flush, top: u64) -> Result<(), NoMemo
     }
 }
 
-/// Makes a flush permanent.
+// Makes a flush permanent.
 fn settle_flush(owners: &mut Owners, stored: &mut u64, flush: &Flush, number: u64)
     requires counted { stored.old ≡ stored_in owners.old }
     requires settles { CanSettleFlush owners.old number flush.now }
@@ -485,7 +474,7 @@ fn settle_flush(owners: &mut Owners, stored: &mut u64, flush: &Flush, number: u6
     }
 }
 
-/// Removes the flush of a number.
+// Removes the flush of a number.
 fn remove_number(kept: &mut Vec<KeptFlush>, number: u64)
     ensures { kept.new.items ≡ without number kept.old.items }
 {

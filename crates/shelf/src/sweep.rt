@@ -1,4 +1,4 @@
-//! The sweep: what is dead goes, and so do the versions that no kept flush needs.
+//! The sweep: it drops dead finds, and the versions that no kept flush needs.
 
 ghost use Rattle.std.specs.Prelude.{◌≡◌, ◌≤◌, ℕ, length, vec_capacity};
 ghost use Rattle.cell_store.specs.Count.{stored_in};
@@ -9,7 +9,7 @@ use crate::shelf::KeptFlush;
 use cell_store::{OwnerCells, Owners};
 use dns_name::Name;
 
-/// The numbers of the kept flushes that cover the question of a name and type.
+// The numbers of the kept flushes that cover the question of a name and type.
 fn collect(kept: &[KeptFlush], owner: &Name, kind: u16, numbers: &mut Vec<u64>)
     requires room { length kept.now ≤ vec_capacity numbers.old }
     ensures items { numbers.new.items ≡ numbers_of kept.now (record { owner = owner.now; kind = kind }) }
@@ -23,7 +23,7 @@ fn collect(kept: &[KeptFlush], owner: &Name, kind: u16, numbers: &mut Vec<u64>)
     }
 }
 
-/// Drops the finds of a name that are dead at a moment, and the versions that no kept flush needs.
+// Drops the finds of a name that are dead at a moment, and the versions that no kept flush needs.
 fn sweep_name(
     cells: &mut OwnerCells,
     name: &Name,
@@ -45,7 +45,7 @@ fn sweep_name(
     }
 }
 
-/// The same of every name. It takes no memory, and visits them all.
+// Sweeps every name. It takes no memory, and visits them all.
 pub(crate) fn sweep_all(
     owners: &mut Owners,
     stored: &mut u64,

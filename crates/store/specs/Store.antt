@@ -2,7 +2,7 @@
 use Rattle.std.specs.Prelude.{ℕ, Bool, true, false, Option, Some, None, List}
 use Rattle.dns_text.specs.declared.record.Question.{Question}
 use Rattle.ranked.specs.Flush.{covers}
-use Rattle.change_law.specs.declared.kept.Kept.{Kept}
+use Rattle.change_law.specs.declared.kept.KeptChange.{KeptChange}
 use Rattle.change_law.specs.Face.{Face}
 use Rattle.history.specs.declared.made.Tables.{Tables}
 use Rattle.table_changes.specs.Both.{saved_table, change_table, change_after, change_reason, shown_tables, KeepsBoth}
@@ -13,8 +13,8 @@ use Rattle.store.specs.Sum.{joined, KeepsParts, face_of_parts}
 use Rattle.store.specs.World.{Shelved, KeepsFlushes, shown_face}
 use Rattle.store.specs.World as cells
 use Rattle.store.specs.declared.world.SavedFlush.{SavedFlush}
-use Rattle.store.specs.declared.store.Way.{Way}
-use Rattle.store.specs.declared.store.Way.TheVariants as way
+use Rattle.store.specs.declared.store.WayBack.{WayBack}
+use Rattle.store.specs.declared.store.WayBack.TheVariants as way
 use Rattle.store.specs.declared.store.SavedChange.{SavedChange}
 use Rattle.store.specs.declared.store.Made.{Made}
 use Rattle.store.specs.declared.store.Made.TheVariants as made
@@ -28,11 +28,11 @@ abbrev pub cells_in : Store → Shelved
 cells_in store = store.cells
 
 -- what a change of the tables saved, and what a flush saved
-abbrev pub table_way : Way → Option SavedTable
+abbrev pub table_way : WayBack → Option SavedTable
 table_way (way.Table saved) = Some saved
 table_way (way.Flush saved) = None
 
-abbrev pub flush_way : Way → Option SavedFlush
+abbrev pub flush_way : WayBack → Option SavedFlush
 flush_way (way.Table saved) = None
 flush_way (way.Flush saved) = Some saved
 
@@ -43,23 +43,23 @@ abbrev pub of_cells : SavedChange → Option SavedFlush
 of_cells saved = flush_way saved.way
 
 -- the number of the table; a flush is of none
-abbrev pub table_of : Way → Option ℕ
+abbrev pub table_of : WayBack → Option ℕ
 table_of (way.Table saved) = saved_table saved
 table_of (way.Flush saved) = None
 
 abbrev pub store_table : SavedChange → Option ℕ
 store_table saved = table_of saved.way
 
-abbrev pub needs_memory_of : Way → Bool
+abbrev pub needs_memory_of : WayBack → Bool
 needs_memory_of (way.Table saved) = true
 needs_memory_of (way.Flush saved) = false
 
 -- Each part keeps its changes.
-abbrev pub KeepsStore : Store → List (Kept SavedChange) → Type 0
+abbrev pub KeepsStore : Store → List (KeptChange SavedChange) → Type 0
 KeepsStore = KeepsParts tables_in cells_in of_tables of_cells KeepsBoth KeepsFlushes
 
 -- the tables and the cells, if only the chosen ones of the changes were in effect
-abbrev pub store_face : Store → List (Kept SavedChange) → (ℕ → Bool) → Face Tables
+abbrev pub store_face : Store → List (KeptChange SavedChange) → (ℕ → Bool) → Face Tables
 store_face = face_of_parts tables_in cells_in of_tables of_cells tables.face_by cells.face_by
 
 -- the tables as they are, and what the cache shows

@@ -5,7 +5,7 @@ use Rattle.ranked.specs.declared.cell.Fate.{Fate}
 use Rattle.ranked.specs.declared.find.Find.{Find}
 use Rattle.ranked.specs.declared.find.Scope.{Scope}
 use Rattle.ranked.specs.declared.find.Scope.TheVariants.{One, Whole}
-use Rattle.change_law.specs.declared.kept.Kept.{Kept}
+use Rattle.change_law.specs.declared.kept.KeptChange.{KeptChange}
 use Rattle.change_law.specs.declared.kept.Standing.TheVariants.{Done, Undone, Cleared}
 use Rattle.change_law.specs.Choice.{IsPresent, cleared}
 use Rattle.change_law.specs.Effect.{effect}
@@ -24,8 +24,8 @@ use Rattle.store.specs.World.{Shelved, KeepsFlushes, shown_face}
 use Rattle.store.specs.World as cells
 use Rattle.store.specs.WorldLaws.{shows_present, clears_by_word}
 use Rattle.store.specs.declared.world.SavedFlush.{SavedFlush}
-use Rattle.store.specs.declared.store.Way.{Way}
-use Rattle.store.specs.declared.store.Way.TheVariants as way
+use Rattle.store.specs.declared.store.WayBack.{WayBack}
+use Rattle.store.specs.declared.store.WayBack.TheVariants as way
 use Rattle.store.specs.declared.store.SavedChange.{SavedChange}
 use Rattle.store.specs.declared.store.Store.{Store}
 use Rattle.store.specs.Store.{tables_in, cells_in, table_way, flush_way, of_tables, of_cells, table_of, store_table, KeepsStore, store_face, store_shown}
@@ -35,11 +35,11 @@ use Rattle.store.specs.Store.{tables_in, cells_in, table_way, flush_way, of_tabl
 abbrev no_table : SavedFlush → Option ℕ
 no_table saved = None
 
-way_of_tables : (w : Way) (s : SavedTable) → table_way w ≡ Some s → table_of w ≡ saved_table s
+way_of_tables : (w : WayBack) (s : SavedTable) → table_way w ≡ Some s → table_of w ≡ saved_table s
 way_of_tables (way.Table saved) s e = cc
 way_of_tables (way.Flush saved) s e = absurd cc
 
-way_of_cells : (w : Way) (s : SavedFlush) → flush_way w ≡ Some s → table_of w ≡ None
+way_of_cells : (w : WayBack) (s : SavedFlush) → flush_way w ≡ Some s → table_of w ≡ None
 way_of_cells (way.Table saved) s e = absurd cc
 way_of_cells (way.Flush saved) s e = refl
 
@@ -51,10 +51,10 @@ cells_agree saved s e = way_of_cells saved.way s e
 
 -- ---- the laws of the world
 
-pub clears_store : (x : Store) (kept : List (Kept SavedChange)) → KeepsStore x kept → IsRowAfter store_table KeepsStore store_face same_face any x kept x (cleared kept)
+pub clears_store : (x : Store) (kept : List (KeptChange SavedChange)) → KeepsStore x kept → IsRowAfter store_table KeepsStore store_face same_face any x kept x (cleared kept)
 clears_store = sum_clears tables_in cells_in of_tables of_cells store_table saved_table no_table tables_agree cells_agree KeepsBoth KeepsFlushes tables.face_by cells.face_by clears_both clears_by_word
 
-pub shows_store : (x : Store) (kept : List (Kept SavedChange)) (chosen : ℕ → Bool) → KeepsStore x kept → IsPresent kept chosen → IsSame (store_face x kept chosen) (store_shown x)
+pub shows_store : (x : Store) (kept : List (KeptChange SavedChange)) (chosen : ℕ → Bool) → KeepsStore x kept → IsPresent kept chosen → IsSame (store_face x kept chosen) (store_shown x)
 shows_store = sum_shows tables_in cells_in of_tables of_cells store_table saved_table no_table tables_agree cells_agree KeepsBoth KeepsFlushes tables.face_by cells.face_by shown_tables shown_face (λ world kept chosen h present. shows_both world kept chosen present) shows_present
 
 -- ---- where only one part changes
@@ -108,7 +108,7 @@ flush_made x x' command ticket empties saved stays made = λ kept h next newest.
 -- ---- a change that is undone or redone
 
 pub same_table : (saved : SavedChange) (s s' : SavedTable) → saved.way ≡ way.Table s → s' ≡ s → ◌≡◌ {A = SavedChange} (record { command = saved.command; way = way.Table s' }) saved
-same_table saved s s' e same = ap (λ (w : Way). record { command = saved.command; way = w }) (ap (λ (t : SavedTable). way.Table t) same ∙ sym e)
+same_table saved s s' e same = ap (λ (w : WayBack). record { command = saved.command; way = w }) (ap (λ (t : SavedTable). way.Table t) same ∙ sym e)
 
 pub table_can_go_back : (x : Store) (saved : SavedChange) (s : SavedTable) → saved.way ≡ way.Table s → CanGoBack store_table KeepsStore x saved → CanGoBack saved_table KeepsBoth x.tables s
 table_can_go_back x saved s e r = (
@@ -185,33 +185,33 @@ flush_goes_again x x' saved saved' s s' e e' stays goes = λ earlier ticket late
 -- ---- a change that is no longer kept
 
 pub table_settles_oldest : (x x' : Store) (saved : SavedChange) (s : SavedTable) → saved.way ≡ way.Table s → x'.cells ≡ x.cells →
-    ((ticket : ℕ) (later : List (Kept SavedTable)) → KeepsBoth x.tables (kept_as Done ticket s ∷ later) → IsRowAfter saved_table KeepsBoth tables.face_by same_face (λ chosen. chosen ticket ≡ true) x.tables (kept_as Done ticket s ∷ later) x'.tables later) →
-    (ticket : ℕ) (later : List (Kept SavedChange)) → KeepsStore x (kept_as Done ticket saved ∷ later) → IsRowAfter store_table KeepsStore store_face same_face (λ chosen. chosen ticket ≡ true) x (kept_as Done ticket saved ∷ later) x' later
+    ((ticket : ℕ) (later : List (KeptChange SavedTable)) → KeepsBoth x.tables (kept_as Done ticket s ∷ later) → IsRowAfter saved_table KeepsBoth tables.face_by same_face (λ chosen. chosen ticket ≡ true) x.tables (kept_as Done ticket s ∷ later) x'.tables later) →
+    (ticket : ℕ) (later : List (KeptChange SavedChange)) → KeepsStore x (kept_as Done ticket saved ∷ later) → IsRowAfter store_table KeepsStore store_face same_face (λ chosen. chosen ticket ≡ true) x (kept_as Done ticket saved ∷ later) x' later
 table_settles_oldest x x' saved s e stays goes ticket later h =
     first_gone tables_in cells_in of_tables of_cells store_table saved_table no_table tables_agree cells_agree KeepsBoth KeepsFlushes tables.face_by cells.face_by (λ chosen. chosen ticket ≡ true) x x' [] Done ticket saved later s (ap table_way e) (ap flush_way e) stays h
-    (goes ticket (part of_tables later) (subst (λ (l : List (Kept SavedTable)). KeepsBoth x.tables l) (part_at of_tables [] Done ticket saved later s (ap table_way e)) h.0))
+    (goes ticket (part of_tables later) (subst (λ (l : List (KeptChange SavedTable)). KeepsBoth x.tables l) (part_at of_tables [] Done ticket saved later s (ap table_way e)) h.0))
 
 pub table_settles_cleared : (x x' : Store) (saved : SavedChange) (s : SavedTable) → saved.way ≡ way.Table s → x'.cells ≡ x.cells →
-    ((earlier : List (Kept SavedTable)) (ticket : ℕ) (later : List (Kept SavedTable)) → KeepsBoth x.tables (earlier ++ kept_as Cleared ticket s ∷ later) →
+    ((earlier : List (KeptChange SavedTable)) (ticket : ℕ) (later : List (KeptChange SavedTable)) → KeepsBoth x.tables (earlier ++ kept_as Cleared ticket s ∷ later) →
     IsRowAfter saved_table KeepsBoth tables.face_by same_face (λ chosen. chosen ticket ≡ false) x.tables (earlier ++ kept_as Cleared ticket s ∷ later) x'.tables (earlier ++ later)) →
-    (earlier : List (Kept SavedChange)) (ticket : ℕ) (later : List (Kept SavedChange)) → KeepsStore x (earlier ++ kept_as Cleared ticket saved ∷ later) →
+    (earlier : List (KeptChange SavedChange)) (ticket : ℕ) (later : List (KeptChange SavedChange)) → KeepsStore x (earlier ++ kept_as Cleared ticket saved ∷ later) →
     IsRowAfter store_table KeepsStore store_face same_face (λ chosen. chosen ticket ≡ false) x (earlier ++ kept_as Cleared ticket saved ∷ later) x' (earlier ++ later)
 table_settles_cleared x x' saved s e stays goes earlier ticket later h =
     first_gone tables_in cells_in of_tables of_cells store_table saved_table no_table tables_agree cells_agree KeepsBoth KeepsFlushes tables.face_by cells.face_by (λ chosen. chosen ticket ≡ false) x x' earlier Cleared ticket saved later s (ap table_way e) (ap flush_way e) stays h
-    (goes (part of_tables earlier) ticket (part of_tables later) (subst (λ (l : List (Kept SavedTable)). KeepsBoth x.tables l) (part_at of_tables earlier Cleared ticket saved later s (ap table_way e)) h.0))
+    (goes (part of_tables earlier) ticket (part of_tables later) (subst (λ (l : List (KeptChange SavedTable)). KeepsBoth x.tables l) (part_at of_tables earlier Cleared ticket saved later s (ap table_way e)) h.0))
 
 pub flush_settles_oldest : (x x' : Store) (saved : SavedChange) (s : SavedFlush) → saved.way ≡ way.Flush s → x'.tables ≡ x.tables →
-    ((ticket : ℕ) (later : List (Kept SavedFlush)) → KeepsFlushes x.cells (kept_as Done ticket s ∷ later) → IsRowAfter no_table KeepsFlushes cells.face_by same_face (λ chosen. chosen ticket ≡ true) x.cells (kept_as Done ticket s ∷ later) x'.cells later) →
-    (ticket : ℕ) (later : List (Kept SavedChange)) → KeepsStore x (kept_as Done ticket saved ∷ later) → IsRowAfter store_table KeepsStore store_face same_face (λ chosen. chosen ticket ≡ true) x (kept_as Done ticket saved ∷ later) x' later
+    ((ticket : ℕ) (later : List (KeptChange SavedFlush)) → KeepsFlushes x.cells (kept_as Done ticket s ∷ later) → IsRowAfter no_table KeepsFlushes cells.face_by same_face (λ chosen. chosen ticket ≡ true) x.cells (kept_as Done ticket s ∷ later) x'.cells later) →
+    (ticket : ℕ) (later : List (KeptChange SavedChange)) → KeepsStore x (kept_as Done ticket saved ∷ later) → IsRowAfter store_table KeepsStore store_face same_face (λ chosen. chosen ticket ≡ true) x (kept_as Done ticket saved ∷ later) x' later
 flush_settles_oldest x x' saved s e stays goes ticket later h =
     second_gone tables_in cells_in of_tables of_cells store_table saved_table no_table tables_agree cells_agree KeepsBoth KeepsFlushes tables.face_by cells.face_by (λ chosen. chosen ticket ≡ true) x x' [] Done ticket saved later s (ap flush_way e) (ap table_way e) stays h
-    (goes ticket (part of_cells later) (subst (λ (l : List (Kept SavedFlush)). KeepsFlushes x.cells l) (part_at of_cells [] Done ticket saved later s (ap flush_way e)) h.1))
+    (goes ticket (part of_cells later) (subst (λ (l : List (KeptChange SavedFlush)). KeepsFlushes x.cells l) (part_at of_cells [] Done ticket saved later s (ap flush_way e)) h.1))
 
 pub flush_settles_cleared : (x x' : Store) (saved : SavedChange) (s : SavedFlush) → saved.way ≡ way.Flush s → x'.tables ≡ x.tables →
-    ((earlier : List (Kept SavedFlush)) (ticket : ℕ) (later : List (Kept SavedFlush)) → KeepsFlushes x.cells (earlier ++ kept_as Cleared ticket s ∷ later) →
+    ((earlier : List (KeptChange SavedFlush)) (ticket : ℕ) (later : List (KeptChange SavedFlush)) → KeepsFlushes x.cells (earlier ++ kept_as Cleared ticket s ∷ later) →
     IsRowAfter no_table KeepsFlushes cells.face_by same_face (λ chosen. chosen ticket ≡ false) x.cells (earlier ++ kept_as Cleared ticket s ∷ later) x'.cells (earlier ++ later)) →
-    (earlier : List (Kept SavedChange)) (ticket : ℕ) (later : List (Kept SavedChange)) → KeepsStore x (earlier ++ kept_as Cleared ticket saved ∷ later) →
+    (earlier : List (KeptChange SavedChange)) (ticket : ℕ) (later : List (KeptChange SavedChange)) → KeepsStore x (earlier ++ kept_as Cleared ticket saved ∷ later) →
     IsRowAfter store_table KeepsStore store_face same_face (λ chosen. chosen ticket ≡ false) x (earlier ++ kept_as Cleared ticket saved ∷ later) x' (earlier ++ later)
 flush_settles_cleared x x' saved s e stays goes earlier ticket later h =
     second_gone tables_in cells_in of_tables of_cells store_table saved_table no_table tables_agree cells_agree KeepsBoth KeepsFlushes tables.face_by cells.face_by (λ chosen. chosen ticket ≡ false) x x' earlier Cleared ticket saved later s (ap flush_way e) (ap table_way e) stays h
-    (goes (part of_cells earlier) ticket (part of_cells later) (subst (λ (l : List (Kept SavedFlush)). KeepsFlushes x.cells l) (part_at of_cells earlier Cleared ticket saved later s (ap flush_way e)) h.1))
+    (goes (part of_cells earlier) ticket (part of_cells later) (subst (λ (l : List (KeptChange SavedFlush)). KeepsFlushes x.cells l) (part_at of_cells earlier Cleared ticket saved later s (ap flush_way e)) h.1))

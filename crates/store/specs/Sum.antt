@@ -1,6 +1,6 @@
 -- Two worlds as one: the first has the tables, the second the cells. Each keeps its own part of the changes.
 use Rattle.std.specs.Prelude.{ℕ, Bool, Option, List}
-use Rattle.change_law.specs.declared.kept.Kept.{Kept}
+use Rattle.change_law.specs.declared.kept.KeptChange.{KeptChange}
 use Rattle.change_law.specs.Face.{Face}
 use Rattle.table_changes.specs.Part.{part}
 
@@ -10,11 +10,11 @@ joined first second = record { tables = first.tables; cell = second.cell }
 
 -- Each part keeps its changes.
 abbrev pub KeepsParts : {X W V S A B : Type 0} → (X → W) → (X → V) → (S → Option A) → (S → Option B) →
-    (W → List (Kept A) → Type 0) → (V → List (Kept B) → Type 0) → X → List (Kept S) → Type 0
+    (W → List (KeptChange A) → Type 0) → (V → List (KeptChange B) → Type 0) → X → List (KeptChange S) → Type 0
 KeepsParts first second mine theirs keeps others world kept = keeps (first world) (part mine kept) × others (second world) (part theirs kept)
 
 -- the tables of the first part, and the cells of the second
 abbrev pub face_of_parts : {X W V S A B T U : Type 0} → (X → W) → (X → V) → (S → Option A) → (S → Option B) →
-    (W → List (Kept A) → (ℕ → Bool) → Face T) → (V → List (Kept B) → (ℕ → Bool) → Face U) → X → List (Kept S) → (ℕ → Bool) → Face T
+    (W → List (KeptChange A) → (ℕ → Bool) → Face T) → (V → List (KeptChange B) → (ℕ → Bool) → Face U) → X → List (KeptChange S) → (ℕ → Bool) → Face T
 face_of_parts first second mine theirs face faces world kept chosen =
     joined (face (first world) (part mine kept) chosen) (faces (second world) (part theirs kept) chosen)

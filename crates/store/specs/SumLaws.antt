@@ -5,7 +5,7 @@ use Rattle.std.specs.List.{AllByRecursion}
 use Rattle.std.proofs.lemmas.List.{append-nil}
 use Rattle.dns_text.specs.declared.record.Question.{Question}
 use Rattle.ranked.specs.declared.find.Find.{Find}
-use Rattle.change_law.specs.declared.kept.Kept.{Kept}
+use Rattle.change_law.specs.declared.kept.KeptChange.{KeptChange}
 use Rattle.change_law.specs.declared.kept.Standing.{Standing}
 use Rattle.change_law.specs.declared.kept.Standing.TheVariants.{Done, Undone, Cleared}
 use Rattle.change_law.specs.Choice.{IsOneTable, AllowsAt, IsChoice, IsPresent, IsUncovered, IsFounded, cleared}
@@ -24,17 +24,17 @@ module _ {S P : Type 0} (mine : S → Option P) (table : S → Option ℕ) (own 
   one_table a b p q e f one =
       subst (λ (x : Option ℕ). IsOneTable x (table b)) (sym (agrees a p e)) (subst (λ (y : Option ℕ). IsOneTable (own p) y) (sym (agrees b q f)) one)
 
-  pub uncovered_part : (saved : S) (p : P) (later : List (Kept S)) → mine saved ≡ Some p → IsUncovered table saved later → IsUncovered own p (part mine later)
+  pub uncovered_part : (saved : S) (p : P) (later : List (KeptChange S)) → mine saved ≡ Some p → IsUncovered table saved later → IsUncovered own p (part mine later)
   uncovered_part saved p later e h =
       part_all mine (λ k. IsOneTable (table saved) (table k.saved) → k.standing ≢ Done) (λ k. IsOneTable (own p) (own k.saved) → k.standing ≢ Done)
       (λ k q f g one. g (one_table saved k.saved p q e f one)) later h
 
-  pub founded_part : (saved : S) (p : P) (earlier : List (Kept S)) → mine saved ≡ Some p → IsFounded table saved earlier → IsFounded own p (part mine earlier)
+  pub founded_part : (saved : S) (p : P) (earlier : List (KeptChange S)) → mine saved ≡ Some p → IsFounded table saved earlier → IsFounded own p (part mine earlier)
   founded_part saved p earlier e h =
       part_all mine (λ k. IsOneTable (table saved) (table k.saved) → k.standing ≢ Undone) (λ k. IsOneTable (own p) (own k.saved) → k.standing ≢ Undone)
       (λ k q f g one. g (one_table saved k.saved p q e f one)) earlier h
 
-  pub choice_part : (kept : List (Kept S)) (chosen : ℕ → Bool) → IsChoice table kept chosen → IsChoice own (part mine kept) chosen
+  pub choice_part : (kept : List (KeptChange S)) (chosen : ℕ → Bool) → IsChoice table kept chosen → IsChoice own (part mine kept) chosen
   choice_part [] chosen h = tt
   choice_part (k ∷ kept) chosen h = by (mine k.saved) refl (choice_part kept chosen h.1)
     where
@@ -53,41 +53,41 @@ module _ {S P : Type 0} (mine : S → Option P) (table : S → Option ℕ) (own 
       by None e more = more
       by (Some p) e more = (allows k.standing p e h.0, more)
 
-  pub next_part : (ticket : ℕ) (kept : List (Kept S)) → IsNext ticket kept → IsNext ticket (part mine kept)
+  pub next_part : (ticket : ℕ) (kept : List (KeptChange S)) → IsNext ticket kept → IsNext ticket (part mine kept)
   next_part ticket kept h = part_all mine (λ k. k.ticket < ticket) (λ k. k.ticket < ticket) (λ k p e less. less) kept h
 
-  pub last_part : {W : Type 0} (keeps : W → List (Kept P) → Type 0) (world : W) (earlier : List (Kept S)) (ticket : ℕ) (saved : S) (later : List (Kept S)) (p : P) → mine saved ≡ Some p →
+  pub last_part : {W : Type 0} (keeps : W → List (KeptChange P) → Type 0) (world : W) (earlier : List (KeptChange S)) (ticket : ℕ) (saved : S) (later : List (KeptChange S)) (p : P) → mine saved ≡ Some p →
       keeps world (part mine (earlier ++ kept_as Done ticket saved ∷ later)) → IsUncovered table saved later →
       IsLast own keeps world (part mine earlier) ticket p (part mine later)
   last_part keeps world earlier ticket saved later p e kept uncovered = record {
-    kept = subst (λ (l : List (Kept P)). keeps world l) (part_at mine earlier Done ticket saved later p e) kept;
+    kept = subst (λ (l : List (KeptChange P)). keeps world l) (part_at mine earlier Done ticket saved later p e) kept;
     uncovered = uncovered_part saved p later e uncovered;
   }
 
-  pub first_part : {W : Type 0} (keeps : W → List (Kept P) → Type 0) (world : W) (earlier : List (Kept S)) (ticket : ℕ) (saved : S) (later : List (Kept S)) (p : P) → mine saved ≡ Some p →
+  pub first_part : {W : Type 0} (keeps : W → List (KeptChange P) → Type 0) (world : W) (earlier : List (KeptChange S)) (ticket : ℕ) (saved : S) (later : List (KeptChange S)) (p : P) → mine saved ≡ Some p →
       keeps world (part mine (earlier ++ kept_as Undone ticket saved ∷ later)) → IsFounded table saved earlier →
       IsFirst own keeps world (part mine earlier) ticket p (part mine later)
   first_part keeps world earlier ticket saved later p e kept founded = record {
-    kept = subst (λ (l : List (Kept P)). keeps world l) (part_at mine earlier Undone ticket saved later p e) kept;
+    kept = subst (λ (l : List (KeptChange P)). keeps world l) (part_at mine earlier Undone ticket saved later p e) kept;
     founded = founded_part saved p earlier e founded;
   }
 
 -- ---- the rows of a part, at other names of its lists
 
-module _ {W A T : Type 0} (own : A → Option ℕ) (keeps : W → List (Kept A) → Type 0) (face : W → List (Kept A) → (ℕ → Bool) → Face T) where
-  pub row_at : (made : (ℕ → Bool) → Face T → Face T) (P : (ℕ → Bool) → Type 0) (before after : W) (kept kept' left left' : List (Kept A)) → kept' ≡ kept → left' ≡ left →
+module _ {W A T : Type 0} (own : A → Option ℕ) (keeps : W → List (KeptChange A) → Type 0) (face : W → List (KeptChange A) → (ℕ → Bool) → Face T) where
+  pub row_at : (made : (ℕ → Bool) → Face T → Face T) (P : (ℕ → Bool) → Type 0) (before after : W) (kept kept' left left' : List (KeptChange A)) → kept' ≡ kept → left' ≡ left →
       IsRowAfter own keeps face made P before kept after left → IsRowAfter own keeps face made P before kept' after left'
   row_at made P before after kept kept' left left' e f row =
-      subst (λ (l : List (Kept A)). IsRowAfter own keeps face made P before l after left') (sym e)
-      (subst (λ (l : List (Kept A)). IsRowAfter own keeps face made P before kept after l) (sym f) row)
+      subst (λ (l : List (KeptChange A)). IsRowAfter own keeps face made P before l after left') (sym e)
+      (subst (λ (l : List (KeptChange A)). IsRowAfter own keeps face made P before kept after l) (sym f) row)
 
-  pub row_still : (before after : W) (kept left : List (Kept A)) → after ≡ before → left ≡ kept → keeps before kept → IsRowAfter own keeps face same_face any before kept after left
+  pub row_still : (before after : W) (kept left : List (KeptChange A)) → after ≡ before → left ≡ kept → keeps before kept → IsRowAfter own keeps face same_face any before kept after left
   row_still before after kept left e f h =
       subst (λ (w : W). IsRowAfter own keeps face same_face any before kept w left) (sym e)
-      (subst (λ (l : List (Kept A)). IsRowAfter own keeps face same_face any before kept before l) (sym f)
+      (subst (λ (l : List (KeptChange A)). IsRowAfter own keeps face same_face any before kept before l) (sym f)
       (record { keeps_left = h; faces = λ chosen p choice. record { tables = refl; cell = λ q. refl } }))
 
-  pub row_world : (made : (ℕ → Bool) → Face T → Face T) (P : (ℕ → Bool) → Type 0) (before after after' : W) (kept left : List (Kept A)) → after' ≡ after →
+  pub row_world : (made : (ℕ → Bool) → Face T → Face T) (P : (ℕ → Bool) → Type 0) (before after after' : W) (kept left : List (KeptChange A)) → after' ≡ after →
       IsRowAfter own keeps face made P before kept after left → IsRowAfter own keeps face made P before kept after' left
   row_world made P before after after' kept left e row = subst (λ (w : W). IsRowAfter own keeps face made P before kept w left) (sym e) row
 
@@ -96,18 +96,18 @@ module _ {W A T : Type 0} (own : A → Option ℕ) (keeps : W → List (Kept A) 
 module _ {X W V S A B T U : Type 0} (first : X → W) (second : X → V) (mine : S → Option A) (theirs : S → Option B)
     (table : S → Option ℕ) (own : A → Option ℕ) (other : B → Option ℕ)
     (agrees : (s : S) (a : A) → mine s ≡ Some a → table s ≡ own a) (agrees' : (s : S) (b : B) → theirs s ≡ Some b → table s ≡ other b)
-    (keeps : W → List (Kept A) → Type 0) (others : V → List (Kept B) → Type 0)
-    (face : W → List (Kept A) → (ℕ → Bool) → Face T) (faces : V → List (Kept B) → (ℕ → Bool) → Face U) where
-  abbrev Keeps : X → List (Kept S) → Type 0
+    (keeps : W → List (KeptChange A) → Type 0) (others : V → List (KeptChange B) → Type 0)
+    (face : W → List (KeptChange A) → (ℕ → Bool) → Face T) (faces : V → List (KeptChange B) → (ℕ → Bool) → Face U) where
+  abbrev Keeps : X → List (KeptChange S) → Type 0
   Keeps = KeepsParts first second mine theirs keeps others
 
-  abbrev face_both : X → List (Kept S) → (ℕ → Bool) → Face T
+  abbrev face_both : X → List (KeptChange S) → (ℕ → Bool) → Face T
   face_both = face_of_parts first second mine theirs face faces
 
   pub sum_row : (made : (ℕ → Bool) → Face T → Face T) (here : (ℕ → Bool) → Face T → Face T) (there : (ℕ → Bool) → Face U → Face U) (P Q R : (ℕ → Bool) → Type 0) →
       ((chosen : ℕ → Bool) → P chosen → Q chosen) → ((chosen : ℕ → Bool) → P chosen → R chosen) →
       ((chosen : ℕ → Bool) (f f' : Face T) (g g' : Face U) → IsSame f' (here chosen f) → IsSame g' (there chosen g) → IsSame (joined f' g') (made chosen (joined f g))) →
-      (x x' : X) (kept left : List (Kept S)) →
+      (x x' : X) (kept left : List (KeptChange S)) →
       IsRowAfter own keeps face here Q (first x) (part mine kept) (first x') (part mine left) →
       IsRowAfter other others faces there R (second x) (part theirs kept) (second x') (part theirs left) →
       IsRowAfter table Keeps face_both made P x kept x' left
@@ -124,7 +124,7 @@ module _ {X W V S A B T U : Type 0} (first : X → W) (second : X → V) (mine :
   same_joined f f' g g' a b = record { tables = a.tables; cell = b.cell }
 
   pub sum_same : (P Q R : (ℕ → Bool) → Type 0) → ((chosen : ℕ → Bool) → P chosen → Q chosen) → ((chosen : ℕ → Bool) → P chosen → R chosen) →
-      (x x' : X) (kept left : List (Kept S)) →
+      (x x' : X) (kept left : List (KeptChange S)) →
       IsRowAfter own keeps face same_face Q (first x) (part mine kept) (first x') (part mine left) →
       IsRowAfter other others faces same_face R (second x) (part theirs kept) (second x') (part theirs left) →
       IsRowAfter table Keeps face_both same_face P x kept x' left
@@ -133,9 +133,9 @@ module _ {X W V S A B T U : Type 0} (first : X → W) (second : X → V) (mine :
 
   -- ---- what is undone is cleared
 
-  pub sum_clears : ((world : W) (kept : List (Kept A)) → keeps world kept → IsRowAfter own keeps face same_face any world kept world (cleared kept)) →
-      ((world : V) (kept : List (Kept B)) → others world kept → IsRowAfter other others faces same_face any world kept world (cleared kept)) →
-      (x : X) (kept : List (Kept S)) → Keeps x kept → IsRowAfter table Keeps face_both same_face any x kept x (cleared kept)
+  pub sum_clears : ((world : W) (kept : List (KeptChange A)) → keeps world kept → IsRowAfter own keeps face same_face any world kept world (cleared kept)) →
+      ((world : V) (kept : List (KeptChange B)) → others world kept → IsRowAfter other others faces same_face any world kept world (cleared kept)) →
+      (x : X) (kept : List (KeptChange S)) → Keeps x kept → IsRowAfter table Keeps face_both same_face any x kept x (cleared kept)
   sum_clears clears clears' x kept h =
       sum_same any any any (λ chosen p. tt) (λ chosen p. tt) x x kept (cleared kept)
       (row_at own keeps face same_face any (first x) (first x) (part mine kept) (part mine kept) (cleared (part mine kept)) (part mine (cleared kept)) refl (part_cleared mine kept) (clears (first x) (part mine kept) h.0))
@@ -143,16 +143,16 @@ module _ {X W V S A B T U : Type 0} (first : X → W) (second : X → V) (mine :
 
   -- ---- a change more
 
-  with_mine : (kept : List (Kept S)) (ticket : ℕ) (saved : S) (a : A) → mine saved ≡ Some a → part mine (with_change kept ticket saved) ≡ with_change (part mine kept) ticket a
-  with_mine kept ticket saved a e = part_at mine (cleared kept) Done ticket saved [] a e ∙ ap (λ (l : List (Kept A)). l ++ kept_as Done ticket a ∷ []) (part_cleared mine kept)
+  with_mine : (kept : List (KeptChange S)) (ticket : ℕ) (saved : S) (a : A) → mine saved ≡ Some a → part mine (with_change kept ticket saved) ≡ with_change (part mine kept) ticket a
+  with_mine kept ticket saved a e = part_at mine (cleared kept) Done ticket saved [] a e ∙ ap (λ (l : List (KeptChange A)). l ++ kept_as Done ticket a ∷ []) (part_cleared mine kept)
 
-  without_mine : (kept : List (Kept S)) (ticket : ℕ) (saved : S) → mine saved ≡ None → part mine (with_change kept ticket saved) ≡ cleared (part mine kept)
+  without_mine : (kept : List (KeptChange S)) (ticket : ℕ) (saved : S) → mine saved ≡ None → part mine (with_change kept ticket saved) ≡ cleared (part mine kept)
   without_mine kept ticket saved e = part_past mine (cleared kept) Done ticket saved [] e ∙ append-nil (part mine (cleared kept)) ∙ part_cleared mine kept
 
-  with_theirs : (kept : List (Kept S)) (ticket : ℕ) (saved : S) (b : B) → theirs saved ≡ Some b → part theirs (with_change kept ticket saved) ≡ with_change (part theirs kept) ticket b
-  with_theirs kept ticket saved b e = part_at theirs (cleared kept) Done ticket saved [] b e ∙ ap (λ (l : List (Kept B)). l ++ kept_as Done ticket b ∷ []) (part_cleared theirs kept)
+  with_theirs : (kept : List (KeptChange S)) (ticket : ℕ) (saved : S) (b : B) → theirs saved ≡ Some b → part theirs (with_change kept ticket saved) ≡ with_change (part theirs kept) ticket b
+  with_theirs kept ticket saved b e = part_at theirs (cleared kept) Done ticket saved [] b e ∙ ap (λ (l : List (KeptChange B)). l ++ kept_as Done ticket b ∷ []) (part_cleared theirs kept)
 
-  without_theirs : (kept : List (Kept S)) (ticket : ℕ) (saved : S) → theirs saved ≡ None → part theirs (with_change kept ticket saved) ≡ cleared (part theirs kept)
+  without_theirs : (kept : List (KeptChange S)) (ticket : ℕ) (saved : S) → theirs saved ≡ None → part theirs (with_change kept ticket saved) ≡ cleared (part theirs kept)
   without_theirs kept ticket saved e = part_past theirs (cleared kept) Done ticket saved [] e ∙ append-nil (part theirs (cleared kept)) ∙ part_cleared theirs kept
 
   first_effect : (after : T → T) (none empties : Question → Bool) → ((q : Question) → empties q ≡ false) →
@@ -169,9 +169,9 @@ module _ {X W V S A B T U : Type 0} (first : X → W) (second : X → V) (mine :
   second_effect none after empties stays false f f' g g' here there = record { tables = here.tables; cell = there.cell }
 
   -- A change of the first part empties no cell.
-  pub first_made : ((world : V) (kept : List (Kept B)) → others world kept → IsRowAfter other others faces same_face any world kept world (cleared kept)) →
+  pub first_made : ((world : V) (kept : List (KeptChange B)) → others world kept → IsRowAfter other others faces same_face any world kept world (cleared kept)) →
       (after : T → T) (none empties : Question → Bool) → ((q : Question) → empties q ≡ false) →
-      (x x' : X) (kept : List (Kept S)) (ticket : ℕ) (saved : S) (a : A) → mine saved ≡ Some a → theirs saved ≡ None → second x' ≡ second x → Keeps x kept →
+      (x x' : X) (kept : List (KeptChange S)) (ticket : ℕ) (saved : S) (a : A) → mine saved ≡ Some a → theirs saved ≡ None → second x' ≡ second x → Keeps x kept →
       IsRowAfter own keeps face (where_chosen ticket (effect after none)) any (first x) (part mine kept) (first x') (with_change (part mine kept) ticket a) →
       IsRowAfter table Keeps face_both (where_chosen ticket (effect after empties)) any x kept x' (with_change kept ticket saved)
   first_made clears after none empties keeps_all x x' kept ticket saved a e apart stays h row =
@@ -184,9 +184,9 @@ module _ {X W V S A B T U : Type 0} (first : X → W) (second : X → V) (mine :
       (clears (second x) (part theirs kept) h.1)))
 
   -- A change of the second part leaves the tables.
-  pub second_made : ((world : W) (kept : List (Kept A)) → keeps world kept → IsRowAfter own keeps face same_face any world kept world (cleared kept)) →
+  pub second_made : ((world : W) (kept : List (KeptChange A)) → keeps world kept → IsRowAfter own keeps face same_face any world kept world (cleared kept)) →
       (none : U → U) (after : T → T) (empties : Question → Bool) → ((t : T) → after t ≡ t) →
-      (x x' : X) (kept : List (Kept S)) (ticket : ℕ) (saved : S) (b : B) → theirs saved ≡ Some b → mine saved ≡ None → first x' ≡ first x → Keeps x kept →
+      (x x' : X) (kept : List (KeptChange S)) (ticket : ℕ) (saved : S) (b : B) → theirs saved ≡ Some b → mine saved ≡ None → first x' ≡ first x → Keeps x kept →
       IsRowAfter other others faces (where_chosen ticket (effect none empties)) any (second x) (part theirs kept) (second x') (with_change (part theirs kept) ticket b) →
       IsRowAfter table Keeps face_both (where_chosen ticket (effect after empties)) any x kept x' (with_change kept ticket saved)
   second_made clears none after empties same x x' kept ticket saved b e apart stays h row =
@@ -200,7 +200,7 @@ module _ {X W V S A B T U : Type 0} (first : X → W) (second : X → V) (mine :
 
   -- ---- a change that is undone or redone
 
-  pub first_moved : (x x' : X) (earlier : List (Kept S)) (standing standing' : Standing) (ticket : ℕ) (saved saved' : S) (later : List (Kept S)) (a a' : A) →
+  pub first_moved : (x x' : X) (earlier : List (KeptChange S)) (standing standing' : Standing) (ticket : ℕ) (saved saved' : S) (later : List (KeptChange S)) (a a' : A) →
       mine saved ≡ Some a → mine saved' ≡ Some a' → theirs saved ≡ None → theirs saved' ≡ None → second x' ≡ second x → Keeps x (earlier ++ kept_as standing ticket saved ∷ later) →
       IsRowAfter own keeps face same_face any (first x) (part mine earlier ++ kept_as standing ticket a ∷ part mine later) (first x') (part mine earlier ++ kept_as standing' ticket a' ∷ part mine later) →
       IsRowAfter table Keeps face_both same_face any x (earlier ++ kept_as standing ticket saved ∷ later) x' (earlier ++ kept_as standing' ticket saved' ∷ later)
@@ -213,7 +213,7 @@ module _ {X W V S A B T U : Type 0} (first : X → W) (second : X → V) (mine :
       (row_still other others faces (second x) (second x') (part theirs (earlier ++ kept_as standing ticket saved ∷ later)) (part theirs (earlier ++ kept_as standing' ticket saved' ∷ later)) stays
       (part_past theirs earlier standing' ticket saved' later apart' ∙ sym (part_past theirs earlier standing ticket saved later apart)) h.1)
 
-  pub second_moved : (x x' : X) (earlier : List (Kept S)) (standing standing' : Standing) (ticket : ℕ) (saved saved' : S) (later : List (Kept S)) (b b' : B) →
+  pub second_moved : (x x' : X) (earlier : List (KeptChange S)) (standing standing' : Standing) (ticket : ℕ) (saved saved' : S) (later : List (KeptChange S)) (b b' : B) →
       theirs saved ≡ Some b → theirs saved' ≡ Some b' → mine saved ≡ None → mine saved' ≡ None → first x' ≡ first x → Keeps x (earlier ++ kept_as standing ticket saved ∷ later) →
       IsRowAfter other others faces same_face any (second x) (part theirs earlier ++ kept_as standing ticket b ∷ part theirs later) (second x') (part theirs earlier ++ kept_as standing' ticket b' ∷ part theirs later) →
       IsRowAfter table Keeps face_both same_face any x (earlier ++ kept_as standing ticket saved ∷ later) x' (earlier ++ kept_as standing' ticket saved' ∷ later)
@@ -228,7 +228,7 @@ module _ {X W V S A B T U : Type 0} (first : X → W) (second : X → V) (mine :
 
   -- ---- a change that is no longer kept
 
-  pub first_gone : (P : (ℕ → Bool) → Type 0) (x x' : X) (earlier : List (Kept S)) (standing : Standing) (ticket : ℕ) (saved : S) (later : List (Kept S)) (a : A) →
+  pub first_gone : (P : (ℕ → Bool) → Type 0) (x x' : X) (earlier : List (KeptChange S)) (standing : Standing) (ticket : ℕ) (saved : S) (later : List (KeptChange S)) (a : A) →
       mine saved ≡ Some a → theirs saved ≡ None → second x' ≡ second x → Keeps x (earlier ++ kept_as standing ticket saved ∷ later) →
       IsRowAfter own keeps face same_face P (first x) (part mine earlier ++ kept_as standing ticket a ∷ part mine later) (first x') (part mine earlier ++ part mine later) →
       IsRowAfter table Keeps face_both same_face P x (earlier ++ kept_as standing ticket saved ∷ later) x' (earlier ++ later)
@@ -241,7 +241,7 @@ module _ {X W V S A B T U : Type 0} (first : X → W) (second : X → V) (mine :
       (row_still other others faces (second x) (second x') (part theirs (earlier ++ kept_as standing ticket saved ∷ later)) (part theirs (earlier ++ later)) stays
       (part_append theirs earlier later ∙ sym (part_past theirs earlier standing ticket saved later apart)) h.1)
 
-  pub second_gone : (P : (ℕ → Bool) → Type 0) (x x' : X) (earlier : List (Kept S)) (standing : Standing) (ticket : ℕ) (saved : S) (later : List (Kept S)) (b : B) →
+  pub second_gone : (P : (ℕ → Bool) → Type 0) (x x' : X) (earlier : List (KeptChange S)) (standing : Standing) (ticket : ℕ) (saved : S) (later : List (KeptChange S)) (b : B) →
       theirs saved ≡ Some b → mine saved ≡ None → first x' ≡ first x → Keeps x (earlier ++ kept_as standing ticket saved ∷ later) →
       IsRowAfter other others faces same_face P (second x) (part theirs earlier ++ kept_as standing ticket b ∷ part theirs later) (second x') (part theirs earlier ++ part theirs later) →
       IsRowAfter table Keeps face_both same_face P x (earlier ++ kept_as standing ticket saved ∷ later) x' (earlier ++ later)
@@ -258,7 +258,7 @@ module _ {X W V S A B T U : Type 0} (first : X → W) (second : X → V) (mine :
 
   pub sum_from : (made : Face T → Face T) (there : Face U → Face U) (moment : ℕ) →
       ((f f' : Face T) (g g' : Face U) → f'.tables ≡ f.tables → IsSameAt moment g' (there g) → IsSameAt moment (joined f' g') (made (joined f g))) →
-      (x x' : X) (kept : List (Kept S)) → first x' ≡ first x → Keeps x kept →
+      (x x' : X) (kept : List (KeptChange S)) → first x' ≡ first x → Keeps x kept →
       IsRowFrom other others faces moment there (second x) (part theirs kept) (second x') →
       IsRowFrom table Keeps face_both moment made x kept x'
   sum_from made there moment join x x' kept stays h row = record {
@@ -270,12 +270,12 @@ module _ {X W V S A B T U : Type 0} (first : X → W) (second : X → V) (mine :
         (row.faces chosen (choice_part theirs table other agrees' kept chosen choice));
   }
 
-  pub sum_admitted : (find : Find) (moment : ℕ) (x x' : X) (kept : List (Kept S)) → first x' ≡ first x → Keeps x kept →
+  pub sum_admitted : (find : Find) (moment : ℕ) (x x' : X) (kept : List (KeptChange S)) → first x' ≡ first x → Keeps x kept →
       IsRowFrom other others faces moment (face_with true find moment) (second x) (part theirs kept) (second x') →
       IsRowFrom table Keeps face_both moment (face_with true find moment) x kept x'
   sum_admitted find moment = sum_from (face_with true find moment) (face_with true find moment) moment (λ f f' g g' same there. record { tables = same; cell = there.cell })
 
-  pub sum_swept : (moment : ℕ) (x x' : X) (kept : List (Kept S)) → first x' ≡ first x → Keeps x kept →
+  pub sum_swept : (moment : ℕ) (x x' : X) (kept : List (KeptChange S)) → first x' ≡ first x → Keeps x kept →
       IsRowFrom other others faces moment (λ f. f) (second x) (part theirs kept) (second x') →
       IsRowFrom table Keeps face_both moment (λ f. f) x kept x'
   sum_swept moment = sum_from (λ f. f) (λ f. f) moment (λ f f' g g' same there. record { tables = same; cell = there.cell })
@@ -283,9 +283,9 @@ module _ {X W V S A B T U : Type 0} (first : X → W) (second : X → V) (mine :
   -- ---- what is shown
 
   pub sum_shows : (shown : W → Face T) (shown' : V → Face U) →
-      ((world : W) (kept : List (Kept A)) (chosen : ℕ → Bool) → keeps world kept → IsPresent kept chosen → IsSame (face world kept chosen) (shown world)) →
-      ((world : V) (kept : List (Kept B)) (chosen : ℕ → Bool) → others world kept → IsPresent kept chosen → IsSame (faces world kept chosen) (shown' world)) →
-      (x : X) (kept : List (Kept S)) (chosen : ℕ → Bool) → Keeps x kept → IsPresent kept chosen → IsSame (face_both x kept chosen) (joined (shown (first x)) (shown' (second x)))
+      ((world : W) (kept : List (KeptChange A)) (chosen : ℕ → Bool) → keeps world kept → IsPresent kept chosen → IsSame (face world kept chosen) (shown world)) →
+      ((world : V) (kept : List (KeptChange B)) (chosen : ℕ → Bool) → others world kept → IsPresent kept chosen → IsSame (faces world kept chosen) (shown' world)) →
+      (x : X) (kept : List (KeptChange S)) (chosen : ℕ → Bool) → Keeps x kept → IsPresent kept chosen → IsSame (face_both x kept chosen) (joined (shown (first x)) (shown' (second x)))
   sum_shows shown shown' shows shows' x kept chosen h present =
       same_joined (shown (first x)) (face (first x) (part mine kept) chosen) (shown' (second x)) (faces (second x) (part theirs kept) chosen)
       (shows (first x) (part mine kept) chosen h.0 (part_present mine kept chosen present)) (shows' (second x) (part theirs kept) chosen h.1 (part_present theirs kept chosen present))

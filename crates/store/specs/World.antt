@@ -2,7 +2,7 @@
 use Rattle.std.specs.Prelude.{◌≡◌, ℕ, Bool, Option, None, List, map, if◌then◌else◌}
 use Rattle.std.specs.List.{AllByRecursion}
 use Rattle.dns_text.specs.declared.record.Question.{Question}
-use Rattle.change_law.specs.declared.kept.Kept.{Kept}
+use Rattle.change_law.specs.declared.kept.KeptChange.{KeptChange}
 use Rattle.change_law.specs.declared.fault.WorldFault.{WorldFault}
 use Rattle.change_law.specs.declared.fault.WorldFault.TheVariants as world
 use Rattle.change_law.specs.Choice.{is_done}
@@ -45,19 +45,19 @@ fault_told (store.Full stored) = world.Full stored
 fault_told store.NoMemory = world.NoMemory
 
 -- the number of a flush, and whether it stands: as the journal has it, and as the shelf has it
-abbrev pub mark_of : Kept SavedFlush → ℕ × Bool
+abbrev pub mark_of : KeptChange SavedFlush → ℕ × Bool
 mark_of k = (k.ticket, is_done k.standing)
 
 abbrev pub mark : KeptFlush → ℕ × Bool
 mark own = (own.number, own.shown)
 
 -- These are the flushes that the shelf keeps, by their numbers: the done ones stand, the others do not.
-pub record KeepsFlushes (shelf : Shelved) (kept : List (Kept SavedFlush)) : Type 0 where
+pub record KeepsFlushes (shelf : Shelved) (kept : List (KeptChange SavedFlush)) : Type 0 where
   pub agree : map mark_of kept ≡ map mark shelf.flushes
   pub numbers : AllByRecursion (λ k. k.saved.number ≡ k.ticket) kept
 
 -- what it would show, if of its flushes just the chosen ones stood
-abbrev pub face_by : Shelved → List (Kept SavedFlush) → (ℕ → Bool) → Face (Unit {0})
+abbrev pub face_by : Shelved → List (KeptChange SavedFlush) → (ℕ → Bool) → Face (Unit {0})
 face_by shelf kept chosen = record { tables = tt; cell = cell_by shelf chosen }
 
 -- what it shows: of each question, the cell of the last flush that stands and covers it, or of none
@@ -65,6 +65,6 @@ abbrev pub shown_face : Shelved → Face (Unit {0})
 shown_face shelf = record { tables = tt; cell = λ q. cell_at shelf q (shown_version shelf.flushes q) }
 
 -- The same flushes are kept, and in each face the cells of a name are empty.
-pub record IsForgottenIn (owner : Labels) (before : Shelved) (kept : List (Kept SavedFlush)) (after : Shelved) : Type 0 where
+pub record IsForgottenIn (owner : Labels) (before : Shelved) (kept : List (KeptChange SavedFlush)) (after : Shelved) : Type 0 where
   pub keeps_still : KeepsFlushes after kept
   pub faces : (chosen : ℕ → Bool) (q : Question) → (face_by after kept chosen).cell q ≡ (if name_eq owner q.owner then None else (face_by before kept chosen).cell q)

@@ -5,7 +5,7 @@ use Rattle.std.specs.List.{AllByRecursion}
 use Rattle.dns_text.specs.declared.record.Question.{Question}
 use Rattle.ranked.specs.declared.find.Find.{Find}
 use Rattle.ranked.specs.declared.cell.Admitted.{Admitted}
-use Rattle.change_law.specs.declared.kept.Kept.{Kept}
+use Rattle.change_law.specs.declared.kept.KeptChange.{KeptChange}
 use Rattle.change_law.specs.declared.kept.Standing.{Standing}
 use Rattle.change_law.specs.declared.kept.Standing.TheVariants.{Done, Undone, Cleared}
 use Rattle.change_law.specs.Choice.{is_done, clear, cleared, IsPresent}
@@ -59,20 +59,20 @@ done_cleared Done = refl
 done_cleared Undone = refl
 done_cleared Cleared = refl
 
-marks_cleared : (kept : List (Kept SavedFlush)) → map mark_of (cleared kept) ≡ map mark_of kept
+marks_cleared : (kept : List (KeptChange SavedFlush)) → map mark_of (cleared kept) ≡ map mark_of kept
 marks_cleared [] = refl
 marks_cleared (k ∷ kept) =
     ap (λ (b : Bool). (k.ticket, b) ∷ map mark_of (cleared kept)) (done_cleared k.standing)
     ∙ ap (λ l. mark_of k ∷ l) (marks_cleared kept)
 
-numbers_cleared : (kept : List (Kept SavedFlush)) → AllByRecursion (λ k. k.saved.number ≡ k.ticket) kept → AllByRecursion (λ k. k.saved.number ≡ k.ticket) (cleared kept)
+numbers_cleared : (kept : List (KeptChange SavedFlush)) → AllByRecursion (λ k. k.saved.number ≡ k.ticket) kept → AllByRecursion (λ k. k.saved.number ≡ k.ticket) (cleared kept)
 numbers_cleared [] h = tt
 numbers_cleared (k ∷ kept) h = (h.0, numbers_cleared kept h.1)
 
-keeps_cleared : (shelf : Shelved) (kept : List (Kept SavedFlush)) → KeepsFlushes shelf kept → KeepsFlushes shelf (cleared kept)
+keeps_cleared : (shelf : Shelved) (kept : List (KeptChange SavedFlush)) → KeepsFlushes shelf kept → KeepsFlushes shelf (cleared kept)
 keeps_cleared shelf kept h = record { agree = marks_cleared kept ∙ h.agree; numbers = numbers_cleared kept h.numbers }
 
-pub clears_by_word : (shelf : Shelved) (kept : List (Kept SavedFlush)) → KeepsFlushes shelf kept → IsRowAfter (λ saved. None) KeepsFlushes face_by same_face any shelf kept shelf (cleared kept)
+pub clears_by_word : (shelf : Shelved) (kept : List (KeptChange SavedFlush)) → KeepsFlushes shelf kept → IsRowAfter (λ saved. None) KeepsFlushes face_by same_face any shelf kept shelf (cleared kept)
 clears_by_word shelf kept h = record {
   keeps_left = keeps_cleared shelf kept h;
   faces = λ chosen p choice. record { tables = refl; cell = λ q. refl };
@@ -88,7 +88,7 @@ abbrev rest : List (ℕ × Bool) → List (ℕ × Bool)
 rest [] = []
 rest (m ∷ ms) = ms
 
-shown_fold : (q : Question) (chosen : ℕ → Bool) (v : ℕ) (kept : List (Kept SavedFlush)) (items : List KeptFlush) → map mark_of kept ≡ map mark items → IsPresent kept chosen →
+shown_fold : (q : Question) (chosen : ℕ → Bool) (v : ℕ) (kept : List (KeptChange SavedFlush)) (items : List KeptFlush) → map mark_of kept ≡ map mark items → IsPresent kept chosen →
     fold (later_chosen q chosen) v items ≡ fold (later_shown q) v items
 shown_fold q chosen v [] [] e p = refl
 shown_fold q chosen v [] (own ∷ items) e p = absurd cc
@@ -100,7 +100,7 @@ shown_fold q chosen v (k ∷ kept) (own ∷ items) e p =
     shown_fold q chosen (later_chosen q chosen v own) kept items (ap rest e) p.1
     ∙ ap (λ (b : Bool). fold (later_shown q) (if b && covers own.flush q then own.number else v) items) stands
 
-pub shows_present : (shelf : Shelved) (kept : List (Kept SavedFlush)) (chosen : ℕ → Bool) → KeepsFlushes shelf kept → IsPresent kept chosen → IsSame (face_by shelf kept chosen) (shown_face shelf)
+pub shows_present : (shelf : Shelved) (kept : List (KeptChange SavedFlush)) (chosen : ℕ → Bool) → KeepsFlushes shelf kept → IsPresent kept chosen → IsSame (face_by shelf kept chosen) (shown_face shelf)
 shows_present shelf kept chosen h p = record {
   tables = refl;
   cell = λ q. ap (λ v. cell_at shelf q v) (shown_fold q chosen 0 kept shelf.flushes h.agree p);
@@ -108,7 +108,7 @@ shows_present shelf kept chosen h p = record {
 
 -- ---- a flush more
 
-pub keeps_more : (before after : Shelved) (kept : List (Kept SavedFlush)) (own : KeptFlush) (saved : SavedFlush) → KeepsFlushes before kept →
+pub keeps_more : (before after : Shelved) (kept : List (KeptChange SavedFlush)) (own : KeptFlush) (saved : SavedFlush) → KeepsFlushes before kept →
     after.flushes ≡ before.flushes ++ own ∷ [] → own.shown ≡ true → saved.number ≡ own.number → KeepsFlushes after (with_change kept own.number saved)
 keeps_more before after kept own saved h items stands number = record {
   agree =
@@ -126,7 +126,7 @@ same_effect : (b : Bool) (empties : Question → Bool) (face : Face (Unit {0})) 
 same_effect true empties face cells h = record { tables = refl; cell = h }
 same_effect false empties face cells h = record { tables = refl; cell = h }
 
-pub flush_effect : (before after : Shelved) (kept : List (Kept SavedFlush)) (left : List (Kept SavedFlush)) (number : ℕ) (flush : Question → Bool) →
+pub flush_effect : (before after : Shelved) (kept : List (KeptChange SavedFlush)) (left : List (KeptChange SavedFlush)) (number : ℕ) (flush : Question → Bool) →
     ((chosen : ℕ → Bool) (q : Question) → cell_by after chosen q ≡ (if chosen number && flush q then None else cell_by before chosen q)) →
     (chosen : ℕ → Bool) → IsSame (face_by after left chosen) (if chosen number then effect (λ tables. tables) flush (face_by before kept chosen) else face_by before kept chosen)
 flush_effect before after kept left number flush faces chosen =
@@ -153,7 +153,7 @@ ascending_marks : (items : List KeptFlush) → IsAscending items → AreAscendin
 ascending_marks [] h = tt
 ascending_marks (own ∷ items) h = (all_marks own.number items h.0, ascending_marks items h.1)
 
-ascending_kept : (shelf : Shelved) (kept : List (Kept SavedFlush)) → KeepsFlushes shelf kept → IsAscending shelf.flushes → AreAscending (map mark_of kept)
+ascending_kept : (shelf : Shelved) (kept : List (KeptChange SavedFlush)) → KeepsFlushes shelf kept → IsAscending shelf.flushes → AreAscending (map mark_of kept)
 ascending_kept shelf kept h up = subst (λ (l : List (ℕ × Bool)). AreAscending l) (sym h.agree) (ascending_marks shelf.flushes up)
 
 same_number : (n : ℕ) → (n == n) ≡ true
@@ -169,11 +169,11 @@ unmarked number shown (m ∷ ms) h =
     ap (λ (b : Bool). (m.0, if b then shown else m.1) ∷ map (with_mark number shown) ms) differs
     ∙ ap (λ l. m ∷ l) (unmarked number shown ms h.1)
 
-mark_here : (n : ℕ) (earlier : List (Kept SavedFlush)) (k : Kept SavedFlush) (later : List (Kept SavedFlush)) → AllByRecursion (λ m. n < m.0) (map mark_of (earlier ++ k ∷ later)) → n < k.ticket
+mark_here : (n : ℕ) (earlier : List (KeptChange SavedFlush)) (k : KeptChange SavedFlush) (later : List (KeptChange SavedFlush)) → AllByRecursion (λ m. n < m.0) (map mark_of (earlier ++ k ∷ later)) → n < k.ticket
 mark_here n [] k later h = h.0
 mark_here n (e ∷ earlier) k later h = mark_here n earlier k later h.1
 
-turned : (from to : Standing) (number : ℕ) (saved : SavedFlush) (earlier later : List (Kept SavedFlush)) → AreAscending (map mark_of (earlier ++ kept_as from number saved ∷ later)) →
+turned : (from to : Standing) (number : ℕ) (saved : SavedFlush) (earlier later : List (KeptChange SavedFlush)) → AreAscending (map mark_of (earlier ++ kept_as from number saved ∷ later)) →
     map (with_mark number (is_done to)) (map mark_of (earlier ++ kept_as from number saved ∷ later)) ≡ map mark_of (earlier ++ kept_as to number saved ∷ later)
 turned from to number saved [] later up =
     ap (λ (b : Bool). (number, if b then is_done to else is_done from) ∷ map (with_mark number (is_done to)) (map mark_of later)) (same_number number)
@@ -185,7 +185,7 @@ turned from to number saved (e ∷ earlier) later up =
     ∙ ap (λ l. mark_of e ∷ l) (turned from to number saved earlier later up.1)
 
 -- One flush is done or undone: a flag of the shelf is set.
-pub row_turned : (from to : Standing) (before after : Shelved) (earlier : List (Kept SavedFlush)) (ticket : ℕ) (saved : SavedFlush) (later : List (Kept SavedFlush)) →
+pub row_turned : (from to : Standing) (before after : Shelved) (earlier : List (KeptChange SavedFlush)) (ticket : ℕ) (saved : SavedFlush) (later : List (KeptChange SavedFlush)) →
     IsAscending before.flushes → KeepsFlushes before (earlier ++ kept_as from ticket saved ∷ later) →
     after.flushes ≡ map (with_shown saved.number (is_done to)) before.flushes →
     ((chosen : ℕ → Bool) (q : Question) → cell_by after chosen q ≡ cell_by before chosen q) →
@@ -220,7 +220,7 @@ marks_without number (own ∷ items) =
     map_cond (map mark) (own.number == number) items (own ∷ without number items)
     ∙ ap (λ l. if own.number == number then map mark items else mark own ∷ l) (marks_without number items)
 
-without_here : (standing : Standing) (number : ℕ) (saved : SavedFlush) (earlier later : List (Kept SavedFlush)) → AreAscending (map mark_of (earlier ++ kept_as standing number saved ∷ later)) →
+without_here : (standing : Standing) (number : ℕ) (saved : SavedFlush) (earlier later : List (KeptChange SavedFlush)) → AreAscending (map mark_of (earlier ++ kept_as standing number saved ∷ later)) →
     without_mark number (map mark_of (earlier ++ kept_as standing number saved ∷ later)) ≡ map mark_of (earlier ++ later)
 without_here standing number saved [] later up =
     ap (λ (b : Bool). if b then map mark_of later else (number, is_done standing) ∷ without_mark number (map mark_of later)) (same_number number)
@@ -231,7 +231,7 @@ without_here standing number saved (e ∷ earlier) later up =
     ∙ ap (λ l. mark_of e ∷ l) (without_here standing number saved earlier later up.1)
 
 -- A flush is kept no more.
-pub row_less : (standing : Standing) (P : (ℕ → Bool) → Type 0) (before after : Shelved) (earlier : List (Kept SavedFlush)) (ticket : ℕ) (saved : SavedFlush) (later : List (Kept SavedFlush)) →
+pub row_less : (standing : Standing) (P : (ℕ → Bool) → Type 0) (before after : Shelved) (earlier : List (KeptChange SavedFlush)) (ticket : ℕ) (saved : SavedFlush) (later : List (KeptChange SavedFlush)) →
     IsAscending before.flushes → KeepsFlushes before (earlier ++ kept_as standing ticket saved ∷ later) →
     after.flushes ≡ without saved.number before.flushes →
     ((chosen : ℕ → Bool) → P chosen → (q : Question) → cell_by after chosen q ≡ cell_by before chosen q) →
@@ -268,11 +268,11 @@ first_of : (items : List KeptFlush) (ticket : ℕ) (shown : Bool) (number : ℕ)
     stands_first number items ≡ (ticket == ticket && shown)
 first_of items ticket shown number ms e same = first_other items ticket shown number ticket ms e same
 
-pub first_stands : (shelf : Shelved) (ticket : ℕ) (saved : SavedFlush) (later : List (Kept SavedFlush)) → KeepsFlushes shelf (kept_as Done ticket saved ∷ later) → stands_first saved.number shelf.flushes ≡ true
+pub first_stands : (shelf : Shelved) (ticket : ℕ) (saved : SavedFlush) (later : List (KeptChange SavedFlush)) → KeepsFlushes shelf (kept_as Done ticket saved ∷ later) → stands_first saved.number shelf.flushes ≡ true
 first_stands shelf ticket saved later h =
     first_of shelf.flushes ticket true saved.number (map mark_of later) h.agree h.numbers.0 ∙ ap (λ (b : Bool). b && true) (same_number ticket)
 
-pub first_cleared : (shelf : Shelved) (earlier : List (Kept SavedFlush)) (ticket : ℕ) (saved : SavedFlush) (later : List (Kept SavedFlush)) → IsAscending shelf.flushes →
+pub first_cleared : (shelf : Shelved) (earlier : List (KeptChange SavedFlush)) (ticket : ℕ) (saved : SavedFlush) (later : List (KeptChange SavedFlush)) → IsAscending shelf.flushes →
     KeepsFlushes shelf (earlier ++ kept_as Cleared ticket saved ∷ later) → stands_first saved.number shelf.flushes ≡ false
 first_cleared shelf [] ticket saved later up h =
     first_of shelf.flushes ticket false saved.number (map mark_of later) h.agree h.numbers.0 ∙ and_false (ticket == ticket)
@@ -284,7 +284,7 @@ first_cleared shelf (e ∷ earlier) ticket saved later up h =
     ∙ ap (λ (b : Bool). b && is_done e.standing) differs
 
 -- The oldest stands for ever.
-pub row_oldest : (before after : Shelved) (ticket : ℕ) (saved : SavedFlush) (later : List (Kept SavedFlush)) →
+pub row_oldest : (before after : Shelved) (ticket : ℕ) (saved : SavedFlush) (later : List (KeptChange SavedFlush)) →
     IsAscending before.flushes → KeepsFlushes before (kept_as Done ticket saved ∷ later) →
     after.flushes ≡ without saved.number before.flushes →
     ((chosen : ℕ → Bool) → chosen saved.number ≡ stands_first saved.number before.flushes → (q : Question) → cell_by after chosen q ≡ cell_by before chosen q) →
@@ -294,7 +294,7 @@ row_oldest before after ticket saved later up h items faces =
     (λ chosen p. faces chosen (ap chosen h.numbers.0 ∙ (p ∙ sym (first_stands before ticket saved later h))))
 
 -- A cleared one never stands again.
-pub row_cleared : (before after : Shelved) (earlier : List (Kept SavedFlush)) (ticket : ℕ) (saved : SavedFlush) (later : List (Kept SavedFlush)) →
+pub row_cleared : (before after : Shelved) (earlier : List (KeptChange SavedFlush)) (ticket : ℕ) (saved : SavedFlush) (later : List (KeptChange SavedFlush)) →
     IsAscending before.flushes → KeepsFlushes before (earlier ++ kept_as Cleared ticket saved ∷ later) →
     after.flushes ≡ without saved.number before.flushes →
     ((chosen : ℕ → Bool) → chosen saved.number ≡ stands_first saved.number before.flushes → (q : Question) → cell_by after chosen q ≡ cell_by before chosen q) →
@@ -305,7 +305,7 @@ row_cleared before after earlier ticket saved later up h items faces =
 
 -- ---- what acts on each face by itself
 
-pub keeps_same : (before after : Shelved) (kept : List (Kept SavedFlush)) → after.flushes ≡ before.flushes → KeepsFlushes before kept → KeepsFlushes after kept
+pub keeps_same : (before after : Shelved) (kept : List (KeptChange SavedFlush)) → after.flushes ≡ before.flushes → KeepsFlushes before kept → KeepsFlushes after kept
 keeps_same before after kept items h = record { agree = h.agree ∙ ap (map mark) (sym items); numbers = h.numbers }
 
 pub row_same : (before after : Shelved) → after.flushes ≡ before.flushes → ((chosen : ℕ → Bool) (q : Question) → cell_by after chosen q ≡ cell_by before chosen q) →
@@ -315,7 +315,7 @@ row_same before after items faces = λ kept h. record {
   faces = λ chosen p choice. record { tables = refl; cell = λ q. faces chosen q };
 }
 
-pub row_admitted : (before after : Shelved) (kept : List (Kept SavedFlush)) (find : Find) (moment : ℕ) → KeepsFlushes before kept → after.flushes ≡ before.flushes →
+pub row_admitted : (before after : Shelved) (kept : List (KeptChange SavedFlush)) (find : Find) (moment : ℕ) → KeepsFlushes before kept → after.flushes ≡ before.flushes →
     ((chosen : ℕ → Bool) (q : Question) → cell_by after chosen q ≡ (if touches find q then after_admission (cell_by before chosen q) (admission_of find find moment) else cell_by before chosen q)) →
     IsRowFrom (λ saved. None) KeepsFlushes face_by moment (face_with true find moment) before kept after
 row_admitted before after kept find moment h items faces = record {
@@ -327,7 +327,7 @@ same_alive : (t : ℕ) (cell : Option (Admitted Find)) → alive_at t cell ≡ s
 same_alive t None = refl
 same_alive t (Some held) = refl
 
-pub row_swept : (before after : Shelved) (kept : List (Kept SavedFlush)) (moment : ℕ) → KeepsFlushes before kept → after.flushes ≡ before.flushes →
+pub row_swept : (before after : Shelved) (kept : List (KeptChange SavedFlush)) (moment : ℕ) → KeepsFlushes before kept → after.flushes ≡ before.flushes →
     ((chosen : ℕ → Bool) (q : Question) → stored_alive moment (cell_by after chosen q) ≡ stored_alive moment (cell_by before chosen q)) →
     IsRowFrom (λ saved. None) KeepsFlushes face_by moment (λ face. face) before kept after
 row_swept before after kept moment h items faces = record {
@@ -339,7 +339,7 @@ row_swept before after kept moment h items faces = record {
 }
 
 -- A flush more.
-pub row_more : (before after : Shelved) (kept : List (Kept SavedFlush)) (own : KeptFlush) (saved : SavedFlush) → KeepsFlushes before kept →
+pub row_more : (before after : Shelved) (kept : List (KeptChange SavedFlush)) (own : KeptFlush) (saved : SavedFlush) → KeepsFlushes before kept →
     after.flushes ≡ before.flushes ++ own ∷ [] → own.shown ≡ true → saved.number ≡ own.number → ((chosen : ℕ → Bool) (q : Question) → cell_by after chosen q ≡ (if chosen own.number && covers own.flush q then None else cell_by before chosen q)) →
     IsRowAfter (λ saved. None) KeepsFlushes face_by (where_chosen own.number (effect (λ tables. tables) (covers own.flush))) any before kept after (with_change kept own.number saved)
 row_more before after kept own saved h items stands number faces = record {

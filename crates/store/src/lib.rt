@@ -8,5 +8,5 @@ mod store;
 // What a book asks of them.
 mod book;
 
-pub use store::{Made, SavedChange, Store, StoreChange, Way};
+pub use store::{Made, SavedChange, Store, StoreChange, WayBack};
 pub use world::{FlushChange, SavedFlush, ShelfWorld};

@@ -11,7 +11,7 @@ use table_changes::{SavedTable, TableChange, TableWorld};
 
 /// What a kept change saved for its way back.
 #[derive(Drop)]
-pub enum Way {
+pub enum WayBack {
     Table(SavedTable),
     Flush(SavedFlush),
 }
@@ -20,7 +20,7 @@ pub enum Way {
 #[derive(Drop)]
 pub struct SavedChange {
     pub command: Command,
-    pub way: Way,
+    pub way: WayBack,
 }
 
 /// The change of a command, of the tables or of the cache.
@@ -134,14 +134,14 @@ impl Change for StoreChange {
                 let saved = change.apply(&mut world.tables, ticket)?;
                 Ok(SavedChange {
                     command,
-                    way: Way::Table(saved),
+                    way: WayBack::Table(saved),
                 })
             }
             Made::Flush(change) => {
                 let saved = change.apply(&mut world.cells, ticket)?;
                 Ok(SavedChange {
                     command,
-                    way: Way::Flush(saved),
+                    way: WayBack::Flush(saved),
                 })
             }
         }
@@ -149,11 +149,11 @@ impl Change for StoreChange {
 
     fn back(world: &mut Store, saved: &mut SavedChange) -> Result<(), NoMemory> {
         match &mut saved.way {
-            Way::Table(saved) => {
+            WayBack::Table(saved) => {
                 TableChange::back(&mut world.tables, saved)?;
                 Ok(())
             }
-            Way::Flush(saved) => {
+            WayBack::Flush(saved) => {
                 FlushChange::back(&mut world.cells, saved)?;
                 Ok(())
             }
@@ -162,11 +162,11 @@ impl Change for StoreChange {
 
     fn again(world: &mut Store, saved: &mut SavedChange) -> Result<(), NoMemory> {
         match &mut saved.way {
-            Way::Table(saved) => {
+            WayBack::Table(saved) => {
                 TableChange::again(&mut world.tables, saved)?;
                 Ok(())
             }
-            Way::Flush(saved) => {
+            WayBack::Flush(saved) => {
                 FlushChange::again(&mut world.cells, saved)?;
                 Ok(())
             }
@@ -179,11 +179,11 @@ impl Change for StoreChange {
             way,
         } = saved;
         match way {
-            Way::Table(saved) => {
+            WayBack::Table(saved) => {
                 TableChange::settle(&mut world.tables, saved);
                 return;
             }
-            Way::Flush(saved) => {
+            WayBack::Flush(saved) => {
                 FlushChange::settle(&mut world.cells, saved);
                 return;
             }

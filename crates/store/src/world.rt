@@ -61,7 +61,7 @@ impl ShelfWorld {
     ghost use Rattle.change_law.specs.Face.{IsSame};
     ghost use Rattle.ranked.specs.Cell.{shown_at};
     ghost use Rattle.cell_store.specs.Owner.{held_now};
-    ghost use Rattle.change_law.specs.declared.kept.Kept.{Kept};
+    ghost use Rattle.change_law.specs.declared.kept.KeptChange.{KeptChange};
     ghost use Rattle.store.specs.declared.world.SavedFlush.{SavedFlush};
     ghost use Rattle.store.specs.World.{IsForgottenIn};
 
@@ -107,7 +107,7 @@ impl ShelfWorld {
 
     /// Forgets a name: nothing of it is held, whatever choice of the kept flushes stands. It takes no memory.
     pub fn forget(&mut self, owner: &Name)
-        ensures row { (kept : List (Kept SavedFlush)) → ⟦<ShelfWorld as World>⟧.keeps self.old kept → IsForgottenIn owner.now self.old kept self.new }
+        ensures row { (kept : List (KeptChange SavedFlush)) → ⟦<ShelfWorld as World>⟧.keeps self.old kept → IsForgottenIn owner.now self.old kept self.new }
         ensures newest { ⟦<ShelfWorld as World>⟧.newest self.new ≤ ⟦<ShelfWorld as World>⟧.newest self.old }
         ensures stored { ⟦<ShelfWorld as World>⟧.stored self.new ≤ ⟦<ShelfWorld as World>⟧.stored self.old }
     {

@@ -4,7 +4,7 @@ use Rattle.std.specs.Prelude.{slice_get, slice_set, Result, Ok, Err, OnErr}
 use Rattle.std.proofs.lemmas.Bool.{false≢true}
 use Rattle.std.specs.List.{AllByRecursion}
 use Rattle.dns_name.specs.ListLaws.{all-append, all_split, all_weaker}
-use Rattle.change_law.specs.declared.kept.Kept.{Kept}
+use Rattle.change_law.specs.declared.kept.KeptChange.{KeptChange}
 use Rattle.change_law.specs.declared.kept.Standing.{Standing}
 use Rattle.change_law.specs.declared.kept.Standing.TheVariants.{Done, Undone, Cleared}
 use Rattle.change_law.specs.Choice.{IsOneTable, IsUncovered, IsFounded}
@@ -89,53 +89,53 @@ Undone≢Cleared e = false≢true (ap is_cleared e)
 pub Done≢Cleared : Done ≢ Cleared
 Done≢Cleared e = false≢true (ap is_cleared e)
 
-pub kept_is : {S : Type 0} (k : Kept S) (s : Standing) → k.standing ≡ s → kept_as s k.ticket k.saved ≡ k
+pub kept_is : {S : Type 0} (k : KeptChange S) (s : Standing) → k.standing ≡ s → kept_as s k.ticket k.saved ≡ k
 kept_is k s e = λ i. record { ticket = k.ticket; standing = sym e i; saved = k.saved }
 
-pub uncovered : {S : Type 0} (table : S → Option ℕ) (saved : S) (later : List (Kept S)) → AllByRecursion (λ k. k.standing ≡ Undone) later → IsUncovered table saved later
+pub uncovered : {S : Type 0} (table : S → Option ℕ) (saved : S) (later : List (KeptChange S)) → AllByRecursion (λ k. k.standing ≡ Undone) later → IsUncovered table saved later
 uncovered table saved later h = all_weaker _ _ (λ k e same done. Done≢Undone (sym done ∙ e)) later h
 
-pub founded : {S : Type 0} (table : S → Option ℕ) (saved : S) (earlier : List (Kept S)) → AllByRecursion (λ k. k.standing ≡ Done) earlier → IsFounded table saved earlier
+pub founded : {S : Type 0} (table : S → Option ℕ) (saved : S) (earlier : List (KeptChange S)) → AllByRecursion (λ k. k.standing ≡ Done) earlier → IsFounded table saved earlier
 founded table saved earlier h = all_weaker _ _ (λ k e same undone. Undone≢Done (sym undone ∙ e)) earlier h
 
 -- ---- a row by equal lists
 
-pub row_of : {W S T : Type 0} (table : S → Option ℕ) (keeps : W → List (Kept S) → Type 0) (face : W → List (Kept S) → (ℕ → Bool) → Face T)
-    (made : (ℕ → Bool) → Face T → Face T) (P : (ℕ → Bool) → Type 0) (before : W) (kept other : List (Kept S)) (after : W) (left rest : List (Kept S)) →
+pub row_of : {W S T : Type 0} (table : S → Option ℕ) (keeps : W → List (KeptChange S) → Type 0) (face : W → List (KeptChange S) → (ℕ → Bool) → Face T)
+    (made : (ℕ → Bool) → Face T → Face T) (P : (ℕ → Bool) → Type 0) (before : W) (kept other : List (KeptChange S)) (after : W) (left rest : List (KeptChange S)) →
     kept ≡ other → left ≡ rest → IsRowAfter table keeps face made P before kept after left → IsRowAfter table keeps face made P before other after rest
 row_of table keeps face made P before kept other after left rest e f row =
-    subst (λ (x : List (Kept _)). IsRowAfter table keeps face made P before other after x) f
-    (subst (λ (x : List (Kept _)). IsRowAfter table keeps face made P before x after left) e row)
+    subst (λ (x : List (KeptChange _)). IsRowAfter table keeps face made P before other after x) f
+    (subst (λ (x : List (KeptChange _)). IsRowAfter table keeps face made P before x after left) e row)
 
 -- ---- an undo and a redo at one place
 
 -- the ring with this one at its place, of which so many are done
-abbrev pub with_at : {S : Type 0} → List (Kept S) → Kept S → List (Kept S) → ℕ → ℕ → ℕ → Changes S
+abbrev pub with_at : {S : Type 0} → List (KeptChange S) → KeptChange S → List (KeptChange S) → ℕ → ℕ → ℕ → Changes S
 with_at earlier x later tickets limit done = record { kept = earlier ++ x ∷ later; done = done; tickets = tickets; limit = limit }
 
-pub before_is : {S : Type 0} (kept : List (Kept S)) (done tickets limit : ℕ) (k : Kept S) (at : IsAt kept (done - 1) k) → 0 < done →
+pub before_is : {S : Type 0} (kept : List (KeptChange S)) (done tickets limit : ℕ) (k : KeptChange S) (at : IsAt kept (done - 1) k) → 0 < done →
     record { kept = kept; done = done; tickets = tickets; limit = limit } ≡ with_at at.earlier k at.later tickets limit (suc (length at.earlier))
 before_is kept done tickets limit k at some =
     let n : done ≡ suc (length at.earlier) = omega (arith, at.place, some) in
     λ i. record { kept = at.all i; done = n i; tickets = tickets; limit = limit }
 
-pub after_is : {S : Type 0} (kept : List (Kept S)) (n tickets limit : ℕ) (k k' : Kept S) (at : IsAt kept n k) →
+pub after_is : {S : Type 0} (kept : List (KeptChange S)) (n tickets limit : ℕ) (k k' : KeptChange S) (at : IsAt kept n k) →
     record { kept = slice_set kept n k'; done = n; tickets = tickets; limit = limit } ≡ with_at at.earlier k' at.later tickets limit (length at.earlier)
 after_is kept n tickets limit k k' at =
     λ i. record { kept = at.written k' i; done = sym at.place i; tickets = tickets; limit = limit }
 
-module _ {S : Type 0} (earlier : List (Kept S)) (k k' : Kept S) (later : List (Kept S)) (tickets limit : ℕ) where
+module _ {S : Type 0} (earlier : List (KeptChange S)) (k k' : KeptChange S) (later : List (KeptChange S)) (tickets limit : ℕ) where
   pub standing_last : AreChanges (with_at earlier k later tickets limit (suc (length earlier))) → k.standing ≡ Done
   standing_last are =
-      let first = subst (λ (l : List (Kept S)). AllByRecursion (λ x. x.standing ≡ Done) l) (take_past earlier k later) are.first in
+      let first = subst (λ (l : List (KeptChange S)). AllByRecursion (λ x. x.standing ≡ Done) l) (take_past earlier k later) are.first in
       (all_split _ earlier (k ∷ []) first).1.0
 
   pub others_behind : AreChanges (with_at earlier k later tickets limit (suc (length earlier))) → AllByRecursion (λ x. x.standing ≡ Undone) later
-  others_behind are = subst (λ (l : List (Kept S)). AllByRecursion (λ x. x.standing ≡ Undone) l) (drop_past earlier k later) are.others
+  others_behind are = subst (λ (l : List (KeptChange S)). AllByRecursion (λ x. x.standing ≡ Undone) l) (drop_past earlier k later) are.others
 
   pub undone_there : k'.ticket ≡ k.ticket → k'.standing ≡ Undone → AreChanges (with_at earlier k later tickets limit (suc (length earlier))) → AreChanges (with_at earlier k' later tickets limit (length earlier))
   undone_there t s are =
-      let first = subst (λ (l : List (Kept S)). AllByRecursion (λ x. x.standing ≡ Done) l) (take_past earlier k later) are.first in
+      let first = subst (λ (l : List (KeptChange S)). AllByRecursion (λ x. x.standing ≡ Done) l) (take_past earlier k later) are.first in
       let given = all_split _ earlier (k ∷ later) are.given in
       record {
         within = omega (arith, length-append earlier (k' ∷ later));
@@ -148,9 +148,9 @@ module _ {S : Type 0} (earlier : List (Kept S)) (k k' : Kept S) (later : List (K
 
   pub undo_there : k'.ticket ≡ k.ticket → IsUndo (with_at earlier k later tickets limit (suc (length earlier))) (Some k.ticket) (with_at earlier k' later tickets limit (length earlier))
   undo_there t =
-      let spread = map_append (λ (x : Kept S). x.ticket) earlier (k ∷ later) in
-      let spread' = map_append (λ (x : Kept S). x.ticket) earlier (k' ∷ later) in
-      let long : length (tickets_of earlier) ≡ length earlier = map_length (λ (x : Kept S). x.ticket) earlier in
+      let spread = map_append (λ (x : KeptChange S). x.ticket) earlier (k ∷ later) in
+      let spread' = map_append (λ (x : KeptChange S). x.ticket) earlier (k' ∷ later) in
+      let long : length (tickets_of earlier) ≡ length earlier = map_length (λ (x : KeptChange S). x.ticket) earlier in
       let done_before : take (suc (length earlier)) (tickets_of (earlier ++ k ∷ later)) ≡ tickets_of earlier ++ k.ticket ∷ []
       = rw (spread, ← long) (take_past (tickets_of earlier) k.ticket (tickets_of later)) in
       let done_after : take (length earlier) (tickets_of (earlier ++ k' ∷ later)) ≡ tickets_of earlier
@@ -163,7 +163,7 @@ module _ {S : Type 0} (earlier : List (Kept S)) (k k' : Kept S) (later : List (K
 
 -- ---- the same by what the code has
 
-module _ {S : Type 0} (kept : List (Kept S)) (done tickets limit : ℕ) (k : Kept S) (some : 0 < done) (at : IsAt kept (done - 1) k)
+module _ {S : Type 0} (kept : List (KeptChange S)) (done tickets limit : ℕ) (k : KeptChange S) (some : 0 < done) (at : IsAt kept (done - 1) k)
     (are : AreChanges (record { kept = kept; done = done; tickets = tickets; limit = limit })) where
   are_before : AreChanges (with_at at.earlier k at.later tickets limit (suc (length at.earlier)))
   are_before = subst AreChanges (before_is kept done tickets limit k at some) are
@@ -172,14 +172,14 @@ module _ {S : Type 0} (kept : List (Kept S)) (done tickets limit : ℕ) (k : Kep
   unfolding are_before
   was_done e = Done≢Cleared (sym (standing_last at.earlier k k at.later tickets limit are_before) ∙ e)
 
-  whole : (standing : Standing) (saved : S) (k' : Kept S) → kept_as standing k.ticket saved ≡ k' → at.earlier ++ kept_as standing k.ticket saved ∷ at.later ≡ slice_set kept (done - 1) k'
-  whole standing saved k' e = ap (λ (x : Kept S). at.earlier ++ x ∷ at.later) e ∙ sym (at.written k')
+  whole : (standing : Standing) (saved : S) (k' : KeptChange S) → kept_as standing k.ticket saved ≡ k' → at.earlier ++ kept_as standing k.ticket saved ∷ at.later ≡ slice_set kept (done - 1) k'
+  whole standing saved k' e = ap (λ (x : KeptChange S). at.earlier ++ x ∷ at.later) e ∙ sym (at.written k')
 
   whole_before : at.earlier ++ kept_as Done k.ticket k.saved ∷ at.later ≡ kept
   unfolding are_before
-  whole_before = ap (λ (x : Kept S). at.earlier ++ x ∷ at.later) (kept_is k Done (standing_last at.earlier k k at.later tickets limit are_before)) ∙ sym at.all
+  whole_before = ap (λ (x : KeptChange S). at.earlier ++ x ∷ at.later) (kept_is k Done (standing_last at.earlier k k at.later tickets limit are_before)) ∙ sym at.all
 
-  pub undo_last : {W : Type 0} (table : S → Option ℕ) (keeps : W → List (Kept S) → Type 0) (world : W) → keeps world kept →
+  pub undo_last : {W : Type 0} (table : S → Option ℕ) (keeps : W → List (KeptChange S) → Type 0) (world : W) → keeps world kept →
       IsLast table keeps world at.earlier k.ticket k.saved at.later
   unfolding are_before whole_before
   undo_last table keeps world h = record {
@@ -187,7 +187,7 @@ module _ {S : Type 0} (kept : List (Kept S)) (done tickets limit : ℕ) (k : Kep
     uncovered = uncovered table k.saved at.later (others_behind at.earlier k k at.later tickets limit are_before);
   }
 
-  pub undo_row : {W T : Type 0} (table : S → Option ℕ) (keeps : W → List (Kept S) → Type 0) (face : W → List (Kept S) → (ℕ → Bool) → Face T)
+  pub undo_row : {W T : Type 0} (table : S → Option ℕ) (keeps : W → List (KeptChange S) → Type 0) (face : W → List (KeptChange S) → (ℕ → Bool) → Face T)
       (made : (ℕ → Bool) → Face T → Face T) (P : (ℕ → Bool) → Type 0) (before after : W) (saved : S) →
       IsRowAfter table keeps face made P before (at.earlier ++ kept_as Done k.ticket k.saved ∷ at.later) after (at.earlier ++ kept_as Undone k.ticket saved ∷ at.later) →
       IsRowAfter table keeps face made P before kept after (slice_set kept (done - 1) (kept_as Undone k.ticket saved))
@@ -216,28 +216,28 @@ module _ {S : Type 0} (kept : List (Kept S)) (done tickets limit : ℕ) (k : Kep
       ◌≡◌ {A = Changes S} (record { kept = slice_set kept (done - 1) (record { ticket = k.ticket; standing = k.standing; saved = saved }); done = done; tickets = tickets; limit = limit })
       (record { kept = kept; done = done; tickets = tickets; limit = limit })
   same_there saved e =
-      let written : (x : Kept S) → x ≡ k → slice_set kept (done - 1) x ≡ kept = λ x f. at.written x ∙ ap (λ (y : Kept S). at.earlier ++ y ∷ at.later) f ∙ sym at.all in
+      let written : (x : KeptChange S) → x ≡ k → slice_set kept (done - 1) x ≡ kept = λ x f. at.written x ∙ ap (λ (y : KeptChange S). at.earlier ++ y ∷ at.later) f ∙ sym at.all in
       let same = written (record { ticket = k.ticket; standing = k.standing; saved = saved }) (λ i. record { ticket = k.ticket; standing = k.standing; saved = e i }) in
       λ i. record { kept = same i; done = done; tickets = tickets; limit = limit }
 
 -- ---- a redo
 
-pub before_redo_is : {S : Type 0} (kept : List (Kept S)) (done tickets limit : ℕ) (k : Kept S) (at : IsAt kept done k) →
+pub before_redo_is : {S : Type 0} (kept : List (KeptChange S)) (done tickets limit : ℕ) (k : KeptChange S) (at : IsAt kept done k) →
     record { kept = kept; done = done; tickets = tickets; limit = limit } ≡ with_at at.earlier k at.later tickets limit (length at.earlier)
 before_redo_is kept done tickets limit k at = λ i. record { kept = at.all i; done = sym at.place i; tickets = tickets; limit = limit }
 
-pub after_redo_is : {S : Type 0} (kept : List (Kept S)) (done tickets limit : ℕ) (k k' : Kept S) (at : IsAt kept done k) →
+pub after_redo_is : {S : Type 0} (kept : List (KeptChange S)) (done tickets limit : ℕ) (k k' : KeptChange S) (at : IsAt kept done k) →
     record { kept = slice_set kept done k'; done = done + 1; tickets = tickets; limit = limit } ≡ with_at at.earlier k' at.later tickets limit (suc (length at.earlier))
 after_redo_is kept done tickets limit k k' at =
     let n : done + 1 ≡ suc (length at.earlier) = omega (arith, at.place) in
     λ i. record { kept = at.written k' i; done = n i; tickets = tickets; limit = limit }
 
-module _ {S : Type 0} (earlier : List (Kept S)) (k k' : Kept S) (later : List (Kept S)) (tickets limit : ℕ) where
+module _ {S : Type 0} (earlier : List (KeptChange S)) (k k' : KeptChange S) (later : List (KeptChange S)) (tickets limit : ℕ) where
   pub earlier_done : AreChanges (with_at earlier k later tickets limit (length earlier)) → AllByRecursion (λ x. x.standing ≡ Done) earlier
-  earlier_done are = subst (λ (l : List (Kept S)). AllByRecursion (λ x. x.standing ≡ Done) l) (take_there earlier (k ∷ later)) are.first
+  earlier_done are = subst (λ (l : List (KeptChange S)). AllByRecursion (λ x. x.standing ≡ Done) l) (take_there earlier (k ∷ later)) are.first
 
   pub undone_from : AreChanges (with_at earlier k later tickets limit (length earlier)) → AllByRecursion (λ x. x.standing ≡ Undone) (k ∷ later)
-  undone_from are = subst (λ (l : List (Kept S)). AllByRecursion (λ x. x.standing ≡ Undone) l) (drop_there earlier (k ∷ later)) are.others
+  undone_from are = subst (λ (l : List (KeptChange S)). AllByRecursion (λ x. x.standing ≡ Undone) l) (drop_there earlier (k ∷ later)) are.others
 
   pub redone_there : k'.ticket ≡ k.ticket → k'.standing ≡ Done → AreChanges (with_at earlier k later tickets limit (length earlier)) → AreChanges (with_at earlier k' later tickets limit (suc (length earlier)))
   redone_there t s are =
@@ -253,9 +253,9 @@ module _ {S : Type 0} (earlier : List (Kept S)) (k k' : Kept S) (later : List (K
 
   pub redo_there : k'.ticket ≡ k.ticket → IsRedo (with_at earlier k later tickets limit (length earlier)) (Some k.ticket) (with_at earlier k' later tickets limit (suc (length earlier)))
   redo_there t =
-      let spread = map_append (λ (x : Kept S). x.ticket) earlier (k ∷ later) in
-      let spread' = map_append (λ (x : Kept S). x.ticket) earlier (k' ∷ later) in
-      let long : length (tickets_of earlier) ≡ length earlier = map_length (λ (x : Kept S). x.ticket) earlier in
+      let spread = map_append (λ (x : KeptChange S). x.ticket) earlier (k ∷ later) in
+      let spread' = map_append (λ (x : KeptChange S). x.ticket) earlier (k' ∷ later) in
+      let long : length (tickets_of earlier) ≡ length earlier = map_length (λ (x : KeptChange S). x.ticket) earlier in
       let done_after : take (suc (length earlier)) (tickets_of (earlier ++ k' ∷ later)) ≡ tickets_of earlier ++ k'.ticket ∷ []
       = rw (spread', ← long) (take_past (tickets_of earlier) k'.ticket (tickets_of later)) in
       let done_before : take (length earlier) (tickets_of (earlier ++ k ∷ later)) ≡ tickets_of earlier
@@ -266,7 +266,7 @@ module _ {S : Type 0} (earlier : List (Kept S)) (k k' : Kept S) (later : List (K
       = rw (spread, ← long) (drop_there (tickets_of earlier) (tickets_of (k ∷ later))) in
       (rw (done_after, done_before, t), rw (undone_before, undone_after), refl, refl)
 
-module _ {S : Type 0} (kept : List (Kept S)) (done tickets limit : ℕ) (k : Kept S) (at : IsAt kept done k)
+module _ {S : Type 0} (kept : List (KeptChange S)) (done tickets limit : ℕ) (k : KeptChange S) (at : IsAt kept done k)
     (are : AreChanges (record { kept = kept; done = done; tickets = tickets; limit = limit })) where
   are_before_redo : AreChanges (with_at at.earlier k at.later tickets limit (length at.earlier))
   are_before_redo = subst AreChanges (before_redo_is kept done tickets limit k at) are
@@ -277,9 +277,9 @@ module _ {S : Type 0} (kept : List (Kept S)) (done tickets limit : ℕ) (k : Kep
 
   redo_before : at.earlier ++ kept_as Undone k.ticket k.saved ∷ at.later ≡ kept
   unfolding are_before_redo
-  redo_before = ap (λ (x : Kept S). at.earlier ++ x ∷ at.later) (kept_is k Undone (undone_from at.earlier k k at.later tickets limit are_before_redo).0) ∙ sym at.all
+  redo_before = ap (λ (x : KeptChange S). at.earlier ++ x ∷ at.later) (kept_is k Undone (undone_from at.earlier k k at.later tickets limit are_before_redo).0) ∙ sym at.all
 
-  pub redo_first : {W : Type 0} (table : S → Option ℕ) (keeps : W → List (Kept S) → Type 0) (world : W) → keeps world kept →
+  pub redo_first : {W : Type 0} (table : S → Option ℕ) (keeps : W → List (KeptChange S) → Type 0) (world : W) → keeps world kept →
       IsFirst table keeps world at.earlier k.ticket k.saved at.later
   unfolding are_before_redo redo_before
   redo_first table keeps world h = record {
@@ -287,7 +287,7 @@ module _ {S : Type 0} (kept : List (Kept S)) (done tickets limit : ℕ) (k : Kep
     founded = founded table k.saved at.earlier (earlier_done at.earlier k k at.later tickets limit are_before_redo);
   }
 
-  pub redo_row : {W T : Type 0} (table : S → Option ℕ) (keeps : W → List (Kept S) → Type 0) (face : W → List (Kept S) → (ℕ → Bool) → Face T)
+  pub redo_row : {W T : Type 0} (table : S → Option ℕ) (keeps : W → List (KeptChange S) → Type 0) (face : W → List (KeptChange S) → (ℕ → Bool) → Face T)
       (made : (ℕ → Bool) → Face T → Face T) (P : (ℕ → Bool) → Type 0) (before after : W) (saved : S) →
       IsRowAfter table keeps face made P before (at.earlier ++ kept_as Undone k.ticket k.saved ∷ at.later) after (at.earlier ++ kept_as Done k.ticket saved ∷ at.later) →
       IsRowAfter table keeps face made P before kept after (slice_set kept done (kept_as Done k.ticket saved))
@@ -315,7 +315,7 @@ module _ {S : Type 0} (kept : List (Kept S)) (done tickets limit : ℕ) (k : Kep
       ◌≡◌ {A = Changes S} (record { kept = slice_set kept done (record { ticket = k.ticket; standing = k.standing; saved = saved }); done = done; tickets = tickets; limit = limit })
       (record { kept = kept; done = done; tickets = tickets; limit = limit })
   same_redo saved e =
-      let written : (x : Kept S) → x ≡ k → slice_set kept done x ≡ kept = λ x f. at.written x ∙ ap (λ (y : Kept S). at.earlier ++ y ∷ at.later) f ∙ sym at.all in
+      let written : (x : KeptChange S) → x ≡ k → slice_set kept done x ≡ kept = λ x f. at.written x ∙ ap (λ (y : KeptChange S). at.earlier ++ y ∷ at.later) f ∙ sym at.all in
       let same = written (record { ticket = k.ticket; standing = k.standing; saved = saved }) (λ i. record { ticket = k.ticket; standing = k.standing; saved = e i }) in
       λ i. record { kept = same i; done = done; tickets = tickets; limit = limit }
 

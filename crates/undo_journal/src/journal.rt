@@ -1,14 +1,14 @@
-//! A bounded ring of changes, for undo and redo.
+//! The journal: a bounded ring of changes, for undo and redo.
 
 ghost use Rattle.std.specs.Prelude.{◌≡◌, ◌≤◌, ◌<◌, ◌^◌, ◌+◌, ◌-◌, ℕ, Bool, false, List, [], ◌∷◌, ◌++◌, length, take, drop, slice_get, IfOk, IfErr, IfSome, IsOk, OnErr, OnOk, None};
 ghost use Rattle.std.specs.Option.{option_map};
-ghost use Rattle.change_law.specs.declared.kept.Kept.{Kept};
-ghost use Rattle.change_law.specs.declared.kept.Standing.TheVariants.{Done, Cleared};
+ghost use Rattle.change_law.specs.declared.kept.KeptChange.{KeptChange};
+ghost use Rattle.change_law.specs.declared.kept.Standing.TheVariants.{Done};
 ghost use Rattle.change_law.specs.Choice.{IsChoice, IsPresent, cleared};
 ghost use Rattle.change_law.specs.Effect.{effect, IsFaultFor};
 ghost use Rattle.change_law.specs.Row.{IsRowAfter, any, same_face, where_chosen, kept_as, IsNoMore, IsRefused};
 
-use change_law::{Change, ChangeFault, Kept, Standing, World};
+use change_law::{Change, ChangeFault, KeptChange, Standing, World};
 use circular_buffer::HeapCircularBuffer;
 use dns_name::NoMemory;
 use std::alloc::Global;
@@ -16,12 +16,12 @@ use std::marker::Model;
 
 type Saved<C> = <<C as Change>::World as World>::Saved;
 
-/// The newest changes of a world, the oldest first. Those that are in effect come before those that are undone.
+/// The newest changes of a world, the oldest first. Changes in effect come before undone ones.
 ///
-/// An undo takes the last that is in effect, a redo the one behind it. Once a change is accepted, none of this takes memory of the ring.
+/// An undo takes the last change in effect, a redo the one behind it. The ring takes all its memory when it is made.
 #[derive(Drop)]
 pub struct Journal<C: Change> {
-    ring: HeapCircularBuffer<Kept<Saved<C>>>,
+    ring: HeapCircularBuffer<KeptChange<Saved<C>>>,
     done: usize,
     tickets: u64,
 }
@@ -37,9 +37,9 @@ impl<C: Change> Model for Journal<C> {
 }
 
 impl<C: Change> Journal<C> {
-    ghost use Rattle.undo_journal.specs.Journal.{IsUndo, IsRedo, IsChange, IsClearedOf, IsForgotten, AreChanges, IsToldAfter, AreChoicesBefore, settled_by, told_of};
+    ghost use Rattle.undo_journal.specs.Journal.{IsUndo, IsRedo, IsChange, IsForgotten, AreChanges, ClearsLast, IsToldAfter, AreChoicesBefore, settled_by, told_of};
 
-    /// A journal without changes, which keeps so many at most. It takes all its memory here.
+    /// An empty journal, which keeps at most `limit` changes. It takes all its memory here.
     pub fn new(alloc: Global, limit: usize) -> Result<Journal<C>, NoMemory>
         requires { 1 ≤ limit }
         ensures { IfOk result (λ j. j ≡ record { kept = []; done = 0; tickets = 0; limit = limit }) }
@@ -51,7 +51,7 @@ impl<C: Change> Journal<C> {
         })
     }
 
-    /// Undoes the newest change that is in effect. It answers its ticket, or nothing if there is none.
+    /// Undoes the newest change in effect, and returns its ticket. None if there is no such change. On an error nothing changes.
     pub fn undo(&mut self, world: &mut C::World) -> Result<Option<u64>, NoMemory>
         requires { C.World.keeps world.old self.old.kept }
         ensures ticket { IfOk result (λ ticket. IsUndo self.old ticket self.new) }
@@ -80,7 +80,7 @@ impl<C: Change> Journal<C> {
         }
     }
 
-    /// Redoes the change that was undone last. It answers its ticket, or nothing if there is none.
+    /// Redoes the change that was undone last, and returns its ticket. None if there is no such change. On an error nothing changes.
     pub fn redo(&mut self, world: &mut C::World) -> Result<Option<u64>, NoMemory>
         requires { C.World.keeps world.old self.old.kept }
         ensures ticket { IfOk result (λ ticket. IsRedo self.old ticket self.new) }
@@ -108,7 +108,8 @@ impl<C: Change> Journal<C> {
         }
     }
 
-    /// Makes a change. If the world accepts it, it takes the next ticket, and what was undone can't be redone any more.
+    /// Makes a change. If the world accepts it, it takes the next ticket, and the undone changes cannot be redone any more.
+    /// On an error nothing changes.
     pub fn apply(&mut self, world: &mut C::World, change: C) -> Result<u64, ChangeFault>
         requires keeps { C.World.keeps world.old self.old.kept }
         requires tickets { (C.World.newest world.old ≤ self.old.tickets) × (self.old.tickets < 2 ^ 62) }
@@ -116,7 +117,7 @@ impl<C: Change> Journal<C> {
         ensures ticket { IfOk result (λ ticket. IsChange self.old ticket self.new
             × IsToldAfter C.World.told self.old ticket (C.told change) self.new) }
 
-        // The choices that agree with what was settled have the face that they had, with the effect of the change where it is chosen.
+        // A choice that agrees with the settled changes has the face that it had, with the effect of the change if that is chosen.
         ensures row { IfOk result (λ ticket. IsRowAfter C.World.table C.World.keeps C.World.face
             (where_chosen ticket (effect (C.after change) (C.empties change))) (IsPresent (settled_by self.old))
             world.old self.old.kept world.new self.new.kept
@@ -135,10 +136,10 @@ impl<C: Change> Journal<C> {
         Ok(ticket)
     }
 
-    // Settles what is undone.
+    // Settles the undone changes.
     fn clear(&mut self, world: &mut C::World)
         ensures kept { self.new ≡ record self.old { kept = take self.old.done self.old.kept } }
-        ensures row { (tail : List (Kept C.World.Saved)) → C.World.keeps world.old (cleared self.old.kept ++ tail) →
+        ensures row { (tail : List (KeptChange C.World.Saved)) → C.World.keeps world.old (cleared self.old.kept ++ tail) →
             IsRowAfter C.World.table C.World.keeps C.World.face same_face (IsPresent (drop self.old.done self.old.kept))
             world.old (cleared self.old.kept ++ tail) world.new (self.new.kept ++ tail) }
         ensures counts { IsNoMore C.World.newest C.World.stored C.World.limit world.old world.new }
@@ -149,7 +150,7 @@ impl<C: Change> Journal<C> {
         }
     }
 
-    /// How many of the kept changes are undone.
+    /// The number of undone changes.
     pub fn undone(&self) -> usize
         ensures count { self.now.done + result ≡ length self.now.kept }
         ensures sound { AreChanges self.now }
@@ -157,7 +158,7 @@ impl<C: Change> Journal<C> {
         self.ring.len() - self.done
     }
 
-    /// How many changes are kept.
+    /// The number of kept changes.
     pub fn len(&self) -> usize
         ensures { result ≡ length self.now.kept }
     {
@@ -165,19 +166,16 @@ impl<C: Change> Journal<C> {
     }
 
     /// The kept change at a place, counted from the oldest.
-    pub fn kept(&self, place: usize) -> Option<&Kept<Saved<C>>>
+    pub fn kept(&self, place: usize) -> Option<&KeptChange<Saved<C>>>
         ensures { option_map (λ k. k.now) result ≡ slice_get self.now.kept place }
     {
         self.ring.get(place)
     }
 
-    // Settles the last that is undone.
+    // Settles the last undone change.
     fn clear_last(&mut self, world: &mut C::World)
         requires { self.old.done < length self.old.kept }
-        ensures cleared { (last : Kept C.World.Saved) × IsClearedOf self.old last self.new × ((tail : List (Kept C.World.Saved)) →
-            C.World.keeps world.old (cleared self.new.kept ++ kept_as Cleared last.ticket last.saved ∷ tail) →
-            IsRowAfter C.World.table C.World.keeps C.World.face same_face (λ chosen. chosen last.ticket ≡ false)
-            world.old (cleared self.new.kept ++ kept_as Cleared last.ticket last.saved ∷ tail) world.new (cleared self.new.kept ++ tail)) }
+        ensures cleared { ClearsLast C.World.table C.World.keeps C.World.face world.old self.old world.new self.new }
         ensures counts { IsNoMore C.World.newest C.World.stored C.World.limit world.old world.new }
     {
         match self.ring.pop_back() {
@@ -189,11 +187,11 @@ impl<C: Change> Journal<C> {
         }
     }
 
-    // Settles the oldest if the ring is full.
+    // Settles the oldest change, if the ring is full.
     fn forget(&mut self, world: &mut C::World)
         requires { self.old.done ≡ length self.old.kept }
         ensures kept { IsForgotten self.old self.new }
-        ensures row { (tail : List (Kept C.World.Saved)) → C.World.keeps world.old (self.old.kept ++ tail) →
+        ensures row { (tail : List (KeptChange C.World.Saved)) → C.World.keeps world.old (self.old.kept ++ tail) →
             IsRowAfter C.World.table C.World.keeps C.World.face same_face
             (IsPresent (take (length self.old.kept + 1 - self.old.limit) self.old.kept))
             world.old (self.old.kept ++ tail) world.new (self.new.kept ++ tail) }
@@ -207,7 +205,7 @@ impl<C: Change> Journal<C> {
         }
     }
 
-    // Keeps one more.
+    // Keeps one more change.
     fn keep(&mut self, ticket: u64, saved: Saved<C>)
         requires room { length self.old.kept < self.old.limit }
         requires done { self.old.done ≡ length self.old.kept }
@@ -219,7 +217,7 @@ impl<C: Change> Journal<C> {
           limit = self.old.limit;
         } }
     {
-        self.ring.push_back(Kept {
+        self.ring.push_back(KeptChange {
             ticket,
             standing: Standing::Done,
             saved,

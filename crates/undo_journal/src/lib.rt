@@ -1,7 +1,7 @@
-//! The changes of a world that can be undone and redone, whatever they change.
+//! The journal: the changes of a world that can be undone and redone, whatever they change.
 #![tactic(auto)]
 
-// A bounded ring of changes.
+// The journal, a bounded ring of changes.
 mod journal;
 
 pub use journal::Journal;

@@ -2,7 +2,7 @@
 use Rattle.std.proofs.Common.{◌≡◌, ℕ, ◌+◌, ◌<◌, ◌≤◌, Bool, true, false, cond, Option, Some, None, List, [], ◌∷◌, ◌++◌, length, max, refl, sym, ap, subst, ◌∙◌, arith, length-append, inl, inr}
 use Rattle.std.specs.Prelude.{IsTrue, count_by, Ok, Err, reverse}
 use Rattle.std.proofs.lemmas.List.Sums.{fold-append, sum_by-append}
-use Rattle.change_law.specs.declared.kept.Kept.{Kept}
+use Rattle.change_law.specs.declared.kept.KeptChange.{KeptChange}
 use Rattle.change_law.specs.Choice.{IsChoice}
 use Rattle.change_law.specs.Face.{Face, IsSame, IsSameAt}
 use Rattle.undo_journal.specs.Journal.{Changes}
@@ -31,7 +31,7 @@ past_more bound h event = fold-append (followed_by bound) nothing h (event ∷ [
 admissions_more : (h : List Event) (event : Event) → count_by is_admission (h ++ event ∷ []) ≡ count_by is_admission h + cond (is_admission event) 1 0
 admissions_more h event = sum_by-append (λ (e : Event). cond (is_admission e) 1 0) h (event ∷ []) ∙ ap (λ n. count_by is_admission h + n) (omega arith)
 
-module _ {W S : Type 0} (has_cells : Bool) (table : S → Option ℕ) (told : S → Command) (keeps : W → List (Kept S) → Type 0) (face : W → List (Kept S) → (ℕ → Bool) → Face Tables) (stored limit : W → ℕ) where
+module _ {W S : Type 0} (has_cells : Bool) (table : S → Option ℕ) (told : S → Command) (keeps : W → List (KeptChange S) → Type 0) (face : W → List (KeptChange S) → (ℕ → Bool) → Face Tables) (stored limit : W → ℕ) where
   abbrev Tied : W → Changes S → ℕ → Past → Type 0
   Tied world changes bound past = IsTied has_cells table told keeps face world changes bound past
 

@@ -9,7 +9,7 @@ use Rattle.std.proofs.lemmas.Bool.Decides.{nat_tests}
 use Rattle.std.proofs.lemmas.List.{reverse-append, take-append-drop, map-append}
 use Rattle.std.proofs.lemmas.List.Folds.{list_any-append}
 use Rattle.dns_name.specs.ListLaws.{all_weaker}
-use Rattle.change_law.specs.declared.kept.Kept.{Kept}
+use Rattle.change_law.specs.declared.kept.KeptChange.{KeptChange}
 use Rattle.change_law.specs.declared.kept.Standing.TheVariants.{Done, Undone}
 use Rattle.change_law.specs.Choice.{is_done}
 use Rattle.undo_journal.specs.Journal.{Changes, AreChanges, tickets_of, done_of, undone_of, told_of}
@@ -50,11 +50,11 @@ of_given marks (e ∷ log) = one_entry marks e.event e.ticket _ log (of_given ma
 
 -- ---- how a kept change is held
 
-abbrev look : {S : Type 0} → List (Kept S) → ℕ → Option Bool
+abbrev look : {S : Type 0} → List (KeptChange S) → ℕ → Option Bool
 look [] t = None
 look (k ∷ ks) t = if k.ticket == t then Some (is_done k.standing) else look ks t
 
-look_undone : {S : Type 0} (ys : List (Kept S)) (t : ℕ) → AllByRecursion (λ k. k.standing ≡ Undone) ys → look ys t ≡ (if is_among (tickets_of ys) t then Some false else None)
+look_undone : {S : Type 0} (ys : List (KeptChange S)) (t : ℕ) → AllByRecursion (λ k. k.standing ≡ Undone) ys → look ys t ≡ (if is_among (tickets_of ys) t then Some false else None)
 look_undone [] t h = refl
 look_undone (y ∷ ys) t h =
     elim (cases_Bool (y.ticket == t)) [
@@ -62,7 +62,7 @@ look_undone (y ∷ ys) t h =
       | inr there ↦ rw there (look_undone ys t h.1)
     ]
 
-look_all : {S : Type 0} (xs ys : List (Kept S)) (t : ℕ) → AllByRecursion (λ k. k.standing ≡ Done) xs → AllByRecursion (λ k. k.standing ≡ Undone) ys →
+look_all : {S : Type 0} (xs ys : List (KeptChange S)) (t : ℕ) → AllByRecursion (λ k. k.standing ≡ Done) xs → AllByRecursion (λ k. k.standing ≡ Undone) ys →
     look (xs ++ ys) t ≡ (if is_among (tickets_of xs) t then Some true else if is_among (tickets_of ys) t then Some false else None)
 look_all [] ys t d u = look_undone ys t u
 look_all (x ∷ xs) ys t d u =
@@ -85,17 +85,17 @@ among_turned (x ∷ xs) t =
 held_is_look : {S : Type 0} (changes : Changes S) (marks : Marks) (t : ℕ) → AreChanges changes → done_of changes ≡ marks.done → undone_of changes ≡ reverse marks.undone →
     held_as marks t ≡ look changes.kept t
 held_is_look {S} changes marks t are done undone =
-    let ticket : Kept S → ℕ = λ k. k.ticket in
+    let ticket : KeptChange S → ℕ = λ k. k.ticket in
     let front : tickets_of (take changes.done changes.kept) ≡ marks.done = take_map ticket changes.done changes.kept ∙ done in
     let behind : tickets_of (drop changes.done changes.kept) ≡ reverse marks.undone = drop_map ticket changes.done changes.kept ∙ undone in
     let all = look_all (take changes.done changes.kept) (drop changes.done changes.kept) t are.first are.others in
-    sym (ap (λ (l : List (Kept S)). look l t) (sym (take-append-drop changes.done changes.kept)) ∙ all
+    sym (ap (λ (l : List (KeptChange S)). look l t) (sym (take-append-drop changes.done changes.kept)) ∙ all
     ∙ (λ i. if is_among (front i) t then Some true else if is_among (behind i) t then Some false else None)
     ∙ ap (λ (b : Bool). if is_among marks.done t then Some true else if b then Some false else None) (among_turned marks.undone t))
 
 -- ---- the commands that are picked
 
-absent : {S : Type 0} (ks : List (Kept S)) (t : ℕ) → AllByRecursion (λ u. t < u) (tickets_of ks) → look ks t ≡ None
+absent : {S : Type 0} (ks : List (KeptChange S)) (t : ℕ) → AllByRecursion (λ u. t < u) (tickets_of ks) → look ks t ≡ None
 absent [] t h = refl
 absent (k ∷ ks) t h =
     let less : t < k.ticket = h.0 in
@@ -103,7 +103,7 @@ absent (k ∷ ks) t h =
     rw other (absent ks t h.1)
 
 -- a kept change is not looked for behind it
-passed : {S : Type 0} (k : Kept S) (ks : List (Kept S)) (gs : List (ℕ × Command)) → AllByRecursion (λ u. k.ticket < u) (map (λ given. given.0) gs) →
+passed : {S : Type 0} (k : KeptChange S) (ks : List (KeptChange S)) (gs : List (ℕ × Command)) → AllByRecursion (λ u. k.ticket < u) (map (λ given. given.0) gs) →
     filter_map (λ (g : ℕ × Command). option_map (made_of g) (look (k ∷ ks) g.0)) gs ≡ filter_map (λ (g : ℕ × Command). option_map (made_of g) (look ks g.0)) gs
 passed k ks [] h = refl
 passed k ks (g ∷ gs) h =
@@ -128,7 +128,7 @@ of_all P [] given all has = absurd (omega (arith, has.1))
 of_all P (g ∷ gs) given all has = elim (in_front g given gs has) [ inl e ↦ subst (λ (x : ℕ × Command). P x.0) e all.0 | inr more ↦ of_all P gs given all.1 more ]
 
 -- those of later tickets are behind the first
-behind : {S : Type 0} (told : S → Command) (g : ℕ × Command) (gs : List (ℕ × Command)) (ks : List (Kept S)) → AllByRecursion (λ u. g.0 < u) (tickets_of ks) →
+behind : {S : Type 0} (told : S → Command) (g : ℕ × Command) (gs : List (ℕ × Command)) (ks : List (KeptChange S)) → AllByRecursion (λ u. g.0 < u) (tickets_of ks) →
     AllByRecursion (λ given. Contains (g ∷ gs) given) (told_of told ks) → AllByRecursion (λ given. Contains gs given) (told_of told ks)
 behind told g gs [] above has = tt
 behind told g gs (k ∷ ks) above has =
@@ -139,7 +139,7 @@ behind told g gs (k ∷ ks) above has =
     ] in
     (here, behind told g gs ks above.1 has.1)
 
-picked : {S : Type 0} (told : S → Command) (gs : List (ℕ × Command)) (ks : List (Kept S)) → AreAscending (map first_of gs) → AreAscending (tickets_of ks) →
+picked : {S : Type 0} (told : S → Command) (gs : List (ℕ × Command)) (ks : List (KeptChange S)) → AreAscending (map first_of gs) → AreAscending (tickets_of ks) →
     AllByRecursion (λ given. Contains gs given) (told_of told ks) → filter_map (λ (g : ℕ × Command). option_map (made_of g) (look ks g.0)) gs ≡ held_in told ks
 picked told [] [] up down has = refl
 picked told [] (k ∷ ks) up down has = absurd (omega (arith, has.0.1))
@@ -199,5 +199,5 @@ take_next {X} [] (suc n) = ap (λ (m : ℕ). take {A = X} m []) (next_suc n)
 take_next (y ∷ xs) zero = refl
 take_next {X} (y ∷ xs) (suc n) = ap (λ (m : ℕ). take m (y ∷ xs)) (next_suc n) ∙ ap (λ (l : List X). y ∷ l) (take_next xs n)
 
-pub held_next : {S : Type 0} (told : S → Command) (kept : List (Kept S)) (n : ℕ) → held_in told (take (n + 1) kept) ≡ held_in told (take n kept) ++ held_in told (take 1 (drop n kept))
+pub held_next : {S : Type 0} (told : S → Command) (kept : List (KeptChange S)) (n : ℕ) → held_in told (take (n + 1) kept) ≡ held_in told (take n kept) ++ held_in told (take 1 (drop n kept))
 held_next told kept n = ap (held_in told) (take_next kept n) ∙ map-append (held_one told) (take n kept) (take 1 (drop n kept))

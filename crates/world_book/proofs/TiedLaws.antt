@@ -9,7 +9,7 @@ use Rattle.std.proofs.lemmas.List.Elements.{filter_map-append, Contains-append_l
 use Rattle.dns_name.specs.ListLaws.{all-append, all-take, all-drop, all_weaker, all_split}
 use Rattle.dns_text.specs.declared.record.Question.{Question}
 use Rattle.ranked.specs.declared.find.Find.{Find}
-use Rattle.change_law.specs.declared.kept.Kept.{Kept}
+use Rattle.change_law.specs.declared.kept.KeptChange.{KeptChange}
 use Rattle.change_law.specs.Choice.{IsChoice, IsPresent}
 use Rattle.change_law.specs.Effect.{effect}
 use Rattle.change_law.specs.Face.{Face, IsSame, IsSameAt, face_with}
@@ -91,7 +91,7 @@ now_given told before after past now marks e c one tickets kept g =
 
 -- ---- what an undo and a redo reach
 
-module _ {W S : Type 0} (has_cells : Bool) (table : S → Option ℕ) (told : S → Command) (keeps : W → List (Kept S) → Type 0) (face : W → List (Kept S) → (ℕ → Bool) → Face Tables) where
+module _ {W S : Type 0} (has_cells : Bool) (table : S → Option ℕ) (told : S → Command) (keeps : W → List (KeptChange S) → Type 0) (face : W → List (KeptChange S) → (ℕ → Bool) → Face Tables) where
   abbrev Tied : W → Changes S → ℕ → Past → Type 0
   Tied world changes bound past = IsTied has_cells table told keeps face world changes bound past
 
@@ -342,7 +342,7 @@ module _ {W S : Type 0} (has_cells : Bool) (table : S → Option ℕ) (told : S 
 
   -- ---- what is shown
 
-  pub tied_shows : (shown : W → Face Tables) → ((w : W) (kept : List (Kept S)) (chosen : ℕ → Bool) → keeps w kept → IsPresent kept chosen → IsSame (face w kept chosen) (shown w)) →
+  pub tied_shows : (shown : W → Face Tables) → ((w : W) (kept : List (KeptChange S)) (chosen : ℕ → Bool) → keeps w kept → IsPresent kept chosen → IsSame (face w kept chosen) (shown w)) →
       (w : W) (changes : Changes S) (bound : ℕ) (past : Past) → AreChanges changes → Tied w changes bound past → IsSameAt past.now (shown w) (face_of (is_unstruck past.marks) past.log)
   tied_shows shown shows w changes bound past are tied =
       same_at_then (stands_shown has_cells table keeps face empty_face shown shows w changes past.now (deeds_of past.log) (is_struck past.marks) are tied.stands)

@@ -1,7 +1,7 @@
 -- What a book keeps, and for which histories it stands.
 use Rattle.std.specs.Prelude.{◌≡◌, ◌≤◌, ◌<◌, ◌^◌, ℕ, Bool, Option, List, length, count_by, refl}
 use Rattle.std.specs.Coded.{Coded, code_by, coded×, coded_ℕ}
-use Rattle.change_law.specs.declared.kept.Kept.{Kept}
+use Rattle.change_law.specs.declared.kept.KeptChange.{KeptChange}
 use Rattle.change_law.specs.Face.{Face}
 use Rattle.undo_journal.specs.Journal.{Changes}
 use Rattle.history.specs.declared.event.Command.{Command}
@@ -30,13 +30,13 @@ book_code {W} {S} w c s =
     (λ _. refl)
 
 -- No more tickets were given out than events were taken.
-pub record IsWell {W S : Type 0} (newest : W → ℕ) (keeps : W → List (Kept S) → Type 0) (book : BookState W S) : Type 0 where
+pub record IsWell {W S : Type 0} (newest : W → ℕ) (keeps : W → List (KeptChange S) → Type 0) (book : BookState W S) : Type 0 where
   pub sound : IsSound newest keeps book.world book.changes
   pub tickets : book.changes.tickets ≤ book.count
   pub count : book.count ≤ MOST_EVENTS
 
 -- The book is what the history comes to.
-pub record IsBookOf {W S : Type 0} (has_cells : Bool) (table : S → Option ℕ) (told : S → Command) (keeps : W → List (Kept S) → Type 0) (face : W → List (Kept S) → (ℕ → Bool) → Face Tables)
+pub record IsBookOf {W S : Type 0} (has_cells : Bool) (table : S → Option ℕ) (told : S → Command) (keeps : W → List (KeptChange S) → Type 0) (face : W → List (KeptChange S) → (ℕ → Bool) → Face Tables)
     (stored limit : W → ℕ) (book : BookState W S) (history : List Event) : Type 0 where
   pub tied : IsTied has_cells table told keeps face book.world book.changes book.settings.journal (past_of book.settings.journal history)
   pub moment : book.moment ≡ (past_of book.settings.journal history).now

@@ -1,6 +1,6 @@
 -- What a step does to a world under its journal.
 use Rattle.std.specs.Prelude.{◌≡◌, ◌≤◌, ◌-◌, ℕ, Bool, false, Option, Some, IfSome, IsTrue, List, slice_get}
-use Rattle.change_law.specs.declared.kept.Kept.{Kept}
+use Rattle.change_law.specs.declared.kept.KeptChange.{KeptChange}
 use Rattle.ranked.specs.declared.cell.Fate.{Fate}
 use Rattle.ranked.specs.declared.cell.Fate.TheVariants as fate
 use Rattle.undo_journal.specs.Journal.{Changes}
@@ -15,7 +15,7 @@ use Rattle.history.specs.declared.event.Reply.TheVariants.{Taken, Outranked}
 use Rattle.history.specs.Event.{is_admission}
 
 -- The world keeps what the journal has, and knows of no later ticket.
-pub record IsSound {W S : Type 0} (newest : W → ℕ) (keeps : W → List (Kept S) → Type 0) (world : W) (changes : Changes S) : Type 0 where
+pub record IsSound {W S : Type 0} (newest : W → ℕ) (keeps : W → List (KeptChange S) → Type 0) (world : W) (changes : Changes S) : Type 0 where
   pub kept : keeps world changes.kept
   pub latest : newest world ≤ changes.tickets
 

@@ -1,7 +1,7 @@
 -- What ties a world under its journal to a past.
 use Rattle.std.specs.Prelude.{◌≡◌, ℕ, ◌≤◌, Bool, true, Option, List, reverse}
 use Rattle.std.specs.List.{AllByRecursion, Contains}
-use Rattle.change_law.specs.declared.kept.Kept.{Kept}
+use Rattle.change_law.specs.declared.kept.KeptChange.{KeptChange}
 use Rattle.change_law.specs.Face.{Face}
 use Rattle.undo_journal.specs.Journal.{Changes, done_of, undone_of, told_of}
 use Rattle.course.specs.Course.{AreAscending, Stands}
@@ -18,7 +18,7 @@ pub record AreGiven {S : Type 0} (told : S → Command) (changes : Changes S) (p
   pub kept : AllByRecursion (λ given. Contains (given_in past.log) given) (told_of told changes.kept)
 
 -- A world under its journal is what a past comes to: its deeds, what can be undone and redone, the tickets and the commands.
-pub record IsTied {W S : Type 0} (has_cells : Bool) (table : S → Option ℕ) (told : S → Command) (keeps : W → List (Kept S) → Type 0) (face : W → List (Kept S) → (ℕ → Bool) → Face Tables)
+pub record IsTied {W S : Type 0} (has_cells : Bool) (table : S → Option ℕ) (told : S → Command) (keeps : W → List (KeptChange S) → Type 0) (face : W → List (KeptChange S) → (ℕ → Bool) → Face Tables)
     (world : W) (changes : Changes S) (bound : ℕ) (past : Past) : Type 0 where
   pub cells : has_cells ≡ true
   pub stands : Stands has_cells table keeps face empty_face world changes past.now (deeds_of past.log) (is_struck past.marks)

@@ -4,7 +4,7 @@ ghost use Rattle.std.specs.Prelude.{◌≡◌, ◌++◌, take, drop, IfOk, OnOk}
 ghost use Rattle.world_book.specs.Held.{held_in, held_one};
 
 use crate::world::{BookChange, BookWorld};
-use change_law::{Change, Kept, Standing, World};
+use change_law::{Change, KeptChange, Standing, World};
 use dns_name::NoMemory;
 use history::Journalled;
 use std::alloc::Global;
@@ -43,7 +43,7 @@ fn push_held<C: BookChange>(
 
 /// The command of a kept change.
 fn held_one<C: BookChange>(
-    kept: &Kept<<<C as Change>::World as World>::Saved>,
+    kept: &KeptChange<<<C as Change>::World as World>::Saved>,
 ) -> Result<Journalled, NoMemory>
     ensures { IfOk result (λ held. held ≡ held_one C.World.told kept.now) }
 {

@@ -37,9 +37,13 @@ returns-in-Some-clause-err c =
     let new = c.admit-result.new.self in
     let updates = (c.get_mut.follows.holds new).3 (search rules) in
     let held : Some c.in-Some.cells.now ≡ get name_eq owners find.owner = grind (arith, common_steps) in
+    let found = count_found (name_eq find.owner) owners.entries c.in-Some.cells.now (sym held) in
     on_err_weaker c.admit-result.result
-    (λ cells. cells_kept owners owners (c.get_mut.follows.lender new) find.owner c.find-2.result.now.owner new refl (ap (λ (f : Find). f.owner) c.find-2.ensures) updates
-    (λ k v. cells k v ∙ ap (λ (o : Option OwnerCells). cell_by_owner o k v) held))
+    (λ was. (
+      cells_kept owners owners (c.get_mut.follows.lender new) find.owner c.find-2.result.now.owner new refl (ap (λ (f : Find). f.owner) c.find-2.ensures) updates
+          (λ k v. was.0 k v ∙ ap (λ (o : Option OwnerCells). cell_by_owner o k v) held),
+      omega (arith, found, was.1, c.requires.index.counted, c.counted.ensures, c.counted-in-Some.ensures),
+    ))
     c.admit-result.ensures.err
 
 pub admit-requires : goal.admit-requires
@@ -76,7 +80,7 @@ pub overflow_sub-others : goal.overflow_sub-others
 overflow_sub-others c =
     let owners = c.args.owners.now in
     let held : get name_eq owners c.args.find.owner ≡ Some c.in-Some.cells.now = grind (arith, common_steps) in
-    omega (arith, count_found (name_eq c.args.find.owner) owners.entries c.in-Some.cells.now held, c.requires.counted, c.counted.ensures)
+    omega (arith, count_found (name_eq c.args.find.owner) owners.entries c.in-Some.cells.now held, c.requires.index.counted, c.counted.ensures)
 
 pub returns-in-Some-clause-counted : goal.returns-in-Some-clause-counted
 returns-in-Some-clause-counted c =
@@ -87,7 +91,7 @@ returns-in-Some-clause-counted c =
     let set = count_set (name_eq c.args.find.owner) owners.entries c.in-Some.cells.now new held in
     let put = ap count_entries (c.get_mut.follows.holds new).0 in
     let same = ap (λ (f : Find). count_entries (set_value (name_eq f.owner) owners.entries new)) c.find-2.ensures in
-    omega (arith, found, set, put, same, c.requires.counted, c.counted.ensures, c.counted-in-Some.ensures)
+    omega (arith, found, set, put, same, c.requires.index.counted, c.counted.ensures, c.counted-in-Some.ensures)
 
 pub returns-in-Some-clause-bound : goal.returns-in-Some-clause-bound
 returns-in-Some-clause-bound c =
@@ -96,7 +100,7 @@ returns-in-Some-clause-bound c =
     let held : get name_eq owners find.owner ≡ Some c.in-Some.cells.now = grind (arith, common_steps) in
     let found = count_found (name_eq find.owner) owners.entries c.in-Some.cells.now held in
     let has : one_if (not (has_place_for owners find)) ≡ one_if (not (has_place c.in-Some.cells.now find.scope)) = ap (λ (o : Option OwnerCells). one_if (not (option_map_or (λ cells. has_place cells find.scope) o false))) held in
-    omega (arith, found, has, c.requires.counted, c.admit-result.ensures.count, c.counted.ensures, c.counted-in-Some.ensures)
+    omega (arith, found, has, c.requires.index.counted, c.admit-result.ensures.count, c.counted.ensures, c.counted-in-Some.ensures)
 
 pub returns-clause-counted : goal.returns-clause-counted
 returns-clause-counted c =
@@ -108,13 +112,4 @@ returns-clause-counted c =
     let put : count_entries c.insert.new.self.entries ≡ count_entries (insert_entry name_eq owners.entries find.owner c.admit.new.self) =
     ap count_entries c.in_ok-insert.ensures.entries ∙ (ap (λ (n : Labels). count_entries (insert_entry name_eq c.get_mut.follows.lender-at-none.entries n c.admit.new.self)) name
     ∙ ap (λ (m : IndexMap Labels OwnerCells _). count_entries (insert_entry name_eq m.entries find.owner c.admit.new.self)) c.get_mut.follows.holds-at-none) in
-    omega (arith, more, put, c.requires.counted, c.counted-counted.ensures)
-
-pub returns-in-Some-clause-same : goal.returns-in-Some-clause-same
-returns-in-Some-clause-same c =
-    let owners = c.args.owners.now in
-    let held : get name_eq owners c.args.find.owner ≡ Some c.in-Some.cells.now = grind (arith, common_steps) in
-    let found = count_found (name_eq c.args.find.owner) owners.entries c.in-Some.cells.now held in
-    on_err_weaker c.admit-result.result
-    (λ same. omega (arith, found, same, c.requires.counted, c.counted.ensures, c.counted-in-Some.ensures))
-    c.admit-result.ensures.same
+    omega (arith, more, put, c.requires.index.counted, c.counted-counted.ensures)

@@ -36,5 +36,5 @@ returns-clause-settles c = λ n k settles.
 pub returns-clause-count : goal.returns-clause-count
 returns-clause-count c =
     let more = count_admitted c.place_for.new.self.kinds.items c.args.kind c.in_ok-place.place c.index_mut.result.now c.hold.new.self c.in_ok-place.ensures.place c.index_mut.ensures.value in
-    let same = ap (λ b. one_if (not b)) (c.place_for.ensures.places (One c.args.kind)) in
-    omega (arith, more, same, c.place_for.ensures.count)
+    let same = ap (λ b. one_if (not b)) (c.place_for.ensures.places.places (One c.args.kind)) in
+    omega (arith, more, same, c.place_for.ensures.places.count)

@@ -21,10 +21,12 @@ returns-clause-cells c = λ k v.
 pub returns-clause-opened : goal.returns-clause-opened
 returns-clause-opened c =
     let items = c.push_reserved.ensures.items ∙ ap (λ (l : List KindColumn). l ++ record { kind = c.args.kind; column = c.in_ok-column.column } ∷ []) c.reserve_exact.ensures.items in
-    let last : length c.args.self.now.kinds.items ≡ vec_len c.push_reserved.new.self - 1 = omega (arith, c.push_reserved.ensures.len, c.reserve_exact.ensures.len) in
-    subst (λ n. IsPlaceOf c.push_reserved.new.self.items c.args.kind n) last
-    (subst (λ (l : List KindColumn). IsPlaceOf l c.args.kind (length c.args.self.now.kinds.items)) (sym items)
-    (push_place c.args.self.now.kinds.items c.args.kind c.in_ok-column.column c.requires.fresh))
+    let last : length c.args.self.now.kinds.items ≡ vec_len c.push_reserved.new.self - 1 = omega (arith, c.push_reserved.ensures.len, c.reserve_exact.ensures.len) in (
+      omega (arith, c.push_reserved.ensures.len),
+      subst (λ n. IsPlaceOf c.push_reserved.new.self.items c.args.kind n) last
+          (subst (λ (l : List KindColumn). IsPlaceOf l c.args.kind (length c.args.self.now.kinds.items)) (sym items)
+          (push_place c.args.self.now.kinds.items c.args.kind c.in_ok-column.column c.requires.fresh)),
+    )
 
 pub returns-clause-settles : goal.returns-clause-settles
 returns-clause-settles c = λ n k settles.
@@ -32,17 +34,17 @@ returns-clause-settles c = λ n k settles.
     subst (λ (l : List KindColumn). CanSettleColumn n c.args.self.now.whole (column_of l k)) (sym items)
     (settles_push c.args.self.now.whole c.args.self.now.kinds.items c.args.kind c.in_ok-column.column c.requires.fresh n k settles)
 
-pub returns-clause-count : goal.returns-clause-count
-returns-clause-count c =
-    let own : KindColumn = record { kind = c.args.kind; column = c.in_ok-column.column } in
-    let items = c.push_reserved.ensures.items ∙ ap (λ (l : List KindColumn). l ++ own ∷ []) c.reserve_exact.ensures.items in
-    ap (λ n. one_if (is_some c.args.self.now.whole) + n) (ap count_kinds items ∙ count_push c.args.self.now.kinds.items own c.in_ok-column.ensures.counted)
-
 pub returns-clause-places : goal.returns-clause-places
-returns-clause-places c = λ scope. split scope
+returns-clause-places c = record {
+  count = ap (λ n. one_if (is_some c.args.self.now.whole) + n) (ap count_kinds items ∙ count_push c.args.self.now.kinds.items own c.in_ok-column.ensures.counted);
+  places = split;
+}
   where
-    items : c.push_reserved.new.self.items ≡ c.args.self.now.kinds.items ++ record { kind = c.args.kind; column = c.in_ok-column.column } ∷ []
-    items = c.push_reserved.ensures.items ∙ ap (λ (l : List KindColumn). l ++ record { kind = c.args.kind; column = c.in_ok-column.column } ∷ []) c.reserve_exact.ensures.items
+    own : KindColumn
+    own = record { kind = c.args.kind; column = c.in_ok-column.column }
+
+    items : c.push_reserved.new.self.items ≡ c.args.self.now.kinds.items ++ own ∷ []
+    items = c.push_reserved.ensures.items ∙ ap (λ (l : List KindColumn). l ++ own ∷ []) c.reserve_exact.ensures.items
 
     split : (scope : Scope) → has_place (record { alloc = c.args.self.now.alloc; whole = c.args.self.now.whole; kinds = c.push_reserved.new.self }) scope ≡ has_place c.args.self.now scope
     split (One k) =

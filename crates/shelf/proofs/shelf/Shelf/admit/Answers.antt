@@ -13,18 +13,19 @@ use Rattle.shelf.proofs.shelf.Shelf.admit.Goals as goal
 pub hold-requires : goal.hold-requires
 hold-requires c = record { whole = c.requires.whole; room = room_free c.args.self.now c.args.find c.args.moment (c.in-Free.ensures ∙ ap (λ (f : Find). room_for c.args.self.now f c.args.moment) c.find-2.ensures) c.requires.whole.few }
 
-pub returns-in-Unwanted-clause-cells : goal.returns-in-Unwanted-clause-cells
-returns-in-Unwanted-clause-cells c = λ told is question version there.
+pub returns-in-Unwanted-clause-admitted : goal.returns-in-Unwanted-clause-admitted
+returns-in-Unwanted-clause-admitted c =
     let self = c.args.self.now in
     let new = admission_of c.args.find c.args.find c.args.moment in
-    unwanted_cell self c.args.find c.args.moment (room_unwanted self c.args.find c.args.moment (c.in-Unwanted.ensures ∙ ap (λ (f : Find). room_for self f c.args.moment) c.find-2.ensures)) question version there
-    ∙ (ap (λ (h : Option (Admitted Find)). cond (touches c.args.find question) (after_admission h new) h) (is question version there)
-    ∙ sym (told_more question (only version) told (admitted c.args.find c.args.moment)))
-
-pub returns-in-Unwanted-clause-faces : goal.returns-in-Unwanted-clause-faces
-returns-in-Unwanted-clause-faces c = λ chosen q.
-    let self = c.args.self.now in
-    unwanted_cell self c.args.find c.args.moment (room_unwanted self c.args.find c.args.moment (c.in-Unwanted.ensures ∙ ap (λ (f : Find). room_for self f c.args.moment) c.find-2.ensures)) q (chosen_version self.kept.items q chosen) (chosen_is_version self.kept.items q chosen)
+    let unwanted = room_unwanted self c.args.find c.args.moment (c.in-Unwanted.ensures ∙ ap (λ (f : Find). room_for self f c.args.moment) c.find-2.ensures) in
+    record {
+      cells = λ told is question version there.
+          unwanted_cell self c.args.find c.args.moment unwanted question version there
+          ∙ (ap (λ (h : Option (Admitted Find)). cond (touches c.args.find question) (after_admission h new) h) (is question version there)
+          ∙ sym (told_more question (only version) told (admitted c.args.find c.args.moment)));
+      faces = λ chosen q.
+          unwanted_cell self c.args.find c.args.moment unwanted q (chosen_version self.kept.items q chosen) (chosen_is_version self.kept.items q chosen);
+    }
 
 pub returns-in-Free-clause-full : goal.returns-in-Free-clause-full
-returns-in-Free-clause-full c = fault_of c.args.self.now c.args.find c.args.moment c.hold.result c.hold.ensures.fault c.hold.ensures.free
+returns-in-Free-clause-full c = fault_of c.args.self.now c.args.find c.args.moment c.hold.result c.hold.ensures.fault.0 c.hold.ensures.fault.1

@@ -10,20 +10,20 @@ use Rattle.shelf.proofs.FaceLaws.{chosen_low, settles_kept}
 use Rattle.shelf.proofs.shelf.Shelf.hold.Goals as goal
 
 pub admit-requires : goal.admit-requires
-admit-requires c = record { upto = c.requires.whole.upto; counted = c.requires.whole.counted; few = omega (arith, c.requires.whole.few, c.requires.whole.small) }
+admit-requires c = record { index = record { upto = c.requires.whole.upto; counted = c.requires.whole.counted; few = omega (arith, c.requires.whole.few, c.requires.whole.small) } }
 
-pub returns-clause-cells : goal.returns-clause-cells
-returns-clause-cells c = λ told is question version there.
+pub returns-clause-admitted : goal.returns-clause-admitted
+returns-clause-admitted c =
     let self = c.args.self.now in
     let new = admission_of c.args.find c.args.find c.args.moment in
-    c.in_ok-admit.ensures.cells question version (version_low self.kept.items self.top question version c.requires.whole.numbers there)
-    ∙ (ap (λ (h : Option (Admitted Find)). cond (touches c.args.find question) (after_admission h new) h) (is question version there)
-    ∙ sym (told_more question (only version) told (admitted c.args.find c.args.moment)))
-
-pub returns-clause-faces : goal.returns-clause-faces
-returns-clause-faces c = λ chosen q.
-    let self = c.args.self.now in
-    c.in_ok-admit.ensures.cells q (chosen_version self.kept.items q chosen) (chosen_low self.top self.kept.items q chosen c.requires.whole.numbers)
+    record {
+      cells = λ told is question version there.
+          c.in_ok-admit.ensures.cells question version (version_low self.kept.items self.top question version c.requires.whole.numbers there)
+          ∙ (ap (λ (h : Option (Admitted Find)). cond (touches c.args.find question) (after_admission h new) h) (is question version there)
+          ∙ sym (told_more question (only version) told (admitted c.args.find c.args.moment)));
+      faces = λ chosen q.
+          c.in_ok-admit.ensures.cells q (chosen_version self.kept.items q chosen) (chosen_low self.top self.kept.items q chosen c.requires.whole.numbers);
+    }
 
 pub returns-clause-whole : goal.returns-clause-whole
 returns-clause-whole c =

@@ -1,4 +1,4 @@
-use Rattle.std.proofs.Common.{◌≤◌, List, length, true, sym, ap, ◌∙◌, subst, arith}
+use Rattle.std.proofs.Common.{◌≤◌, List, length, true, refl, sym, ap, ◌∙◌, subst, arith}
 use Rattle.std.specs.List.{AllByRecursion}
 use Rattle.shelf.specs.declared.shelf.KeptFlush.{KeptFlush}
 use Rattle.shelf.specs.Told.{is_version, IsAscending, CanSettleFlush}
@@ -9,17 +9,18 @@ use Rattle.shelf.proofs.shelf.Shelf.open_flush.Goals as goal
 pub open_flush-requires : goal.open_flush-requires
 open_flush-requires c = record { upto = c.requires.whole.upto }
 
-pub returns-clause-cells : goal.returns-clause-cells
-returns-clause-cells c = λ told is question version there.
+pub returns-clause-flushed : goal.returns-clause-flushed
+returns-clause-flushed c =
     let self = c.args.self.now in
-    c.open_flush.ensures.cells question version
-    ∙ flush_told self.owners self.kept.items self.top told c.args.flush c.args.number c.requires.whole.upto c.requires.whole.numbers c.requires.newest is question version
-    (ap (λ (l : List KeptFlush). is_version l question version) (sym c.in_ok-push.ensures.items) ∙ there)
-
-pub returns-clause-faces : goal.returns-clause-faces
-returns-clause-faces c =
-    let self = c.args.self.now in
-    flush_face self.owners c.open_flush.new.owners self.kept.items c.push.new.self.items self.top (record { flush = c.args.flush; number = c.args.number; shown = true }) c.requires.whole.upto c.requires.newest c.open_flush.ensures.cells c.in_ok-push.ensures.items
+    record {
+      cells = λ told is question version there.
+          c.open_flush.ensures.cells question version
+          ∙ flush_told self.owners self.kept.items self.top told c.args.flush c.args.number c.requires.whole.upto c.requires.whole.numbers c.requires.newest is question version
+          (ap (λ (l : List KeptFlush). is_version l question version) (sym c.in_ok-push.ensures.items) ∙ there);
+      kept = c.in_ok-push.ensures.items;
+      faces = flush_face self.owners c.open_flush.new.owners self.kept.items c.push.new.self.items self.top (record { flush = c.args.flush; number = c.args.number; shown = true }) c.requires.whole.upto c.requires.newest c.open_flush.ensures.cells c.in_ok-push.ensures.items;
+      top = refl;
+    }
 
 pub returns-clause-whole : goal.returns-clause-whole
 returns-clause-whole c =

@@ -1,5 +1,5 @@
 use Rattle.std.proofs.Common.{◌≡◌, refl, arith}
-use Rattle.store.specs.declared.store.Way.TheVariants as way
+use Rattle.store.specs.declared.store.WayBack.TheVariants as way
 use Rattle.store.specs.StoreLaws.{table_can_go_again, flush_can_go_again, table_goes_again, flush_goes_again, tables_same_row, same_table}
 use Rattle.store.specs.WorldLaws.{on_err}
 use Rattle.store.specs.declared.store.SavedChange.{SavedChange}

@@ -1,5 +1,5 @@
 use Rattle.std.proofs.Common.{◌≡◌, refl, arith}
-use Rattle.store.specs.declared.store.Way.TheVariants as way
+use Rattle.store.specs.declared.store.WayBack.TheVariants as way
 use Rattle.store.specs.StoreLaws.{table_can_go_back, flush_can_go_back, table_goes_back, flush_goes_back, tables_same_row, same_table}
 use Rattle.store.specs.WorldLaws.{on_err}
 use Rattle.store.specs.declared.store.SavedChange.{SavedChange}

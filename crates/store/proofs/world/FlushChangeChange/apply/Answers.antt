@@ -8,7 +8,7 @@ pub returns-clause-row : goal.returns-clause-row
 returns-clause-row c = rw (← c.world.view_is) (λ kept h next newest.
     let own : KeptFlush = record { flush = c.args.self.flush; number = c.args.ticket; shown = true } in
     row_more (shelved c.world.inside.shelf) (shelved c.open_flush.new.self) kept own (record { number = c.args.ticket }) h
-    c.in_ok-open_flush.ensures.kept refl refl c.in_ok-open_flush.ensures.faces)
+    c.in_ok-open_flush.ensures.flushed.kept refl refl c.in_ok-open_flush.ensures.flushed.faces)
 
 pub returns-in_err-open_flush-clause-same : goal.returns-in_err-open_flush-clause-same
 returns-in_err-open_flush-clause-same c = rw (← c.world.view_is)

@@ -13,7 +13,7 @@ returns-in-Ok-clause-told c = subst (λ (s : Shelved). c.fate-fate.result ≡ fa
 
 pub returns-in-Ok-clause-row : goal.returns-in-Ok-clause-row
 returns-in-Ok-clause-row c = rw (← c.self.view_is) (λ kept h.
-    row_admitted (shelved c.self.inside.shelf) (shelved c.admit.new.self) kept c.args.find c.args.moment h c.admit.ensures.flushes.0 c.in-Ok.ensures.faces)
+    row_admitted (shelved c.self.inside.shelf) (shelved c.admit.new.self) kept c.args.find c.args.moment h c.admit.ensures.flushes.0 c.in-Ok.ensures.admitted.faces)
 
 pub returns-in-Err-clause-err : goal.returns-in-Err-clause-err
 returns-in-Err-clause-err c = rw (← c.self.view_is) (row_same (shelved c.self.inside.shelf) (shelved c.admit.new.self) c.admit.ensures.flushes.0 c.in-Err.ensures.same.faces)

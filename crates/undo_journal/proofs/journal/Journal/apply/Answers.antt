@@ -1,5 +1,5 @@
 use Rattle.std.proofs.Common.{rules, arith, ◌≡◌, ◌≤◌, ◌<◌, ◌-◌, ◌+◌, ◌++◌, ◌∷◌, [], List, length, take, drop, refl, sym, subst, ap, ◌∙◌}
-use Rattle.change_law.specs.declared.kept.Kept.{Kept}
+use Rattle.change_law.specs.declared.kept.KeptChange.{KeptChange}
 use Rattle.change_law.specs.Choice.{cleared, IsPresent}
 use Rattle.change_law.specs.Effect.{effect}
 use Rattle.change_law.specs.Row.{IsRowAfter, same_face, where_chosen}
@@ -30,7 +30,7 @@ returns-clause-row g c =
     let kept = subst (λ (x : Changes g.row.C-World-Saved.Denot). keeps c.args.world.now x.kept) (sym c.self.view_is) c.requires.keeps in
     let newest : g.C.World.World.newest c.args.world.now < j.tickets + 1
     = omega (arith, subst (λ (x : Changes g.row.C-World-Saved.Denot). g.C.World.World.newest c.args.world.now ≤ x.tickets) (sym c.self.view_is) c.requires.tickets.0) in
-    let clear = subst (λ (x : Changes g.row.C-World-Saved.Denot). (tail : List (Kept g.row.C-World-Saved.Denot)) → keeps c.apply.new.world (cleared x.kept ++ tail) →
+    let clear = subst (λ (x : Changes g.row.C-World-Saved.Denot). (tail : List (KeptChange g.row.C-World-Saved.Denot)) → keeps c.apply.new.world (cleared x.kept ++ tail) →
     IsRowAfter table keeps face same_face (IsPresent (drop x.done x.kept)) c.apply.new.world (cleared x.kept ++ tail) c.clear.new.world (c.clear.new.self.kept ++ tail)) (sym c.self.view_is) c.clear.ensures.row in
     rw (← c.self.view_is) ((
       rw c.keep.ensures (applied_whole before c.self.invariant c.in_ok-saved.saved table keeps face made c.args.world.now c.apply.new.world c.clear.new.world c.forget.new.world

@@ -1,6 +1,6 @@
 use Rattle.std.proofs.Common.{rules, arith, ◌≡◌, ◌≤◌, ◌<◌, ◌-◌, ◌++◌, ◌∷◌, [], List, length, take, sym, subst, ap, ◌∙◌}
 use Rattle.circular_buffer.specs.Buffer.{Buffer, buffer}
-use Rattle.change_law.specs.declared.kept.Kept.{Kept}
+use Rattle.change_law.specs.declared.kept.KeptChange.{KeptChange}
 use Rattle.change_law.specs.declared.kept.Standing.TheVariants.{Done}
 use Rattle.change_law.specs.Row.{kept_as}
 use Rattle.undo_journal.specs.Journal.{Changes, AreChanges}
@@ -15,7 +15,7 @@ invariant_of-self g c =
     let next : j.tickets < c.args.ticket = subst (λ (x : Changes _). x.tickets < c.args.ticket) (sym c.self.view_is) c.requires.next in
     let new = kept_as Done c.args.ticket c.args.saved in
     let pushed : c.push_back.new.self ≡ buffer (j.ring.items ++ new ∷ []) j.ring.capacity
-    = c.push_back.ensures.items ∙ ap (λ (l : List (Kept _)). buffer l j.ring.capacity) (kept_all j.ring.items new j.ring.capacity room) in
+    = c.push_back.ensures.items ∙ ap (λ (l : List (KeptChange _)). buffer l j.ring.capacity) (kept_all j.ring.items new j.ring.capacity room) in
     let are = are_with j.ring.items j.done j.tickets j.ring.capacity c.args.ticket c.args.saved c.self.invariant room all next in
-    let there = subst (λ (b : Buffer (Kept _)). AreChanges (record { kept = b.items; done = length b.items; tickets = c.args.ticket; limit = b.capacity })) (sym pushed) are in
+    let there = subst (λ (b : Buffer (KeptChange _)). AreChanges (record { kept = b.items; done = length b.items; tickets = c.args.ticket; limit = b.capacity })) (sym pushed) are in
     rw c.len-self-inside.ensures.len there

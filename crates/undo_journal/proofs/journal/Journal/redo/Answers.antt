@@ -1,6 +1,6 @@
 use Rattle.std.proofs.Common.{rules, refl, ◌≡◌, ◌∙◌, ◌<◌, ◌-◌, Option, Some, None, List, sym, ap, subst, arith}
 use Rattle.std.specs.Prelude.{slice_set}
-use Rattle.change_law.specs.declared.kept.Kept.{Kept}
+use Rattle.change_law.specs.declared.kept.KeptChange.{KeptChange}
 use Rattle.undo_journal.specs.Journal.{Changes, AreChanges, IsRedo}
 use Rattle.undo_journal.proofs.RingLaws.{at_place, redo_first, redo_row, redo_are, redo_is, same_redo, on_err, was_undone, Done≢Cleared}
 use Rattle.undo_journal.proofs.RowLaws.{choices_at, told_at}

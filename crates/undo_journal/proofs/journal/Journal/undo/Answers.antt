@@ -1,6 +1,6 @@
 use Rattle.std.proofs.Common.{rules, refl, ◌≡◌, ◌∙◌, ◌<◌, ◌-◌, Option, Some, None, List, sym, ap, subst, arith}
 use Rattle.std.specs.Prelude.{slice_set}
-use Rattle.change_law.specs.declared.kept.Kept.{Kept}
+use Rattle.change_law.specs.declared.kept.KeptChange.{KeptChange}
 use Rattle.undo_journal.specs.Journal.{Changes, AreChanges, IsUndo}
 use Rattle.undo_journal.proofs.RingLaws.{at_place, undo_last, undo_row, undo_are, undo_is, same_there, on_err, never_past, was_done, Undone≢Cleared}
 use Rattle.undo_journal.proofs.RowLaws.{choices_at, told_at}
