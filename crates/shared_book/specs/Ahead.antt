@@ -9,10 +9,12 @@ use Rattle.history.specs.declared.event.Settings.{Settings}
 use Rattle.history.specs.History.{Past}
 use Rattle.history.specs.Reply.{seen_of}
 
+-- what a lookup is about to see; nothing for any other event
 abbrev pub seen_ahead : Settings → Past → Event → Option Seen
 seen_ahead settings past (Look moment ask) = Some (seen_of settings past ask moment)
 seen_ahead settings past _ = None
 
+-- a reply to something other than a lookup
 abbrev pub ShowsNothing : Reply → Type 0
 ShowsNothing (SeenReply seen) = ⊥
 ShowsNothing _ = Unit {0}

@@ -1,6 +1,7 @@
 -- What a caller holds.
 use Rattle.std.specs.Prelude.{◌≡◌, ℕ, ◌+◌, ◌/◌, ◌<◌, ◌≤◌, ◌^◌, max, List, map, sum}
 
+-- a pass: its caller, the latest call that it knows of, and the calls made with it
 pub record PassState : Type 0 where
   pub caller : ℕ
   pub seen : ℕ  -- the number of the latest call that it knows of

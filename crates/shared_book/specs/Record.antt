@@ -7,9 +7,11 @@ use Rattle.history.specs.History.{past_of}
 use Rattle.history.specs.Reply.{reply_of}
 use Rattle.shared_book.specs.declared.receipt.Receipt.{Receipt}
 
+-- the receipt of a call of this caller
 abbrev pub receipt_for : ℕ → ℕ → Event → Reply → Receipt
 receipt_for number caller event reply = record { number = number; caller = caller; event = event; reply = reply }
 
+-- the events of these receipts, in their order
 abbrev pub events_of : List Receipt → List Event
 events_of entries = map (λ entry. entry.event) entries
 

@@ -1,4 +1,4 @@
-//! What a look is about to be answered. The record keeps it, since a reply cannot be copied without memory.
+//! The reply that a lookup is about to get. The record keeps it, since a reply cannot be copied without memory.
 
 ghost use Rattle.std.specs.Prelude.{◌≡◌, ◌<◌, List, IfOk, OnOk, vec_len, vec_capacity};
 ghost use Rattle.history.specs.declared.event.Event.{Event};
@@ -9,7 +9,7 @@ use crate::receipt::Receipt;
 use dns_name::NoMemory;
 use history::{Book, Event, Reply, Seen};
 
-/// What a look is about to be answered.
+/// The reply that a lookup is about to get.
 fn look_ahead<B: Book>(book: &B, event: &Event) -> Result<Option<Seen>, NoMemory>
     ensures { (h : List Event) → B.stands_for book.now h →
         IfOk result (λ ahead. ahead ≡ seen_ahead (B.settings book.now) (past_of (B.settings book.now).journal h) event.now) }
@@ -20,7 +20,7 @@ fn look_ahead<B: Book>(book: &B, event: &Event) -> Result<Option<Seen>, NoMemory
     }
 }
 
-/// Makes room for one entry, and sees what a look is about to be answered.
+/// Makes room for one entry, and finds the reply that a lookup is about to get.
 pub(crate) fn make_ready<B: Book>(
     entries: &mut Vec<Receipt>,
     book: &B,
@@ -35,7 +35,7 @@ pub(crate) fn make_ready<B: Book>(
     look_ahead(book, event)
 }
 
-/// The same reply, which for a look is what was seen ahead. It takes no memory.
+/// The same reply, which for a lookup was found ahead. It takes no memory.
 pub(crate) fn told_again(reply: &Reply, ahead: Option<Seen>) -> Reply
     requires { IsEcho reply.now ahead }
     ensures { result ≡ reply.now }

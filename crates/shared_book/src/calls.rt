@@ -1,4 +1,4 @@
-//! What callers do with what lies under the lock.
+//! The calls to a book under the lock, by callers with a pass.
 
 ghost use Rattle.std.specs.Prelude.{◌≡◌, ◌+◌, ◌<◌, ◌≤◌, ◌^◌, ◌↔◌, ◌⊎◌, IfOk, OnOk, OnErr, IsErr};
 ghost use Rattle.shared_book.specs.Pass.{IsSplit, IsJoined, calls_of, parts_of};
@@ -14,7 +14,7 @@ use history::{Book, Event, Reply};
 use std::sync::ledger::Share;
 
 impl<B: Book, L: CallLedger> Kept<B, L> {
-    /// A step for a pass that has seen no more than there is.
+    /// A step for a pass that has seen no more calls than were made.
     pub(crate) fn call(
         &mut self,
         pass: &mut Pass<L>,
@@ -36,7 +36,7 @@ impl<B: Book, L: CallLedger> Kept<B, L> {
         }
     }
 
-    /// A step for a pass that has seen as many calls as are recorded, and no more than there are.
+    /// A step for a pass that has seen all calls that are recorded, and no more than were made.
     pub(crate) fn call_unrecorded(
         &mut self,
         pass: &mut Pass<L>,
@@ -109,7 +109,7 @@ impl<B: Book, L: CallLedger> Kept<B, L> {
         self.none.empty()
     }
 
-    /// Tells that a share counts no more calls than were made, and with all the parts as many.
+    /// The law that a share counts no more calls than were made, and with all the parts as many.
     fn audit(&mut self, share: &mut Share<L>)
         ensures within { share.new.amount ≤ self.old.total }
         ensures whole { share.old.parts ≡ L.parts → share.new.amount ≡ self.old.total }

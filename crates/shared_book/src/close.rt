@@ -1,4 +1,4 @@
-//! Whether the receipts that are handed in are the record.
+//! The closing of a book: the receipts are compared with the record.
 
 ghost use Rattle.std.specs.Prelude.{◌≡◌, ◌+◌, ◌<◌, ◌≤◌, ◌^◌, ◌↔◌, IsTrue, length, slice_get, Some, None, OnOk, IfOk, IfErr, IsOk, MatchResult, MatchOption};
 ghost use Rattle.shared_book.specs.Closing.{IsInOrder, IsFirstOther, IsClosed};
@@ -12,7 +12,7 @@ use crate::receipt::Receipt;
 use dns_name::NoMemory;
 use history::Book;
 
-/// Why a book is not closed, and what lay under its lock, unchanged.
+/// The reason that a book is not closed, with what lay under its lock, unchanged.
 #[derive(Drop)]
 pub struct NotClosed<B: Book, L: CallLedger> {
     pub fault: CloseFault,
@@ -20,7 +20,7 @@ pub struct NotClosed<B: Book, L: CallLedger> {
 }
 
 impl<B: Book, L: CallLedger> Kept<B, L> {
-    /// Whether the receipts, in order of number, are the record. The faults come in their order.
+    /// Whether the receipts, in order of number, are the record. An earlier fault of `CloseFault` hides a later one.
     pub fn close(
         mut self,
         passes: Vec<Pass<L>>,
@@ -66,7 +66,7 @@ fn not_closed<B: Book, L: CallLedger>(fault: CloseFault, kept: Kept<B, L>) -> No
     NotClosed { fault, kept }
 }
 
-/// Puts receipts in order of number, equal numbers as they stood.
+/// Sorts receipts by number. Equal numbers keep their order.
 fn put_in_order(receipts: &mut Vec<Receipt>) -> Result<(), NoMemory>
     ensures order { OnOk result (IsInOrder receipts.old.items receipts.new.items) }
     ensures few { length receipts.old.items ≤ 20 → IsOk result }
@@ -88,7 +88,7 @@ fn is_entry(entries: &[Receipt], i: usize, receipt: &Receipt) -> bool
     entries[i] == *receipt
 }
 
-/// The number of the first place whose receipt is not that entry, where the entries are numbered from `first`.
+/// The number of the first place whose receipt is not that entry, if the entries are numbered from `first`.
 fn first_other(first: u64, receipts: &[Receipt], entries: &[Receipt]) -> Option<u64>
     requires few { first < 2 ^ 62 }
     requires each { length entries.now ≤ length receipts.now }

@@ -1,28 +1,28 @@
-//! Why something comes to nothing. Then nothing has changed.
+//! The faults of calls, splits and closings. After each, nothing has changed.
 
 use history::StepFault;
 use thiserror::Error;
 
-/// Why a call gets no reply.
+/// The reason that a call gets no reply.
 #[derive(Clone, Copy, Debug, PartialEq, Eq, Error)]
 pub enum CallFault {
     /// The pass has seen more than the book's total: it is of another book.
     #[error("the book is behind, at {at}")]
     Behind { at: u64 },
-    /// The book does not take the event.
+    /// The book does not take the event: this is its fault.
     #[error("{0}")]
     Step(StepFault),
 }
 
-/// Why a pass is not split.
+/// The reason that a pass is not split.
 #[derive(Clone, Copy, Debug, PartialEq, Eq, Error)]
 pub enum SplitFault {
-    /// It has one part left, or no more callers are numbered.
+    /// It has one part left, or caller numbers have run out.
     #[error("no more callers are counted")]
     CountEnded,
 }
 
-/// Why a book is not closed.
+/// The reason that a book is not closed.
 #[derive(Clone, Copy, Debug, PartialEq, Eq, Error)]
 pub enum CloseFault {
     /// More calls were made than are recorded.
@@ -31,7 +31,7 @@ pub enum CloseFault {
     /// So many receipts, or calls of passes, were not handed in.
     #[error("{count} calls are missing")]
     Missing { count: u64 },
-    /// The receipts in order of number: the number of the first place whose receipt is not that entry.
+    /// The receipt at this place, in order of number, is not the entry of the record. It is the first such place.
     #[error("receipt {number} is not in the record")]
     Mismatch { number: u64 },
     /// Memory was refused.

@@ -1,4 +1,4 @@
-//! What lies under the lock.
+//! The state under the lock: the book, the record of its calls, their total.
 
 ghost use Rattle.std.specs.Prelude.{◌≡◌, ◌<◌, ◌≤◌, ◌^◌, ◌↔◌, [], IfOk, IfErr, OnOk, IsOk, IsErrOf};
 ghost use Rattle.history.specs.Answers.{IsTimely};
@@ -62,7 +62,7 @@ impl<B: Book, L: CallLedger> Model for Kept<B, L> {
 }
 
 impl<B: Book, L: CallLedger> Kept<B, L> {
-    /// A book that has taken no event, with a record of no calls, which takes so many, and the first pass.
+    /// A book that has taken no event, with an empty record for so many calls, and the first pass.
     pub fn new(
         alloc: Global,
         blank: Blank,
@@ -95,7 +95,7 @@ impl<B: Book, L: CallLedger> Kept<B, L> {
         Ok((kept, Pass::first(share, parts)))
     }
 
-    /// How many calls were made.
+    /// The number of calls that were made.
     pub fn total(&self) -> u64
         ensures total { result ≡ self.now.total }
         ensures few { result < 2 ^ 62 }
@@ -103,7 +103,7 @@ impl<B: Book, L: CallLedger> Kept<B, L> {
         self.total
     }
 
-    /// How many calls can be recorded.
+    /// The number of calls that can be recorded.
     pub fn limit(&self) -> u64
         ensures limit { result ≡ self.now.limit }
         ensures same { result ≡ L.limit }
@@ -207,7 +207,7 @@ impl<B: Book, L: CallLedger> Kept<B, L> {
             return self.pass_by(pass, copy);
         }
         let number = self.total + 1;
-        // What is owned is let go by calls: else each way out is proved once for each variant of an event.
+        // Calls drop what is owned: else each way out is proved once for each variant of an event.
         let ahead = match make_ready(&mut self.recorded.entries, &self.book, event.get()) {
             Ok(ahead) => ahead,
             Err(fault) => {
@@ -233,7 +233,7 @@ impl<B: Book, L: CallLedger> Kept<B, L> {
         Ok(reply)
     }
 
-    /// Whether an event is timely; else the fault with which a step ends. A timely event may find no memory.
+    /// Whether an event is timely, or else the fault of its step. A timely event may still find no memory.
     fn timely(&self, event: &Event) -> Result<(), StepFault>
         ensures ok { OnOk result (IsTimely self.now.total event.now) }
         ensures err { IfErr result (λ fault. (pass : PassState) →

@@ -1,4 +1,4 @@
-//! What closing comes to, by the definitions alone.
+//! The laws of closing, by the definitions alone.
 
 ghost use Rattle.std.specs.Prelude.{List, Option};
 ghost use Rattle.shared_book.specs.declared.receipt.Receipt.{Receipt};
@@ -10,13 +10,13 @@ ghost use Rattle.shared_book.specs.OneHistory.{ClosedIsOneHistory};
 
 use history::Book;
 
-/// A book is closed in one way, save that memory may be refused. So each fault comes exactly where its condition holds.
+/// Only want of memory lets two closings of one book differ. So each fault comes exactly if its condition holds.
 pub fn one_verdict<B: Book>()
     ensures { (kept : KeptState B) (passes : List PassState) (receipts : List Receipt) (a b : Option CloseFault) →
         ClosesAs kept passes receipts a → ClosesAs kept passes receipts b → AgreeButMemory a b }
 {}
 
-/// The receipts with which a book was closed are of one history, for which the book stands: each reply is that of a replay of
+/// The receipts with which a book was closed are of one history, for which the book stands. Each reply is that of a replay of
 /// the events before it, and each caller's receipts are there in the order of its calls.
 #[tactic(auto, using(crate::proofs::OneHistory::one_history))]
 pub fn one_history<B: Book>()

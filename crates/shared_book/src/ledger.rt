@@ -5,14 +5,14 @@ ghost use Rattle.std.specs.Prelude.{◌≡◌, ℕ, []};
 use std::marker::{Brand, Model};
 use std::sync::ledger::{Blank as BlankLedger, Book as Calls, Ledger, Share};
 
-/// Which book's ledger it is, with what all callers know of that book.
+/// The identity of a book's ledger, with what all callers know of that book.
 pub trait CallLedger: Ledger {
     ghost use Rattle.history.specs.declared.event.Settings.{Settings};
 
-    // How many calls can be recorded.
+    // The number of calls that can be recorded.
     ghost limit: { ℕ };
 
-    // What the book was made with.
+    // The settings of the book.
     ghost settings: { Settings };
 }
 
@@ -31,9 +31,9 @@ pub struct Blank {
 
 impl Model for Blank {
     ghost use Rattle.std.specs.Prelude.{◌≡◌};
-    ghost use Rattle.shared_book.specs.Ledger.{BlankState};
+    ghost use Rattle.shared_book.specs.Ledger.{LedgerState};
 
-    ghost Value = { BlankState };
+    ghost Value = { LedgerState };
 
     ghost view = { λ b. record { name = b.ledger.name; parts = b.parts } };
 
@@ -41,7 +41,7 @@ impl Model for Blank {
 }
 
 impl Blank {
-    /// A ledger that can be split among so many callers.
+    /// A ledger that this many callers can share.
     pub fn new(parts: u64) -> Blank
         ensures { result.parts ≡ parts }
     {
@@ -51,7 +51,7 @@ impl Blank {
         }
     }
 
-    /// Among how many callers it can be split.
+    /// The number of callers that can share it.
     pub fn parts(&self) -> u64
         ensures { result ≡ self.now.parts }
     {

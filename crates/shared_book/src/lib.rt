@@ -1,9 +1,9 @@
 //! One book for many callers: a lock, a record of the calls, and receipts that are checked when it is closed.
 #![tactic(auto)]
 
-// Why a call, a split or a closing comes to nothing.
+// The faults of calls, splits and closings.
 mod fault;
-// What a call gives back, and what the record has of it.
+// The receipt of a call, of which the record has a copy.
 mod receipt;
 // The ledger of the calls of one book.
 mod ledger;
@@ -11,17 +11,17 @@ mod ledger;
 mod pass;
 // The calls that are recorded.
 mod record;
-// What a look is about to be answered, which the record needs besides.
+// The reply that a lookup is about to get, of which the record needs a copy.
 mod ahead;
-// What lies under the lock: the book, the record, the count of calls.
+// The state under the lock: the book, the record of its calls, their total.
 mod kept;
-// What callers do with it.
+// The calls to that state, by callers with a pass.
 mod calls;
-// Whether the receipts that are handed in are the record.
+// The closing of a book: the receipts are compared with the record.
 mod close;
-// What closing comes to, by the definitions alone.
+// The laws of closing, by the definitions alone.
 mod laws;
-// One lock round it.
+// One lock around that state.
 mod shared;
 // A shared book with a pass, as a desk.
 mod seat;

@@ -5,7 +5,7 @@ ghost use Rattle.std.specs.Prelude.{◌≡◌, ◌+◌, ◌<◌, ◌≤◌, ◌^
 use std::marker::Model;
 use std::sync::ledger::{Book as Calls, Ledger, Share};
 
-/// What a caller holds: its number, what it has seen, and its share of the calls.
+/// A caller's right to call: its number, the number of the latest call that it knows of, and its share of the calls.
 #[derive(Drop)]
 pub struct Pass<L: Ledger> {
     caller: u64,
@@ -59,14 +59,14 @@ impl<L: Ledger> Pass<L> {
         self.seen
     }
 
-    /// How many calls were made with it.
+    /// The number of calls that were made with it.
     pub fn made(&self) -> u64
         ensures { result ≡ self.now.made }
     {
         self.made
     }
 
-    /// Into how many passes it can still be split.
+    /// The number of passes into which it can still be split.
     pub fn parts(&self) -> u64
         ensures parts { result ≡ self.now.parts }
         ensures some { 0 < result }
@@ -104,7 +104,7 @@ impl<L: Ledger> Pass<L> {
         }
     }
 
-    /// Both in one, under the first one's number.
+    /// Both passes in one, under the number of the first.
     pub(crate) fn joined(first: Pass<L>, second: Pass<L>, calls: &mut Calls<L>) -> Pass<L>
         requires { calls.old.total < 2 ^ 62 }
         ensures joined { IsJoined L.parts first second result }

@@ -1,9 +1,9 @@
-//! What a call gives back.
+//! The receipt of a call.
 
 use dns_text::Shared;
 use history::{Event, Reply};
 
-/// One call that got a reply. The record has the same of it.
+/// One call that got a reply. The record has an equal entry.
 #[derive(Drop, PartialEq)]
 pub struct Receipt {
     /// Its place among all calls, from 1.

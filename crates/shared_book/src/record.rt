@@ -5,12 +5,12 @@ ghost use Rattle.std.specs.Prelude.{◌≡◌, []};
 use crate::receipt::Receipt;
 use std::alloc::Global;
 
-/// The entries, the first with the number `first`, each other with the next.
+/// The entries. The first has the number `first`, each other the next number.
 #[derive(Drop)]
 pub(crate) struct CallRecord {
     pub first: u64,
     pub entries: Vec<Receipt>,
-    /// How many calls can be recorded.
+    /// The number of calls that can be recorded.
     pub limit: u64,
 }
 

@@ -101,7 +101,7 @@ fn reply_of(receipt: Receipt) -> Reply
     reply
 }
 
-/// What a seat tells of a call's fault.
+/// The fault of a desk for the fault of a call.
 fn desk_fault(fault: CallFault) -> DeskFault
     ensures { result ≡ fault_at_desk fault }
 {

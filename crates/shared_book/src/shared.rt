@@ -1,4 +1,4 @@
-//! One lock round the book and its record.
+//! One lock around a book and the record of its calls.
 
 ghost use Rattle.std.specs.Prelude.{◌≡◌, ◌≤◌, ◌↔◌, [], Some, None, IfOk, IfErr, OnErr, IsOk, IsErr, IsErrOf, MatchResult};
 ghost use Rattle.shared_book.specs.declared.kept.TheConstants.{MOST_RECORDED};
@@ -22,13 +22,13 @@ use std::sync::{Mutex, Wait};
 #[derive(Drop)]
 pub struct SharedBook<B: Book, L: CallLedger> {
     kept: Mutex<Kept<B, L>>,
-    /// How many calls can be recorded.
+    /// The number of calls that can be recorded.
     limit: u64,
     ghost same_limit: { limit ≡ L.limit },
 }
 
 impl<B: Book, L: CallLedger> SharedBook<B, L> {
-    /// A book that has taken no event, with a record of no calls, which takes so many, and the first pass.
+    /// A book that has taken no event, with an empty record for so many calls, and the first pass.
     pub fn new(
         alloc: Global,
         blank: Blank,
@@ -65,14 +65,14 @@ impl<B: Book, L: CallLedger> SharedBook<B, L> {
         self.kept.lock(rt).split(pass)
     }
 
-    /// Both passes in one, under the first one's number, which has seen what either had.
+    /// Both passes in one, under the number of the first. It has seen what either had.
     pub fn join<R: Wait>(&self, rt: &R, first: Pass<L>, second: Pass<L>) -> Pass<L>
         ensures { IsJoined L.parts first second result }
     {
         self.kept.lock(rt).join(first, second)
     }
 
-    /// Takes an event, and gives a receipt for the call.
+    /// Takes an event, and returns a receipt for the call.
     pub fn call<R: Wait>(
         &self,
         rt: &R,
@@ -101,7 +101,7 @@ impl<B: Book, L: CallLedger> SharedBook<B, L> {
         }
     }
 
-    /// How many calls can be recorded.
+    /// The number of calls that can be recorded.
     pub fn limit(&self) -> u64
         ensures { result ≡ L.limit }
     {
@@ -124,7 +124,7 @@ impl<B: Book, L: CallLedger> SharedBook<B, L> {
         self.kept.lock(rt).call_unrecorded(pass, event)
     }
 
-    /// The step, which alone is done under the lock.
+    /// The step. Only this is done under the lock.
     fn step<R: Wait>(
         &self,
         rt: &R,
@@ -138,7 +138,8 @@ impl<B: Book, L: CallLedger> SharedBook<B, L> {
         self.kept.lock(rt).call(pass, event, copy)
     }
 
-    /// Whether the receipts, in order of number, are the record. The faults come in their order, and hand back what lay under the lock.
+    /// Whether the receipts, in order of number, are the record. An earlier fault of `CloseFault` hides a later one; each hands back
+    /// what lay under the lock.
     pub fn close(
         self,
         passes: Vec<Pass<L>>,
