@@ -17,21 +17,22 @@ use Rattle.iterate.specs.declared.phase.Phase.{Phase}
 use Rattle.iterate.specs.declared.phase.Phase.TheVariants.{Seeking, Sent, Ended}
 use Rattle.iterate.specs.declared.phase.Stage.{Stage}
 use Rattle.iterate.specs.declared.phase.Stage.TheVariants as stage
-use Rattle.iterate.specs.declared.phase.Turn.{Turn}
-use Rattle.iterate.specs.declared.search.Frame.{Frame}
+use Rattle.iterate.specs.declared.phase.Advance.{Advance}
+use Rattle.iterate.specs.declared.search.Nested.{Nested}
 use Rattle.iterate.specs.declared.search.Hunt.{Hunt}
 use Rattle.iterate.specs.declared.search.Search.{Search}
 use Rattle.iterate.specs.declared.want.Want.{Want}
 use Rattle.iterate.specs.declared.want.Want.TheVariants.{Book, Send, Finish}
 use Rattle.iterate.specs.Exchanges.{Exchange}
 use Rattle.iterate.specs.Hunting.{IsSmaller}
-use Rattle.iterate.specs.Known.{Known, Serves}
+use Rattle.iterate.specs.Known.{Known, Serves, WasUnknown}
 use Rattle.iterate.specs.Measure.{hunts_left, left_in, left_of_search, left_of_seek, left_of_sending}
 use Rattle.iterate.specs.Phase.{Goes, IsSeeking, IsWaiting, ask_at, Drawing, idle}
 use Rattle.iterate.specs.Resolved.{ResolvedAs, Fails, Exhausted}
-use Rattle.iterate.specs.Searching.{IsPath, IsHunt, AreFrames, IsSearch, hunt_behind, hunt_of, question_behind, question_of}
+use Rattle.iterate.specs.Searching.{IsPath, IsHunt, IsBase, AreFrames, IsSearch, hunt_behind, hunt_of, question_behind, question_of}
 use Rattle.iterate.specs.Wanted.{MayCall, MayGo, id_drawn}
 use Rattle.iterate.proofs.Falling.{few_is, less_than, less_twice, begun_falls, sending_falls, coming_falls, looks_fall, ended_falls, path_digits}
+use Rattle.iterate.proofs.Growing.{unknown_since}
 use Rattle.iterate.proofs.Hunts.{search_digits}
 
 -- A turn is what its phase and its want are.
@@ -86,10 +87,11 @@ spent port question log moment id looks search s enough =
 pub exhausted : {port : ℕ} {question : Question} {log : List Exchange} (search : Search) → IsSearch port question log search → search.frames.items ≡ []
     → length (hunt_of search).addrs.items ≤ (hunt_of search).asked → length (hunt_of search).servers.missing ≤ (hunt_of search).sought → Exhausted port log search.path.last
 exhausted {port} {question} {log} search s none asked sought =
-    let base : hunt_of search ≡ search.base = ap (λ (fs : List Frame). hunt_behind fs search.base) none in
+    let base : hunt_of search ≡ search.base = ap (λ (fs : List Nested). hunt_behind fs search.base) none in
     let all_asked : length search.base.addrs.items ≤ search.base.asked = subst (λ (h : Hunt). length h.addrs.items ≤ h.asked) base asked in
     let all_sought : length search.base.servers.missing ≤ search.base.sought = subst (λ (h : Hunt). length h.servers.missing ≤ h.sought) base sought in
     record {
+      unknown = s.base.unknown;
       servers = search.base.servers;
       since = s.since;
       reached = s.base.reached;
@@ -104,13 +106,13 @@ giving_up port question log moment id looks search s none asked sought =
     failing_search port question log moment id looks search s (Fails.exhausted (exhausted search s none asked sought))
 
 -- as much is left
-pub left_same : {E : Type 0} (port : ℕ) (question : Question) (log : List Exchange) (moment : ℕ) (id : Drawing) {left more : ℕ} (r : Result Turn E) → left ≡ more
+pub left_same : {E : Type 0} (port : ℕ) (question : Question) (log : List Exchange) (moment : ℕ) (id : Drawing) {left more : ℕ} (r : Result Advance E) → left ≡ more
     → IfOk r (λ t. Goes port question log moment id left t.phase t.want) → IfOk r (λ t. Goes port question log moment id more t.phase t.want)
 left_same port question log moment id r same g = subst (λ (n : ℕ). IfOk r (λ t. Goes port question log moment id n t.phase t.want)) same g
 
 -- ---- a server is asked
 
-hunt_known : (port : ℕ) (log since : List Exchange) (fs : List Frame) (base : Hunt) (last : Question) → IsHunt port log last.owner base → AreFrames port log since base fs
+hunt_known : (port : ℕ) (log since : List Exchange) (fs : List Nested) (base : Hunt) (last : Question) → IsHunt port log last.owner base → AreFrames port log since base fs
     → IsHunt port log (question_behind fs last).owner (hunt_behind fs base)
 hunt_known port log since [] base last h all = h
 hunt_known port log since (f ∷ fs) base last h all = all.0.hunt
@@ -118,6 +120,14 @@ hunt_known port log since (f ∷ fs) base last h all = all.0.hunt
 -- what is known of the innermost question
 pub innermost_hunt : {port : ℕ} {question : Question} {log : List Exchange} (search : Search) → IsSearch port question log search → IsHunt port log (question_of search).owner (hunt_of search)
 innermost_hunt {port} {question} {log} search s = hunt_known port log s.since search.frames.items search.base search.path.last s.base.is_hunt s.frames
+
+unknown_behind : (port : ℕ) (log since : List Exchange) (fs : List Nested) (base : Hunt) (last : Question) → IsBase port log last since base → AreFrames port log since base fs → WasUnknown log (question_behind fs last)
+unknown_behind port log since [] base last b all = b.unknown
+unknown_behind port log since (f ∷ fs) base last b all = unknown_since b.reached all.0.unknown
+
+-- A look did not find the innermost question.
+pub unknown_innermost : {port : ℕ} {question : Question} {log : List Exchange} (search : Search) → IsSearch port question log search → WasUnknown log (question_of search)
+unknown_innermost {port} {question} {log} search s = unknown_behind port log s.since search.frames.items search.base search.path.last s.base s.frames
 
 pub sending : (port : ℕ) (question : Question) (log : List Exchange) (moment : ℕ) (id : Drawing) (left : ℕ) (search : Search) (server : Addr) (over : Over) (bytes : List ℕ) (rest : List Addr)
     → IsSearch port question log search → search.path.sent < 64 → drop (hunt_of search).asked (hunt_of search).addrs.items ≡ server ∷ rest → MayGo log server (question_of search) over → left_of_sending search.path < left
@@ -132,6 +142,7 @@ sending port question log moment id left search server over bytes rest s few nex
         question = question_of search;
         zone = (hunt_of search).servers.zone;
         query = subst (λ (n : ℕ). IsQuery bytes n (question_of search)) (sym same) query;
+        unknown = unknown_innermost search s;
         serves = All-head P server rest (All-same P (server ∷ rest) (drop (hunt_of search).asked (hunt_of search).addrs.items) (sym next) all);
         within = hunt.zone;
         goes = goes;
@@ -166,7 +177,7 @@ seeking port question log moment id left search target then s less kept is = rec
 
 -- ---- a search goes on
 
-pub from_more_ok : {E : Type 0} (port : ℕ) (question : Question) (log : List Exchange) (moment : ℕ) {ids id : Drawing} {left more : ℕ} (r : Result Turn E) → ids ≡ id → left ≤ more
+pub from_more_ok : {E : Type 0} (port : ℕ) (question : Question) (log : List Exchange) (moment : ℕ) {ids id : Drawing} {left more : ℕ} (r : Result Advance E) → ids ≡ id → left ≤ more
     → IfOk r (λ t. Goes port question log moment ids left t.phase t.want) → IfOk r (λ t. Goes port question log moment id more t.phase t.want)
 from_more_ok {E} port question log moment {ids} {id} {left} {more} (Ok t) same h g = subst (λ (d : Drawing). Goes port question log moment d more t.phase t.want) same (from_more h g)
 from_more_ok port question log moment (Err e) same h g = tt

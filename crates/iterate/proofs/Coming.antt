@@ -17,7 +17,7 @@ use Rattle.dns_query.specs.declared.verdict.Verdict.TheVariants.{Struck as Struc
 use Rattle.iterate.specs.declared.path.Path.{Path}
 use Rattle.iterate.specs.declared.phase.Phase.{Phase}
 use Rattle.iterate.specs.declared.phase.Phase.TheVariants.{Ended}
-use Rattle.iterate.specs.declared.search.Frame.{Frame}
+use Rattle.iterate.specs.declared.search.Nested.{Nested}
 use Rattle.iterate.specs.declared.search.Hunt.{Hunt}
 use Rattle.iterate.specs.declared.search.Search.{Search}
 use Rattle.iterate.specs.declared.want.Input.{Input}
@@ -34,7 +34,7 @@ use Rattle.iterate.specs.Searching.{IsPath, IsHunt, IsBase, AreFrames, IsSearch,
 use Rattle.iterate.specs.Wanted.{WasTruncated}
 use Rattle.iterate.proofs.Falling.{coming_falls, sending_falls, ended_falls, path_digits}
 use Rattle.iterate.proofs.Hunts.{search_digits}
-use Rattle.iterate.proofs.Asking.{innermost_hunt}
+use Rattle.iterate.proofs.Asking.{innermost_hunt, unknown_innermost}
 use Rattle.iterate.proofs.PathTurns.{less_left}
 use Rattle.iterate.proofs.Growing.{path_sent, base_more, frames_more, happened_last, search_sent}
 
@@ -157,8 +157,8 @@ pub struck_base : {port : ℕ} {question : Question} {log : List Exchange} {serv
     → drop (hunt_of searching).asked (hunt_of searching).addrs.items ≡ server ∷ rest → Struck port s.since (hunt_of searching).servers.zone (question_of searching) server
     → IsSearch port question log (record searching { base = hunt })
 struck_base {port} {question} {log} {server} {rest} searching hunt none becomes s next struck =
-    let base : hunt_of searching ≡ searching.base = ap (λ (fs : List Frame). hunt_behind fs searching.base) none in
-    let asked : question_of searching ≡ searching.path.last = ap (λ (fs : List Frame). question_behind fs searching.path.last) none in
+    let base : hunt_of searching ≡ searching.base = ap (λ (fs : List Nested). hunt_behind fs searching.base) none in
+    let asked : question_of searching ≡ searching.path.last = ap (λ (fs : List Nested). question_behind fs searching.path.last) none in
     let first : drop searching.base.asked searching.base.addrs.items ≡ server ∷ rest = subst (λ (h : Hunt). drop h.asked h.addrs.items ≡ server ∷ rest) base next in
     let in_vain : Struck port s.since searching.base.servers.zone searching.path.last server =
     subst (λ (q : Question). Struck port s.since searching.base.servers.zone q server) asked (subst (λ (h : Hunt). Struck port s.since h.servers.zone (question_of searching) server) base struck) in
@@ -168,6 +168,7 @@ struck_base {port} {question} {log} {server} {rest} searching hunt none becomes 
       path = s.path;
       since = s.since;
       base = record {
+        unknown = s.base.unknown;
         is_hunt = struck_known searching.base s.base.is_hunt first;
         reached = s.base.reached;
         all = s.base.all;
@@ -177,33 +178,33 @@ struck_base {port} {question} {log} {server} {rest} searching hunt none becomes 
         ];
         sought = s.base.sought;
       };
-      frames = subst (λ (fs : List Frame). AreFrames port log s.since (struck_hunt searching.base) fs) (sym none) tt;
+      frames = subst (λ (fs : List Nested). AreFrames port log s.since (struck_hunt searching.base) fs) (sym none) tt;
       deep = s.deep;
     })
 
-abbrev pub struck_frame_of : Frame → Frame
+abbrev pub struck_frame_of : Nested → Nested
 struck_frame_of frame = record frame { hunt = struck_hunt frame.hunt }
 
 -- where a question inside it is asked
-pub struck_frame : {port : ℕ} {question : Question} {log : List Exchange} {server : Addr} {rest : List Addr} (searching after : Search) (frame : Frame) (frames : List Frame)
+pub struck_frame : {port : ℕ} {question : Question} {log : List Exchange} {server : Addr} {rest : List Addr} (searching after : Search) (frame : Nested) (frames : List Nested)
     → searching.frames.items ≡ frame ∷ frames → after.frames.items ≡ struck_frame_of frame ∷ frames → after.path ≡ searching.path → after.base ≡ searching.base
     → IsSearch port question log searching → drop (hunt_of searching).asked (hunt_of searching).addrs.items ≡ server ∷ rest → IsSearch port question log after
 struck_frame {port} {question} {log} {server} {rest} searching after frame frames some struck path base s next =
-    let inner : hunt_of searching ≡ frame.hunt = ap (λ (fs : List Frame). hunt_behind fs searching.base) some in
+    let inner : hunt_of searching ≡ frame.hunt = ap (λ (fs : List Nested). hunt_behind fs searching.base) some in
     let first : drop frame.hunt.asked frame.hunt.addrs.items ≡ server ∷ rest = subst (λ (h : Hunt). drop h.asked h.addrs.items ≡ server ∷ rest) inner next in
-    let known : AreFrames port log s.since searching.base (frame ∷ frames) = subst (λ (fs : List Frame). AreFrames port log s.since searching.base fs) some s.frames in
+    let known : AreFrames port log s.since searching.base (frame ∷ frames) = subst (λ (fs : List Nested). AreFrames port log s.since searching.base fs) some s.frames in
     let after_known : AreFrames port log s.since searching.base (struck_frame_of frame ∷ frames) =
-    (record { next = known.0.next; sought = known.0.sought; hunt = struck_known frame.hunt known.0.hunt first }, known.1) in
-    let deep : length (frame ∷ frames) ≤ 8 = subst (λ (fs : List Frame). length fs ≤ 8) some s.deep in
+    (record { next = known.0.next; unknown = known.0.unknown; hunt = struck_known frame.hunt known.0.hunt first }, known.1) in
+    let deep : length (frame ∷ frames) ≤ 8 = subst (λ (fs : List Nested). length fs ≤ 8) some s.deep in
     record {
       path = subst (λ (p : Path). IsPath port question log p) (sym path) s.path;
       since = s.since;
       base = subst (λ (p : Path). IsBase port log p.last s.since after.base) (sym path) (subst (λ (b : Hunt). IsBase port log searching.path.last s.since b) (sym base) s.base);
-      frames = subst (λ (b : Hunt). AreFrames port log s.since b after.frames.items) (sym base) (subst (λ (fs : List Frame). AreFrames port log s.since searching.base fs) (sym struck) after_known);
-      deep = subst (λ (fs : List Frame). length fs ≤ 8) (sym struck) (omega (arith, deep));
+      frames = subst (λ (b : Hunt). AreFrames port log s.since b after.frames.items) (sym base) (subst (λ (fs : List Nested). AreFrames port log s.since searching.base fs) (sym struck) after_known);
+      deep = subst (λ (fs : List Nested). length fs ≤ 8) (sym struck) (omega (arith, deep));
     }
 
-empty : (fs : List Frame) → length fs ≡ 0 → fs ≡ []
+empty : (fs : List Nested) → length fs ≡ 0 → fs ≡ []
 empty [] none = refl
 empty (f ∷ fs) none = absurd (omega (arith, none))
 
@@ -211,30 +212,30 @@ pub no_frames : (searching : Search) → length searching.frames.items ≡ 0 →
 no_frames searching none = empty searching.frames.items none
 
 -- the innermost question, and those behind it
-pub record Inner (fs : List Frame) : Type 0 where
-  pub first : Frame
-  pub rest : List Frame
+pub record Inner (fs : List Nested) : Type 0 where
+  pub first : Nested
+  pub rest : List Nested
   pub are : fs ≡ first ∷ rest
 
-pub inner : (fs : List Frame) → 0 < length fs → Inner fs
+pub inner : (fs : List Nested) → 0 < length fs → Inner fs
 inner [] some = absurd (omega (arith, some))
 inner (f ∷ fs) some = record { first = f; rest = fs; are = refl }
 
 -- the innermost question taken out, and put back as the server that it asked is struck
-pub struck_inner : {port : ℕ} {question : Question} {log : List Exchange} {server : Addr} {rest : List Addr} (searching after : Search) (removed : Frame) (hunt : Hunt) → 0 < length searching.frames.items
+pub struck_inner : {port : ℕ} {question : Question} {log : List Exchange} {server : Addr} {rest : List Addr} (searching after : Search) (removed : Nested) (hunt : Hunt) → 0 < length searching.frames.items
     → removed ≡ slice_index_or searching.frames.items 0 removed → after.frames.items ≡ insert (remove searching.frames.items 0) 0 (record { target = removed.target; hunt = hunt })
     → (removed.hunt.asked < length removed.hunt.addrs.items → hunt ≡ struck_hunt removed.hunt) → after.path ≡ searching.path → after.base ≡ searching.base
     → IsSearch port question log searching → drop (hunt_of searching).asked (hunt_of searching).addrs.items ≡ server ∷ rest → IsSearch port question log after
 struck_inner {port} {question} {log} {server} {rest} searching after removed hunt some is are becomes path base s next =
     let i = inner searching.frames.items some in
-    let first : removed ≡ i.first = subst (λ (fs : List Frame). removed ≡ slice_index_or fs 0 removed) i.are is in
+    let first : removed ≡ i.first = subst (λ (fs : List Nested). removed ≡ slice_index_or fs 0 removed) i.are is in
     let at : drop removed.hunt.asked removed.hunt.addrs.items ≡ server ∷ rest =
-    subst (λ (f : Frame). drop f.hunt.asked f.hunt.addrs.items ≡ server ∷ rest) (sym first) (subst (λ (fs : List Frame). drop (hunt_behind fs searching.base).asked (hunt_behind fs searching.base).addrs.items ≡ server ∷ rest) i.are next) in
+    subst (λ (f : Nested). drop f.hunt.asked f.hunt.addrs.items ≡ server ∷ rest) (sym first) (subst (λ (fs : List Nested). drop (hunt_behind fs searching.base).asked (hunt_behind fs searching.base).addrs.items ≡ server ∷ rest) i.are next) in
     let same : hunt ≡ struck_hunt removed.hunt = becomes (some_asked removed.hunt server rest at) in
     let back : after.frames.items ≡ record { target = removed.target; hunt = hunt } ∷ i.rest =
-    subst (λ (fs : List Frame). after.frames.items ≡ insert (remove fs 0) 0 (record { target = removed.target; hunt = hunt })) i.are are in
+    subst (λ (fs : List Nested). after.frames.items ≡ insert (remove fs 0) 0 (record { target = removed.target; hunt = hunt })) i.are are in
     let frames : after.frames.items ≡ struck_frame_of i.first ∷ i.rest =
-    back ∙ ap (λ (h : Hunt). record { target = removed.target; hunt = h } ∷ i.rest) same ∙ ap (λ (f : Frame). struck_frame_of f ∷ i.rest) first in
+    back ∙ ap (λ (h : Hunt). record { target = removed.target; hunt = h } ∷ i.rest) same ∙ ap (λ (f : Nested). struck_frame_of f ∷ i.rest) first in
     struck_frame searching after i.first i.rest i.are frames path base s next
 
 -- ---- less is left
@@ -290,7 +291,7 @@ hearing port question before log want searching server id over (Came octets) aft
       octets = octets;
       came = here;
       split = here.adds;
-      responds = Known.responded here (next_serves searching w.is_search w.next) w.query (innermost_hunt searching w.is_search).zone h.response (record { whole = h.whole; says = tells heard.says h.says });
+      responds = Known.responded here (unknown_innermost searching w.is_search) (next_serves searching w.is_search w.next) w.query (innermost_hunt searching w.is_search).zone h.response (record { whole = h.whole; says = tells heard.says h.says });
       finds = h.finds;
       passing = h.passing;
       says = h.says;

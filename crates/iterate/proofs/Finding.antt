@@ -17,7 +17,7 @@ use Rattle.history.specs.declared.event.Seen.{Seen as SeenValue}
 use Rattle.history.specs.declared.event.Seen.TheVariants.{Unknown, Held, Local as LocalSeen, Zones, Records, Stubs, Commands, Servers as SeenServers}
 use Rattle.history.specs.declared.servers.Servers.{Servers}
 use Rattle.iterate.specs.declared.answer.Answer.TheVariants.{Reply as Replies}
-use Rattle.iterate.specs.declared.answer.Told.{Told}
+use Rattle.iterate.specs.declared.answer.AnswerSet.{AnswerSet}
 use Rattle.iterate.specs.declared.path.Path.{Path}
 use Rattle.iterate.specs.declared.phase.Phase.TheVariants.{Ended}
 use Rattle.iterate.specs.declared.phase.Stage.{Stage}
@@ -26,24 +26,24 @@ use Rattle.iterate.specs.declared.search.Search.{Search}
 use Rattle.iterate.specs.declared.want.Input.{Input}
 use Rattle.iterate.specs.declared.want.Input.TheVariants.{Reply}
 use Rattle.iterate.specs.declared.want.Want.TheVariants.{Book, Finish}
-use Rattle.iterate.specs.Exchanges.{Exchange, exchange, Adds}
+use Rattle.iterate.specs.Exchanges.{Exchange, exchange, Adds, Happened}
 use Rattle.iterate.specs.Hunting.{AllServe, IsTried, IsAddressSeen}
-use Rattle.iterate.specs.Known.{Known, Had, Listed}
+use Rattle.iterate.specs.Known.{Known, Had, Listed, WasUnknown}
 use Rattle.iterate.specs.Looked.{IsSetSeen}
 use Rattle.iterate.specs.Measure.{top, left_of_path, left_of_seek}
-use Rattle.iterate.specs.Phase.{Goes, IsSeeking, IsSought, ask_at, idle}
+use Rattle.iterate.specs.Phase.{Goes, IsSeeking, IsUnknownAt, ask_at, idle}
 use Rattle.iterate.specs.Resolved.{Fails, ReachedFor, Sought}
-use Rattle.iterate.specs.Searching.{IsPath, IsSearch, hunt_of}
+use Rattle.iterate.specs.Searching.{IsPath, IsAskable, IsSearch, hunt_of}
 use Rattle.iterate.specs.Shown.{IsReplyTo, IsMisanswered}
-use Rattle.iterate.proofs.Growing.{happened_last, path_more, base_more, frames_more, search_looked, since_more, sought_more}
+use Rattle.iterate.proofs.Growing.{happened_last, path_more, askable_more, base_more, frames_more, search_looked, since_more, sought_more, unknown_more}
 use Rattle.iterate.proofs.Falling.{ended_falls}
 use Rattle.iterate.proofs.Asking.{failing, ended_seek, innermost_hunt}
 
 -- ---- servers are named
 
-pub path_named : (port : ℕ) (question : Question) (before log : List Exchange) (m : ℕ) (path : Path) (list : Servers) → IsPath port question before path
-    → Adds before (exchange (Book (Look m (ServersFor path.last.owner))) (Reply (Seen (SeenServers list)))) log → IsPath port question log path
-path_named port question before log m path list p a = path_more p a refl
+pub path_named : (port : ℕ) (question : Question) (before log : List Exchange) (m : ℕ) (path : Path) (list : Servers) → IsAskable port question before path
+    → Adds before (exchange (Book (Look m (ServersFor path.last.owner))) (Reply (Seen (SeenServers list)))) log → IsAskable port question log path
+path_named port question before log m path list p a = askable_more p a refl
 
 pub reached_named : (port : ℕ) (before log : List Exchange) (m : ℕ) (question : Question) (list : Servers)
     → Adds before (exchange (Book (Look m (ServersFor question.owner))) (Reply (Seen (SeenServers list)))) log → ReachedFor port log question list []
@@ -79,12 +79,16 @@ after_look {port} m ask input search s a = record {
   deep = s.deep;
 }
 
+-- what a look did not find was looked for
+pub was_sought : {log : List Exchange} {target : Labels} → WasUnknown log (address_question target) → Sought log target
+was_sought u = record { moment = u.moment; input = Reply (Seen Unknown); looked = u.looked }
+
 -- what was looked for since the servers were reached
-sought_then : (m : ℕ) (since : List Exchange) (target : Labels) (stage : Stage) (input : Input) → IsSought stage since target
+sought_then : (m : ℕ) (since : List Exchange) (target : Labels) (stage : Stage) (input : Input) → IsUnknownAt stage since target
     → Sought (since ++ exchange (Book (Look m (ask_at stage target))) input ∷ []) target
 sought_then m since target stage.Address input k = record { moment = m; input = input; looked = happened_last (since_more since _) }
-sought_then m since target stage.Alias input k = sought_more k (since_more since _)
-sought_then m since target stage.Servers input k = sought_more k (since_more since _)
+sought_then m since target stage.Alias input k = sought_more (was_sought k) (since_more since _)
+sought_then m since target stage.Servers input k = sought_more (was_sought k) (since_more since _)
 
 -- The server was looked for.
 pub tried_more : (port m : ℕ) (question : Question) (before log : List Exchange) (search : Search) (target : Labels) (stage : Stage) (input : Input) → IsSeeking port question before search target stage
@@ -92,22 +96,31 @@ pub tried_more : (port m : ℕ) (question : Question) (before log : List Exchang
 tried_more port m question before log search target stage input k a = record {
   is_search = after_look m (ask_at stage target) input search k.is_search a;
   next = k.next;
-  tried = λ none may. sought_then m k.is_search.since target stage input k.sought;
+  tried = λ none may. sought_then m k.is_search.since target stage input k.unknown;
 }
 
-is_sought : (then : Stage) (since : List Exchange) (target : Labels) → Sought since target → IsSought then since target
-is_sought stage.Address since target k = tt
-is_sought stage.Alias since target k = k
-is_sought stage.Servers since target k = k
-
--- It is looked for further.
-pub seeking_more : (port m : ℕ) (question : Question) (before log : List Exchange) (search : Search) (target : Labels) (stage then : Stage) (input : Input) → IsSeeking port question before search target stage
-    → Adds before (exchange (Book (Look m (ask_at stage target))) input) log → IsSeeking port question log search target then
-seeking_more port m question before log search target stage then input k a = record {
-  is_search = after_look m (ask_at stage target) input search k.is_search a;
+-- Its address was not found: it is looked for further.
+pub seeking_unknown : (port m : ℕ) (question : Question) (before log : List Exchange) (search : Search) (target : Labels) (seen : SeenValue) → seen ≡ Unknown → IsSeeking port question before search target stage.Address
+    → Adds before (exchange (Book (Look m (Asked (address_question target)))) (Reply (Seen seen))) log → IsSeeking port question log search target stage.Alias
+seeking_unknown port m question before log search target seen none k a = record {
+  is_search = after_look m (Asked (address_question target)) (Reply (Seen seen)) search k.is_search a;
   shallow = k.shallow;
   next = k.next;
-  sought = is_sought then _ target (sought_then m k.is_search.since target stage input k.sought);
+  unknown = record {
+    moment = m;
+    looked = subst (λ (v : SeenValue). Happened (k.is_search.since ++ exchange (Book (Look m (Asked (address_question target)))) (Reply (Seen seen)) ∷ []) (exchange (Book (Look m (Asked (address_question target)))) (Reply (Seen v)))) none
+        (happened_last (since_more k.is_search.since _));
+  };
+}
+
+-- It is looked for further still.
+pub seeking_more : (port m : ℕ) (question : Question) (before log : List Exchange) (search : Search) (target : Labels) (first : Stage) (input : Input) → (k : IsSeeking port question before search target first)
+    → WasUnknown k.is_search.since (address_question target) → Adds before (exchange (Book (Look m (ask_at first target))) input) log → IsSeeking port question log search target stage.Servers
+seeking_more port m question before log search target first input k u a = record {
+  is_search = after_look m (ask_at first target) input search k.is_search a;
+  shallow = k.shallow;
+  next = k.next;
+  unknown = unknown_more u (since_more k.is_search.since _);
 }
 
 -- One question more is begun.
@@ -120,7 +133,7 @@ begun_search search n s = record { path = begun_path search.path n s.path; since
 
 pub begun_seeking : (port : ℕ) (question : Question) (log : List Exchange) (search : Search) (target : Labels) (stage : Stage) (n : ℕ) → IsSeeking port question log search target stage
     → IsSeeking port question log (record search { path = record search.path { begun = n } }) target stage
-begun_seeking port question log search target stage n k = record { is_search = begun_search search n k.is_search; shallow = k.shallow; next = k.next; sought = k.sought }
+begun_seeking port question log search target stage n k = record { is_search = begun_search search n k.is_search; shallow = k.shallow; next = k.next; unknown = k.unknown }
 
 -- ---- its addresses
 
@@ -129,10 +142,10 @@ contains_next n xs x rest next =
     subst (λ (zs : List _). Contains zs x) (take-append-drop n xs) (Contains-append_right (take n xs) (drop n xs) x (subst (λ (zs : List _). Contains zs x) (sym next) (0, omega arith, refl)))
 
 -- A set that a look saw is known.
-had_seen : (port m : ℕ) (before log : List Exchange) (question : Question) (seen : SeenValue) (told : Told) → Adds before (exchange (Book (Look m (Asked question))) (Reply (Seen seen))) log
+had_seen : (port m : ℕ) (before log : List Exchange) (question : Question) (seen : SeenValue) (told : AnswerSet) → Adds before (exchange (Book (Look m (Asked question))) (Reply (Seen seen))) log
     → IsReplyTo (Asked question) (Seen seen) → IsSetSeen seen told → Known port log (Had question told)
-had_seen port m before log question (Held shown) told a lawful is = subst (λ (t : Told). Known port log (Had question t)) (sym is.1) (Known.looked a record { shown_for = lawful; has_data = is.0 })
-had_seen port m before log question (LocalSeen (local.Data records)) told a lawful is = subst (λ (t : Told). Known port log (Had question t)) (sym is) (Known.local a lawful)
+had_seen port m before log question (Held shown) told a lawful is = subst (λ (t : AnswerSet). Known port log (Had question t)) (sym is.1) (Known.looked a record { shown_for = lawful; has_data = is.0 })
+had_seen port m before log question (LocalSeen (local.Data records)) told a lawful is = subst (λ (t : AnswerSet). Known port log (Had question t)) (sym is) (Known.local a lawful)
 had_seen port m before log question (LocalSeen (local.NoData soa)) told a lawful is = absurd is
 had_seen port m before log question (LocalSeen (local.NoName soa)) told a lawful is = absurd is
 had_seen port m before log question (LocalSeen local.Refuse) told a lawful is = absurd is

@@ -23,8 +23,8 @@ use Rattle.iterate.specs.declared.answer.Answer.{Answer}
 use Rattle.iterate.specs.declared.answer.Answer.TheVariants.{Reply, Silent}
 use Rattle.iterate.specs.declared.answer.Soa.{Soa}
 use Rattle.iterate.specs.declared.answer.Soa.TheVariants.{Local as LocalSoa}
-use Rattle.iterate.specs.declared.answer.Told.{Told}
-use Rattle.iterate.specs.declared.answer.Told.TheVariants.{Local as LocalTold}
+use Rattle.iterate.specs.declared.answer.AnswerSet.{AnswerSet}
+use Rattle.iterate.specs.declared.answer.AnswerSet.TheVariants.{Local as LocalTold}
 use Rattle.iterate.specs.Exchanges.{Exchange}
 use Rattle.iterate.specs.Known.{Fact, Had, Listed, Serves, Responds, Known}
 use Rattle.iterate.specs.Resolved.{Chain, ResolvedAs, IsResolved}
@@ -79,25 +79,25 @@ known_formed (Known.named a) = tt
 known_formed (Known.referred known refers) = tt
 known_formed (Known.addressed known is) = tt
 known_formed (Known.found listed misses had at) = tt
-known_formed (Known.responded a serves query within response whole) = tt
+known_formed (Known.responded a unknown serves query within response whole) = tt
 known_formed (Known.harvested {find = find} known is for) = find_formed find.ttl find
 known_formed (Known.passed {set = set} known is for) = passing_formed set
 
-told_formed : {port : ℕ} {log : List Exchange} {question : Question} {told : Told} → Known port log (Had question told) → AllByRecursion IsFormed (records_told told)
+told_formed : {port : ℕ} {log : List Exchange} {question : Question} {told : AnswerSet} → Known port log (Had question told) → AllByRecursion IsFormed (records_told told)
 unfolding IsFormedFact
 told_formed known = known_formed known
 
-last_formed : (told : Told) → AllByRecursion IsFormed (records_told told) → AllByRecursion IsFormed (flat_map records_told (told ∷ []))
+last_formed : (told : AnswerSet) → AllByRecursion IsFormed (records_told told) → AllByRecursion IsFormed (flat_map records_told (told ∷ []))
 last_formed told all = subst (λ (records : List Record). AllByRecursion IsFormed records) (sym (append-nil (records_told told))) all
 
-joined_formed : (front back : List Told) → AllByRecursion IsFormed (flat_map records_told front) → AllByRecursion IsFormed (flat_map records_told back) → AllByRecursion IsFormed (flat_map records_told (front ++ back))
+joined_formed : (front back : List AnswerSet) → AllByRecursion IsFormed (flat_map records_told front) → AllByRecursion IsFormed (flat_map records_told back) → AllByRecursion IsFormed (flat_map records_told (front ++ back))
 joined_formed front back all more =
     subst (λ (records : List Record). AllByRecursion IsFormed records) (sym (flat_map-append records_told front back)) (all-append IsFormed (flat_map records_told front) (flat_map records_told back) all more)
 
-chain_formed : {port : ℕ} {log : List Exchange} {name to : Labels} {sets : List Told} → Chain port log name sets to → AllByRecursion IsFormed (flat_map records_told sets)
+chain_formed : {port : ℕ} {log : List Exchange} {name to : Labels} {sets : List AnswerSet} → Chain port log name sets to → AllByRecursion IsFormed (flat_map records_told sets)
 chain_formed Chain.start = tt
 chain_formed (Chain.alias {front = front} {told = told} chain known is are) =
-    subst (λ (sets : List Told). AllByRecursion IsFormed (flat_map records_told sets)) (sym are) (joined_formed front (told ∷ []) (chain_formed chain) (last_formed told (told_formed known)))
+    subst (λ (sets : List AnswerSet). AllByRecursion IsFormed (flat_map records_told sets)) (sym are) (joined_formed front (told ∷ []) (chain_formed chain) (last_formed told (told_formed known)))
 
 -- ---- SOA records
 
@@ -121,7 +121,7 @@ negative_formed (Some find) = find_soa_formed find.ttl find
 
 -- ---- how a look ends a question
 
-ends_formed : {question : Question} {seen : SeenValue} {rcode : ℕ} {last : Option Told} {authority : Option Soa} → Ends question seen rcode last authority
+ends_formed : {question : Question} {seen : SeenValue} {rcode : ℕ} {last : Option AnswerSet} {authority : Option Soa} → Ends question seen rcode last authority
     → AllByRecursion IsFormed (flat_map records_told (option_to_list last)) × AllByRecursion IsFormed (flat_map records_of_soa (option_to_list authority))
 ends_formed (Ends.held {shown = shown} is) = (last_formed (told_of shown) (find_formed shown.left shown.body), tt)
 ends_formed (Ends.held_no_data {shown = shown} is body) = (tt, find_soa_formed shown.left shown.body)
@@ -130,7 +130,7 @@ ends_formed (Ends.local_set {records = records} is) = (last_formed (LocalTold re
 ends_formed (Ends.local_no_data {soa = soa} formed) = (tt, local_soa_formed soa formed)
 ends_formed (Ends.local_no_name {soa = soa} formed) = (tt, local_soa_formed soa formed)
 
-resolved_formed : {port : ℕ} {question : Question} {log : List Exchange} {rcode : ℕ} {aa : Bool} {aliases : List Told} {last : Option Told} {authority : Option Soa}
+resolved_formed : {port : ℕ} {question : Question} {log : List Exchange} {rcode : ℕ} {aa : Bool} {aliases : List AnswerSet} {last : Option AnswerSet} {authority : Option Soa}
     → ResolvedAs port question log rcode aa aliases last authority
     → AllByRecursion IsFormed (flat_map records_told (aliases ++ option_to_list last)) × AllByRecursion IsFormed (flat_map records_of_soa (option_to_list authority))
 resolved_formed (ResolvedAs.at_once began ends) = ends_formed ends

@@ -11,7 +11,7 @@ use Rattle.harvest.specs.declared.learnt.Harvest.{Harvest}
 use Rattle.harvest.specs.Learnt.{set_of}
 use Rattle.harvest.specs.Sets.{Set}
 use Rattle.neg_rule.specs.Negative.{Said, said_by}
-use Rattle.iterate.specs.declared.answer.Told.{Told}
+use Rattle.iterate.specs.declared.answer.AnswerSet.{AnswerSet}
 use Rattle.iterate.specs.declared.path.Path.{Path}
 use Rattle.iterate.specs.declared.phase.Phase.TheVariants.{Ended}
 use Rattle.iterate.specs.Exchanges.{Exchange}
@@ -35,7 +35,7 @@ harvest_known harvest question (Passing set) h first =
     Known.passed h.responds (subst (λ (xs : List Set). Contains xs (set_of set.now)) h.passing (first_contained _ _ _ first.1)) first.1.holds
 
 -- Less is left behind an alias.
-pub longer_within : {left : ℕ} (path next : Path) (told : Told) (to : Labels) → IsLonger path told to next → left_of_path path 4 ≤ left → left_of_path next 4 ≤ left
+pub longer_within : {left : ℕ} (path next : Path) (told : AnswerSet) (to : Labels) → IsLonger path told to next → left_of_path path 4 ≤ left → left_of_path next 4 ≤ left
 longer_within path next told to longer most =
     few_is (less_than (longer_less path next told to 4 4 longer (omega arith)) most)
 

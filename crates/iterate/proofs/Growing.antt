@@ -7,15 +7,15 @@ use Rattle.dns_name.specs.Labels.{Labels}
 use Rattle.dns_text.specs.declared.addr.Addr.{Addr}
 use Rattle.dns_text.specs.declared.record.Question.{Question}
 use Rattle.history.specs.declared.servers.Servers.{Servers}
-use Rattle.iterate.specs.declared.answer.Told.{Told}
+use Rattle.iterate.specs.declared.answer.AnswerSet.{AnswerSet}
 use Rattle.iterate.specs.declared.path.Path.{Path}
-use Rattle.iterate.specs.declared.search.Frame.{Frame}
+use Rattle.iterate.specs.declared.search.Nested.{Nested}
 use Rattle.iterate.specs.declared.search.Hunt.{Hunt}
 use Rattle.iterate.specs.declared.search.Search.{Search}
 use Rattle.iterate.specs.Exchanges.{Exchange, Adds, Happened, is_send, count_sends}
-use Rattle.iterate.specs.Known.{Known, Serves}
+use Rattle.iterate.specs.Known.{Known, Serves, WasUnknown}
 use Rattle.iterate.specs.Resolved.{BeganUnanswered, Chain, ReachedFor, Struck, Sought}
-use Rattle.iterate.specs.Searching.{IsPath, IsHunt, IsBase, AreFrames, IsSearch}
+use Rattle.iterate.specs.Searching.{IsPath, IsAskable, IsHunt, IsBase, AreFrames, IsSearch}
 
 -- ---- exchanges
 
@@ -37,6 +37,10 @@ happened_since {log} {y} before since x split h = record {
   split = split ∙ ap (λ (xs : List Exchange). before ++ x ∷ xs) h.split ∙ sym (append_assoc before (x ∷ h.before) (y ∷ h.after));
 }
 
+-- what a look did not find
+pub unknown_more : {log after : List Exchange} {y : Exchange} {question : Question} → WasUnknown log question → Adds log y after → WasUnknown after question
+unknown_more u a = record { moment = u.moment; looked = happened_more u.looked a }
+
 counted : (log : List Exchange) (x : Exchange) → count_by is_send (log ++ x ∷ []) ≡ count_by is_send log + count_by is_send (x ∷ [])
 counted log x = sum_by-append _ log (x ∷ [])
 
@@ -55,13 +59,16 @@ began_more {log} {after} {y} {question} b a = record {
   no_answer = b.no_answer;
 }
 
-pub chain_more : {port : ℕ} {log after : List Exchange} {y : Exchange} {name : Labels} {sets : List Told} {to : Labels} → Adds log y after → Chain port log name sets to → Chain port after name sets to
+pub chain_more : {port : ℕ} {log after : List Exchange} {y : Exchange} {name : Labels} {sets : List AnswerSet} {to : Labels} → Adds log y after → Chain port log name sets to → Chain port after name sets to
 chain_more a Chain.start = Chain.start
 chain_more a (Chain.alias front known target is) = Chain.alias (chain_more a front) (Known.kept a known) target is
 
 -- with an exchange that is no query
 pub path_more : {port : ℕ} {question : Question} {log after : List Exchange} {y : Exchange} {path : Path} → IsPath port question log path → Adds log y after → is_send y ≡ false → IsPath port question after path
 path_more p a is = record { began = began_more p.began a; chain = chain_more a p.chain; kind = p.kind; short = p.short; counted = p.counted ∙ sym (sends_same a is); few = p.few }
+
+pub askable_more : {port : ℕ} {question : Question} {log after : List Exchange} {y : Exchange} {path : Path} → IsAskable port question log path → Adds log y after → is_send y ≡ false → IsAskable port question after path
+askable_more p a is = record { is_path = path_more p.is_path a is; unknown = unknown_more p.unknown a }
 
 -- with a query
 pub path_sent : {port : ℕ} {question : Question} {log after : List Exchange} {y : Exchange} {path : Path} → IsPath port question log path → Adds log y after → is_send y ≡ true → path.sent < 64
@@ -92,6 +99,10 @@ reached_more {since = since} (ReachedFor.by_book before moment split) a = Reache
 reached_more {since = since} (ReachedFor.by_referral before upto server over bytes octets split came known refers are) a =
     ReachedFor.by_referral before upto server over bytes octets (behind_more before since _ split a) came known refers are
 
+pub unknown_since : {port : ℕ} {log since : List Exchange} {question other : Question} {servers : Servers} → ReachedFor port log question servers since → WasUnknown since other → WasUnknown log other
+unknown_since {since = since} (ReachedFor.by_book before moment split) u = record { moment = u.moment; looked = happened_since before since _ split u.looked }
+unknown_since {since = since} (ReachedFor.by_referral before upto server over bytes octets split came known refers are) u = record { moment = u.moment; looked = happened_since before since _ split u.looked }
+
 pub serve_more : (port : ℕ) {log after : List Exchange} {y : Exchange} (zone : Labels) (addrs : List Addr) → Adds log y after
     → AllByRecursion (λ addr. Known port log (Serves zone addr)) addrs → AllByRecursion (λ addr. Known port after (Serves zone addr)) addrs
 serve_more port zone [] a all = tt
@@ -109,6 +120,7 @@ hunt_more {port} {log} {after} {y} {name} {hunt} h a = record {
 
 pub base_more : {port : ℕ} {log after since : List Exchange} {y : Exchange} {question : Question} {hunt : Hunt} → IsBase port log question since hunt → Adds log y after → IsBase port after question (since ++ y ∷ []) hunt
 base_more {port} {log} {after} {since} {y} {question} {hunt} b a = record {
+  unknown = unknown_more b.unknown a;
   is_hunt = hunt_more b.is_hunt a;
   reached = reached_more b.reached a;
   all = b.all;
@@ -116,11 +128,11 @@ base_more {port} {log} {after} {since} {y} {question} {hunt} b a = record {
   sought = λ target is may. sought_more (b.sought target is may) (since_more since y);
 }
 
-pub frames_more : (port : ℕ) {log after : List Exchange} {y : Exchange} (since : List Exchange) (base : Hunt) (frames : List Frame) → Adds log y after
+pub frames_more : (port : ℕ) {log after : List Exchange} {y : Exchange} (since : List Exchange) (base : Hunt) (frames : List Nested) → Adds log y after
     → AreFrames port log since base frames → AreFrames port after (since ++ y ∷ []) base frames
 frames_more port since base [] a all = tt
 frames_more port {log} {after} {y} since base (f ∷ frames) a all =
-    (record { next = all.0.next; sought = sought_more all.0.sought (since_more since y); hunt = hunt_more all.0.hunt a }, frames_more port since base frames a all.1)
+    (record { next = all.0.next; unknown = unknown_more all.0.unknown (since_more since y); hunt = hunt_more all.0.hunt a }, frames_more port since base frames a all.1)
 
 -- with the path as it is then
 pub search_more : {port : ℕ} {question : Question} {log after : List Exchange} {y : Exchange} {search : Search} → IsSearch port question log search → Adds log y after

@@ -23,7 +23,7 @@ use Rattle.history.specs.declared.servers.Servers.{Servers}
 use Rattle.iterate.specs.declared.answer.Answer.TheVariants.{Reply as Replies}
 use Rattle.iterate.specs.declared.path.Path.{Path}
 use Rattle.iterate.specs.declared.phase.Phase.TheVariants.{Admitting, Ended}
-use Rattle.iterate.specs.declared.search.Frame.{Frame}
+use Rattle.iterate.specs.declared.search.Nested.{Nested}
 use Rattle.iterate.specs.declared.search.Hunt.{Hunt}
 use Rattle.iterate.specs.declared.search.Search.{Search}
 use Rattle.iterate.specs.declared.want.Input.{Input}
@@ -31,7 +31,8 @@ use Rattle.iterate.specs.declared.want.Want.TheVariants.{Book, Finish}
 use Rattle.iterate.specs.Exchanges.{Exchange, exchange, Adds, is_send}
 use Rattle.iterate.specs.Judged.{IsAddressOf}
 use Rattle.iterate.specs.Following.{IsHarvestOf}
-use Rattle.iterate.specs.declared.answer.Told.{Told}
+use Rattle.iterate.specs.Hunting.{IsReached, IsSmaller}
+use Rattle.iterate.specs.declared.answer.AnswerSet.{AnswerSet}
 use Rattle.iterate.specs.Known.{Fact, Known, Had, Listed, Serves, Responds, servers_referred}
 use Rattle.iterate.specs.Measure.{top, hunts_left, left_in, left_of_search, left_of_hearing, left_of_path}
 use Rattle.iterate.specs.Phase.{Goes, IsHearing, idle}
@@ -42,7 +43,7 @@ use Rattle.iterate.specs.Told.{soa_whole, IsAddressIn}
 use Rattle.iterate.specs.Wanted.{IsHarvested}
 use Rattle.iterate.proofs.PathTurns.{failing}
 use Rattle.iterate.proofs.Coming.{inner, below}
-use Rattle.iterate.proofs.Falling.{few_is, coming_falls, looks_fall, ended_falls, path_digits}
+use Rattle.iterate.proofs.Falling.{few_is, less_than, coming_falls, looks_fall, ended_falls, path_digits}
 use Rattle.iterate.proofs.Hunts.{search_digits}
 use Rattle.iterate.proofs.Growing.{path_more, search_looked, happened_last}
 
@@ -133,17 +134,19 @@ finds_at_least path finds some = elim (one_or_more finds some) [
   | inr more ↦ few_is (find_less path 1 finds (omega arith) more)
 ]
 
--- Less is left where the search goes on.
-pub concluding_less : {port : ℕ} {question : Question} {log : List Exchange} (path : Path) (after : Search) → after.path ≡ path → IsSearch port question log after
-    → left_of_search after 4 < left_of_hearing path 1
-concluding_less path after same s =
-    coming_falls after.path path 0 0 0 1 (hunts_left after) 0 4 1 (ap (λ (p : Path). p.begun) same) (ap (λ (p : Path). 64 - (p.sent + 0)) same) (ap (λ (p : Path). length p.sets.items) same) (omega arith)
-    (search_digits after 4 (omega arith) s)
+-- Less is left of a search than where the response to it was heard.
+less_heard : {port : ℕ} {question : Question} {log : List Exchange} (search : Search) → IsSearch port question log search → left_of_search search 0 < left_of_hearing search.path 1
+less_heard search s = coming_falls search.path search.path 0 0 0 1 (hunts_left search) 0 0 1 refl refl refl (omega arith) (search_digits search 0 (omega arith) s)
+
+-- So it is where the innermost question is closed.
+pub closed_heard : {port : ℕ} {question : Question} {log : List Exchange} (search after : Search) → IsSearch port question log search → IsSmaller port question log (left_of_search search 0) after
+    → IsSmaller port question log (left_of_hearing search.path 1) after
+closed_heard search after s k = record { is_search = k.is_search; falls = less_than k.falls (few_is (less_heard search s)) }
 
 -- ---- a response to the last question itself
 
 question_last : (searching : Search) → searching.frames.items ≡ [] → question_of searching ≡ searching.path.last
-question_last searching none = ap (λ (fs : List Frame). question_behind fs searching.path.last) none
+question_last searching none = ap (λ (fs : List Nested). question_behind fs searching.path.last) none
 
 pub denying_last : {port : ℕ} {question : Question} {log : List Exchange} {searching : Search} {heard : Heard} (rcode : ℕ) (negative : Option Find) → IsHearing port question log searching heard → searching.frames.items ≡ []
     → heard.says ≡ Denies rcode negative → IsDenied port log searching.path.last rcode (option_map soa_whole negative)
@@ -165,26 +168,21 @@ referred : {port : ℕ} {question : Question} {log : List Exchange} {searching :
     → IsReferral port (hunt_of searching).servers.zone (question_of searching) h.message referral
 referred {port} {searching = searching} referral h is = subst (λ (s : Says). IsSaid port (hunt_of searching).servers.zone (question_of searching) h.message s) is h.says
 
--- What a response that refers to servers gives.
-pub record IsReferred (port : ℕ) (log : List Exchange) (question : Question) (since : List Exchange) (servers : Servers) : Type 0 where
-  pub reached : ReachedFor port log question servers since
-  pub listed : Known port log (Listed servers)
-  pub above : IsAtOrBelow question.owner servers.zone
-
+-- The servers to which a response refers are reached.
 pub referring : {port : ℕ} {question : Question} {log : List Exchange} {searching : Search} {heard : Heard} (referral : Referral) (servers : Servers) → (h : IsHearing port question log searching heard)
-    → heard.says ≡ Refers referral → servers ≡ servers_referred referral → IsReferred port log (question_of searching) h.since servers
+    → heard.says ≡ Refers referral → servers ≡ servers_referred referral → IsReached port log (question_of searching) h.since servers
 referring {port} {question} {log} {searching} {heard} referral servers h is same =
     let r = referred referral h is in
-    subst (λ (s : Servers). IsReferred port log (question_of searching) h.since s) (sym same) (record {
+    subst (λ (s : Servers). IsReached port log (question_of searching) h.since s) (sym same) (record {
       reached = ReachedFor.by_referral h.before h.upto h.server h.over h.bytes h.octets h.split h.came h.responds r refl;
       listed = Known.referred (responding h) r;
       above = r.above;
     })
 
 pub referring_last : {port : ℕ} {question : Question} {log : List Exchange} {searching : Search} {heard : Heard} (referral : Referral) (servers : Servers) → (h : IsHearing port question log searching heard)
-    → searching.frames.items ≡ [] → heard.says ≡ Refers referral → servers ≡ servers_referred referral → IsReferred port log searching.path.last h.since servers
+    → searching.frames.items ≡ [] → heard.says ≡ Refers referral → servers ≡ servers_referred referral → IsReached port log searching.path.last h.since servers
 referring_last {port} {log = log} {searching = searching} referral servers h none is same =
-    subst (λ (q : Question). IsReferred port log q h.since servers) (question_last searching none) (referring referral servers h is same)
+    subst (λ (q : Question). IsReached port log q h.since servers) (question_last searching none) (referring referral servers h is same)
 
 -- ---- a response to a question for the address of a server
 
@@ -195,7 +193,7 @@ next_among hunt target n =
     let zero_more : hunt.sought + 0 ≡ hunt.sought = omega arith in
     (hunt.sought, some, sym (ap (λ (k : ℕ). get_or missing k target) zero_more) ∙ sym (get_or-drop hunt.sought missing 0 target) ∙ ap (λ (xs : List Labels). get_or xs 0 target) n.next)
 
-behind_known : (port : ℕ) (log since : List Exchange) (fs : List Frame) (base : Hunt) (name : Labels) → IsHunt port log name base → AreFrames port log since base fs → Known port log (Listed (hunt_behind fs base).servers)
+behind_known : (port : ℕ) (log since : List Exchange) (fs : List Nested) (base : Hunt) (name : Labels) → IsHunt port log name base → AreFrames port log since base fs → Known port log (Listed (hunt_behind fs base).servers)
 behind_known port log since [] base name h all = h.listed
 behind_known port log since (f ∷ fs) base name h all = all.0.hunt.listed
 
@@ -206,17 +204,17 @@ serves_all port log hunt target listed among (addr ∷ addrs) all =
     (Known.found listed among all.0.had all.0.among, serves_all port log hunt target listed among addrs all.1)
 
 -- The addresses of the server for which the innermost question asks serve the zone behind it.
-pub addresses_serve : {port : ℕ} {question : Question} {log : List Exchange} (searching : Search) (frame : Frame) → 0 < length searching.frames.items → frame ≡ slice_index_or searching.frames.items 0 frame
+pub addresses_serve : {port : ℕ} {question : Question} {log : List Exchange} (searching : Search) (frame : Nested) → 0 < length searching.frames.items → frame ≡ slice_index_or searching.frames.items 0 frame
     → IsSearch port question log searching → (addrs : List Addr) → AllByRecursion (IsAddressOf port log frame.target) addrs
     → AllByRecursion (λ addr. Known port log (Serves (hunt_behind (drop 1 searching.frames.items) searching.base).servers.zone addr)) addrs
 addresses_serve {port} {question} {log} searching frame some is s addrs all =
     let i = inner searching.frames.items some in
-    let first : frame ≡ i.first = subst (λ (fs : List Frame). frame ≡ slice_index_or fs 0 frame) i.are is in
-    let known : AreFrames port log s.since searching.base (i.first ∷ i.rest) = subst (λ (fs : List Frame). AreFrames port log s.since searching.base fs) i.are s.frames in
+    let first : frame ≡ i.first = subst (λ (fs : List Nested). frame ≡ slice_index_or fs 0 frame) i.are is in
+    let known : AreFrames port log s.since searching.base (i.first ∷ i.rest) = subst (λ (fs : List Nested). AreFrames port log s.since searching.base fs) i.are s.frames in
     let behind = hunt_behind i.rest searching.base in
     let listed = behind_known port log s.since i.rest searching.base searching.path.last.owner s.base.is_hunt known.1 in
-    let here : AllByRecursion (IsAddressOf port log i.first.target) addrs = subst (λ (f : Frame). AllByRecursion (IsAddressOf port log f.target) addrs) first all in
-    subst (λ (fs : List Frame). AllByRecursion (λ addr. Known port log (Serves (hunt_behind (drop 1 fs) searching.base).servers.zone addr)) addrs) (sym i.are)
+    let here : AllByRecursion (IsAddressOf port log i.first.target) addrs = subst (λ (f : Nested). AllByRecursion (IsAddressOf port log f.target) addrs) first all in
+    subst (λ (fs : List Nested). AllByRecursion (λ addr. Known port log (Serves (hunt_behind (drop 1 fs) searching.base).servers.zone addr)) addrs) (sym i.are)
     (serves_all port log behind i.first.target listed (next_among behind i.first.target known.0.next) addrs here)
 
 pub harvest_heard : {port : ℕ} {question : Question} {log : List Exchange} {searching : Search} {heard : Heard} → IsHearing port question log searching heard → IsHarvestOf port log heard.harvest
@@ -230,7 +228,7 @@ harvest_heard {searching = searching} h = record {
 }
 
 -- The addresses in a set that is known are those of the server.
-pub addresses_known : (port : ℕ) (log : List Exchange) (question : Question) (told : Told) (target : Labels) → Known port log (Had question told) → question ≡ address_question target
+pub addresses_known : (port : ℕ) (log : List Exchange) (question : Question) (told : AnswerSet) (target : Labels) → Known port log (Had question told) → question ≡ address_question target
     → (addrs : List Addr) → AllByRecursion (IsAddressIn port told) addrs → AllByRecursion (IsAddressOf port log target) addrs
 addresses_known port log question told target had same addrs all =
     all_weaker (IsAddressIn port told) (IsAddressOf port log target)

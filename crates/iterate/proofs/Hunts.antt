@@ -2,7 +2,7 @@
 use Rattle.std.proofs.Common.{ℕ, ◌+◌, ◌*◌, ◌^◌, ◌<◌, ◌≤◌, List, [], ◌∷◌, length, arith}
 use Rattle.dns_name.specs.Labels.{Labels}
 use Rattle.dns_text.specs.declared.record.Question.{Question}
-use Rattle.iterate.specs.declared.search.Frame.{Frame}
+use Rattle.iterate.specs.declared.search.Nested.{Nested}
 use Rattle.iterate.specs.declared.search.Hunt.{Hunt}
 use Rattle.iterate.specs.declared.search.Search.{Search}
 use Rattle.iterate.specs.Exchanges.{Exchange}
@@ -13,7 +13,7 @@ use Rattle.iterate.proofs.Falling.{Digits, few_is, path_digits}
 missing_few : {port : ℕ} {log : List Exchange} {name : Labels} (hunt : Hunt) → IsHunt port log name hunt → missing_left hunt + 1 ≤ 2 ^ 64
 missing_few hunt h = omega (arith, h.countable)
 
-frames_few : (port : ℕ) (log since : List Exchange) (base : Hunt) (fs : List Frame) → AreFrames port log since base fs → frames_left fs ≤ length fs * 2 ^ 64
+frames_few : (port : ℕ) (log since : List Exchange) (base : Hunt) (fs : List Nested) → AreFrames port log since base fs → frames_left fs ≤ length fs * 2 ^ 64
 frames_few port log since base [] all = omega arith
 frames_few port log since base (f ∷ fs) all =
     let here = missing_few f.hunt all.0.hunt in

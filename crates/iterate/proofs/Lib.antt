@@ -1,4 +1,5 @@
 pub mod Growing
+pub mod FailLaws
 pub mod Falling
 pub mod FitLaws
 pub mod PathTurns

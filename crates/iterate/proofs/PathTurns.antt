@@ -17,7 +17,7 @@ use Rattle.history.specs.declared.event.Seen.TheVariants.{Unknown, Held, Local a
 use Rattle.iterate.specs.declared.answer.Answer.{Answer}
 use Rattle.iterate.specs.declared.answer.Answer.TheVariants.{Reply as Replies, Silent}
 use Rattle.iterate.specs.declared.answer.Soa.{Soa}
-use Rattle.iterate.specs.declared.answer.Told.{Told}
+use Rattle.iterate.specs.declared.answer.AnswerSet.{AnswerSet}
 use Rattle.iterate.specs.declared.path.Path.{Path}
 use Rattle.iterate.specs.declared.phase.Phase.{Phase}
 use Rattle.iterate.specs.declared.phase.Phase.TheVariants.{First, Ended}
@@ -26,7 +26,7 @@ use Rattle.iterate.specs.declared.want.Input.TheVariants.{Begin, Reply, Refused,
 use Rattle.iterate.specs.declared.want.Want.{Want}
 use Rattle.iterate.specs.declared.want.Want.TheVariants.{Book, Finish}
 use Rattle.iterate.specs.Exchanges.{Exchange, exchange, Adds, Happened, count_sends}
-use Rattle.iterate.specs.Known.{Known, Had}
+use Rattle.iterate.specs.Known.{Known, Had, WasUnknown}
 use Rattle.iterate.specs.Looked.{IsReplied, IsSetSeen}
 use Rattle.iterate.specs.Measure.{top, Falls, left_in, left_of_path, digits_of_path}
 use Rattle.iterate.specs.Phase.{Goes, Drawing, idle}
@@ -55,9 +55,9 @@ path_looks path looks few = path_digits path 0 0 top looks (omega arith) (omega 
 pub looks_less : (path : Path) (looks more : ℕ) → looks < more → looks ≤ top → left_of_path path looks < left_of_path path more
 looks_less path looks more less few = looks_fall path path 0 0 0 top looks more refl refl refl less (path_looks path looks few)
 
-pub longer_less : (path next : Path) (told : Told) (to : Labels) (looks more : ℕ) → IsLonger path told to next → looks ≤ top → left_of_path next looks < left_of_path path more
+pub longer_less : (path next : Path) (told : AnswerSet) (to : Labels) (looks more : ℕ) → IsLonger path told to next → looks ≤ top → left_of_path next looks < left_of_path path more
 longer_less path next told to looks more l few =
-    let longer : length next.sets.items ≡ length path.sets.items + 1 = ap (λ (xs : List Told). length xs) l.sets ∙ length-append path.sets.items (told ∷ []) in
+    let longer : length next.sets.items ≡ length path.sets.items + 1 = ap (λ (xs : List AnswerSet). length xs) l.sets ∙ length-append path.sets.items (told ∷ []) in
     let same : 64 - (next.sent + 0) ≡ 64 - (path.sent + 0) = ap (λ (n : ℕ). 64 - (n + 0)) l.sent in
     alias_falls next path 0 0 0 0 top top looks more l.begun same (omega (arith, longer, l.short)) (path_looks next looks few)
 
@@ -79,7 +79,7 @@ few_sent : {port : ℕ} {question : Question} {log : List Exchange} {path : Path
 few_sent p = omega (arith, p.counted, p.few)
 
 -- A set that is known ends the path.
-pub telling : {port : ℕ} {question : Question} {log : List Exchange} {moment : ℕ} {id : Stream} {left : ℕ} (path : Path) (told : Told) → left_in Ended < left → IsPath port question log path → Known port log (Had path.last told)
+pub telling : {port : ℕ} {question : Question} {log : List Exchange} {moment : ℕ} {id : Stream} {left : ℕ} (path : Path) (told : AnswerSet) → left_in Ended < left → IsPath port question log path → Known port log (Had path.last told)
     → Goes port question log moment (idle id) left Ended (Finish (Replies 0 false path.sets.items (Some told) None))
 telling {port} {question} {log} path told less p known =
     let there : Known port log (Had (question_at question path.last.owner) told) = subst (λ (k : ℕ). Known port log (Had (record { owner = path.last.owner; kind = k }) told)) p.kind known in
@@ -93,7 +93,7 @@ denying {port} {question} {log} path rcode authority less p denied =
     answering (Replies rcode false path.sets.items None authority) (ResolvedAs.denied p.began p.chain p.short there) (few_sent p) less
 
 -- So does what a look sees.
-pub seeing : {port : ℕ} {question : Question} {before log : List Exchange} {m moment : ℕ} {id : Stream} {left : ℕ} (path : Path) (seen : SeenValue) {rcode : ℕ} {last : Option Told} {authority : Option Soa}
+pub seeing : {port : ℕ} {question : Question} {before log : List Exchange} {m moment : ℕ} {id : Stream} {left : ℕ} (path : Path) (seen : SeenValue) {rcode : ℕ} {last : Option AnswerSet} {authority : Option Soa}
     → left_in Ended < left → IsPath port question before path → Adds before (exchange (Book (Look m (Asked path.last))) (Reply (Seen seen))) log → Ends path.last seen rcode last authority
     → Goes port question log moment (idle id) left Ended (Finish (Replies rcode false path.sets.items last authority))
 seeing {port} {question} {before} {log} {m} path seen {rcode} {last} {authority} less p adds ends =
@@ -107,7 +107,7 @@ seeing {port} {question} {before} {log} {m} path seen {rcode} {last} {authority}
 
 -- ---- failing
 
-pub failing_behind : {port : ℕ} {question : Question} {log : List Exchange} {moment : ℕ} {id : Stream} {left : ℕ} (front : List Told) (last : Question) → left_in Ended < left → BeganUnanswered question log
+pub failing_behind : {port : ℕ} {question : Question} {log : List Exchange} {moment : ℕ} {id : Stream} {left : ℕ} (front : List AnswerSet) (last : Question) → left_in Ended < left → BeganUnanswered question log
     → Chain port log question.owner front last.owner → last.kind ≡ question.kind → Fails port log last (length front) → count_sends log ≤ 64
     → Goes port question log moment (idle id) left Ended (Finish (Replies 2 false [] None None))
 failing_behind {port} {question} {log} front last less began chain kind fails few =
@@ -131,7 +131,7 @@ failing_barred {m = m} path seen less p some adds barred =
     failing path less (path_more p adds refl) (Fails.barred {moment = m} {seen = seen} some (happened_last adds) barred)
 
 -- There are more aliases than are followed.
-pub failing_long : {port : ℕ} {question : Question} {log : List Exchange} {moment : ℕ} {id : Stream} {left : ℕ} (path : Path) (told : Told) (to : Labels) → left_in Ended < left → IsPath port question log path
+pub failing_long : {port : ℕ} {question : Question} {log : List Exchange} {moment : ℕ} {id : Stream} {left : ℕ} (path : Path) (told : AnswerSet) (to : Labels) → left_in Ended < left → IsPath port question log path
     → Known port log (Had (alias_question path.last.owner) told) → IsTarget told to → 16 ≤ length path.sets.items → Goes port question log moment (idle id) left Ended (Finish (Replies 2 false [] None None))
 failing_long path told to less p known target long =
     let longer : length (path.sets.items ++ told ∷ []) ≡ length path.sets.items + 1 = length-append path.sets.items (told ∷ []) in
@@ -141,7 +141,7 @@ failing_long path told to less p known target long =
 -- ---- the path
 
 -- It goes on along an alias.
-pub longer_path : {port : ℕ} {question : Question} {log : List Exchange} {path next : Path} {told : Told} {to : Labels} → IsPath port question log path → Known port log (Had (alias_question path.last.owner) told)
+pub longer_path : {port : ℕ} {question : Question} {log : List Exchange} {path next : Path} {told : AnswerSet} {to : Labels} → IsPath port question log path → Known port log (Had (alias_question path.last.owner) told)
     → IsTarget told to → IsLonger path told to next → IsPath port question log next
 longer_path {port} {question} {log} {path} {next} p known target l = record {
   began = p.began;
@@ -152,19 +152,32 @@ longer_path {port} {question} {log} {path} {next} p known target l = record {
   few = omega (arith, l.sent, p.few);
 }
 
-pub longer_some : {path next : Path} {told : Told} {to : Labels} → IsLonger path told to next → 1 ≤ length next.sets.items
+pub longer_some : {path next : Path} {told : AnswerSet} {to : Labels} → IsLonger path told to next → 1 ≤ length next.sets.items
 longer_some {path} {next} {told} {to} l =
-    let longer : length next.sets.items ≡ length path.sets.items + 1 = ap (λ (xs : List Told). length xs) l.sets ∙ length-append path.sets.items (told ∷ []) in
+    let longer : length next.sets.items ≡ length path.sets.items + 1 = ap (λ (xs : List AnswerSet). length xs) l.sets ∙ length-append path.sets.items (told ∷ []) in
     omega (arith, longer)
 
+pub no_longer : {path next : Path} {told : AnswerSet} {to : Labels} → IsLonger path told to next → next.sets.items ≡ [] → ⊥
+no_longer {next = next} l none =
+    let some = longer_some l in
+    let few = ap (λ (xs : List AnswerSet). length xs) none in
+    absurd (omega (arith, some, few))
+
+none_of : (sets : List AnswerSet) → length sets ≡ 0 → sets ≡ []
+none_of [] none = refl
+none_of (told ∷ sets) none = absurd (omega (arith, none))
+
+pub no_sets : (path : Path) → length path.sets.items ≡ 0 → path.sets.items ≡ []
+no_sets path none = none_of path.sets.items none
+
 -- The set that a look showed is known.
-pub set_known : (port m : ℕ) (question : Question) (input : Input) (before log : List Exchange) (seen : SeenValue) (told : Told) → IsReplied question input seen → IsSetSeen seen told
+pub set_known : (port m : ℕ) (question : Question) (input : Input) (before log : List Exchange) (seen : SeenValue) (told : AnswerSet) → IsReplied question input seen → IsSetSeen seen told
     → Adds before (exchange (Book (Look m (Asked question))) input) log → Known port log (Had question told)
 set_known port m question input before log (Held shown) told r set adds =
-    subst (λ (t : Told). Known port log (Had question t)) (sym set.1)
+    subst (λ (t : AnswerSet). Known port log (Had question t)) (sym set.1)
     (Known.looked (subst (λ (i : Input). Adds before (exchange (Book (Look m (Asked question))) i) log) r.replied adds) (record { shown_for = r.lawful; has_data = set.0 }))
 set_known port m question input before log (LocalSeen (local.Data records)) told r set adds =
-    subst (λ (t : Told). Known port log (Had question t)) (sym set)
+    subst (λ (t : AnswerSet). Known port log (Had question t)) (sym set)
     (Known.local (subst (λ (i : Input). Adds before (exchange (Book (Look m (Asked question))) i) log) r.replied adds) r.lawful)
 set_known port m question input before log (LocalSeen (local.NoData soa)) told r set adds = absurd set
 set_known port m question input before log (LocalSeen (local.NoName soa)) told r set adds = absurd set
@@ -190,7 +203,7 @@ pub first_some : left_in Ended < left_in First
 first_some = omega arith
 
 -- What it sees ends the question.
-pub first_ends : {port : ℕ} {question : Question} {log : List Exchange} {m : ℕ} (seen : SeenValue) {rcode : ℕ} {last : Option Told} {authority : Option Soa}
+pub first_ends : {port : ℕ} {question : Question} {log : List Exchange} {m : ℕ} (seen : SeenValue) {rcode : ℕ} {last : Option AnswerSet} {authority : Option Soa}
     → Adds [] (exchange (Book (Look m (Asked question))) (Reply (Seen seen))) log → Ends question seen rcode last authority
     → IsResolved port question log (Replies rcode (is_local seen) [] last authority)
 first_ends seen adds ends = ResolvedAs.at_once {seen = seen} (first_began adds) ends
@@ -241,15 +254,19 @@ pub unless_known : (port : ℕ) (question : Question) (input : Input) (log : Lis
 unless_known port question input log None unknown = subst (λ (i : Input). IsNoAnswer question i) (sym unknown) tt
 unless_known port question input log (Some answer) resolved = resolved
 
--- It knew nothing: the path begins.
+-- It knew nothing.
+pub first_unknown : {question : Question} {log : List Exchange} {m : ℕ} (path : Path) → Adds [] (exchange (Book (Look m (Asked question))) (Reply (Seen Unknown))) log → path.last ≡ question → WasUnknown log path.last
+first_unknown {log = log} {m = m} path adds last = subst (λ (q : Question). WasUnknown log q) (sym last) (record { moment = m; looked = happened_last adds })
+
+-- The path begins.
 pub first_path : {port : ℕ} {question : Question} {log : List Exchange} {m : ℕ} (path : Path) → Adds [] (exchange (Book (Look m (Asked question))) (Reply (Seen Unknown))) log
     → path.last ≡ question → path.sets.items ≡ [] → path.sent ≡ 0 → IsPath port question log path
 first_path {port} {question} {log} path adds last none unsent =
     let sent = sends_same adds refl in record {
       began = record { input = Reply (Seen Unknown); began = first_began adds; no_answer = tt };
-      chain = subst (λ (xs : List Told). Chain port log question.owner xs path.last.owner) (sym none) (subst (λ (q : Question). Chain port log question.owner [] q.owner) (sym last) Chain.start);
+      chain = subst (λ (xs : List AnswerSet). Chain port log question.owner xs path.last.owner) (sym none) (subst (λ (q : Question). Chain port log question.owner [] q.owner) (sym last) Chain.start);
       kind = ap (λ (q : Question). q.kind) last;
-      short = omega (arith, ap (λ (xs : List Told). length xs) none);
+      short = omega (arith, ap (λ (xs : List AnswerSet). length xs) none);
       counted = unsent ∙ sym sent;
       few = omega (arith, unsent);
     }

@@ -3,9 +3,11 @@ use Rattle.std.proofs.Common.{◌≡◌, ℕ, ◌+◌, ◌<◌, ◌≤◌, Bool,
 use Rattle.std.proofs.lemmas.List.Sums.{sum_by-cons}
 use Rattle.dns_text.specs.declared.record.Question.{Question}
 use Rattle.iterate.specs.declared.answer.Answer.{Answer}
+use Rattle.iterate.specs.declared.phase.Advance.{Advance}
 use Rattle.iterate.specs.declared.phase.Phase.{Phase}
 use Rattle.iterate.specs.declared.phase.Phase.TheVariants.{Fresh, First, Aliasing, Looking, Listing, Seeking, Sent, Admitting, Ended, Broken}
 use Rattle.iterate.specs.declared.path.Path.{Path}
+use Rattle.iterate.specs.declared.task.State.{State}
 use Rattle.iterate.specs.declared.want.Input.{Input}
 use Rattle.iterate.specs.declared.want.Step.{Step}
 use Rattle.iterate.specs.declared.want.Want.{Want}
@@ -14,7 +16,7 @@ use Rattle.iterate.specs.Exchanges.{Exchange, exchange, exchanges_behind, exchan
 use Rattle.iterate.specs.Measure.{left_in}
 use Rattle.iterate.specs.Phase.{Fits, Goes, IsDue, Suits, Drawing}
 use Rattle.iterate.specs.Searching.{IsPath}
-use Rattle.iterate.specs.Task.{IsTask, IsDueAt}
+use Rattle.iterate.specs.Task.{IsTask, IsDueAt, IsKept, StepsOn}
 use Rattle.iterate.specs.Told.{IsFit}
 use Rattle.iterate.specs.Wanted.{MayWant, id_drawn, stream_behind}
 use Rattle.iterate.proofs.FitLaws.{resolved_is_fit}
@@ -87,9 +89,9 @@ few_open : (port : ℕ) (question : Question) (log : List Exchange) (want : Want
 few_open port question log want Fresh f = absurd f
 few_open port question log want Broken f = absurd f
 few_open port question log want First f = none_open log want (ap sends f.1.wanted) (omega (arith, ap count_sends f.0))
-few_open port question log want (Aliasing path) f = none_open log want (ap sends f.1.wanted) (path_few f.0)
+few_open port question log want (Aliasing path) f = none_open log want (ap sends f.1.wanted) (path_few f.0.is_path)
 few_open port question log want (Looking path) f = none_open log want (ap sends f.2.wanted) (path_few f.0)
-few_open port question log want (Listing path) f = none_open log want (ap sends f.1.wanted) (path_few f.0)
+few_open port question log want (Listing path) f = none_open log want (ap sends f.1.wanted) (path_few f.0.is_path)
 few_open port question log want (Seeking hunting target stage) f = none_open log want (ap sends f.1.wanted) (path_few f.0.is_search.path)
 few_open port question log want (Sent hunting server id over) f = one_open log want (ap sends f.wanted) (omega (arith, f.is_search.path.counted, f.some))
 few_open port question log want (Admitting hunting heard next) f = none_open log want (ap sends f.2.wanted) (path_few f.0.is_search.path)
@@ -162,3 +164,21 @@ stepping port question steps moment id input Ended after want t due goes fresh b
 -- An answer that may be wanted can be written.
 pub wanted_is_fit : (port : ℕ) (question : Question) (log : List Exchange) (moment id : ℕ) (want : Want) → MayWant port question log moment id want → (answer : Answer) → want ≡ Finish answer → IsFit answer
 wanted_is_fit port question log moment id want may answer is = resolved_is_fit port question log answer (subst (λ (w : Want). MayWant port question log moment id w) is may)
+
+-- A step that was kept.
+pub kept_task : {moment left : ℕ} {id : Drawing} {input : Input} {want : Want} (before after : State) (next : Advance) → IsStep before.port before.question before.steps.items moment id left input next.phase next.want
+    → IsKept before input next after want → IsTask before.port before.question after.steps.items after.phase
+kept_task before after next made k =
+    subst (λ (p : Phase). IsTask before.port before.question after.steps.items p) (sym k.phase) (subst (λ (xs : List Step). IsTask before.port before.question xs next.phase) (sym k.steps) made.task)
+
+pub kept_steps : {moment : ℕ} {id : Drawing} {input : Input} {was : Phase} {want : Want} (before after : State) (next : Advance) → was ≡ before.phase
+    → IsStep before.port before.question before.steps.items moment id (left_in was) input next.phase next.want → IsKept before input next after want → StepsOn before input moment id after want
+kept_steps {moment} {id} {input} {was} {want} before after next same made k =
+    subst (λ (w : Want). StepsOn before input moment id after w) (sym k.wanted) (record {
+      steps = k.steps;
+      wants = subst (λ (xs : List Step). MayWant before.port before.question (exchanges_of xs) moment (id_drawn id.before) next.want) (sym k.steps) made.wants;
+      drawn = made.drawn;
+      fit = wanted_is_fit before.port before.question _ moment _ next.want made.wants;
+      left = subst (λ (p : Phase). left_in p < left_in before.phase) (sym k.phase) (subst (λ (p : Phase). left_in next.phase < left_in p) same made.falls);
+      few = subst (λ (xs : List Step). sent_in xs ≤ 64) (sym k.steps) made.few;
+    })

@@ -12,16 +12,17 @@ use Rattle.dns_text.specs.declared.types.TheConstants as number
 use Rattle.dns_query.specs.Query.{address_question}
 use Rattle.iterate.specs.declared.path.Path.{Path}
 use Rattle.iterate.specs.declared.phase.Stage.TheVariants as stage
-use Rattle.iterate.specs.declared.search.Frame.{Frame}
+use Rattle.iterate.specs.declared.search.Nested.{Nested}
 use Rattle.iterate.specs.declared.search.Hunt.{Hunt}
 use Rattle.iterate.specs.declared.search.Search.{Search}
 use Rattle.iterate.specs.Exchanges.{Exchange}
-use Rattle.iterate.specs.Hunting.{AllServe, IsFresh, IsSupplied, AreSupplied, IsTried, IsSmaller}
-use Rattle.iterate.specs.Known.{Known, Listed, Serves}
+use Rattle.iterate.specs.Hunting.{AllServe, IsReached, IsFresh, IsSupplied, AreSupplied, IsTried, IsSmaller}
+use Rattle.iterate.specs.Known.{Known, Listed, Serves, WasUnknown}
 use Rattle.iterate.specs.Measure.{top, missing_left, frames_left, hunts_left, left_of_path, left_of_search, left_of_seek, left_of_hearing}
 use Rattle.iterate.specs.Resolved.{ReachedFor, Struck, MaySeek, Sought}
-use Rattle.iterate.specs.Searching.{IsPath, IsHunt, IsNext, IsBase, IsFrame, AreFrames, IsSearch, hunt_behind, hunt_of, question_behind, question_of}
+use Rattle.iterate.specs.Searching.{IsPath, IsAskable, IsHunt, IsNext, IsBase, IsFrame, AreFrames, IsSearch, hunt_behind, hunt_of, question_behind, question_of}
 use Rattle.iterate.proofs.Falling.{coming_falls, servers_fall}
+use Rattle.iterate.proofs.Finding.{was_sought}
 use Rattle.iterate.proofs.Hunts.{hunts_few, search_digits}
 
 -- ---- lists
@@ -71,12 +72,12 @@ address_is question target owner kind =
     subst (λ (n : Labels). address_question n ≡ question) owner (subst (λ (k : ℕ). record { owner = question.owner; kind = k } ≡ question) kind refl)
 
 -- the first of some questions
-pub first_frame : (fs : List Frame) → 0 < length fs → (g : Frame) × (gs : List Frame) × (fs ≡ g ∷ gs)
+pub first_frame : (fs : List Nested) → 0 < length fs → (g : Nested) × (gs : List Nested) × (fs ≡ g ∷ gs)
 first_frame [] some = absurd (omega (arith, some))
 first_frame (g ∷ gs) some = (g, gs, refl)
 
-pub removed_first : (fs : List Frame) (g : Frame) (gs : List Frame) (f : Frame) → fs ≡ g ∷ gs → f ≡ get_or fs 0 f → f ≡ g
-removed_first fs g gs f are is = is ∙ ap (λ (xs : List Frame). get_or xs 0 f) are
+pub removed_first : (fs : List Nested) (g : Nested) (gs : List Nested) (f : Nested) → fs ≡ g ∷ gs → f ≡ get_or fs 0 f → f ≡ g
+removed_first fs g gs f are is = is ∙ ap (λ (xs : List Nested). get_or xs 0 f) are
 
 -- one address more is joined
 pub join_more : (known before after others : List Addr) (i : ℕ) (addr : Addr) → take (i + 1) others ≡ take i others ++ addr ∷ [] → take (length known) before ≡ known
@@ -114,11 +115,12 @@ fresh_hunt port log name list hunt known zone f =
       countable = subst (λ (s : Servers). length s.missing < 2 ^ 64) same f.countable;
     }
 
-fresh_base : (port : ℕ) (log since : List Exchange) (question : Question) (list : Servers) (hunt : Hunt) → Known port log (Listed list) → ReachedFor port log question list since
-    → IsAtOrBelow question.owner list.zone → IsFresh list hunt → IsBase port log question since hunt
-fresh_base port log since question list hunt known reached zone f = record {
-  is_hunt = fresh_hunt port log question.owner list hunt known zone f;
-  reached = subst (λ (s : Servers). ReachedFor port log question s since) (sym f.servers) reached;
+fresh_base : (port : ℕ) (log since : List Exchange) (question : Question) (list : Servers) (hunt : Hunt) → WasUnknown log question → IsReached port log question since list → IsFresh list hunt
+    → IsBase port log question since hunt
+fresh_base port log since question list hunt unknown r f = record {
+  unknown = unknown;
+  is_hunt = fresh_hunt port log question.owner list hunt r.listed r.above f;
+  reached = subst (λ (s : Servers). ReachedFor port log question s since) (sym f.servers) r.reached;
   all = λ addr is. f.all addr (subst (λ (s : Servers). Contains s.addrs addr) f.servers is);
   vain = λ addr is. absurd (none_taken hunt.asked hunt.addrs.items addr f.asked is);
   sought = λ target is may. absurd (none_taken hunt.sought hunt.servers.missing target f.sought is);
@@ -130,17 +132,17 @@ rebuilt : (port : ℕ) (question : Question) (log since : List Exchange) (after 
 rebuilt port question log since after p b fs deep = record { path = p; since = since; base = b; frames = fs; deep = deep }
 
 reached_search : (port : ℕ) (question : Question) (log since : List Exchange) (path : Path) (list : Servers) (after : Search) → after.path ≡ path → after.frames.items ≡ [] → IsFresh list after.base
-    → IsPath port question log path → Known port log (Listed list) → ReachedFor port log path.last list since → IsAtOrBelow path.last.owner list.zone → IsSearch port question log after
-reached_search port question log since path list after same none f p known reached zone =
-    rebuilt port question log since after (subst (λ (q : Path). IsPath port question log q) (sym same) p)
-    (subst (λ (q : Path). IsBase port log q.last since after.base) (sym same) (fresh_base port log since path.last list after.base known reached zone f))
-    (subst (λ (fs : List Frame). AreFrames port log since after.base fs) (sym none) tt)
-    (omega (arith, ap (λ (fs : List Frame). length fs) none))
+    → IsAskable port question log path → IsReached port log path.last since list → IsSearch port question log after
+reached_search port question log since path list after same none f p r =
+    rebuilt port question log since after (subst (λ (q : Path). IsPath port question log q) (sym same) p.is_path)
+    (subst (λ (q : Path). IsBase port log q.last since after.base) (sym same) (fresh_base port log since path.last list after.base p.unknown r f))
+    (subst (λ (fs : List Nested). AreFrames port log since after.base fs) (sym none) tt)
+    (omega (arith, ap (λ (fs : List Nested). length fs) none))
 
 pub reaching : (port : ℕ) (question : Question) (log since : List Exchange) (path : Path) (list : Servers) (after : Search) → after.path ≡ path → after.frames.items ≡ [] → IsFresh list after.base
-    → IsPath port question log path → Known port log (Listed list) → ReachedFor port log path.last list since → IsAtOrBelow path.last.owner list.zone → IsSmaller port question log (left_of_path path 1) after
-reaching port question log since path list after same none f p known reached zone =
-    let s = reached_search port question log since path list after same none f p known reached zone in
+    → IsAskable port question log path → IsReached port log path.last since list → IsSmaller port question log (left_of_path path 1) after
+reaching port question log since path list after same none f p r =
+    let s = reached_search port question log since path list after same none f p r in
     record {
       is_search = s;
       falls = servers_fall after.path path 0 0 0 (hunts_left after) top 4 1 (ap (λ (q : Path). q.begun) same) (ap (λ (q : Path). 64 - (q.sent + 0)) same) (ap (λ (q : Path). length q.sets.items) same) (hunts_few after s)
@@ -154,30 +156,30 @@ below_hearing path after same s =
     (search_digits after 4 (omega arith) s)
 
 -- the innermost question is asked of other servers
-referred_frames : (port : ℕ) (log since : List Exchange) (base : Hunt) (fs : List Frame) (last : Question) (list : Servers) (target : Labels) (hunt : Hunt) (g : Frame) (gs : List Frame)
+referred_frames : (port : ℕ) (log since : List Exchange) (base : Hunt) (fs : List Nested) (last : Question) (list : Servers) (target : Labels) (hunt : Hunt) (g : Nested) (gs : List Nested)
     → fs ≡ g ∷ gs → target ≡ g.target → AreFrames port log since base fs → Known port log (Listed list) → IsAtOrBelow (question_behind fs last).owner list.zone → IsFresh list hunt
     → AreFrames port log since base (record { target = target; hunt = hunt } ∷ gs)
 referred_frames port log since base fs last list target hunt g gs are same all known zone f =
-    let inner : AreFrames port log since base (g ∷ gs) = subst (λ (xs : List Frame). AreFrames port log since base xs) are all in
-    let at : IsAtOrBelow target list.zone = subst (λ (n : Labels). IsAtOrBelow n list.zone) (sym same) (subst (λ (xs : List Frame). IsAtOrBelow (question_behind xs last).owner list.zone) are zone) in (
+    let inner : AreFrames port log since base (g ∷ gs) = subst (λ (xs : List Nested). AreFrames port log since base xs) are all in
+    let at : IsAtOrBelow target list.zone = subst (λ (n : Labels). IsAtOrBelow n list.zone) (sym same) (subst (λ (xs : List Nested). IsAtOrBelow (question_behind xs last).owner list.zone) are zone) in (
       record {
         next = subst (λ (n : Labels). IsNext (hunt_behind gs base) n) (sym same) inner.0.next;
-        sought = subst (λ (n : Labels). Sought since n) (sym same) inner.0.sought;
+        unknown = subst (λ (n : Labels). WasUnknown since (address_question n)) (sym same) inner.0.unknown;
         hunt = fresh_hunt port log target list hunt known at f;
       },
       inner.1,
     )
 
-pub referring : (port : ℕ) (question : Question) (log : List Exchange) (search after : Search) (list : Servers) (target : Labels) (hunt : Hunt) (g : Frame) (gs : List Frame) → after.path ≡ search.path → after.base ≡ search.base
+pub referring : (port : ℕ) (question : Question) (log : List Exchange) (search after : Search) (list : Servers) (target : Labels) (hunt : Hunt) (g : Nested) (gs : List Nested) → after.path ≡ search.path → after.base ≡ search.base
     → search.frames.items ≡ g ∷ gs → target ≡ g.target → after.frames.items ≡ record { target = target; hunt = hunt } ∷ gs → IsFresh list hunt → IsSearch port question log search → Known port log (Listed list)
     → IsAtOrBelow (question_of search).owner list.zone → IsSmaller port question log (left_of_hearing search.path 1) after
 referring port question log search after list target hunt g gs path base are same frames f s known zone =
     let all = referred_frames port log s.since search.base search.frames.items search.path.last list target hunt g gs are same s.frames known zone f in
-    let deep : length (g ∷ gs) ≤ 8 = subst (λ (xs : List Frame). length xs ≤ 8) are s.deep in
+    let deep : length (g ∷ gs) ≤ 8 = subst (λ (xs : List Nested). length xs ≤ 8) are s.deep in
     let t = rebuilt port question log s.since after (subst (λ (q : Path). IsPath port question log q) (sym path) s.path)
     (subst (λ (q : Path). IsBase port log q.last s.since after.base) (sym path) (subst (λ (h : Hunt). IsBase port log search.path.last s.since h) (sym base) s.base))
-    (subst (λ (xs : List Frame). AreFrames port log s.since after.base xs) (sym frames) (subst (λ (h : Hunt). AreFrames port log s.since h (record { target = target; hunt = hunt } ∷ gs)) (sym base) all))
-    (subst (λ (xs : List Frame). length xs ≤ 8) (sym frames) deep) in
+    (subst (λ (xs : List Nested). AreFrames port log s.since after.base xs) (sym frames) (subst (λ (h : Hunt). AreFrames port log s.since h (record { target = target; hunt = hunt } ∷ gs)) (sym base) all))
+    (subst (λ (xs : List Nested). length xs ≤ 8) (sym frames) deep) in
     record { is_search = t; falls = below_hearing search.path after path t }
 
 -- ---- a server without an address is done with
@@ -223,6 +225,7 @@ supplied_base port log since last target before found after b n tried serve i =
     let sought_taken : take after.sought after.servers.missing ≡ take before.sought before.servers.missing ++ target ∷ [] =
     ap (λ (k : ℕ). take k after.servers.missing) one ∙ ap (λ (s : Servers). take (before.sought + 1) s.missing) i.servers ∙ take_next before.sought before.servers.missing target n.rest n.next in
     record {
+      unknown = b.unknown;
       is_hunt = supplied_hunt port log last.owner target before found after b.is_hunt n serve i;
       reached = subst (λ (s : Servers). ReachedFor port log last s since) same b.reached;
       all = λ addr is. contains_first (length before.addrs.items) after.addrs.items before.addrs.items addr i.first (b.all addr (subst (λ (s : Servers). Contains s.addrs addr) i.servers is));
@@ -236,12 +239,12 @@ supplied_base port log since last target before found after b n tried serve i =
     }
 
 -- what a search remembers of its servers
-record IsStack (port : ℕ) (log since : List Exchange) (last : Question) (base : Hunt) (fs : List Frame) : Type 0 where
+record IsStack (port : ℕ) (log since : List Exchange) (last : Question) (base : Hunt) (fs : List Nested) : Type 0 where
   base_known : IsBase port log last since base
   frames_known : AreFrames port log since base fs
   deep : length fs ≤ 8
 
-supplied_stack : (port : ℕ) (log since : List Exchange) (last : Question) (target : Labels) (fs gs : List Frame) (base next : Hunt) (found : List Addr) → IsBase port log last since base → AreFrames port log since base fs
+supplied_stack : (port : ℕ) (log since : List Exchange) (last : Question) (target : Labels) (fs gs : List Nested) (base next : Hunt) (found : List Addr) → IsBase port log last since base → AreFrames port log since base fs
     → length fs ≤ 8 → IsNext (hunt_behind fs base) target → (fs ≡ [] → MaySeek last base.servers target → Sought since target) → AllServe port log (hunt_behind fs base).servers.zone found
     → AreSupplied fs base found gs next → IsStack port log since last next gs
 supplied_stack port log since last target [] [] base next found b all deep n tried serve i =
@@ -252,15 +255,15 @@ supplied_stack port log since last target (f ∷ fs) (g ∷ gs) base next found 
     let same = sym i.0 in
     let frame : IsFrame port log since (hunt_behind fs base) g = record {
       next = subst (λ (m : Labels). IsNext (hunt_behind fs base) m) same all.0.next;
-      sought = subst (λ (m : Labels). Sought since m) same all.0.sought;
+      unknown = subst (λ (m : Labels). WasUnknown since (address_question m)) same all.0.unknown;
       hunt = subst (λ (m : Labels). IsHunt port log m g.hunt) same (supplied_hunt port log f.target target f.hunt found g.hunt all.0.hunt n serve i.1);
     } in
     subst (λ (h : Hunt). IsStack port log since last h (g ∷ gs)) (sym i.3)
-    (subst (λ (xs : List Frame). IsStack port log since last base (g ∷ xs)) (sym i.2) record { base_known = b; frames_known = (frame, all.1); deep = deep })
+    (subst (λ (xs : List Nested). IsStack port log since last base (g ∷ xs)) (sym i.2) record { base_known = b; frames_known = (frame, all.1); deep = deep })
 
 -- ---- how many are left, whatever is known
 
-pub hunts_fall : (fs gs : List Frame) (base next : Hunt) (found : List Addr) → (hunt_behind fs base).sought < length (hunt_behind fs base).servers.missing → AreSupplied fs base found gs next
+pub hunts_fall : (fs gs : List Nested) (base next : Hunt) (found : List Addr) → (hunt_behind fs base).sought < length (hunt_behind fs base).servers.missing → AreSupplied fs base found gs next
     → missing_left next + frames_left gs < missing_left base + frames_left fs
 hunts_fall [] [] base next found within i = let less = supplied_less base found next within i in omega (arith, less)
 hunts_fall [] (g ∷ gs) base next found within i = absurd i
@@ -276,7 +279,7 @@ not_more before found after i =
     let same : length after.servers.missing ≡ length before.servers.missing = ap (λ (s : Servers). length s.missing) i.servers in
     omega (arith, same, i.forward)
 
-hunts_stay : (fs gs : List Frame) (base next : Hunt) (found : List Addr) → AreSupplied fs base found gs next
+hunts_stay : (fs gs : List Nested) (base next : Hunt) (found : List Addr) → AreSupplied fs base found gs next
     → missing_left next + frames_left gs ≤ missing_left base + frames_left fs
 hunts_stay [] [] base next found i = let less = not_more base found next i in omega (arith, less)
 hunts_stay [] (g ∷ gs) base next found i = absurd i
@@ -287,7 +290,7 @@ hunts_stay (f ∷ fs) (g ∷ gs) base next found i =
     let base_same : missing_left next ≡ missing_left base = ap missing_left i.3 in
     omega (arith, less, same, base_same)
 
-pub hunts_close : (xs gs : List Frame) (base next : Hunt) (found : List Addr) → 0 < length xs → AreSupplied (drop 1 xs) base found gs next
+pub hunts_close : (xs gs : List Nested) (base next : Hunt) (found : List Addr) → 0 < length xs → AreSupplied (drop 1 xs) base found gs next
     → missing_left next + frames_left gs < missing_left base + frames_left xs
 hunts_close [] gs base next found some i = absurd (omega (arith, some))
 hunts_close (f ∷ fs) gs base next found some i = let less = hunts_stay fs gs base next found i in omega (arith, less)
@@ -316,12 +319,12 @@ supplying port question log target search after found same i t serve =
     (supplied_stack port log s.since search.path.last target search.frames.items after.frames.items search.base after.base found s.base s.frames s.deep t.next t.tried serve i)
     (hunts_fall search.frames.items after.frames.items search.base after.base found (next_less (hunt_of search) target t.next) i)
 
-closed_stack : (port : ℕ) (log since : List Exchange) (last : Question) (xs gs : List Frame) (base next : Hunt) (found : List Addr) → 0 < length xs → IsBase port log last since base → AreFrames port log since base xs → length xs ≤ 8
+closed_stack : (port : ℕ) (log since : List Exchange) (last : Question) (xs gs : List Nested) (base next : Hunt) (found : List Addr) → 0 < length xs → IsBase port log last since base → AreFrames port log since base xs → length xs ≤ 8
     → AllServe port log (hunt_behind (drop 1 xs) base).servers.zone found → AreSupplied (drop 1 xs) base found gs next
     → IsStack port log since last next gs
 closed_stack port log since last [] gs base next found some b all deep serve i = absurd (omega (arith, some))
 closed_stack port log since last (f ∷ fs) gs base next found some b all deep serve i =
-    supplied_stack port log since last f.target fs gs base next found b all.1 (omega (arith, deep)) all.0.next (λ none may. all.0.sought) serve i
+    supplied_stack port log since last f.target fs gs base next found b all.1 (omega (arith, deep)) all.0.next (λ none may. was_sought all.0.unknown) serve i
 
 -- The innermost question is closed.
 pub closing : (port : ℕ) (question : Question) (log : List Exchange) (search after : Search) (found : List Addr) → 0 < length search.frames.items → after.path ≡ search.path
@@ -335,18 +338,18 @@ closing port question log search after found some same i s serve =
 
 pub opening : (port : ℕ) (question : Question) (log : List Exchange) (search after : Search) (list : Servers) (target : Labels) (hunt : Hunt) → after.path ≡ search.path → after.base ≡ search.base
     → after.frames.items ≡ record { target = target; hunt = hunt } ∷ search.frames.items → IsFresh list hunt → (s : IsSearch port question log search) → length search.frames.items < 8
-    → IsNext (hunt_of search) target → Sought s.since target → Known port log (Listed list) → IsAtOrBelow target list.zone → IsSmaller port question log (left_of_seek search stage.Servers) after
-opening port question log search after list target hunt path base frames f s shallow n sought known zone =
+    → IsNext (hunt_of search) target → WasUnknown s.since (address_question target) → Known port log (Listed list) → IsAtOrBelow target list.zone → IsSmaller port question log (left_of_seek search stage.Servers) after
+opening port question log search after list target hunt path base frames f s shallow n unknown known zone =
     let h = fresh_hunt port log target list hunt known zone f in
     let stack : IsStack port log s.since search.path.last search.base (record { target = target; hunt = hunt } ∷ search.frames.items) = record {
       base_known = s.base;
-      frames_known = (record { next = n; sought = sought; hunt = h }, s.frames);
+      frames_known = (record { next = n; unknown = unknown; hunt = h }, s.frames);
       deep = omega (arith, shallow);
     } in
     let t = rebuilt port question log s.since after (subst (λ (q : Path). IsPath port question log q) (sym path) s.path)
     (subst (λ (q : Path). IsBase port log q.last s.since after.base) (sym path) (subst (λ (b : Hunt). IsBase port log search.path.last s.since b) (sym base) stack.base_known))
-    (subst (λ (xs : List Frame). AreFrames port log s.since after.base xs) (sym frames) (subst (λ (b : Hunt). AreFrames port log s.since b (record { target = target; hunt = hunt } ∷ search.frames.items)) (sym base) stack.frames_known))
-    (subst (λ (xs : List Frame). length xs ≤ 8) (sym frames) stack.deep) in
+    (subst (λ (xs : List Nested). AreFrames port log s.since after.base xs) (sym frames) (subst (λ (b : Hunt). AreFrames port log s.since b (record { target = target; hunt = hunt } ∷ search.frames.items)) (sym base) stack.frames_known))
+    (subst (λ (xs : List Nested). length xs ≤ 8) (sym frames) stack.deep) in
     record {
       is_search = t;
       falls = coming_falls after.path search.path 0 0 0 1 (hunts_left after) 0 4 0 (ap (λ (q : Path). q.begun) path) (ap (λ (q : Path). 64 - (q.sent + 0)) path) (ap (λ (q : Path). length q.sets.items) path) (omega arith)

@@ -9,8 +9,8 @@ use Rattle.dns_text.specs.declared.addr.Ip.TheVariants.{V4}
 use Rattle.dns_text.specs.declared.record.Data.{Data}
 use Rattle.dns_text.specs.declared.record.Data.TheVariants.{A, Aaaa, One, Mx, Soa, Txt, Srv, Opaque}
 use Rattle.dns_text.specs.declared.record.Record.{Record}
-use Rattle.iterate.specs.declared.answer.Told.{Told}
-use Rattle.iterate.specs.declared.answer.Told.TheVariants.{Find as FindTold, Local as LocalTold, Passing as PassingTold}
+use Rattle.iterate.specs.declared.answer.AnswerSet.{AnswerSet}
+use Rattle.iterate.specs.declared.answer.AnswerSet.TheVariants.{Find as FindTold, Local as LocalTold, Passing as PassingTold}
 use Rattle.iterate.specs.Hunting.{v4_of, v4_in, v4_told}
 use Rattle.iterate.specs.Told.{IsAddressIn, data_told}
 
@@ -18,7 +18,7 @@ both : {X : Type 0} (P : X → Type 0) (xs ys : List X) → AllByRecursion P xs 
 both P [] ys all more = more
 both P (x ∷ xs) ys all more = (all.0, both P xs ys all.1 more)
 
-one_each : (port : ℕ) (told : Told) (datum : Data) → Contains (data_told told) datum → AllByRecursion (IsAddressIn port told) (v4_of port datum)
+one_each : (port : ℕ) (told : AnswerSet) (datum : Data) → Contains (data_told told) datum → AllByRecursion (IsAddressIn port told) (v4_of port datum)
 one_each port told (A octets) is = (record { octets = octets; among = is; is = refl }, tt)
 one_each port told (Aaaa octets) is = tt
 one_each port told (One name) is = tt
@@ -28,7 +28,7 @@ one_each port told (Txt strings) is = tt
 one_each port told (Srv priority weight own target) is = tt
 one_each port told (Opaque octets) is = tt
 
-each_in : (port : ℕ) (told : Told) (given : List Data) → ((datum : Data) → Contains given datum → Contains (data_told told) datum) → AllByRecursion (IsAddressIn port told) (v4_in port given)
+each_in : (port : ℕ) (told : AnswerSet) (given : List Data) → ((datum : Data) → Contains given datum → Contains (data_told told) datum) → AllByRecursion (IsAddressIn port told) (v4_in port given)
 each_in port told [] within = tt
 each_in port told (datum ∷ given) within =
     subst (λ (xs : List Addr). AllByRecursion (IsAddressIn port told) xs) (sym (flat_map-cons (v4_of port) datum given))
@@ -36,12 +36,12 @@ each_in port told (datum ∷ given) within =
     (each_in port told given (λ d is. within d (Contains-append_right (datum ∷ []) given d is))))
 
 -- what the code finds
-told_is : (port : ℕ) (told : Told) → v4_told port told ≡ v4_in port (data_told told)
+told_is : (port : ℕ) (told : AnswerSet) → v4_told port told ≡ v4_in port (data_told told)
 told_is port (FindTold ttl find) = refl
 told_is port (LocalTold records) = sym (flat_map-map (v4_of port) (λ (r : Record). r.body) records)
 told_is port (PassingTold set) = refl
 
-pub each_told : (port : ℕ) (told : Told) → AllByRecursion (IsAddressIn port told) (v4_told port told)
+pub each_told : (port : ℕ) (told : AnswerSet) → AllByRecursion (IsAddressIn port told) (v4_told port told)
 each_told port told = subst (λ (xs : List Addr). AllByRecursion (IsAddressIn port told) xs) (sym (told_is port told)) (each_in port told (data_told told) (λ datum is. is))
 
 all_in : (port : ℕ) (octets : List ℕ) (given : List Data) → Contains given (A octets) → Contains (v4_in port given) (record { ip = V4 octets; port = port })
@@ -55,6 +55,6 @@ all_in port octets (datum ∷ given) is =
       | inr later ↦ Contains-append_right (v4_of port datum) (v4_in port given) (record { ip = V4 octets; port = port }) (all_in port octets given later)
     ])
 
-pub all_told : (port : ℕ) (told : Told) (addr : Addr) → IsAddressIn port told addr → Contains (v4_told port told) addr
+pub all_told : (port : ℕ) (told : AnswerSet) (addr : Addr) → IsAddressIn port told addr → Contains (v4_told port told) addr
 all_told port told addr is =
     subst (λ (a : Addr). Contains (v4_told port told) a) (sym is.is) (subst (λ (xs : List Addr). Contains xs (record { ip = V4 is.octets; port = port })) (sym (told_is port told)) (all_in port is.octets (data_told told) is.among))

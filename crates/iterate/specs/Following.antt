@@ -1,6 +1,6 @@
 -- How far a response leads.
 -- (Of the code. What a task is held to stands in Exchanges, Told, Shown, Known, Resolved and Wanted.)
-use Rattle.std.specs.Prelude.{◌≡◌, ℕ, List, map}
+use Rattle.std.specs.Prelude.{◌≡◌, ℕ, List, Option, IfSome, map}
 use Rattle.dns_name.specs.Labels.{Labels}
 use Rattle.dns_text.specs.declared.record.Question.{Question}
 use Rattle.dns_wire.specs.declared.message.Message.{Message}
@@ -11,8 +11,8 @@ use Rattle.harvest.specs.declared.learnt.Harvest.{Harvest}
 use Rattle.harvest.specs.Harvest.{finds_in, passing_in}
 use Rattle.harvest.specs.Learnt.{set_of}
 use Rattle.neg_rule.specs.Negative.{said_by}
-use Rattle.iterate.specs.declared.answer.Told.{Told}
-use Rattle.iterate.specs.declared.answer.Told.TheVariants.{Passing as PassingTold}
+use Rattle.iterate.specs.declared.answer.AnswerSet.{AnswerSet}
+use Rattle.iterate.specs.declared.answer.AnswerSet.TheVariants.{Passing as PassingTold}
 use Rattle.iterate.specs.declared.following.Hop.{Hop}
 use Rattle.iterate.specs.declared.following.Hop.TheVariants.{Set, Alias, Nowhere}
 use Rattle.iterate.specs.Exchanges.{Exchange}
@@ -29,9 +29,13 @@ pub record IsHarvestOf (port : ℕ) (log : List Exchange) (harvest : Harvest) : 
   pub passing : map set_of harvest.passing ≡ passing_in message asked zone
 
 -- a set of a harvest, as an answer tells it
-abbrev pub told_by : Believed → Told
+abbrev pub told_by : Believed → AnswerSet
 told_by (Find find) = told_whole find.now
 told_by (Passing set) = PassingTold set.now
+
+-- The set, if any, answers the question.
+abbrev pub IsHadIfSome : ℕ → List Exchange → Question → Option AnswerSet → Type 0
+IsHadIfSome port log question found = IfSome found (λ told. Known port log (Had question told))
 
 -- A harvest leads there from a question.
 abbrev pub Leads : ℕ → List Exchange → Question → Hop → Type 0

@@ -9,15 +9,15 @@ use Rattle.dns_text.specs.declared.record.Data.{Data}
 use Rattle.dns_text.specs.declared.record.Data.TheVariants.{A}
 use Rattle.dns_text.specs.declared.record.Question.{Question}
 use Rattle.history.specs.declared.servers.Servers.{Servers}
-use Rattle.iterate.specs.declared.search.Frame.{Frame}
+use Rattle.iterate.specs.declared.search.Nested.{Nested}
 use Rattle.iterate.specs.declared.search.Hunt.{Hunt}
-use Rattle.iterate.specs.declared.search.Next.{Next}
-use Rattle.iterate.specs.declared.search.Next.TheVariants.{Ask, Seek, Pass, Close}
+use Rattle.iterate.specs.declared.search.Move.{Move}
+use Rattle.iterate.specs.declared.search.Move.TheVariants.{Ask, Seek, Pass, Close}
 use Rattle.iterate.specs.declared.search.Search.{Search}
 use Rattle.iterate.specs.Exchanges.{Exchange}
-use Rattle.iterate.specs.Known.{Known, Serves}
+use Rattle.iterate.specs.Known.{Known, Listed, Serves}
 use Rattle.iterate.specs.Measure.{left_of_search}
-use Rattle.iterate.specs.Resolved.{MaySeek, Sought}
+use Rattle.iterate.specs.Resolved.{MaySeek, ReachedFor, Sought}
 use Rattle.iterate.specs.Searching.{IsSearch, IsNext, hunt_of}
 use Rattle.dns_name.specs.Labels.{IsAtOrBelow}
 use Rattle.local_zone.specs.declared.local.Local.TheVariants.{Data as LocalData}
@@ -36,8 +36,8 @@ use Rattle.iterate.specs.Shown.{IsMisanswered}
 use Rattle.iterate.specs.Looked.{IsSetSeen}
 use Rattle.iterate.specs.Told.{IsAddressIn}
 use Rattle.ranked.specs.Body.{data_of}
-use Rattle.iterate.specs.declared.answer.Told.{Told}
-use Rattle.iterate.specs.declared.answer.Told.TheVariants.{Find as FindTold, Local as LocalTold, Passing as PassingTold}
+use Rattle.iterate.specs.declared.answer.AnswerSet.{AnswerSet}
+use Rattle.iterate.specs.declared.answer.AnswerSet.TheVariants.{Find as FindTold, Local as LocalTold, Passing as PassingTold}
 use Rattle.iterate.specs.declared.limits.TheConstants.{MOST_DEPTH}
 
 -- the address that a datum has, with this port, if it is one of IPv4
@@ -50,7 +50,7 @@ abbrev pub v4_in : ℕ → List Data → List Addr
 v4_in port data_given = flat_map (v4_of port) data_given
 
 -- the IPv4 addresses of a set
-abbrev pub v4_told : ℕ → Told → List Addr
+abbrev pub v4_told : ℕ → AnswerSet → List Addr
 v4_told port (FindTold ttl find) = v4_in port (data_of find.body)
 v4_told port (LocalTold records) = flat_map (λ r. v4_of port r.body) records
 v4_told port (PassingTold set) = v4_in port set.data
@@ -58,6 +58,12 @@ v4_told port (PassingTold set) = v4_in port set.data
 -- These addresses serve the zone.
 abbrev pub AllServe : ℕ → List Exchange → Labels → List Addr → Type 0
 AllServe port log zone addrs = AllByRecursion (λ addr. Known port log (Serves zone addr)) addrs
+
+-- These servers were reached for a question, with these exchanges since, and their zone is at or above its name.
+pub record IsReached (port : ℕ) (log : List Exchange) (question : Question) (since : List Exchange) (servers : Servers) : Type 0 where
+  pub listed : Known port log (Listed servers)
+  pub reached : ReachedFor port log question servers since
+  pub above : IsAtOrBelow question.owner servers.zone
 
 -- Of these servers none was asked.
 pub record IsFresh (list : Servers) (hunt : Hunt) : Type 0 where
@@ -78,7 +84,7 @@ pub record IsSupplied (before : Hunt) (found : List Addr) (after : Hunt) : Type 
   pub only : (addr : Addr) → Contains after.addrs.items addr → Contains before.addrs.items addr ⊎ Contains found addr
 
 -- So it is with the innermost question.
-abbrev pub AreSupplied : List Frame → Hunt → List Addr → List Frame → Hunt → Type 0
+abbrev pub AreSupplied : List Nested → Hunt → List Addr → List Nested → Hunt → Type 0
 AreSupplied [] base found [] next = IsSupplied base found next
 AreSupplied (frame ∷ frames) base found (f ∷ fs) next = (f.target ≡ frame.target) × IsSupplied frame.hunt found f.hunt × (fs ≡ frames) × (next ≡ base)
 AreSupplied frames base found fs next = ⊥
@@ -99,7 +105,7 @@ abbrev pub IsAt : {X : Type 0} → List X → ℕ → X → Type 0
 IsAt {X} xs place x = (rest : List X) × (drop place xs ≡ x ∷ rest)
 
 -- What comes next for the innermost question.
-abbrev pub IsNextStep : Search → Next → Type 0
+abbrev pub IsNextStep : Search → Move → Type 0
 IsNextStep search (Ask server) = (rest : List Addr) × (drop (hunt_of search).asked (hunt_of search).addrs.items ≡ server ∷ rest)
 IsNextStep search (Seek target) = IsNext (hunt_of search) target × (length search.frames.items < MOST_DEPTH)
 IsNextStep search Pass = (target : Labels) × IsNext (hunt_of search) target × (search.frames.items ≡ [] → ¬ (MaySeek search.path.last search.base.servers target))
@@ -116,6 +122,7 @@ IsUnlisted input = Unit {0}
 abbrev pub IsUnnamed : Labels → Input → Type 0
 IsUnnamed name input = (moment : ℕ) → Suits (Book (Look moment (ServersFor name))) input → IsMisanswered (Look moment (ServersFor name)) input
 
+-- The book named these servers, of a zone at or above the name.
 pub record Names (name : Labels) (input : Input) (list : Servers) : Type 0 where
   pub replied : input ≡ Reply (Seen (SeenServers list))
   pub zone : IsAtOrBelow name list.zone
@@ -133,6 +140,6 @@ is_set_seen seen = false
 
 -- An address is in the set that a look saw.
 pub record IsAddressSeen (port : ℕ) (seen : SeenValue) (addr : Addr) : Type 0 where
-  pub told : Told
+  pub told : AnswerSet
   pub is_set : IsSetSeen seen told
   pub among : IsAddressIn port told addr

@@ -14,10 +14,12 @@ use Rattle.iterate.specs.declared.joining.AddrSet.{AddrSet}
 abbrev pub port_cmp : ℕ × List ℕ → ℕ × List ℕ → Ordering
 port_cmp a b = ordering_then (nat_cmp a.0 b.0) (slice_cmp nat_cmp a.1 b.1)
 
+-- whether the set has this address at this port
 abbrev pub has_ip : AddrSet → ℕ → Ip → Bool
 has_ip seen port (V4 octets) = contains port_cmp seen.v4 (port, octets)
 has_ip seen port (V6 octets) = contains port_cmp seen.v6 (port, octets)
 
+-- whether the set has this address with its port
 abbrev pub has_addr : AddrSet → Addr → Bool
 has_addr seen addr = has_ip seen addr.port addr.ip
 

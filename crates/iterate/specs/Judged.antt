@@ -9,7 +9,7 @@ use Rattle.dns_query.specs.declared.verdict.Verdict.{Verdict}
 use Rattle.dns_query.specs.declared.verdict.Verdict.TheVariants.{Struck}
 use Rattle.dns_query.specs.Query.{address_question}
 use Rattle.dns_query.specs.Verdict.{IsVerdict}
-use Rattle.iterate.specs.declared.answer.Told.{Told}
+use Rattle.iterate.specs.declared.answer.AnswerSet.{AnswerSet}
 use Rattle.iterate.specs.declared.want.Input.{Input}
 use Rattle.iterate.specs.declared.want.Input.TheVariants.{Came, Failed}
 use Rattle.iterate.specs.Exchanges.{Exchange}
@@ -24,6 +24,6 @@ IsJudged port over zone id question input verdict = ⊥
 
 -- An address of a server, by a set that is known.
 pub record IsAddressOf (port : ℕ) (log : List Exchange) (target : Labels) (addr : Addr) : Type 0 where
-  pub told : Told
+  pub told : AnswerSet
   pub had : Known port log (Had (address_question target) told)
   pub among : IsAddressIn port told addr

@@ -23,23 +23,28 @@ use Rattle.ranked.specs.declared.find.Find.{Find}
 use Rattle.history.specs.declared.event.Ask.TheVariants.{Answer as Asked, Servers as ServersFor}
 use Rattle.history.specs.declared.event.Event.TheVariants.{Look}
 use Rattle.history.specs.declared.event.Reply.TheVariants.{Seen}
-use Rattle.history.specs.declared.event.Seen.TheVariants.{Held, Local as LocalSeen, Servers as SeenServers}
+use Rattle.history.specs.declared.event.Seen.TheVariants.{Unknown, Held, Local as LocalSeen, Servers as SeenServers}
 use Rattle.history.specs.declared.servers.Servers.{Servers}
-use Rattle.history.specs.declared.servers.Source.TheVariants.{Cache}
-use Rattle.iterate.specs.declared.answer.Told.{Told}
-use Rattle.iterate.specs.declared.answer.Told.TheVariants.{Local as LocalTold, Passing as PassingTold}
+use Rattle.history.specs.declared.servers.Origin.TheVariants.{Cache}
+use Rattle.iterate.specs.declared.answer.AnswerSet.{AnswerSet}
+use Rattle.iterate.specs.declared.answer.AnswerSet.TheVariants.{Local as LocalTold, Passing as PassingTold}
 use Rattle.iterate.specs.declared.want.Input.TheVariants.{Reply, Came}
 use Rattle.iterate.specs.declared.want.Want.TheVariants.{Book, Send}
-use Rattle.iterate.specs.Exchanges.{Exchange, exchange, Adds}
+use Rattle.iterate.specs.Exchanges.{Exchange, exchange, Adds, Happened}
 use Rattle.iterate.specs.Shown.{IsSetShown, IsLocalSet}
 use Rattle.iterate.specs.Told.{told_of, told_whole, IsAddressIn}
 
 -- what an answer may rest on
 pub data Fact : Type 0 where
-  Had : Question → Told → Fact  -- the question is answered by this set
+  Had : Question → AnswerSet → Fact  -- the question is answered by this set
   Listed : Servers → Fact  -- these are the servers of their zone, some still without an address
   Serves : Labels → Addr → Fact  -- this address is a server of this zone
   Responds : Labels → Question → Message → Fact  -- a server of this zone says this of the question, and it is of use
+
+-- A look at the question found nothing: no find, no local data and no local zone. Only such a question is sent to servers.
+pub record WasUnknown (log : List Exchange) (question : Question) : Type 0 where
+  pub moment : ℕ
+  pub looked : Happened log (exchange (Book (Look moment (Asked question))) (Reply (Seen Unknown)))
 
 -- the servers to which a response refers
 abbrev pub servers_referred : Referral → Servers
@@ -71,13 +76,13 @@ pub data Known (port : ℕ) : List Exchange → Fact → Type 0 where
   addressed : {log : List Exchange} {servers : Servers} {addr : Addr}
       → Known port log (Listed servers) → Contains servers.addrs addr → Known port log (Serves servers.zone addr)
   -- One of them has no address there, and this one by a set.
-  found : {log : List Exchange} {servers : Servers} {target : Labels} {told : Told} {addr : Addr}
+  found : {log : List Exchange} {servers : Servers} {target : Labels} {told : AnswerSet} {addr : Addr}
       → Known port log (Listed servers) → Contains servers.missing target
       → Known port log (Had (address_question target) told) → IsAddressIn port told addr → Known port log (Serves servers.zone addr)
-  -- A server of a zone in which the name lies was asked, and its response is of use.
+  -- A look at the question found nothing; then a server of a zone in which the name lies was asked, and its response is of use.
   responded : {before after : List Exchange} {zone : Labels} {server : Addr} {over : Over} {bytes octets : List ℕ} {id : ℕ} {question : Question} {v : Message}
       → Adds before (exchange (Send server over bytes) (Came octets)) after
-      → Known port before (Serves zone server) → IsQuery bytes id question → IsAtOrBelow question.owner zone
+      → WasUnknown before question → Known port before (Serves zone server) → IsQuery bytes id question → IsAtOrBelow question.owner zone
       → IsResponse id question octets v → IsUseful port zone question v
       → Known port after (Responds zone question v)
   -- The harvest of a response has it, at rank 2 or more.

@@ -1,6 +1,6 @@
 -- What a look was answered, as the code tells it.
 -- (Of the code. What a task is held to stands in Exchanges, Told, Shown, Known, Resolved and Wanted.)
-use Rattle.std.specs.Prelude.{◌≡◌, false}
+use Rattle.std.specs.Prelude.{◌≡◌, false, Option, MatchOption}
 use Rattle.dns_text.specs.declared.record.Question.{Question}
 use Rattle.local_zone.specs.declared.local.Local.TheVariants.{Data as LocalData}
 use Rattle.ranked.specs.Body.{is_negative}
@@ -8,13 +8,14 @@ use Rattle.history.specs.declared.event.Ask.TheVariants.{Answer as Asked}
 use Rattle.history.specs.declared.event.Reply.TheVariants.{Seen}
 use Rattle.history.specs.declared.event.Seen.{Seen as SeenValue}
 use Rattle.history.specs.declared.event.Seen.TheVariants.{Unknown as SeenUnknown, Held as SeenHeld, Local as SeenLocal}
-use Rattle.iterate.specs.declared.answer.Told.{Told}
-use Rattle.iterate.specs.declared.answer.Told.TheVariants.{Local as LocalTold}
+use Rattle.iterate.specs.declared.answer.AnswerSet.{AnswerSet}
+use Rattle.iterate.specs.declared.answer.AnswerSet.TheVariants.{Local as LocalTold}
+use Rattle.iterate.specs.declared.finishing.Ending.{Ending}
 use Rattle.iterate.specs.declared.shown.Looked.{Looked}
 use Rattle.iterate.specs.declared.shown.Looked.TheVariants.{Unknown, Held, Local}
 use Rattle.iterate.specs.declared.want.Input.{Input}
 use Rattle.iterate.specs.declared.want.Input.TheVariants.{Reply}
-use Rattle.iterate.specs.Shown.{IsReplyTo}
+use Rattle.iterate.specs.Shown.{Ends, IsReplyTo}
 use Rattle.iterate.specs.Told.{told_of}
 
 -- what was seen
@@ -34,7 +35,15 @@ IsUnseen (Reply (Seen seen)) = ⊥
 IsUnseen input = Unit {0}
 
 -- What was seen is this set.
-abbrev pub IsSetSeen : SeenValue → Told → Type 0
+abbrev pub IsSetSeen : SeenValue → AnswerSet → Type 0
 IsSetSeen (SeenHeld shown) told = (is_negative shown.body.body ≡ false) × (told ≡ told_of shown)
 IsSetSeen (SeenLocal (LocalData records)) told = told ≡ LocalTold records
 IsSetSeen seen told = ⊥
+
+-- The set that was seen, if it was one.
+abbrev pub IsSetIn : SeenValue → Option AnswerSet → Type 0
+IsSetIn seen found = MatchOption found ((told : AnswerSet) → ¬ (IsSetSeen seen told)) (IsSetSeen seen)
+
+-- What was seen ends the question so.
+abbrev pub EndsSo : Question → SeenValue → Ending → Type 0
+EndsSo question seen ending = Ends question seen ending.rcode ending.last ending.authority

@@ -7,18 +7,21 @@ use Rattle.iterate.specs.declared.phase.Phase.{Phase}
 use Rattle.iterate.specs.declared.phase.Phase.TheVariants.{Fresh, First, Aliasing, Looking, Listing, Seeking, Sent, Admitting, Ended, Broken}
 use Rattle.iterate.specs.declared.phase.Stage.{Stage}
 use Rattle.iterate.specs.declared.phase.Stage.TheVariants.{Address, Alias, Servers}
-use Rattle.iterate.specs.declared.search.Frame.{Frame}
+use Rattle.iterate.specs.declared.search.Nested.{Nested}
 use Rattle.iterate.specs.declared.search.Hunt.{Hunt}
 use Rattle.iterate.specs.declared.search.Search.{Search}
+use Rattle.dns_query.specs.declared.verdict.Heard.{Heard}
 
 -- above every digit
 abbrev pub top : ℕ
 top = 2 ^ 68
 
+-- the number that digits make
 abbrev pub weight : List ℕ → ℕ
 weight [] = 0
 weight (d ∷ ds) = d * (top + 1) ^ length ds + weight ds
 
+-- One digit falls, and those before it stay.
 pub data Falls : List ℕ → List ℕ → Type 0 where
   here : {x y : ℕ} {xs ys : List ℕ} → x < y → length xs ≡ length ys → Falls (x ∷ xs) (y ∷ ys)
   there : {x : ℕ} {xs ys : List ℕ} → Falls xs ys → Falls (x ∷ xs) (x ∷ ys)
@@ -27,7 +30,8 @@ pub data Falls : List ℕ → List ℕ → Type 0 where
 abbrev pub missing_left : Hunt → ℕ
 missing_left hunt = length hunt.servers.missing - hunt.sought
 
-abbrev pub frames_left : List Frame → ℕ
+-- the nested questions, and their servers without an address that were not yet looked for
+abbrev pub frames_left : List Nested → ℕ
 frames_left [] = 0
 frames_left (frame ∷ frames) = missing_left frame.hunt + 1 + frames_left frames
 
@@ -49,6 +53,7 @@ digits_of_seek search Address = digits_of_search search 3
 digits_of_seek search Alias = digits_of_path search.path 0 2 0 0
 digits_of_seek search Servers = digits_of_path search.path 0 1 0 0
 
+-- what is left in each phase, as digits
 abbrev pub digits_in : Phase → List ℕ
 digits_in Fresh = 66 ∷ 0 ∷ 0 ∷ 0 ∷ 0 ∷ 0 ∷ []
 digits_in First = 65 ∷ 0 ∷ 0 ∷ 0 ∷ 0 ∷ 0 ∷ []
@@ -65,19 +70,26 @@ digits_in Broken = 0 ∷ 0 ∷ 0 ∷ 0 ∷ 0 ∷ 0 ∷ []
 abbrev pub left_in : Phase → ℕ
 left_in phase = weight (digits_in phase)
 
--- how much is left where a path is about to be looked at, and where a search is about to go on
+-- how much is left where a path is about to be looked at
 abbrev pub left_of_path : Path → ℕ → ℕ
 left_of_path path looks = weight (digits_of_path path 0 0 top looks)
 
+-- how much is left where a search is about to go on
 abbrev pub left_of_search : Search → ℕ → ℕ
 left_of_search search looks = weight (digits_of_search search looks)
 
+-- how much is left where a server without an address is looked for
 abbrev pub left_of_seek : Search → Stage → ℕ
 left_of_seek search stage = weight (digits_of_seek search stage)
 
--- how much is left where a query of this path is out, and where a response to it is heard, of which so many finds were not yet handed to the book
+-- how much is left where a query of this path is out
 abbrev pub left_of_sending : Path → ℕ
 left_of_sending path = weight (digits_of_path path 1 2 0 0)
 
+-- how much is left where a response is heard, of which so many finds were not yet handed to the book
 abbrev pub left_of_hearing : Path → ℕ → ℕ
 left_of_hearing path finds = weight (digits_of_path path 0 1 0 finds)
+
+-- how much is left where the finds of a response from this place on were not yet handed to the book
+abbrev pub left_of_finds : Path → Heard → ℕ → ℕ
+left_of_finds path heard next = left_of_hearing path (length heard.harvest.finds - next)

@@ -1,6 +1,6 @@
 -- Where a task stands: what is remembered in each phase, and what a step has to bring.
 -- (Of the code. What a task is held to stands in Exchanges, Told, Shown, Known, Resolved and Wanted.)
-use Rattle.std.specs.Prelude.{◌≡◌, ℕ, ◌<◌, ◌≤◌, List, [], ◌∷◌, ◌++◌, length, map, drop}
+use Rattle.std.specs.Prelude.{◌≡◌, ℕ, ◌<◌, ◌≤◌, List, [], ◌∷◌, ◌++◌, length, map}
 use Rattle.dns_name.specs.Labels.{Labels}
 use Rattle.dns_text.specs.declared.addr.Addr.{Addr}
 use Rattle.dns_text.specs.declared.record.Question.{Question}
@@ -19,6 +19,7 @@ use Rattle.history.specs.declared.event.Ask.TheVariants.{Answer as Asked, Server
 use Rattle.history.specs.declared.event.Event.TheVariants.{Admit, Look}
 use Rattle.iterate.specs.declared.answer.Answer.{Answer}
 use Rattle.iterate.specs.declared.limits.TheConstants.{MOST_DEPTH, MOST_SENDS}
+use Rattle.iterate.specs.declared.phase.Advance.{Advance}
 use Rattle.iterate.specs.declared.phase.Phase.{Phase}
 use Rattle.iterate.specs.declared.phase.Phase.TheVariants.{Fresh, First, Aliasing, Looking, Listing, Seeking, Sent, Admitting, Ended, Broken}
 use Rattle.iterate.specs.declared.phase.Stage.{Stage}
@@ -30,10 +31,9 @@ use Rattle.iterate.specs.declared.want.Step.{Step}
 use Rattle.iterate.specs.declared.want.Want.{Want}
 use Rattle.iterate.specs.declared.want.Want.TheVariants.{Book, Send, Finish}
 use Rattle.iterate.specs.Exchanges.{Exchange, exchange, Adds, last_behind, count_sends}
-use Rattle.iterate.specs.Known.{Known, Responds}
+use Rattle.iterate.specs.Known.{Known, Responds, WasUnknown}
 use Rattle.iterate.specs.Measure.{left_in}
-use Rattle.iterate.specs.Resolved.{Sought}
-use Rattle.iterate.specs.Searching.{IsPath, IsSearch, IsNext, hunt_of, question_of}
+use Rattle.iterate.specs.Searching.{IsPath, IsAskable, IsSearch, IsNext, IsNextServer, hunt_of, question_of}
 use Rattle.iterate.specs.Wanted.{MayWant, id_drawn, stream_behind}
 
 -- ---- what comes next
@@ -71,24 +71,24 @@ ask_at Address target = Asked (address_question target)
 ask_at Alias target = Asked (alias_question target)
 ask_at Servers target = ServersFor target
 
--- What was looked for already of the next server without an address.
-abbrev pub IsSought : Stage → List Exchange → Labels → Type 0
-IsSought Address since target = Unit {0}
-IsSought stage since target = Sought since target
+-- Behind the look for the address of the next server, that look found nothing.
+abbrev pub IsUnknownAt : Stage → List Exchange → Labels → Type 0
+IsUnknownAt Address since target = Unit {0}
+IsUnknownAt stage since target = WasUnknown since (address_question target)
 
 -- A server without an address is being looked for.
 pub record IsSeeking (port : ℕ) (question : Question) (log : List Exchange) (search : Search) (target : Labels) (stage : Stage) : Type 0 where
   pub is_search : IsSearch port question log search
   pub shallow : length search.frames.items < MOST_DEPTH
   pub next : IsNext (hunt_of search) target
-  pub sought : IsSought stage is_search.since target
+  pub unknown : IsUnknownAt stage is_search.since target
 
 -- The next server is being asked.
 pub record IsWaiting (port : ℕ) (question : Question) (log : List Exchange) (want : Want) (search : Search) (server : Addr) (id : ℕ) (over : Over) : Type 0 where
   pub is_search : IsSearch port question log search
   pub some : search.path.sent < MOST_SENDS
   pub rest : List Addr
-  pub next : drop (hunt_of search).asked (hunt_of search).addrs.items ≡ server ∷ rest
+  pub next : IsNextServer search server rest
   pub bytes : List ℕ
   pub wanted : want ≡ Send server over bytes
   pub query : IsQuery bytes id (question_of search)
@@ -115,9 +115,9 @@ pub record IsHearing (port : ℕ) (question : Question) (log : List Exchange) (s
 abbrev pub Fits : ℕ → Question → List Exchange → Want → Phase → Type 0
 Fits port question log want Fresh = ⊥
 Fits port question log want First = (log ≡ []) × IsLook want (Asked question)
-Fits port question log want (Aliasing path) = IsPath port question log path × IsLook want (Asked (alias_question path.last.owner))
+Fits port question log want (Aliasing path) = IsAskable port question log path × IsLook want (Asked (alias_question path.last.owner))
 Fits port question log want (Looking path) = IsPath port question log path × (1 ≤ length path.sets.items) × IsLook want (Asked path.last)
-Fits port question log want (Listing path) = IsPath port question log path × IsLook want (ServersFor path.last.owner)
+Fits port question log want (Listing path) = IsAskable port question log path × IsLook want (ServersFor path.last.owner)
 Fits port question log want (Seeking search target stage) = IsSeeking port question log search.value target stage × IsLook want (ask_at stage target)
 Fits port question log want (Sent search server id over) = IsWaiting port question log want search.value server id over
 Fits port question log want (Admitting search heard next) = IsHearing port question log search.value heard.value × (next < length heard.value.harvest.finds) × IsAdmission want
@@ -129,6 +129,7 @@ pub record Drawing : Type 0 where
   pub before : Stream
   pub after : Stream
 
+-- both, as one
 abbrev pub drawing : Stream → Stream → Drawing
 drawing before after = record { before = before; after = after }
 
@@ -142,3 +143,7 @@ pub record Goes (port : ℕ) (question : Question) (log : List Exchange) (moment
   pub drawn : ids.after ≡ stream_behind want ids.before
   pub fits : Fits port question log want phase
   pub falls : left_in phase < left
+
+-- So does what a step hands over.
+abbrev pub GoesOn : ℕ → Question → List Exchange → ℕ → Drawing → ℕ → Advance → Type 0
+GoesOn port question log moment ids left next = Goes port question log moment ids left next.phase next.want

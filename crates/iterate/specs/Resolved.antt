@@ -24,13 +24,13 @@ use Rattle.history.specs.declared.servers.Servers.{Servers}
 use Rattle.iterate.specs.declared.answer.Answer.{Answer}
 use Rattle.iterate.specs.declared.answer.Answer.TheVariants.{Reply as Replies, Silent}
 use Rattle.iterate.specs.declared.answer.Soa.{Soa}
-use Rattle.iterate.specs.declared.answer.Told.{Told}
+use Rattle.iterate.specs.declared.answer.AnswerSet.{AnswerSet}
 use Rattle.iterate.specs.declared.limits.TheConstants.{MOST_ALIASES, MOST_SENDS}
 use Rattle.iterate.specs.declared.want.Input.{Input}
 use Rattle.iterate.specs.declared.want.Input.TheVariants.{Reply, Came, Failed}
 use Rattle.iterate.specs.declared.want.Want.TheVariants.{Book, Send}
 use Rattle.iterate.specs.Exchanges.{Exchange, exchange, Adds, Happened, count_sends}
-use Rattle.iterate.specs.Known.{Known, Had, Responds, servers_referred}
+use Rattle.iterate.specs.Known.{WasUnknown, Known, Had, Responds, servers_referred}
 use Rattle.iterate.specs.Shown.{IsShownFor, IsLocalFor, IsMisanswered, Ends}
 use Rattle.iterate.specs.Told.{IsTarget, soa_whole}
 
@@ -48,6 +48,7 @@ IsNoAnswer question (Reply (Seen (Held shown))) = ¬ (IsShownFor question shown)
 IsNoAnswer question (Reply (Seen (LocalSeen answer))) = ¬ (IsLocalFor question answer)
 IsNoAnswer question input = Unit {0}
 
+-- The first look got no answer, so the resolution went on or failed.
 pub record BeganUnanswered (question : Question) (log : List Exchange) : Type 0 where
   pub input : Input
   pub began : Began question input log
@@ -61,9 +62,9 @@ is_local seen = false
 -- ---- the chain of aliases (RFC 1034, section 3.6.2)
 
 -- From a name these sets, each a CNAME set of the name before, lead to a name.
-pub data Chain (port : ℕ) (log : List Exchange) : Labels → List Told → Labels → Type 0 where
+pub data Chain (port : ℕ) (log : List Exchange) : Labels → List AnswerSet → Labels → Type 0 where
   start : {name : Labels} → Chain port log name [] name
-  alias : {name mid to : Labels} {front sets : List Told} {told : Told}
+  alias : {name mid to : Labels} {front sets : List AnswerSet} {told : AnswerSet}
       → Chain port log name front mid → Known port log (Had (alias_question mid) told) → IsTarget told to
       → sets ≡ front ++ told ∷ [] → Chain port log name sets to
 
@@ -121,8 +122,9 @@ pub record Sought (log : List Exchange) (target : Labels) : Type 0 where
   pub input : Input
   pub looked : Happened log (exchange (Book (Look moment (Asked (address_question target)))) input)
 
--- A list of servers was reached for the question; since then each address was asked in vain, and each server without one was looked for.
+-- A look at the question found nothing, and a list of servers was reached for it. Since then each address was asked in vain, and each server without one was looked for.
 pub record Exhausted (port : ℕ) (log : List Exchange) (question : Question) : Type 0 where
+  pub unknown : WasUnknown log question
   pub servers : Servers
   pub since : List Exchange
   pub reached : ReachedFor port log question servers since
@@ -149,28 +151,28 @@ abbrev pub question_at : Question → Labels → Question
 question_at question name = record { owner = name; kind = question.kind }
 
 -- A question is answered with this RCODE, whether with authority, these aliases, this last set and this SOA record. It is authoritative where local data or a local zone answered the first look.
-pub data ResolvedAs (port : ℕ) (question : Question) (log : List Exchange) : ℕ → Bool → List Told → Option Told → Option Soa → Type 0 where
+pub data ResolvedAs (port : ℕ) (question : Question) (log : List Exchange) : ℕ → Bool → List AnswerSet → Option AnswerSet → Option Soa → Type 0 where
   -- The first look ends it.
-  at_once : {seen : SeenValue} {rcode : ℕ} {last : Option Told} {authority : Option Soa}
+  at_once : {seen : SeenValue} {rcode : ℕ} {last : Option AnswerSet} {authority : Option Soa}
       → Began question (Reply (Seen seen)) log → Ends question seen rcode last authority
       → ResolvedAs port question log rcode (is_local seen) [] last authority
   -- A chain of aliases ends in what a look says.
-  looked : {name : Labels} {front : List Told} {moment : ℕ} {seen : SeenValue} {rcode : ℕ} {last : Option Told} {authority : Option Soa}
+  looked : {name : Labels} {front : List AnswerSet} {moment : ℕ} {seen : SeenValue} {rcode : ℕ} {last : Option AnswerSet} {authority : Option Soa}
       → BeganUnanswered question log → Chain port log question.owner front name → length front ≤ MOST_ALIASES
       → Happened log (exchange (Book (Look moment (Asked (question_at question name)))) (Reply (Seen seen))) → Ends (question_at question name) seen rcode last authority
       → ResolvedAs port question log rcode false front last authority
   -- A chain ends in a set.
-  found : {name : Labels} {front : List Told} {told : Told}
+  found : {name : Labels} {front : List AnswerSet} {told : AnswerSet}
       → BeganUnanswered question log → Chain port log question.owner front name → length front ≤ MOST_ALIASES
       → Known port log (Had (question_at question name) told) → ResolvedAs port question log 0 false front (Some told) None
   -- A chain ends where a response denies.
-  denied : {name : Labels} {front : List Told} {rcode : ℕ} {authority : Option Soa}
+  denied : {name : Labels} {front : List AnswerSet} {rcode : ℕ} {authority : Option Soa}
       → BeganUnanswered question log → Chain port log question.owner front name → length front ≤ MOST_ALIASES
       → IsDenied port log (question_at question name) rcode authority → ResolvedAs port question log rcode false front None authority
   -- The first look was refused by a local zone.
   refused : Began question (Reply (Seen (LocalSeen local.Refuse))) log → ResolvedAs port question log 5 true [] None None
   -- A chain ends where nothing more can be had: SERVFAIL.
-  failed : {name : Labels} {front : List Told}
+  failed : {name : Labels} {front : List AnswerSet}
       → BeganUnanswered question log → Chain port log question.owner front name → Fails port log (question_at question name) (length front)
       → ResolvedAs port question log 2 false [] None None
 

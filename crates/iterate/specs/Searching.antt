@@ -6,14 +6,14 @@ use Rattle.dns_name.specs.Labels.{Labels, IsAtOrBelow}
 use Rattle.dns_text.specs.declared.addr.Addr.{Addr}
 use Rattle.dns_text.specs.declared.record.Question.{Question}
 use Rattle.dns_query.specs.Query.{address_question}
-use Rattle.iterate.specs.declared.answer.Told.{Told}
+use Rattle.iterate.specs.declared.answer.AnswerSet.{AnswerSet}
 use Rattle.iterate.specs.declared.limits.TheConstants.{MOST_ALIASES, MOST_DEPTH, MOST_SENDS}
 use Rattle.iterate.specs.declared.path.Path.{Path}
-use Rattle.iterate.specs.declared.search.Frame.{Frame}
+use Rattle.iterate.specs.declared.search.Nested.{Nested}
 use Rattle.iterate.specs.declared.search.Hunt.{Hunt}
 use Rattle.iterate.specs.declared.search.Search.{Search}
 use Rattle.iterate.specs.Exchanges.{Exchange, count_sends}
-use Rattle.iterate.specs.Known.{Known, Listed, Serves}
+use Rattle.iterate.specs.Known.{WasUnknown, Known, Listed, Serves}
 use Rattle.iterate.specs.Resolved.{BeganUnanswered, Chain, ReachedFor, Struck, MaySeek, Sought}
 
 -- The aliases so far, and the question to which they lead, behind a first look that was no answer.
@@ -25,8 +25,13 @@ pub record IsPath (port : ℕ) (question : Question) (log : List Exchange) (path
   pub counted : path.sent ≡ count_sends log
   pub few : path.sent ≤ MOST_SENDS
 
+-- A path whose last question was looked up, and nothing was found: servers may be asked about it.
+pub record IsAskable (port : ℕ) (question : Question) (log : List Exchange) (path : Path) : Type 0 where
+  pub is_path : IsPath port question log path
+  pub unknown : WasUnknown log path.last
+
 -- A path with one alias more, which leads to this name.
-pub record IsLonger (path : Path) (told : Told) (to : Labels) (next : Path) : Type 0 where
+pub record IsLonger (path : Path) (told : AnswerSet) (to : Labels) (next : Path) : Type 0 where
   pub sets : next.sets.items ≡ path.sets.items ++ told ∷ []
   pub last : next.last ≡ record { owner = to; kind = path.last.kind }
   pub sent : next.sent ≡ path.sent
@@ -47,8 +52,9 @@ pub record IsNext (hunt : Hunt) (target : Labels) : Type 0 where
   pub rest : List Labels
   pub next : drop hunt.sought hunt.servers.missing ≡ target ∷ rest
 
--- The servers that are asked for the last question, since they were reached: so many of them in vain, and of those without an address so many were looked for.
+-- The servers that are asked for the last question, which a look did not find, since they were reached: so many of them in vain, and of those without an address so many were looked for.
 pub record IsBase (port : ℕ) (log : List Exchange) (question : Question) (since : List Exchange) (hunt : Hunt) : Type 0 where
+  pub unknown : WasUnknown log question
   pub is_hunt : IsHunt port log question.owner hunt
   pub reached : ReachedFor port log question hunt.servers since
   pub all : (addr : Addr) → Contains hunt.servers.addrs addr → Contains hunt.addrs.items addr
@@ -56,30 +62,37 @@ pub record IsBase (port : ℕ) (log : List Exchange) (question : Question) (sinc
   pub sought : (target : Labels) → Contains (take hunt.sought hunt.servers.missing) target → MaySeek question hunt.servers target → Sought since target
 
 -- the servers of the question behind these
-abbrev pub hunt_behind : List Frame → Hunt → Hunt
+abbrev pub hunt_behind : List Nested → Hunt → Hunt
 hunt_behind [] base = base
 hunt_behind (frame ∷ frames) base = frame.hunt
 
--- A question inside another asks for the next server that the one behind it lacks, whose address was looked for.
-pub record IsFrame (port : ℕ) (log : List Exchange) (since : List Exchange) (behind : Hunt) (frame : Frame) : Type 0 where
+-- A question inside another asks for the address of the next server that the one behind it lacks. A look did not find it.
+pub record IsFrame (port : ℕ) (log : List Exchange) (since : List Exchange) (behind : Hunt) (frame : Nested) : Type 0 where
   pub next : IsNext behind frame.target
-  pub sought : Sought since frame.target
+  pub unknown : WasUnknown since (address_question frame.target)
   pub hunt : IsHunt port log frame.target frame.hunt
 
-abbrev pub AreFrames : ℕ → List Exchange → List Exchange → Hunt → List Frame → Type 0
+-- each of the nested questions, the innermost first
+abbrev pub AreFrames : ℕ → List Exchange → List Exchange → Hunt → List Nested → Type 0
 AreFrames port log since base [] = Unit {0}
 AreFrames port log since base (frame ∷ frames) = IsFrame port log since (hunt_behind frames base) frame × AreFrames port log since base frames
 
--- the innermost question, and the servers that are asked about it
+-- the servers that are asked about the innermost question
 abbrev pub hunt_of : Search → Hunt
 hunt_of search = hunt_behind search.frames.items search.base
 
-abbrev pub question_behind : List Frame → Question → Question
+-- the question behind these: the outermost of them all is the last one of the path
+abbrev pub question_behind : List Nested → Question → Question
 question_behind [] last = last
 question_behind (frame ∷ frames) last = address_question frame.target
 
+-- the innermost question
 abbrev pub question_of : Search → Question
 question_of search = question_behind search.frames.items search.path.last
+
+-- This server is the next one that the innermost question asks, and these come behind it.
+abbrev pub IsNextServer : Search → Addr → List Addr → Type 0
+IsNextServer search server rest = drop (hunt_of search).asked (hunt_of search).addrs.items ≡ server ∷ rest
 
 -- What a search remembers: the path, the servers asked for its last question, and the questions inside it, at most eight deep.
 pub record IsSearch (port : ℕ) (question : Question) (log : List Exchange) (search : Search) : Type 0 where

@@ -24,8 +24,8 @@ use Rattle.history.specs.declared.event.Seen.{Seen as SeenValue}
 use Rattle.history.specs.declared.event.Seen.TheVariants.{Unknown, Held, Local as LocalSeen, Servers as SeenServers}
 use Rattle.iterate.specs.declared.answer.Soa.{Soa}
 use Rattle.iterate.specs.declared.answer.Soa.TheVariants.{Find as FindSoa, Local as LocalSoa}
-use Rattle.iterate.specs.declared.answer.Told.{Told}
-use Rattle.iterate.specs.declared.answer.Told.TheVariants.{Local as LocalTold}
+use Rattle.iterate.specs.declared.answer.AnswerSet.{AnswerSet}
+use Rattle.iterate.specs.declared.answer.AnswerSet.TheVariants.{Local as LocalTold}
 use Rattle.iterate.specs.declared.want.Input.{Input}
 use Rattle.iterate.specs.declared.want.Input.TheVariants.{Reply, Refused}
 use Rattle.iterate.specs.Told.{told_of, IsFormed}
@@ -43,6 +43,7 @@ pub record IsLocalRecord (question : Question) (r : Record) : Type 0 where
   pub kind : r.kind ≡ question.kind
   pub formed : IsFormed r
 
+-- Each is of the question's name and type.
 abbrev pub AreLocal : Question → List Record → Type 0
 AreLocal question records = AllByRecursion (IsLocalRecord question) records
 
@@ -51,6 +52,7 @@ pub record IsLocalSet (question : Question) (records : List Record) : Type 0 whe
   pub some : 1 ≤ length records
   pub are : AreLocal question records ⊎ AreLocal (alias_question question.owner) records
 
+-- The SOA record, if any, can be written.
 abbrev pub IsSoaFormed : Option Record → Type 0
 IsSoaFormed None = Unit {0}
 IsSoaFormed (Some soa) = IsFormed soa
@@ -95,7 +97,7 @@ pub record IsSetShown (question : Question) (shown : Shown Find) : Type 0 where
   pub has_data : is_negative shown.body.body ≡ false
 
 -- What a look sees ends the question: with this RCODE (RFC 1035, section 4.1.1), these sets and this SOA record.
-pub data Ends (question : Question) : SeenValue → ℕ → Option Told → Option Soa → Type 0 where
+pub data Ends (question : Question) : SeenValue → ℕ → Option AnswerSet → Option Soa → Type 0 where
   held : {shown : Shown Find} → IsSetShown question shown → Ends question (Held shown) 0 (Some (told_of shown)) None
   held_no_data : {shown : Shown Find} {soa : Record} → IsShownFor question shown → shown.body.body ≡ NoData soa
       → Ends question (Held shown) 0 None (Some (FindSoa shown.left shown.body))

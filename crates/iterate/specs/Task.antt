@@ -1,14 +1,22 @@
 -- A task before its first step, in the midst, and with no memory.
 -- (Of the code. What a task is held to stands in Exchanges, Told, Shown, Known, Resolved and Wanted.)
-use Rattle.std.specs.Prelude.{◌≡◌, ℕ, List, []}
+use Rattle.std.specs.Prelude.{◌≡◌, ◌<◌, ◌≤◌, ℕ, List, [], ◌∷◌, ◌++◌}
 use Rattle.dns_text.specs.declared.record.Question.{Question}
+use Rattle.iterate.specs.declared.answer.Answer.{Answer}
+use Rattle.iterate.specs.declared.limits.TheConstants.{MOST_SENDS}
+use Rattle.iterate.specs.declared.phase.Advance.{Advance}
 use Rattle.iterate.specs.declared.phase.Phase.{Phase}
 use Rattle.iterate.specs.declared.phase.Phase.TheVariants.{Fresh, Broken}
+use Rattle.iterate.specs.declared.task.State.{State}
 use Rattle.iterate.specs.declared.want.Input.{Input}
 use Rattle.iterate.specs.declared.want.Step.{Step}
 use Rattle.iterate.specs.declared.want.Want.{Want}
-use Rattle.iterate.specs.Exchanges.{Exchange, Stands}
-use Rattle.iterate.specs.Phase.{Fits, IsDue}
+use Rattle.iterate.specs.declared.want.Want.TheVariants.{Finish}
+use Rattle.iterate.specs.Exchanges.{Exchange, Stands, exchanges_of, sent_in}
+use Rattle.iterate.specs.Measure.{left_in}
+use Rattle.iterate.specs.Phase.{Drawing, Fits, IsDue}
+use Rattle.iterate.specs.Told.{IsFit}
+use Rattle.iterate.specs.Wanted.{MayWant, id_drawn, stream_behind}
 
 -- These steps led to this phase.
 pub record IsUnderWay (port : ℕ) (question : Question) (steps : List Step) (phase : Phase) : Type 0 where
@@ -17,6 +25,7 @@ pub record IsUnderWay (port : ℕ) (question : Question) (steps : List Step) (ph
   pub stands : Stands steps log want
   pub fits : Fits port question log want phase
 
+-- What a task remembers fits its steps.
 abbrev pub IsTask : ℕ → Question → List Step → Phase → Type 0
 IsTask port question steps Fresh = steps ≡ []
 IsTask port question steps Broken = Unit {0}
@@ -26,3 +35,35 @@ IsTask port question steps phase = IsUnderWay port question steps phase
 abbrev pub IsDueAt : Phase → List Step → Input → Type 0
 IsDueAt Broken steps input = Unit {0}
 IsDueAt phase steps input = IsDue steps input
+
+-- ---- a step
+
+-- A step changes neither the question nor the port.
+pub record IsSameTask (before after : State) : Type 0 where
+  pub question : after.question ≡ before.question
+  pub port : after.port ≡ before.port
+
+-- The steps grow by this one, and the phase is the next one. (Of the code.)
+pub record IsKept (before : State) (input : Input) (next : Advance) (after : State) (want : Want) : Type 0 where
+  pub steps : after.steps.items ≡ before.steps.items ++ record { input = input; want = next.want } ∷ []
+  pub phase : after.phase ≡ next.phase
+  pub wanted : want ≡ next.want
+
+-- A step of a task with this input, at this moment: it wants what may be wanted by the exchanges so far, and less is left.
+pub record StepsOn (before : State) (input : Input) (moment : ℕ) (ids : Drawing) (after : State) (want : Want) : Type 0 where
+  -- The steps grow by this one.
+  pub steps : after.steps.items ≡ before.steps.items ++ record { input = input; want = want } ∷ []
+  -- An answer resolves the question, and a query asks what no look has found.
+  pub wants : MayWant before.port before.question (exchanges_of after.steps.items) moment (id_drawn ids.before) want
+  -- A query takes one word of the generator, and nothing else takes any.
+  pub drawn : ids.after ≡ stream_behind want ids.before
+  -- The answer can be written.
+  pub fit : (answer : Answer) → want ≡ Finish answer → IsFit answer
+  -- It ends.
+  pub left : left_in after.phase < left_in before.phase
+  pub few : sent_in after.steps.items ≤ MOST_SENDS
+
+-- Without memory nothing is added, then or later.
+pub record StepFails (before after : State) : Type 0 where
+  pub steps : after.steps.items ≡ before.steps.items
+  pub phase : after.phase ≡ Broken

@@ -21,25 +21,29 @@ use Rattle.iterate.specs.declared.answer.Answer.{Answer}
 use Rattle.iterate.specs.declared.answer.Answer.TheVariants.{Reply, Silent}
 use Rattle.iterate.specs.declared.answer.Soa.{Soa}
 use Rattle.iterate.specs.declared.answer.Soa.TheVariants.{Find as FindSoa, Local as LocalSoa}
-use Rattle.iterate.specs.declared.answer.Told.{Told}
-use Rattle.iterate.specs.declared.answer.Told.TheVariants.{Find as FindTold, Local as LocalTold, Passing as PassingTold}
+use Rattle.iterate.specs.declared.answer.AnswerSet.{AnswerSet}
+use Rattle.iterate.specs.declared.answer.AnswerSet.TheVariants.{Find as FindTold, Local as LocalTold, Passing as PassingTold}
 
 -- a find with the seconds that are left of it
-abbrev pub told_of : Shown Find → Told
+abbrev pub told_of : Shown Find → AnswerSet
 told_of shown = FindTold shown.left shown.body
 
 -- a find as a response tells it
-abbrev pub told_whole : Find → Told
+abbrev pub told_whole : Find → AnswerSet
 told_whole find = FindTold find.ttl find
 
 -- the SOA record of a find as a response tells it
 abbrev pub soa_whole : Find → Soa
 soa_whole find = FindSoa find.ttl find
 
+-- the data of local records
+abbrev pub local_data : List Record → List Data
+local_data records = map (λ r. r.body) records
+
 -- the data of a set
-abbrev pub data_told : Told → List Data
+abbrev pub data_told : AnswerSet → List Data
 data_told (FindTold ttl find) = data_of find.body
-data_told (LocalTold records) = map (λ r. r.body) records
+data_told (LocalTold records) = local_data records
 data_told (PassingTold set) = set.data
 
 -- A name is the first target of a set of CNAME records.
@@ -47,11 +51,12 @@ abbrev pub IsFirstTarget : List Data → Labels → Type 0
 IsFirstTarget (One name ∷ others) to = to ≡ name
 IsFirstTarget others to = ⊥
 
-abbrev pub IsTarget : Told → Labels → Type 0
+-- A name is the first target of a set of aliases.
+abbrev pub IsTarget : AnswerSet → Labels → Type 0
 IsTarget told to = IsFirstTarget (data_told told) to
 
 -- An IPv4 address of a set, with the port at which servers listen.
-pub record IsAddressIn (port : ℕ) (told : Told) (addr : Addr) : Type 0 where
+pub record IsAddressIn (port : ℕ) (told : AnswerSet) (addr : Addr) : Type 0 where
   pub octets : List ℕ
   pub among : Contains (data_told told) (A octets)
   pub is : addr ≡ record { ip = V4 octets; port = port }
@@ -67,10 +72,12 @@ kinds_of Whole = []
 abbrev pub records_of_find : ℕ → Find → List Record
 records_of_find ttl find = flat_map (λ kind. map (λ datum. record { owner = find.owner; kind = kind; ttl = ttl; body = datum }) (data_of find.body)) (kinds_of find.scope)
 
+-- each datum of a set that is not kept as a record, with no seconds
 abbrev pub records_of_passing : PassingSet → List Record
 records_of_passing set = map (λ datum. record { owner = set.owner; kind = set.kind; ttl = 0; body = datum }) set.data
 
-abbrev pub records_told : Told → List Record
+-- the records of a set
+abbrev pub records_told : AnswerSet → List Record
 records_told (FindTold ttl find) = records_of_find ttl find
 records_told (LocalTold records) = records
 records_told (PassingTold set) = records_of_passing set

@@ -20,7 +20,7 @@ use Rattle.iterate.specs.declared.want.Input.TheVariants.{Came}
 use Rattle.iterate.specs.declared.want.Want.{Want}
 use Rattle.iterate.specs.declared.want.Want.TheVariants.{Book, Send, Finish}
 use Rattle.iterate.specs.Exchanges.{Exchange, exchange, Happened}
-use Rattle.iterate.specs.Known.{Known, Serves, Responds}
+use Rattle.iterate.specs.Known.{Known, Serves, Responds, WasUnknown}
 use Rattle.iterate.specs.Resolved.{IsResolved}
 
 -- A find is in the harvest of a response.
@@ -45,11 +45,13 @@ abbrev pub MayGo : List Exchange → Addr → Question → Over → Type 0
 MayGo log server question Udp = Unit {0}
 MayGo log server question Tcp = WasTruncated log server question
 
--- A query with this identifier asks a server of a zone in which its name lies.
+-- A query with this identifier asks a server of a zone in which its name lies. An earlier look at its question found nothing:
+-- what is cached, blocked or set by the operator is never asked for, neither as the question itself nor behind an alias.
 pub record AsksZone (port : ℕ) (log : List Exchange) (id : ℕ) (server : Addr) (over : Over) (bytes : List ℕ) : Type 0 where
   pub question : Question
   pub zone : Labels
   pub query : IsQuery bytes id question
+  pub unknown : WasUnknown log question
   pub serves : Known port log (Serves zone server)
   pub within : IsAtOrBelow question.owner zone
   pub goes : MayGo log server question over

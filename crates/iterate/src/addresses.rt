@@ -5,9 +5,9 @@ ghost use Rattle.std.specs.List.{AllByRecursion, Contains, flat_map};
 ghost use Rattle.dns_text.specs.declared.addr.Addr.{Addr};
 ghost use Rattle.ranked.specs.Body.{data_of};
 ghost use Rattle.iterate.specs.Hunting.{v4_of, v4_in, v4_told};
-ghost use Rattle.iterate.specs.Told.{IsAddressIn, data_told};
+ghost use Rattle.iterate.specs.Told.{IsAddressIn};
 
-use crate::answer::Told;
+use crate::answer::AnswerSet;
 use dns_name::NoMemory;
 use dns_text::{Addr, Data, Ip};
 use local_zone::SeenRecord;
@@ -61,18 +61,18 @@ fn v4_in_records(alloc: Global, port: u16, records: &[SeenRecord]) -> Result<Vec
     Ok(addrs)
 }
 
-fn v4_told(alloc: Global, port: u16, told: &Told) -> Result<Vec<Addr>, NoMemory>
+fn v4_told(alloc: Global, port: u16, told: &AnswerSet) -> Result<Vec<Addr>, NoMemory>
     ensures { IfOk result (λ v. v.items ≡ v4_told port told.now) }
 {
     match told {
-        Told::Find { find, .. } => v4_in_body(alloc, port, &find.find().body),
-        Told::Local(records) => v4_in_records(alloc, port, records.get().as_slice()),
-        Told::Passing(set) => v4_in_data(alloc, port, set.get().data.as_slice()),
+        AnswerSet::Find { find, .. } => v4_in_body(alloc, port, &find.find().body),
+        AnswerSet::Local(records) => v4_in_records(alloc, port, records.get().as_slice()),
+        AnswerSet::Passing(set) => v4_in_data(alloc, port, set.get().data.as_slice()),
     }
 }
 
-/// The IPv4 addresses of a set, with the port at which servers listen.
-pub(crate) fn addresses(alloc: Global, port: u16, told: &Told) -> Result<Vec<Addr>, NoMemory>
+/// The IPv4 addresses of a set, each with the port that servers listen at.
+pub(crate) fn addresses(alloc: Global, port: u16, told: &AnswerSet) -> Result<Vec<Addr>, NoMemory>
     ensures each { IfOk result (λ v. AllByRecursion (IsAddressIn port told.now) v.items) }
     ensures all { IfOk result (λ v. (addr : Addr) → IsAddressIn port told.now addr → Contains v.items addr) }
 {

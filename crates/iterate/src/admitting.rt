@@ -1,19 +1,19 @@
-//! What a response taught is handed to the book.
+//! The finds of a response, handed to the book one by one.
 
-ghost use Rattle.std.specs.Prelude.{◌≡◌, ◌<◌, ◌≤◌, ◌-◌, ◌^◌, ℕ, false, List, IfOk, IsTrue, length};
+ghost use Rattle.std.specs.Prelude.{◌≡◌, ◌<◌, ◌≤◌, ◌^◌, ℕ, false, List, IfOk, length};
 ghost use Rattle.dns_text.specs.declared.record.Question.{Question};
 ghost use Rattle.ranked.specs.declared.find.Find.{Find};
 ghost use Rattle.history.specs.declared.event.Event.TheVariants.{Admit};
 ghost use Rattle.iterate.specs.declared.want.Want.{Want};
 ghost use Rattle.iterate.specs.declared.want.Want.TheVariants.{Book};
 ghost use Rattle.iterate.specs.Exchanges.{Exchange, exchange, Adds};
-ghost use Rattle.iterate.specs.Measure.{left_of_hearing};
-ghost use Rattle.iterate.specs.Phase.{Goes, IsAdmission, IsHearing, Suits, drawing};
+ghost use Rattle.iterate.specs.Measure.{left_of_finds, left_of_hearing};
+ghost use Rattle.iterate.specs.Phase.{GoesOn, IsAdmission, IsHearing, Suits, drawing};
 ghost use Rattle.iterate.specs.Shown.{IsMisanswered};
 
 use crate::concluding::conclude;
 use crate::finishing::failed;
-use crate::phase::{Phase, Turn};
+use crate::phase::{Advance, Phase};
 use crate::search::Search;
 use crate::want::{Input, Want};
 use dns_name::NoMemory;
@@ -22,7 +22,7 @@ use history::{Event, Reply};
 use rand_core::Rng;
 use std::alloc::Global;
 
-/// How many finds a response taught.
+/// The number of finds in a response.
 fn count_finds(heard: &Heard) -> usize
     ensures value { result ≡ length heard.now.harvest.finds }
     ensures range { result < 2 ^ 64 }
@@ -30,7 +30,7 @@ fn count_finds(heard: &Heard) -> usize
     heard.harvest.finds.as_slice().len()
 }
 
-/// Hands the find of this place to the book; behind the last one, does what the response says.
+/// Hands the find at this place to the book. After the last one, acts on the response.
 pub(crate) fn admit<R: Rng>(
     alloc: Global,
     port: u16,
@@ -39,17 +39,18 @@ pub(crate) fn admit<R: Rng>(
     search: Box<Search>,
     heard: Box<Heard>,
     next: usize,
-) -> Result<Turn, NoMemory>
-    ensures { (question : Question) (log : List Exchange) (left : ℕ) → IsHearing port question log search.value heard.value → left_of_hearing search.value.path 1 ≤ left
-        → (length heard.value.harvest.finds < 2 ^ 64 → left_of_hearing search.value.path (length heard.value.harvest.finds - next) < left)
-        → IfOk result (λ t. Goes port question log moment (drawing (R.stream ids.old) (R.stream ids.new)) left t.phase t.want) }
+) -> Result<Advance, NoMemory>
+    ensures { (question : Question) (log : List Exchange) (left : ℕ) → IsHearing port question log search.value heard.value
+        → left_of_hearing search.value.path 1 ≤ left
+        → (length heard.value.harvest.finds < 2 ^ 64 → left_of_finds search.value.path heard.value next < left)
+        → IfOk result (GoesOn port question log moment (drawing (R.stream ids.old) (R.stream ids.new)) left) }
 {
     if next >= count_finds(&heard) {
         let search = Box::into_inner(search);
         return conclude(alloc, port, moment, ids, search, Box::into_inner(heard));
     }
     let find = heard.harvest.finds.as_slice()[next].share()?;
-    Ok(Turn {
+    Ok(Advance {
         phase: Phase::Admitting {
             search,
             heard,
@@ -59,7 +60,7 @@ pub(crate) fn admit<R: Rng>(
     })
 }
 
-/// Whether a book may reply this to an admission. A fault is passed over.
+/// Whether a book may reply this to an admission. A fault of the book is ignored.
 fn is_passed(input: &Input) -> bool
     ensures { result ≡ false → (m : ℕ) (find : Find) → Suits (Book (Admit m find)) input.now → IsMisanswered (Admit m find) input.now }
 {
@@ -69,7 +70,7 @@ fn is_passed(input: &Input) -> bool
     )
 }
 
-/// Goes on when the book replied to an admission.
+/// Continues with the book's reply to an admission.
 pub(crate) fn admitted<R: Rng>(
     alloc: Global,
     port: u16,
@@ -79,10 +80,12 @@ pub(crate) fn admitted<R: Rng>(
     heard: Box<Heard>,
     next: usize,
     input: &Input,
-) -> Result<Turn, NoMemory>
-    ensures { (question : Question) (before log : List Exchange) (want : Want) → IsHearing port question before search.value heard.value → next < length heard.value.harvest.finds → IsAdmission want
-        → Suits want input.now → Adds before (exchange want input.now) log
-        → IfOk result (λ t. Goes port question log moment (drawing (R.stream ids.old) (R.stream ids.new)) (left_of_hearing search.value.path (length heard.value.harvest.finds - next)) t.phase t.want) }
+) -> Result<Advance, NoMemory>
+    ensures { (question : Question) (before log : List Exchange) (want : Want)
+        → IsHearing port question before search.value heard.value → next < length heard.value.harvest.finds
+        → IsAdmission want → Suits want input.now → Adds before (exchange want input.now) log
+        → IfOk result (GoesOn port question log moment (drawing (R.stream ids.old) (R.stream ids.new))
+        (left_of_finds search.value.path heard.value next)) }
 {
     if !is_passed(input) {
         return Ok(failed(alloc));

@@ -1,4 +1,4 @@
-//! What a question is answered.
+//! The answer to a question.
 
 ghost use Rattle.std.specs.Prelude.{◌≡◌, IfOk};
 
@@ -12,54 +12,55 @@ use std::alloc::Global;
 
 /// A set of an answer.
 #[derive(Drop)]
-pub enum Told {
-    /// What was learnt, with the seconds for which it may be kept.
+pub enum AnswerSet {
+    /// A set from the cache or a response, with its TTL in seconds.
     Find { ttl: u32, find: SharedFind },
-    /// What the operator set.
+    /// Local data.
     Local(Shared<Items<SeenRecord>>),
-    /// What may be told and not kept: its time to live is 0 (RFC 1035, section 3.2.1).
+    /// A set of a response that may be answered and not cached, since its TTL is 0 (RFC 1035, section 3.2.1).
     Passing(Shared<PassingSet>),
 }
 
 /// The SOA record of a negative answer (RFC 2308, section 3).
 #[derive(Drop)]
 pub enum Soa {
-    /// That of a find that denies, with the seconds for which it may be kept.
+    /// From a negative find, with its TTL in seconds.
     Find { ttl: u32, find: SharedFind },
-    /// That of a local zone.
+    /// From a local zone.
     Local(LocalRecord),
 }
 
-/// What a question is answered.
+/// The answer to a question.
 #[derive(Drop)]
 pub enum Answer {
-    /// A reply.
+    /// A response is sent.
     Reply {
         rcode: Rcode,
-        /// Whether local data or a local zone answers.
+        /// Set if local data or a local zone answers (AA; RFC 1035, section 4.1.1).
         aa: bool,
         /// The sets of CNAME records that lead to the last name.
-        aliases: Items<Told>,
-        /// The set of the last name, where there is one.
-        last: Option<Told>,
+        aliases: Items<AnswerSet>,
+        /// The set of the last name, if there is one.
+        last: Option<AnswerSet>,
+        /// The SOA record of a negative answer.
         authority: Option<Soa>,
     },
-    /// No reply.
+    /// No response is sent.
     Silent,
 }
 
-impl Told {
+impl AnswerSet {
     /// The same set, of which there is one owner more. It takes no memory; there can be too many owners to count.
-    pub fn copy(&self) -> Result<Told, NoMemory>
+    pub fn copy(&self) -> Result<AnswerSet, NoMemory>
         ensures { IfOk result (λ x. x ≡ self.now) }
     {
         match self {
-            Told::Find { ttl, find } => Ok(Told::Find {
+            AnswerSet::Find { ttl, find } => Ok(AnswerSet::Find {
                 ttl: *ttl,
                 find: find.share()?,
             }),
-            Told::Local(records) => Ok(Told::Local(records.share()?)),
-            Told::Passing(set) => Ok(Told::Passing(set.share()?)),
+            AnswerSet::Local(records) => Ok(AnswerSet::Local(records.share()?)),
+            AnswerSet::Passing(set) => Ok(AnswerSet::Passing(set.share()?)),
         }
     }
 }
@@ -79,7 +80,7 @@ impl Soa {
     }
 }
 
-fn copy_aliases(alloc: Global, aliases: &[Told]) -> Result<Items<Told>, NoMemory>
+fn copy_aliases(alloc: Global, aliases: &[AnswerSet]) -> Result<Items<AnswerSet>, NoMemory>
     ensures { IfOk result (λ x. x ≡ aliases.now) }
 {
     let mut copies = Vec::new(alloc);
@@ -89,7 +90,7 @@ fn copy_aliases(alloc: Global, aliases: &[Told]) -> Result<Items<Told>, NoMemory
     Ok(Items::new(copies))
 }
 
-fn copy_last(last: &Option<Told>) -> Result<Option<Told>, NoMemory>
+fn copy_last(last: &Option<AnswerSet>) -> Result<Option<AnswerSet>, NoMemory>
     ensures { IfOk result (λ x. x ≡ last.now) }
 {
     match last {
@@ -108,7 +109,7 @@ fn copy_authority(authority: &Option<Soa>) -> Result<Option<Soa>, NoMemory>
 }
 
 impl Answer {
-    /// The same answer. What it tells is shared, so that an answer without aliases takes no memory.
+    /// The same answer. Its sets are shared, so an answer without aliases takes no memory.
     pub fn copy(&self, alloc: Global) -> Result<Answer, NoMemory>
         ensures { IfOk result (λ x. x ≡ self.now) }
     {

@@ -1,25 +1,23 @@
-//! What came of a query.
+//! The outcome of a query.
 
-ghost use Rattle.std.specs.Prelude.{◌≡◌, ◌+◌, ◌<◌, ◌∷◌, ℕ, List, IfOk, length, drop};
+ghost use Rattle.std.specs.Prelude.{◌≡◌, ◌+◌, ◌<◌, ℕ, List, IfOk, length};
 ghost use Rattle.dns_text.specs.declared.addr.Addr.{Addr};
 ghost use Rattle.dns_text.specs.declared.record.Question.{Question};
-ghost use Rattle.iterate.specs.declared.search.Search.{Search};
-ghost use Rattle.iterate.specs.declared.want.Input.{Input};
 ghost use Rattle.iterate.specs.declared.want.Want.{Want};
 ghost use Rattle.iterate.specs.declared.want.Want.TheVariants.{Send as SendWant};
 ghost use Rattle.iterate.specs.Exchanges.{Exchange, exchange, Adds};
 ghost use Rattle.iterate.specs.Judged.{IsJudged};
 ghost use Rattle.iterate.specs.Measure.{left_in, left_of_sending};
-ghost use Rattle.iterate.specs.Phase.{Goes, IsWaiting, Suits, drawing};
+ghost use Rattle.iterate.specs.Phase.{GoesOn, IsWaiting, Suits, drawing};
 ghost use Rattle.iterate.specs.Resolved.{Struck};
-ghost use Rattle.iterate.specs.Searching.{IsSearch, hunt_of, question_of};
+ghost use Rattle.iterate.specs.Searching.{IsSearch, hunt_of, question_of, IsNextServer};
 ghost use Rattle.iterate.specs.Wanted.{WasTruncated};
 
 use crate::admitting::admit;
 use crate::finishing::failed;
 use crate::limits::MOST_SENDS;
-use crate::phase::{Phase, Turn};
-use crate::search::{Frame, Hunt, Search, go_on};
+use crate::phase::{Advance, Phase};
+use crate::search::{Hunt, Nested, Search, go_on};
 use crate::sending::send;
 use crate::want::Input;
 use dns_name::{Name, NoMemory};
@@ -28,7 +26,7 @@ use dns_text::{Addr, Question};
 use rand_core::Rng;
 use std::alloc::Global;
 
-/// What came of a query of this question, with this identifier, to a server of this zone.
+/// The verdict on the outcome of a query: this question, this identifier, a server of this zone.
 fn judged(
     alloc: Global,
     port: u16,
@@ -38,7 +36,8 @@ fn judged(
     question: &Question,
     input: &Input,
 ) -> Result<Verdict, NoMemory>
-    ensures { (server : Addr) (bytes : List ℕ) → Suits (SendWant server over bytes) input.now → IfOk result (IsJudged port over zone.now id question.now input.now) }
+    ensures { (server : Addr) (bytes : List ℕ) → Suits (SendWant server over bytes) input.now
+        → IfOk result (IsJudged port over zone.now id question.now input.now) }
 {
     match input {
         Input::Came(octets) => judge(alloc, port, over, zone, id, question, octets.as_slice()),
@@ -46,7 +45,7 @@ fn judged(
     }
 }
 
-/// The servers, of which one more was asked in vain.
+/// These servers, with one more of them asked in vain.
 fn asked_once_more(hunt: Hunt) -> Hunt
     ensures { hunt.asked < length hunt.addrs.items → result ≡ record hunt { asked = hunt.asked + 1 } }
 {
@@ -69,11 +68,12 @@ fn asked_once_more(hunt: Hunt) -> Hunt
     }
 }
 
-/// The server that was asked last is done with.
+/// Strikes the server that was asked last.
 fn strike(search: Search) -> Result<Search, NoMemory>
     ensures path { IfOk result (λ after. after.path ≡ search.path) }
-    ensures further { (port : ℕ) (question : Question) (log : List Exchange) (server : Addr) (rest : List Addr) → (s : IsSearch port question log search)
-        → drop (hunt_of search).asked (hunt_of search).addrs.items ≡ server ∷ rest → Struck port s.since (hunt_of search).servers.zone (question_of search) server
+    ensures further { (port : ℕ) (question : Question) (log : List Exchange) (server : Addr) (rest : List Addr)
+        → (s : IsSearch port question log search) → IsNextServer search server rest
+        → Struck port s.since (hunt_of search).servers.zone (question_of search) server
         → IfOk result (IsSearch port question log) }
 {
     let Search {
@@ -88,10 +88,10 @@ fn strike(search: Search) -> Result<Search, NoMemory>
             frames,
         });
     }
-    let Frame { target, hunt } = frames.remove(0);
+    let Nested { target, hunt } = frames.remove(0);
     frames.insert(
         0,
-        Frame {
+        Nested {
             target,
             hunt: asked_once_more(hunt),
         },
@@ -99,11 +99,17 @@ fn strike(search: Search) -> Result<Search, NoMemory>
     Ok(Search { path, base, frames })
 }
 
-/// The same server is asked once more, by a stream (RFC 2181, section 9).
-fn again<R: Rng>(alloc: Global, ids: &mut R, search: Search, server: Addr) -> Result<Turn, NoMemory>
-    ensures { (port moment left : ℕ) (question : Question) (log : List Exchange) (rest : List Addr) → IsSearch port question log search
-        → drop (hunt_of search).asked (hunt_of search).addrs.items ≡ server ∷ rest → WasTruncated log server (question_of search) → (search.path.sent < MOST_SENDS → left_of_sending search.path < left) → left_in Phase.Ended < left
-        → IfOk result (λ t. Goes port question log moment (drawing (R.stream ids.old) (R.stream ids.new)) left t.phase t.want) }
+/// Asks the same server again over TCP (RFC 2181, section 9).
+fn again<R: Rng>(
+    alloc: Global,
+    ids: &mut R,
+    search: Search,
+    server: Addr,
+) -> Result<Advance, NoMemory>
+    ensures { (port moment left : ℕ) (question : Question) (log : List Exchange) (rest : List Addr)
+        → IsSearch port question log search → IsNextServer search server rest → WasTruncated log server (question_of search)
+        → (search.path.sent < MOST_SENDS → left_of_sending search.path < left) → left_in Phase.Ended < left
+        → IfOk result (GoesOn port question log moment (drawing (R.stream ids.old) (R.stream ids.new)) left) }
 {
     if search.path.sent >= MOST_SENDS {
         return Ok(failed(alloc));
@@ -111,7 +117,7 @@ fn again<R: Rng>(alloc: Global, ids: &mut R, search: Search, server: Addr) -> Re
     send(alloc, ids, search, server, Over::Tcp)
 }
 
-/// Goes on when something came of a query, or nothing.
+/// Continues with the outcome of a query: a response, or none.
 pub(crate) fn came<R: Rng>(
     alloc: Global,
     port: u16,
@@ -122,9 +128,11 @@ pub(crate) fn came<R: Rng>(
     id: u16,
     over: Over,
     input: &Input,
-) -> Result<Turn, NoMemory>
-    ensures { (question : Question) (before log : List Exchange) (want : Want) → IsWaiting port question before want search server id over → Suits want input.now
-        → Adds before (exchange want input.now) log → IfOk result (λ t. Goes port question log moment (drawing (R.stream ids.old) (R.stream ids.new)) (left_of_sending search.path) t.phase t.want) }
+) -> Result<Advance, NoMemory>
+    ensures { (question : Question) (before log : List Exchange) (want : Want)
+        → IsWaiting port question before want search server id over → Suits want input.now
+        → Adds before (exchange want input.now) log
+        → IfOk result (GoesOn port question log moment (drawing (R.stream ids.old) (R.stream ids.new)) (left_of_sending search.path)) }
 {
     let question = search.question()?;
     let zone = &search.hunt().servers.get().zone;

@@ -1,26 +1,27 @@
-//! What is done when a response was heard.
+//! The answer, denial or referral of a response, acted on.
 
 ghost use Rattle.std.specs.Prelude.{◌≡◌, ◌<◌, [], ℕ, List, IfOk, length};
 ghost use Rattle.std.specs.List.{AllByRecursion};
 ghost use Rattle.dns_text.specs.declared.record.Question.{Question};
 ghost use Rattle.iterate.specs.Exchanges.{Exchange};
 ghost use Rattle.iterate.specs.Following.{IsHarvestOf};
+ghost use Rattle.iterate.specs.Hunting.{IsSmaller};
 ghost use Rattle.iterate.specs.Judged.{IsAddressOf};
 ghost use Rattle.iterate.specs.Known.{servers_referred};
 ghost use Rattle.iterate.specs.Measure.{left_of_hearing};
-ghost use Rattle.iterate.specs.Phase.{Goes, IsHearing, drawing};
+ghost use Rattle.iterate.specs.Phase.{GoesOn, IsHearing, drawing};
 
 use crate::addresses::addresses;
 use crate::finishing::denied;
 use crate::following::{follow_in, harvested};
 use crate::innermost::address_question;
-use crate::phase::Turn;
+use crate::phase::Advance;
 use crate::search::{Search, close, go_on, refer_base, refer_frame};
 use dns_name::{Name, NoMemory};
 use dns_query::{Heard, Referral, Says};
 use dns_text::{Addr, Shared};
 use harvest::Harvest;
-use history::{Servers, Source};
+use history::{Origin, Servers};
 use rand_core::Rng;
 use std::alloc::Global;
 
@@ -37,21 +38,22 @@ fn servers_of(alloc: Global, referral: Referral) -> Result<Shared<Servers>, NoMe
         alloc,
         Servers {
             zone,
-            source: Source::Cache,
+            source: Origin::Cache,
             addrs,
             missing,
         },
     )
 }
 
-/// The addresses of a server that a harvest has. A name that is an alias has none.
+/// The addresses of a server in a harvest. A name that is an alias has none.
 fn addresses_harvested(
     alloc: Global,
     port: u16,
     target: &Name,
     harvest: &Harvest,
 ) -> Result<Vec<Addr>, NoMemory>
-    ensures { (log : List Exchange) → IsHarvestOf port log harvest.now → IfOk result (λ addrs. AllByRecursion (IsAddressOf port log target.now) addrs.items) }
+    ensures { (log : List Exchange) → IsHarvestOf port log harvest.now
+        → IfOk result (λ addrs. AllByRecursion (IsAddressOf port log target.now) addrs.items) }
 {
     match harvested(harvest, &address_question(target)?)? {
         Some(told) => addresses(alloc, port, &told),
@@ -59,17 +61,17 @@ fn addresses_harvested(
     }
 }
 
-/// Does what a response to the question itself says.
+/// Acts on a response to the question itself.
 fn conclude_last<R: Rng>(
     alloc: Global,
     moment: u64,
     ids: &mut R,
     search: Search,
     heard: Heard,
-) -> Result<Turn, NoMemory>
+) -> Result<Advance, NoMemory>
     requires { search.frames.items ≡ [] }
     ensures { (port : ℕ) (question : Question) (log : List Exchange) → IsHearing port question log search heard
-        → IfOk result (λ t. Goes port question log moment (drawing (R.stream ids.old) (R.stream ids.new)) (left_of_hearing search.path 1) t.phase t.want) }
+        → IfOk result (GoesOn port question log moment (drawing (R.stream ids.old) (R.stream ids.new)) (left_of_hearing search.path 1)) }
 {
     let Heard { harvest, says } = heard;
     match says {
@@ -82,7 +84,28 @@ fn conclude_last<R: Rng>(
     }
 }
 
-/// Does what a response to a question for the address of a server says.
+/// The search behind a response to a question for the address of a server. An answer gives its addresses, a denial none, and a
+/// referral names the next servers to ask.
+fn search_behind(alloc: Global, port: u16, search: Search, heard: Heard) -> Result<Search, NoMemory>
+    requires { 0 < length search.frames.items }
+    ensures { (question : Question) (log : List Exchange) → IsHearing port question log search heard
+        → IfOk result (IsSmaller port question log (left_of_hearing search.path 1)) }
+{
+    let Heard { harvest, says } = heard;
+    match says {
+        Says::Answers => {
+            let addrs = addresses_harvested(alloc, port, &search.frames[0].target, &harvest)?;
+            close(alloc, search, &addrs)
+        }
+        Says::Denies { .. } => close(alloc, search, &[]),
+        Says::Refers(referral) => {
+            let servers = servers_of(alloc, referral)?;
+            refer_frame(alloc, search, servers)
+        }
+    }
+}
+
+/// Acts on a response to a question for the address of a server.
 fn conclude_frame<R: Rng>(
     alloc: Global,
     port: u16,
@@ -90,27 +113,18 @@ fn conclude_frame<R: Rng>(
     ids: &mut R,
     search: Search,
     heard: Heard,
-) -> Result<Turn, NoMemory>
+) -> Result<Advance, NoMemory>
     requires { 0 < length search.frames.items }
     ensures { (question : Question) (log : List Exchange) → IsHearing port question log search heard
-        → IfOk result (λ t. Goes port question log moment (drawing (R.stream ids.old) (R.stream ids.new)) (left_of_hearing search.path 1) t.phase t.want) }
+        → IfOk result (GoesOn port question log moment (drawing (R.stream ids.old) (R.stream ids.new))
+        (left_of_hearing search.path 1)) }
 {
-    let Heard { harvest, says } = heard;
-    match says {
-        Says::Answers => {
-            let addrs = addresses_harvested(alloc, port, &search.frames[0].target, &harvest)?;
-            go_on(alloc, ids, moment, close(alloc, search, &addrs)?)
-        }
-        Says::Denies { .. } => go_on(alloc, ids, moment, close(alloc, search, &[])?),
-        Says::Refers(referral) => {
-            let servers = servers_of(alloc, referral)?;
-            go_on(alloc, ids, moment, refer_frame(alloc, search, servers)?)
-        }
-    }
+    let after = search_behind(alloc, port, search, heard)?;
+    go_on(alloc, ids, moment, after)
 }
 
-/// Does what a response says: a set or an alias is followed, a denial ends the question, a referral names the next servers
-/// (RFC 1034, section 5.3.3, step 4). An answer to a question for the address of a server gives its addresses.
+/// Acts on a response (RFC 1034, section 5.3.3, step 4). It follows a set or an alias, ends the question at a denial, and asks
+/// the servers that a referral names. An answer to a question for the address of a server gives its addresses.
 pub(crate) fn conclude<R: Rng>(
     alloc: Global,
     port: u16,
@@ -118,9 +132,9 @@ pub(crate) fn conclude<R: Rng>(
     ids: &mut R,
     search: Search,
     heard: Heard,
-) -> Result<Turn, NoMemory>
+) -> Result<Advance, NoMemory>
     ensures { (question : Question) (log : List Exchange) → IsHearing port question log search heard
-        → IfOk result (λ t. Goes port question log moment (drawing (R.stream ids.old) (R.stream ids.new)) (left_of_hearing search.path 1) t.phase t.want) }
+        → IfOk result (GoesOn port question log moment (drawing (R.stream ids.old) (R.stream ids.new)) (left_of_hearing search.path 1)) }
 {
     if search.frames.is_empty() {
         return conclude_last(alloc, moment, ids, search, heard);

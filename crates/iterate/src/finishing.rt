@@ -1,6 +1,6 @@
-//! How a question ends.
+//! Endings of a question.
 
-ghost use Rattle.std.specs.Prelude.{◌≡◌, ◌<◌, ◌≤◌, [], true, false, ℕ, List, Some, None, IfOk, MatchOption};
+ghost use Rattle.std.specs.Prelude.{◌≡◌, ◌<◌, [], true, false, ℕ, List, Some, None, IfOk, MatchOption};
 ghost use Rattle.std.specs.Option.{option_map};
 ghost use Rattle.dns_text.specs.declared.record.Question.{Question};
 ghost use Rattle.history.specs.declared.event.Seen.TheVariants.{Held as SeenHeld, Local as SeenLocal};
@@ -8,16 +8,17 @@ ghost use Rattle.iterate.specs.declared.answer.Soa.TheVariants.{Find as FindSoa,
 ghost use Rattle.iterate.specs.Exchanges.{Exchange};
 ghost use Rattle.iterate.specs.Known.{Known, Had};
 ghost use Rattle.iterate.specs.Measure.{left_in};
-ghost use Rattle.iterate.specs.Phase.{Goes, idle};
+ghost use Rattle.iterate.specs.Phase.{GoesOn, idle};
 ghost use Rattle.iterate.specs.Resolved.{IsBarred, IsDenied};
 ghost use Rattle.iterate.specs.Searching.{IsPath};
-ghost use Rattle.iterate.specs.Shown.{Ends, IsShownFor, IsLocalFor};
+ghost use Rattle.iterate.specs.Looked.{EndsSo};
+ghost use Rattle.iterate.specs.Shown.{IsShownFor, IsLocalFor};
 ghost use Rattle.iterate.specs.Told.{soa_whole};
 ghost use Rattle.rand_core.specs.Stream.{Stream};
 
-use crate::answer::{Answer, Soa, Told};
+use crate::answer::{Answer, AnswerSet, Soa};
 use crate::path::Path;
-use crate::phase::{Phase, Turn};
+use crate::phase::{Advance, Phase};
 use crate::shown::{copy_set, held_set};
 use crate::want::Want;
 use dns_name::NoMemory;
@@ -31,8 +32,8 @@ use std::alloc::Global;
 fn reply(
     rcode: Rcode,
     aa: bool,
-    aliases: Vec<Told>,
-    last: Option<Told>,
+    aliases: Vec<AnswerSet>,
+    last: Option<AnswerSet>,
     authority: Option<Soa>,
 ) -> Answer
     ensures { result ≡ Answer.Reply rcode aa aliases.items last authority }
@@ -46,12 +47,12 @@ fn reply(
     }
 }
 
-/// The question ends in this answer.
-pub(crate) fn finish(answer: Answer) -> Turn
+/// Ends the question with this answer.
+pub(crate) fn finish(answer: Answer) -> Advance
     ensures phase { result.phase ≡ Phase.Ended }
     ensures want { result.want ≡ Want.Finish answer }
 {
-    Turn {
+    Advance {
         phase: Phase::Ended,
         want: Want::Finish(answer),
     }
@@ -60,41 +61,42 @@ pub(crate) fn finish(answer: Answer) -> Turn
 fn finished(
     rcode: Rcode,
     aa: bool,
-    aliases: Vec<Told>,
-    last: Option<Told>,
+    aliases: Vec<AnswerSet>,
+    last: Option<AnswerSet>,
     authority: Option<Soa>,
-) -> Turn
+) -> Advance
     ensures phase { result.phase ≡ Phase.Ended }
     ensures want { result.want ≡ Want.Finish (Answer.Reply rcode aa aliases.items last authority) }
 {
     finish(reply(rcode, aa, aliases, last, authority))
 }
 
-/// The question fails (SERVFAIL; RFC 1035, section 4.1.1).
-pub(crate) fn failed(alloc: Global) -> Turn
+/// Fails the question (SERVFAIL; RFC 1035, section 4.1.1).
+pub(crate) fn failed(alloc: Global) -> Advance
     ensures phase { result.phase ≡ Phase.Ended }
     ensures want { result.want ≡ Want.Finish (Answer.Reply 2 false [] None None) }
 {
     finished(Rcode::SERVER_FAILURE, false, Vec::new(alloc), None, None)
 }
 
-/// A local zone refuses the question (REFUSED; RFC 1035, section 4.1.1).
+/// The answer if a local zone refuses the question (REFUSED; RFC 1035, section 4.1.1).
 pub(crate) fn refusal(alloc: Global) -> Answer
     ensures { result ≡ Answer.Reply 5 true [] None None }
 {
     reply(Rcode::REFUSED, true, Vec::new(alloc), None, None)
 }
 
-/// A set ends the path.
-pub(crate) fn found(path: Path, told: Told) -> Turn
-    ensures { (port moment : ℕ) (ids : Stream) (left : ℕ) (question : Question) (log : List Exchange) → left_in Phase.Ended < left → IsPath port question log path
-        → Known port log (Had path.last told) → Goes port question log moment (idle ids) left result.phase result.want }
+/// Ends the path with a set.
+pub(crate) fn found(path: Path, told: AnswerSet) -> Advance
+    ensures { (port moment : ℕ) (ids : Stream) (left : ℕ) (question : Question) (log : List Exchange)
+        → left_in Phase.Ended < left → IsPath port question log path → Known port log (Had path.last told)
+        → GoesOn port question log moment (idle ids) left result }
 {
     let Path { sets, .. } = path;
     finished(Rcode::NO_ERROR, false, sets, Some(told), None)
 }
 
-/// The SOA record by which a find denies, as a response tells it.
+/// The SOA record of a negative find, with the TTL of the response.
 fn soa_told(negative: Option<SharedFind>) -> Option<Soa>
     ensures { result ≡ option_map soa_whole negative }
 {
@@ -107,19 +109,21 @@ fn soa_told(negative: Option<SharedFind>) -> Option<Soa>
     }
 }
 
-/// A response denies what the path leads to.
-pub(crate) fn denied(path: Path, rcode: Rcode, negative: Option<SharedFind>) -> Turn
-    ensures { (port moment : ℕ) (ids : Stream) (left : ℕ) (question : Question) (log : List Exchange) → left_in Phase.Ended < left → IsPath port question log path
-        → IsDenied port log path.last rcode (option_map soa_whole negative) → Goes port question log moment (idle ids) left result.phase result.want }
+/// Ends the path with the negative answer of a response.
+pub(crate) fn denied(path: Path, rcode: Rcode, negative: Option<SharedFind>) -> Advance
+    ensures { (port moment : ℕ) (ids : Stream) (left : ℕ) (question : Question) (log : List Exchange)
+        → left_in Phase.Ended < left → IsPath port question log path
+        → IsDenied port log path.last rcode (option_map soa_whole negative)
+        → GoesOn port question log moment (idle ids) left result }
 {
     let Path { sets, .. } = path;
     finished(rcode, false, sets, None, soa_told(negative))
 }
 
-/// What ends a question, of a reply.
+/// The parts of a reply that end a question.
 pub(crate) struct Ending {
     rcode: Rcode,
-    last: Option<Told>,
+    last: Option<AnswerSet>,
     authority: Option<Soa>,
 }
 
@@ -132,7 +136,7 @@ fn soa_held(shown: &Shown<SharedFind>) -> Result<Soa, NoMemory>
     })
 }
 
-fn set_ending(told: Told) -> Ending
+fn set_ending(told: AnswerSet) -> Ending
     ensures { result ≡ record { rcode = 0; last = Some told; authority = None } }
 {
     Ending {
@@ -142,7 +146,7 @@ fn set_ending(told: Told) -> Ending
     }
 }
 
-/// What denies ends a question with this RCODE.
+/// A negative ending with this RCODE.
 fn denial(rcode: Rcode, authority: Option<Soa>) -> Ending
     ensures { result ≡ record { rcode = rcode; last = None; authority = authority } }
 {
@@ -153,9 +157,9 @@ fn denial(rcode: Rcode, authority: Option<Soa>) -> Ending
     }
 }
 
-/// How a find that is held ends the question that it is about.
+/// The ending by a cached find that is about the question.
 pub(crate) fn held_ending(shown: &Shown<SharedFind>) -> Result<Ending, NoMemory>
-    ensures { (question : Question) → IsShownFor question shown.now → IfOk result (λ e. Ends question (SeenHeld shown.now) e.rcode e.last e.authority) }
+    ensures { (question : Question) → IsShownFor question shown.now → IfOk result (EndsSo question (SeenHeld shown.now)) }
 {
     match &shown.body.find().body {
         Body::Set(_) => Ok(set_ending(held_set(shown)?)),
@@ -173,13 +177,13 @@ fn soa_local(soa: &Option<LocalRecord>) -> Result<Option<Soa>, NoMemory>
     }
 }
 
-/// How what local zones answer a question ends it. None where they refuse or drop it.
+/// The ending by a local answer. None if a local zone refuses or drops the question.
 pub(crate) fn local_ending(
     alloc: Global,
     answer: &Local<Items<SeenRecord>, LocalRecord>,
 ) -> Result<Option<Ending>, NoMemory>
     ensures { (question : Question) → IsLocalFor question answer.now
-        → IfOk result (λ ending. MatchOption ending (IsBarred (SeenLocal answer.now)) (λ e. Ends question (SeenLocal answer.now) e.rcode e.last e.authority)) }
+        → IfOk result (λ ending. MatchOption ending (IsBarred (SeenLocal answer.now)) (EndsSo question (SeenLocal answer.now))) }
 {
     match answer {
         Local::Data(records) => Ok(Some(set_ending(copy_set(alloc, records)?))),
@@ -191,8 +195,8 @@ pub(crate) fn local_ending(
     }
 }
 
-/// The answer of a question that ends so behind these aliases.
-pub(crate) fn answer_with(aa: bool, aliases: Vec<Told>, ending: Ending) -> Answer
+/// The answer with these aliases and this ending.
+pub(crate) fn answer_with(aa: bool, aliases: Vec<AnswerSet>, ending: Ending) -> Answer
     ensures { result ≡ Answer.Reply ending.rcode aa aliases.items ending.last ending.authority }
 {
     let Ending {
@@ -203,8 +207,8 @@ pub(crate) fn answer_with(aa: bool, aliases: Vec<Told>, ending: Ending) -> Answe
     reply(rcode, aa, aliases, last, authority)
 }
 
-/// What a look says ends a question behind these aliases.
-pub(crate) fn ended(aa: bool, aliases: Vec<Told>, ending: Ending) -> Turn
+/// Ends a question behind these aliases with what a lookup found.
+pub(crate) fn ended(aa: bool, aliases: Vec<AnswerSet>, ending: Ending) -> Advance
     ensures phase { result.phase ≡ Phase.Ended }
     ensures want { result.want ≡ Want.Finish (Answer.Reply ending.rcode aa aliases.items ending.last ending.authority) }
 {

@@ -1,4 +1,4 @@
-//! The first look, at the question itself.
+//! The first lookup, of the question itself.
 
 ghost use Rattle.std.specs.Prelude.{◌≡◌, [], ℕ, List, IfOk, MatchOption};
 ghost use Rattle.history.specs.declared.event.Ask.TheVariants.{Answer as Asked};
@@ -8,10 +8,10 @@ ghost use Rattle.history.specs.declared.event.Seen.TheVariants.{Unknown as SeenU
 ghost use Rattle.iterate.specs.declared.want.Input.{Input as InputValue};
 ghost use Rattle.iterate.specs.declared.want.Input.TheVariants.{Reply as Replied};
 ghost use Rattle.iterate.specs.declared.want.Want.TheVariants.{Book};
-ghost use Rattle.iterate.specs.Exchanges.{Exchange, exchange, Adds};
+ghost use Rattle.iterate.specs.Exchanges.{Exchange, AddsLook};
 ghost use Rattle.iterate.specs.Looked.{seen_of, IsReplied};
 ghost use Rattle.iterate.specs.Measure.{left_in};
-ghost use Rattle.iterate.specs.Phase.{Goes, Suits, idle};
+ghost use Rattle.iterate.specs.Phase.{GoesOn, Suits, idle};
 ghost use Rattle.iterate.specs.Resolved.{IsBarred, IsNoAnswer, IsResolved};
 ghost use Rattle.iterate.specs.Shown.{IsShownFor, IsLocalFor};
 ghost use Rattle.rand_core.specs.Stream.{Stream};
@@ -19,7 +19,7 @@ ghost use Rattle.rand_core.specs.Stream.{Stream};
 use crate::answer::Answer;
 use crate::finishing::{answer_with, failed, finish, held_ending, local_ending, refusal};
 use crate::path::{Path, alias};
-use crate::phase::{Phase, Turn};
+use crate::phase::{Advance, Phase};
 use crate::shown::{Looked, replied};
 use crate::want::{Input, Want};
 use dns_name::NoMemory;
@@ -38,7 +38,7 @@ fn copy_question(question: &Question) -> Result<Question, NoMemory>
     })
 }
 
-/// The look with which a task begins, at its question.
+/// The lookup with which a task begins: that of its question.
 pub fn first_look(question: &Question, moment: u64) -> Result<Event, NoMemory>
     ensures { IfOk result (λ event. event ≡ Look moment (Asked question.now)) }
 {
@@ -48,11 +48,11 @@ pub fn first_look(question: &Question, moment: u64) -> Result<Event, NoMemory>
     })
 }
 
-/// Looks at the question.
-pub(crate) fn begin(question: &Question, moment: u64) -> Result<Turn, NoMemory>
-    ensures { (port : ℕ) (ids : Stream) → IfOk result (λ t. Goes port question.now [] moment (idle ids) (left_in Phase.Fresh) t.phase t.want) }
+/// Looks the question up.
+pub(crate) fn begin(question: &Question, moment: u64) -> Result<Advance, NoMemory>
+    ensures { (port : ℕ) (ids : Stream) → IfOk result (GoesOn port question.now [] moment (idle ids) (left_in Phase.Fresh)) }
 {
-    Ok(Turn {
+    Ok(Advance {
         phase: Phase::First,
         want: Want::Book(first_look(question, moment)?),
     })
@@ -72,10 +72,10 @@ fn start(alloc: Global, question: &Question) -> Result<Path, NoMemory>
     })
 }
 
-/// The answer where a local zone refuses the question or drops it.
+/// The answer if a local zone refuses or drops the question.
 fn barred(alloc: Global, answer: &Local<Items<SeenRecord>, LocalRecord>) -> Answer
     ensures { (port m : ℕ) (question : Question) (log : List Exchange) → IsBarred (SeenLocal answer.now)
-        → Adds [] (exchange (Book (Look m (Asked question))) (Replied (SeenReply (SeenLocal answer.now)))) log
+        → AddsLook [] m (Asked question) (Replied (SeenReply (SeenLocal answer.now))) log
         → IsResolved port question log result }
 {
     match answer {
@@ -84,13 +84,13 @@ fn barred(alloc: Global, answer: &Local<Items<SeenRecord>, LocalRecord>) -> Answ
     }
 }
 
-/// The answer of a first look that local zones answered.
+/// The answer if local zones answered the first lookup.
 fn answer_local(
     alloc: Global,
     answer: &Local<Items<SeenRecord>, LocalRecord>,
 ) -> Result<Answer, NoMemory>
     ensures { (port m : ℕ) (question : Question) (log : List Exchange) → IsLocalFor question answer.now
-        → Adds [] (exchange (Book (Look m (Asked question))) (Replied (SeenReply (SeenLocal answer.now)))) log
+        → AddsLook [] m (Asked question) (Replied (SeenReply (SeenLocal answer.now))) log
         → IfOk result (IsResolved port question log) }
 {
     match local_ending(alloc, answer)? {
@@ -99,20 +99,20 @@ fn answer_local(
     }
 }
 
-/// The answer of a first look that was shown a find.
+/// The answer if the first lookup found a cached set or negative answer.
 fn answer_held(alloc: Global, shown: &Shown<SharedFind>) -> Result<Answer, NoMemory>
     ensures { (port m : ℕ) (question : Question) (log : List Exchange) → IsShownFor question shown.now
-        → Adds [] (exchange (Book (Look m (Asked question))) (Replied (SeenReply (SeenHeld shown.now)))) log
+        → AddsLook [] m (Asked question) (Replied (SeenReply (SeenHeld shown.now))) log
         → IfOk result (IsResolved port question log) }
 {
     let ending = held_ending(shown)?;
     Ok(answer_with(false, Vec::new(alloc), ending))
 }
 
-/// The answer of a first look that was answered so. None where nothing was known.
+/// The answer by the reply to the first lookup. None if it found nothing.
 fn answer_seen(alloc: Global, what: Looked<'_>) -> Result<Option<Answer>, NoMemory>
     ensures { (port m : ℕ) (question : Question) (input : InputValue) (log : List Exchange) → IsReplied question input (seen_of what.entry)
-        → Adds [] (exchange (Book (Look m (Asked question))) input) log
+        → AddsLook [] m (Asked question) input log
         → IfOk result (λ answer. MatchOption answer (input ≡ Replied (SeenReply SeenUnknown)) (IsResolved port question log)) }
 {
     match what {
@@ -122,16 +122,16 @@ fn answer_seen(alloc: Global, what: Looked<'_>) -> Result<Option<Answer>, NoMemo
     }
 }
 
-/// Ends with what the first look was answered, or goes on where nothing was known.
+/// Ends with what the first lookup found, or continues if it found nothing.
 fn seen_first(
     alloc: Global,
     question: &Question,
     moment: u64,
     what: Looked<'_>,
-) -> Result<Turn, NoMemory>
+) -> Result<Advance, NoMemory>
     ensures { (port m : ℕ) (ids : Stream) (input : InputValue) (log : List Exchange) → IsReplied question.now input (seen_of what.entry)
-        → Adds [] (exchange (Book (Look m (Asked question.now))) input) log
-        → IfOk result (λ t. Goes port question.now log moment (idle ids) (left_in Phase.First) t.phase t.want) }
+        → AddsLook [] m (Asked question.now) input log
+        → IfOk result (GoesOn port question.now log moment (idle ids) (left_in Phase.First)) }
 {
     match answer_seen(alloc, what)? {
         Some(answer) => Ok(finish(answer)),
@@ -139,16 +139,16 @@ fn seen_first(
     }
 }
 
-/// Goes on when the first look was answered.
+/// Continues with the reply to the first lookup.
 pub(crate) fn looked_first(
     alloc: Global,
     question: &Question,
     moment: u64,
     input: &Input,
-) -> Result<Turn, NoMemory>
-    ensures { (port m : ℕ) (ids : Stream) (log : List Exchange) → Adds [] (exchange (Book (Look m (Asked question.now))) input.now) log
+) -> Result<Advance, NoMemory>
+    ensures { (port m : ℕ) (ids : Stream) (log : List Exchange) → AddsLook [] m (Asked question.now) input.now log
         → Suits (Book (Look m (Asked question.now))) input.now
-        → IfOk result (λ t. Goes port question.now log moment (idle ids) (left_in Phase.First) t.phase t.want) }
+        → IfOk result (GoesOn port question.now log moment (idle ids) (left_in Phase.First)) }
 {
     match replied(input, &question.owner, question.kind) {
         Some(what) => seen_first(alloc, question, moment, what),
@@ -156,14 +156,14 @@ pub(crate) fn looked_first(
     }
 }
 
-/// The answer to a question that its first look settles, by what came of the look: what is held, or local. No task is needed
-/// then. None where the look got neither.
+/// The answer to a question that its first lookup settles, from the cache or from local zones: no task is needed then. None if
+/// the lookup found neither. An error says that there are too many owners of a shared set, or no memory for local data.
 pub fn settled(
     alloc: Global,
     question: &Question,
     input: &Input,
 ) -> Result<Option<Answer>, NoMemory>
-    ensures { (port m : ℕ) (log : List Exchange) → Adds [] (exchange (Book (Look m (Asked question.now))) input.now) log
+    ensures { (port m : ℕ) (log : List Exchange) → AddsLook [] m (Asked question.now) input.now log
         → Suits (Book (Look m (Asked question.now))) input.now
         → IfOk result (λ answer. MatchOption answer (IsNoAnswer question.now input.now) (IsResolved port question.now log)) }
 {

@@ -1,6 +1,6 @@
 //! The innermost question of a search.
 
-ghost use Rattle.std.specs.Prelude.{◌≡◌, ◌+◌, ◌-◌, ◌^◌, ◌<◌, [], ◌∷◌, IfOk};
+ghost use Rattle.std.specs.Prelude.{◌≡◌, ◌+◌, ◌-◌, ◌^◌, ◌<◌, IfOk};
 ghost use Rattle.dns_query.specs.Query.{address_question};
 ghost use Rattle.iterate.specs.Searching.{hunt_of, question_of};
 
@@ -21,7 +21,7 @@ pub(crate) fn address_question(name: &Name) -> Result<Question, NoMemory>
 }
 
 impl Search {
-    /// The servers that are asked for it.
+    /// The servers that it is asked of.
     pub(crate) fn hunt(&self) -> &Hunt
         ensures { result.now ≡ hunt_of self.now }
     {
@@ -31,7 +31,7 @@ impl Search {
         }
     }
 
-    /// What is asked.
+    /// The question that is asked.
     pub(crate) fn question(&self) -> Result<Question, NoMemory>
         ensures { IfOk result (λ question. question ≡ question_of self.now) }
     {
@@ -44,7 +44,7 @@ impl Search {
         }
     }
 
-    /// One query more was sent.
+    /// Counts one more query as sent.
     pub(crate) fn counted(self) -> Search
         ensures { self.path.sent < 2 ^ 64 - 1 → result ≡ record self { path = record self.path { sent = self.path.sent + 1 } } }
     {
@@ -67,7 +67,7 @@ impl Search {
         }
     }
 
-    /// One question more for the address of a server is begun.
+    /// Counts one more question for the address of a server as begun.
     pub(crate) fn begun(self) -> Search
         requires { self.path.begun < MOST_BEGUN }
         ensures { result ≡ record self { path = record self.path { begun = self.path.begun + 1 } } }

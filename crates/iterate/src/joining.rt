@@ -1,4 +1,4 @@
-//! Addresses that are joined, each once.
+//! Lists of addresses joined, each address once.
 
 ghost use Rattle.std.specs.Prelude.{◌≡◌, ◌⊎◌, true, not, IsTrue, IfOk, OnOk, length, take};
 ghost use Rattle.std.specs.List.{Contains};
@@ -10,7 +10,7 @@ use dns_text::{Addr, Ip};
 use std::alloc::Global;
 use std::collections::BTreeSet;
 
-/// So many addresses are compared with each that is there; of more, each is found in an ordered set.
+/// Up to this many new addresses are compared with each known one; more are looked up in an ordered set.
 const MOST_COMPARED: usize = 32;
 
 // ---- a few
@@ -32,7 +32,7 @@ fn is_listed(addrs: &[Addr], addr: &Addr) -> bool
     false
 }
 
-/// These addresses, and this one, if it is not there.
+/// These addresses, and this one if it is not among them.
 fn with_addr(addrs: Vec<Addr>, addr: &Addr) -> Result<Vec<Addr>, NoMemory>
     ensures first { IfOk result (λ v. take (length addrs.items) v.items ≡ addrs.items) }
     ensures has { IfOk result (λ v. Contains v.items addr.now) }
@@ -46,7 +46,7 @@ fn with_addr(addrs: Vec<Addr>, addr: &Addr) -> Result<Vec<Addr>, NoMemory>
     Ok(addrs)
 }
 
-/// These addresses, then those of the few others that they lack.
+/// These addresses, then the few others that are new.
 fn join_few(known: Vec<Addr>, others: &[Addr]) -> Result<Vec<Addr>, NoMemory>
     ensures first { IfOk result (λ v. take (length known.items) v.items ≡ known.items) }
     ensures all { IfOk result (λ v. (addr : Addr) → Contains others.now addr → Contains v.items addr) }
@@ -68,7 +68,7 @@ struct AddrSet {
     v6: BTreeSet<(u16, [u8; 16])>,
 }
 
-/// Adds an address, and tells whether it was not there.
+/// Adds an address, and returns whether it is new.
 fn note(seen: &mut AddrSet, addr: &Addr) -> Result<bool, NoMemory>
     ensures told { IfOk result (λ added. added ≡ not (has_addr seen.old addr.now)) }
     ensures adds { OnOk result ((other : Addr) → has_addr seen.new other ≡ true → (has_addr seen.old other ≡ true) ⊎ (addr.now ≡ other)) }
@@ -93,7 +93,7 @@ fn set_of(alloc: Global, addrs: &[Addr]) -> Result<AddrSet, NoMemory>
     Ok(seen)
 }
 
-/// These addresses, and this one, if the set of them lacks it.
+/// These addresses, and this one if it is not in the set of them.
 fn with_noted(addrs: Vec<Addr>, seen: &mut AddrSet, addr: &Addr) -> Result<Vec<Addr>, NoMemory>
     requires { AreAmong seen.old addrs.items }
     ensures first { IfOk result (λ v. take (length addrs.items) v.items ≡ addrs.items) }
@@ -110,7 +110,7 @@ fn with_noted(addrs: Vec<Addr>, seen: &mut AddrSet, addr: &Addr) -> Result<Vec<A
     Ok(addrs)
 }
 
-/// These addresses, then those of the many others that they lack.
+/// These addresses, then the many others that are new.
 fn join_many(alloc: Global, known: Vec<Addr>, others: &[Addr]) -> Result<Vec<Addr>, NoMemory>
     ensures first { IfOk result (λ v. take (length known.items) v.items ≡ known.items) }
     ensures all { IfOk result (λ v. (addr : Addr) → Contains others.now addr → Contains v.items addr) }
@@ -124,7 +124,7 @@ fn join_many(alloc: Global, known: Vec<Addr>, others: &[Addr]) -> Result<Vec<Add
     Ok(addrs)
 }
 
-/// These addresses, then those of the others that they lack.
+/// These addresses, then the others that are new.
 pub(crate) fn join_addrs(
     alloc: Global,
     known: Vec<Addr>,

@@ -1,27 +1,50 @@
-//! What the definitions come to, by themselves.
+//! Consequences of the definitions.
 
-ghost use Rattle.std.specs.Prelude.{ℕ, List, [], ◌∷◌, ◌++◌};
+ghost use Rattle.std.specs.Prelude.{◌≡◌, ℕ, Bool, List, Option, [], ◌∷◌, ◌++◌};
 ghost use Rattle.dns_text.specs.declared.record.Question.{Question};
 ghost use Rattle.iterate.specs.declared.answer.Answer.{Answer};
+ghost use Rattle.iterate.specs.declared.answer.Answer.TheVariants.{Reply as Replies};
+ghost use Rattle.iterate.specs.declared.answer.AnswerSet.{AnswerSet};
+ghost use Rattle.iterate.specs.declared.answer.Soa.{Soa};
 ghost use Rattle.iterate.specs.declared.phase.Phase.{Phase};
 ghost use Rattle.iterate.specs.declared.want.Input.{Input};
 ghost use Rattle.iterate.specs.declared.want.Input.TheVariants.{Begin};
 ghost use Rattle.iterate.specs.declared.want.Step.{Step};
 ghost use Rattle.iterate.specs.Exchanges.{Exchange};
 ghost use Rattle.iterate.specs.Phase.{Suits};
-ghost use Rattle.iterate.specs.Resolved.{IsResolved};
+ghost use Rattle.iterate.specs.Resolved.{Began, IsNoAnswer, IsResolved};
 ghost use Rattle.iterate.specs.Task.{IsDueAt};
 ghost use Rattle.iterate.specs.Told.{IsFit};
+
+use crate::limits::{MOST_ALIASES, MOST_BEGUN, MOST_DEPTH, MOST_SENDS};
 
 /// An answer that resolves a question can be written.
 #[tactic(auto, using(crate::proofs::FitLaws::resolved_is_fit))]
 pub fn resolved_law()
-    ensures { (port : ℕ) (question : Question) (log : List Exchange) (answer : Answer) → IsResolved port question log answer → IsFit answer }
+    ensures { (port : ℕ) (question : Question) (log : List Exchange) (answer : Answer) → IsResolved port question log answer
+        → IsFit answer }
 {}
 
-/// A task is handed the beginning, and then what came of the last want.
+/// The first input of a task is `Begin`; each later one is the outcome of the last want.
 #[tactic(auto, using(crate::proofs::DueLaws::first_is_due, crate::proofs::DueLaws::next_is_due))]
 pub fn due_law()
     ensures first { (phase : Phase) → IsDueAt phase [] Begin }
-    ensures next { (phase : Phase) (steps : List Step) (step : Step) (input : Input) → Suits step.want input → IsDueAt phase (steps ++ step ∷ []) input }
+    ensures next { (phase : Phase) (steps : List Step) (step : Step) (input : Input) → Suits step.want input
+        → IsDueAt phase (steps ++ step ∷ []) input }
+{}
+
+/// SERVFAIL never answers a question that its first lookup settled: that lookup found neither a cached answer nor a local one.
+#[tactic(auto, using(crate::proofs::FailLaws::fails_unanswered))]
+pub fn servfail_law()
+    ensures { (port : ℕ) (question : Question) (input : Input) (log : List Exchange) (aa : Bool) (aliases : List AnswerSet)
+        (last : Option AnswerSet) (authority : Option Soa) → IsResolved port question log (Replies 2 aa aliases last authority)
+        → Began question input log → IsNoAnswer question input }
+{}
+
+/// The limits of a task: 16 aliases, 64 queries, 64 questions for addresses of servers, 8 of them open at once.
+pub fn limits_law()
+    ensures aliases { MOST_ALIASES ≡ 16 }
+    ensures queries { MOST_SENDS ≡ 64 }
+    ensures begun { MOST_BEGUN ≡ 64 }
+    ensures depth { MOST_DEPTH ≡ 8 }
 {}

@@ -1,59 +1,59 @@
-//! The resolution of a question, as a machine that is handed what came and says what it wants (RFC 1034, section 5.3.3).
+//! The resolution of a question (RFC 1034, section 5.3.3), as a state machine: it takes an input, and returns what it wants next.
 //! It owns no socket, clock, lock or book.
 #![tactic(auto)]
 
-// In the order in which to read them.
+// In reading order.
 
-// How much is done for a question.
+// Limits of the work for one question.
 mod limits;
-// What a question is answered.
+// The answer to a question.
 mod answer;
-// What comes to a task, and what it wants.
+// The inputs of a task, and its wants.
 mod want;
-// What a look was answered, of what may be replied to it.
+// The reply to a lookup, narrowed to what is valid for it.
 mod shown;
-// How a question ends.
+// Endings of a question.
 mod finishing;
 // The aliases so far, and the question to which they lead.
 mod path;
-// The first look, at the question itself.
+// The first lookup, of the question itself.
 mod first;
 // Aliases inside a response.
 mod following;
-// Addresses that are joined, each once.
+// Lists of addresses joined, each address once.
 mod joining;
 // Servers that are asked in turn, and the questions for their addresses.
 mod search;
 // The innermost question of a search.
 mod innermost;
-// Queries go out.
+// Queries to send.
 mod sending;
 // The addresses in a set.
 mod addresses;
 // The servers that a book names.
 mod listing;
-// Servers without an address are looked for.
+// Lookups for servers without an address.
 mod seeking;
-// What is done when a response was heard.
+// The answer, denial or referral of a response, acted on.
 mod concluding;
-// What a response taught is handed to the book.
+// The finds of a response, handed to the book one by one.
 mod admitting;
-// What came of a query.
+// The outcome of a query.
 mod came;
-// Where a task stands, and how it goes on.
+// The phases of a task, and the step from one to the next.
 mod phase;
 // The task.
 mod task;
 
-// What the definitions come to.
+// Consequences of the definitions.
 mod laws;
 
-pub use answer::{Answer, Soa, Told};
+pub use answer::{Answer, AnswerSet, Soa};
 pub use first::{first_look, settled};
-pub use laws::{due_law, resolved_law};
+pub use laws::{due_law, limits_law, resolved_law, servfail_law};
 pub use limits::{MOST_ALIASES, MOST_BEGUN, MOST_DEPTH, MOST_SENDS};
 pub use path::Path;
 pub use phase::{Phase, Stage};
-pub use search::{Frame, Hunt, Search};
+pub use search::{Hunt, Nested, Search};
 pub use task::{State, Task};
 pub use want::{Input, Step, Want};

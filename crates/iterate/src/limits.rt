@@ -1,14 +1,14 @@
-//! How much is done for one question, with all the questions that are begun for it.
+//! Limits of the work for one question, with all the questions that are begun for it.
 
-/// No more aliases are followed.
+/// The most aliases that are followed.
 pub const MOST_ALIASES: usize = 16;
 
-/// No more queries are sent.
+/// The most queries that are sent.
 pub const MOST_SENDS: usize = 64;
 
-/// No more questions for addresses of servers are begun: where the servers of two zones lie in each other, each of them would
-/// begin one for each of the others, and so on at each depth.
+/// The most questions for addresses of servers that are begun. Without it, two zones whose servers lie in each other would begin
+/// one for each server at each depth.
 pub const MOST_BEGUN: usize = 64;
 
-/// No more questions for addresses of servers are open inside one another.
+/// The most questions for addresses of servers that are open inside one another.
 pub const MOST_DEPTH: usize = 8;

@@ -1,4 +1,4 @@
-//! The servers that a book names.
+//! The servers that the book names for a zone.
 
 ghost use Rattle.std.specs.Prelude.{◌≡◌, ℕ, List, IfOk, MatchOption};
 ghost use Rattle.dns_text.specs.declared.record.Question.{Question};
@@ -8,15 +8,15 @@ ghost use Rattle.history.specs.declared.event.Reply.TheVariants.{Seen as SeenRep
 ghost use Rattle.history.specs.declared.event.Seen.TheVariants.{Servers as SeenServers};
 ghost use Rattle.iterate.specs.declared.want.Input.TheVariants.{Reply as Replied};
 ghost use Rattle.iterate.specs.declared.want.Want.TheVariants.{Book};
-ghost use Rattle.iterate.specs.Exchanges.{Exchange, exchange, Adds};
+ghost use Rattle.iterate.specs.Exchanges.{Exchange, AddsLook};
 ghost use Rattle.iterate.specs.Hunting.{IsUnlisted, IsUnnamed, Names};
 ghost use Rattle.iterate.specs.Measure.{left_of_path};
-ghost use Rattle.iterate.specs.Phase.{Goes, Suits, drawing};
-ghost use Rattle.iterate.specs.Searching.{IsPath};
+ghost use Rattle.iterate.specs.Phase.{GoesOn, Suits, drawing};
+ghost use Rattle.iterate.specs.Searching.{IsAskable};
 
 use crate::finishing::failed;
 use crate::path::Path;
-use crate::phase::Turn;
+use crate::phase::Advance;
 use crate::search::{go_on, reach};
 use crate::want::Input;
 use dns_name::{Name, NoMemory};
@@ -34,7 +34,7 @@ fn servers_in(input: &Input) -> Option<&Shared<Servers>>
     }
 }
 
-/// The servers that a look named for a name, where their zone is at or above it.
+/// The servers that a lookup named for a name, if their zone is at or above it.
 pub(crate) fn servers_for<'a>(name: &Name, input: &'a Input) -> Option<&'a Shared<Servers>>
     ensures { MatchOption result (IsUnnamed name.now input.now) (λ servers. Names name.now input.now servers.now) }
 {
@@ -50,17 +50,17 @@ pub(crate) fn servers_for<'a>(name: &Name, input: &'a Input) -> Option<&'a Share
     }
 }
 
-/// Goes on when the look for the servers of the last name was answered.
+/// Continues with the reply to the lookup of the last name's servers.
 pub(crate) fn listed<R: Rng>(
     alloc: Global,
     ids: &mut R,
     path: Path,
     moment: u64,
     input: &Input,
-) -> Result<Turn, NoMemory>
-    ensures { (port m : ℕ) (question : Question) (before log : List Exchange) → IsPath port question before path
-        → Adds before (exchange (Book (Look m (ServersFor path.last.owner))) input.now) log → Suits (Book (Look m (ServersFor path.last.owner))) input.now
-        → IfOk result (λ t. Goes port question log moment (drawing (R.stream ids.old) (R.stream ids.new)) (left_of_path path 1) t.phase t.want) }
+) -> Result<Advance, NoMemory>
+    ensures { (port m : ℕ) (question : Question) (before log : List Exchange) → IsAskable port question before path
+        → AddsLook before m (ServersFor path.last.owner) input.now log → Suits (Book (Look m (ServersFor path.last.owner))) input.now
+        → IfOk result (GoesOn port question log moment (drawing (R.stream ids.old) (R.stream ids.new)) (left_of_path path 1)) }
 {
     match servers_for(&path.last.owner, input) {
         Some(servers) => {

@@ -1,6 +1,6 @@
 //! The aliases so far, and the question to which they lead.
 
-ghost use Rattle.std.specs.Prelude.{◌≡◌, ◌≤◌, ◌<◌, ◌++◌, ◌∷◌, [], ℕ, List, length, None, IfOk, IfSome, MatchOption};
+ghost use Rattle.std.specs.Prelude.{◌≤◌, ℕ, List, length, IfOk, MatchOption};
 ghost use Rattle.history.specs.declared.event.Ask.TheVariants.{Answer as Asked};
 ghost use Rattle.history.specs.declared.event.Event.TheVariants.{Look};
 ghost use Rattle.history.specs.declared.event.Reply.TheVariants.{Seen as SeenReply};
@@ -9,20 +9,20 @@ ghost use Rattle.iterate.specs.declared.want.Input.{Input as InputValue};
 ghost use Rattle.iterate.specs.declared.want.Input.TheVariants.{Reply as Replied};
 ghost use Rattle.iterate.specs.declared.want.Want.TheVariants.{Book};
 ghost use Rattle.dns_query.specs.Query.{alias_question};
-ghost use Rattle.iterate.specs.Exchanges.{Exchange, exchange, Adds};
+ghost use Rattle.iterate.specs.Exchanges.{Exchange, AddsLook};
 ghost use Rattle.iterate.specs.Known.{Known, Had};
 ghost use Rattle.iterate.specs.Looked.{seen_of, IsReplied};
-ghost use Rattle.iterate.specs.Measure.{left_in, left_of_path};
-ghost use Rattle.iterate.specs.Phase.{Goes, Suits, idle};
-ghost use Rattle.iterate.specs.Searching.{IsPath, IsLonger};
+ghost use Rattle.iterate.specs.Measure.{left_of_path};
+ghost use Rattle.iterate.specs.Phase.{GoesOn, Suits, idle};
+ghost use Rattle.iterate.specs.Searching.{IsPath, IsAskable, IsLonger};
 ghost use Rattle.iterate.specs.Shown.{IsLocalFor};
 ghost use Rattle.iterate.specs.Told.{IsTarget};
 ghost use Rattle.rand_core.specs.Stream.{Stream};
 
-use crate::answer::Told;
+use crate::answer::AnswerSet;
 use crate::finishing::{ended, failed, held_ending, local_ending};
 use crate::limits::MOST_ALIASES;
-use crate::phase::{Phase, Turn};
+use crate::phase::{Advance, Phase};
 use crate::shown::{Looked, first_target, replied, set_in};
 use crate::want::{Input, Want};
 use dns_name::{Name, NoMemory};
@@ -35,21 +35,23 @@ use std::alloc::Global;
 /// The aliases so far, and the question to which they lead.
 #[derive(Drop)]
 pub struct Path {
-    pub sets: Vec<Told>,
+    /// The sets of CNAME records, in order.
+    pub sets: Vec<AnswerSet>,
+    /// The question behind the last alias: its target, and the type asked.
     pub last: Question,
-    /// How many queries were sent so far.
+    /// The number of queries sent so far.
     pub sent: usize,
-    /// How many questions for addresses of servers were begun so far.
+    /// The number of questions for addresses of servers begun so far.
     pub begun: usize,
 }
 
-/// Looks for the servers of the last name.
-pub(crate) fn list(path: Path, moment: u64) -> Result<Turn, NoMemory>
-    ensures { (port : ℕ) (ids : Stream) (question : Question) (log : List Exchange) → IsPath port question log path
-        → IfOk result (λ t. Goes port question log moment (idle ids) (left_of_path path 2) t.phase t.want) }
+/// Looks up the servers of the last name.
+pub(crate) fn list(path: Path, moment: u64) -> Result<Advance, NoMemory>
+    ensures { (port : ℕ) (ids : Stream) (question : Question) (log : List Exchange) → IsAskable port question log path
+        → IfOk result (GoesOn port question log moment (idle ids) (left_of_path path 2)) }
 {
     let name = path.last.owner.clone()?;
-    Ok(Turn {
+    Ok(Advance {
         phase: Phase::Listing { path },
         want: Want::Book(Event::Look {
             moment,
@@ -58,16 +60,16 @@ pub(crate) fn list(path: Path, moment: u64) -> Result<Turn, NoMemory>
     })
 }
 
-/// Looks for an alias of the last name, unless aliases are asked for.
-pub(crate) fn alias(path: Path, moment: u64) -> Result<Turn, NoMemory>
-    ensures { (port : ℕ) (ids : Stream) (question : Question) (log : List Exchange) → IsPath port question log path
-        → IfOk result (λ t. Goes port question log moment (idle ids) (left_of_path path 3) t.phase t.want) }
+/// Looks up an alias of the last name, unless the question asks for CNAME records.
+pub(crate) fn alias(path: Path, moment: u64) -> Result<Advance, NoMemory>
+    ensures { (port : ℕ) (ids : Stream) (question : Question) (log : List Exchange) → IsAskable port question log path
+        → IfOk result (GoesOn port question log moment (idle ids) (left_of_path path 3)) }
 {
     if path.last.kind == CNAME {
         return list(path, moment);
     }
     let owner = path.last.owner.clone()?;
-    Ok(Turn {
+    Ok(Advance {
         phase: Phase::Aliasing { path },
         want: Want::Book(Event::Look {
             moment,
@@ -76,14 +78,14 @@ pub(crate) fn alias(path: Path, moment: u64) -> Result<Turn, NoMemory>
     })
 }
 
-/// Looks at the question behind an alias.
-pub(crate) fn look_on(path: Path, moment: u64) -> Result<Turn, NoMemory>
-    ensures { (port : ℕ) (ids : Stream) (question : Question) (log : List Exchange) → IsPath port question log path → 1 ≤ length path.sets.items
-        → IfOk result (λ t. Goes port question log moment (idle ids) (left_of_path path 4) t.phase t.want) }
+/// Looks up the question behind an alias.
+pub(crate) fn look_on(path: Path, moment: u64) -> Result<Advance, NoMemory>
+    ensures { (port : ℕ) (ids : Stream) (question : Question) (log : List Exchange) → IsPath port question log path
+        → 1 ≤ length path.sets.items → IfOk result (GoesOn port question log moment (idle ids) (left_of_path path 4)) }
 {
     let owner = path.last.owner.clone()?;
     let kind = path.last.kind;
-    Ok(Turn {
+    Ok(Advance {
         phase: Phase::Looking { path },
         want: Want::Book(Event::Look {
             moment,
@@ -92,8 +94,8 @@ pub(crate) fn look_on(path: Path, moment: u64) -> Result<Turn, NoMemory>
     })
 }
 
-/// Follows an alias to its target. None where it is one too many.
-pub(crate) fn follow(path: Path, told: Told, to: Name) -> Result<Option<Path>, NoMemory>
+/// Follows an alias to its target. None if it is one too many.
+pub(crate) fn follow(path: Path, told: AnswerSet, to: Name) -> Result<Option<Path>, NoMemory>
     ensures { IfOk result (λ next. MatchOption next (MOST_ALIASES ≤ length path.sets.items) (IsLonger path told to)) }
 {
     let Path {
@@ -117,11 +119,17 @@ pub(crate) fn follow(path: Path, told: Told, to: Name) -> Result<Option<Path>, N
     }))
 }
 
-/// Follows an alias, and looks at the question behind it.
-fn go_behind(alloc: Global, path: Path, told: Told, to: Name, moment: u64) -> Result<Turn, NoMemory>
+/// Follows an alias, and looks up the question behind it.
+fn go_behind(
+    alloc: Global,
+    path: Path,
+    told: AnswerSet,
+    to: Name,
+    moment: u64,
+) -> Result<Advance, NoMemory>
     ensures { (port : ℕ) (ids : Stream) (question : Question) (log : List Exchange) → IsPath port question log path
         → Known port log (Had (alias_question path.last.owner) told) → IsTarget told to
-        → IfOk result (λ t. Goes port question log moment (idle ids) (left_of_path path 2) t.phase t.want) }
+        → IfOk result (GoesOn port question log moment (idle ids) (left_of_path path 2)) }
 {
     match follow(path, told, to)? {
         Some(next) => look_on(next, moment),
@@ -129,11 +137,11 @@ fn go_behind(alloc: Global, path: Path, told: Told, to: Name, moment: u64) -> Re
     }
 }
 
-/// Goes on from a set of aliases.
-fn alias_told(alloc: Global, path: Path, told: Told, moment: u64) -> Result<Turn, NoMemory>
-    ensures { (port : ℕ) (ids : Stream) (question : Question) (log : List Exchange) → IsPath port question log path
+/// Continues behind a set of aliases.
+fn alias_told(alloc: Global, path: Path, told: AnswerSet, moment: u64) -> Result<Advance, NoMemory>
+    ensures { (port : ℕ) (ids : Stream) (question : Question) (log : List Exchange) → IsAskable port question log path
         → Known port log (Had (alias_question path.last.owner) told)
-        → IfOk result (λ t. Goes port question log moment (idle ids) (left_of_path path 2) t.phase t.want) }
+        → IfOk result (GoesOn port question log moment (idle ids) (left_of_path path 2)) }
 {
     match first_target(&told)? {
         Some(to) => go_behind(alloc, path, told, to, moment),
@@ -141,12 +149,12 @@ fn alias_told(alloc: Global, path: Path, told: Told, moment: u64) -> Result<Turn
     }
 }
 
-/// Goes on from what the look for an alias was answered.
-fn alias_seen(alloc: Global, path: Path, moment: u64, what: Looked<'_>) -> Result<Turn, NoMemory>
-    ensures { (port m : ℕ) (ids : Stream) (question : Question) (input : InputValue) (before log : List Exchange) → IsPath port question before path
-        → IsReplied (alias_question path.last.owner) input (seen_of what.entry)
-        → Adds before (exchange (Book (Look m (Asked (alias_question path.last.owner)))) input) log
-        → IfOk result (λ t. Goes port question log moment (idle ids) (left_of_path path 2) t.phase t.want) }
+/// Continues with what the lookup of an alias found.
+fn alias_seen(alloc: Global, path: Path, moment: u64, what: Looked<'_>) -> Result<Advance, NoMemory>
+    ensures { (port m : ℕ) (ids : Stream) (question : Question) (input : InputValue) (before log : List Exchange)
+        → IsAskable port question before path → IsReplied (alias_question path.last.owner) input (seen_of what.entry)
+        → AddsLook before m (Asked (alias_question path.last.owner)) input log
+        → IfOk result (GoesOn port question log moment (idle ids) (left_of_path path 2)) }
 {
     match set_in(alloc, what)? {
         Some(told) => alias_told(alloc, path, told, moment),
@@ -154,17 +162,17 @@ fn alias_seen(alloc: Global, path: Path, moment: u64, what: Looked<'_>) -> Resul
     }
 }
 
-/// Goes on when the look for an alias was answered.
+/// Continues with the reply to the lookup of an alias.
 pub(crate) fn aliased(
     alloc: Global,
     path: Path,
     moment: u64,
     input: &Input,
-) -> Result<Turn, NoMemory>
-    ensures { (port m : ℕ) (ids : Stream) (question : Question) (before log : List Exchange) → IsPath port question before path
-        → Adds before (exchange (Book (Look m (Asked (alias_question path.last.owner)))) input.now) log
+) -> Result<Advance, NoMemory>
+    ensures { (port m : ℕ) (ids : Stream) (question : Question) (before log : List Exchange) → IsAskable port question before path
+        → AddsLook before m (Asked (alias_question path.last.owner)) input.now log
         → Suits (Book (Look m (Asked (alias_question path.last.owner)))) input.now
-        → IfOk result (λ t. Goes port question log moment (idle ids) (left_of_path path 2) t.phase t.want) }
+        → IfOk result (GoesOn port question log moment (idle ids) (left_of_path path 2)) }
 {
     match replied(input, &path.last.owner, CNAME) {
         Some(what) => alias_seen(alloc, path, moment, what),
@@ -172,16 +180,16 @@ pub(crate) fn aliased(
     }
 }
 
-/// Goes on from what local zones answer the question behind an alias.
+/// Continues with the local answer to the question behind an alias.
 fn local_on(
     alloc: Global,
     path: Path,
     answer: &Local<Items<SeenRecord>, LocalRecord>,
-) -> Result<Turn, NoMemory>
-    ensures { (port m moment : ℕ) (ids : Stream) (question : Question) (before log : List Exchange) → IsPath port question before path → 1 ≤ length path.sets.items
-        → IsLocalFor path.last answer.now
-        → Adds before (exchange (Book (Look m (Asked path.last))) (Replied (SeenReply (SeenLocal answer.now)))) log
-        → IfOk result (λ t. Goes port question log moment (idle ids) (left_of_path path 3) t.phase t.want) }
+) -> Result<Advance, NoMemory>
+    ensures { (port m moment : ℕ) (ids : Stream) (question : Question) (before log : List Exchange)
+        → IsPath port question before path → 1 ≤ length path.sets.items → IsLocalFor path.last answer.now
+        → AddsLook before m (Asked path.last) (Replied (SeenReply (SeenLocal answer.now))) log
+        → IfOk result (GoesOn port question log moment (idle ids) (left_of_path path 3)) }
 {
     match local_ending(alloc, answer)? {
         Some(ending) => Ok(ended(false, path.sets, ending)),
@@ -189,12 +197,12 @@ fn local_on(
     }
 }
 
-/// Goes on from what the look behind an alias was answered.
-fn seen_on(alloc: Global, path: Path, moment: u64, what: Looked<'_>) -> Result<Turn, NoMemory>
-    ensures { (port m : ℕ) (ids : Stream) (question : Question) (input : InputValue) (before log : List Exchange) → IsPath port question before path → 1 ≤ length path.sets.items
-        → IsReplied path.last input (seen_of what.entry)
-        → Adds before (exchange (Book (Look m (Asked path.last))) input) log
-        → IfOk result (λ t. Goes port question log moment (idle ids) (left_of_path path 3) t.phase t.want) }
+/// Continues with what the lookup behind an alias found.
+fn seen_on(alloc: Global, path: Path, moment: u64, what: Looked<'_>) -> Result<Advance, NoMemory>
+    ensures { (port m : ℕ) (ids : Stream) (question : Question) (input : InputValue) (before log : List Exchange)
+        → IsPath port question before path → 1 ≤ length path.sets.items → IsReplied path.last input (seen_of what.entry)
+        → AddsLook before m (Asked path.last) input log
+        → IfOk result (GoesOn port question log moment (idle ids) (left_of_path path 3)) }
 {
     match what {
         Looked::Unknown => alias(path, moment),
@@ -203,17 +211,17 @@ fn seen_on(alloc: Global, path: Path, moment: u64, what: Looked<'_>) -> Result<T
     }
 }
 
-/// Goes on when the look behind an alias was answered.
+/// Continues with the reply to the lookup behind an alias.
 pub(crate) fn looked_on(
     alloc: Global,
     path: Path,
     moment: u64,
     input: &Input,
-) -> Result<Turn, NoMemory>
-    ensures { (port m : ℕ) (ids : Stream) (question : Question) (before log : List Exchange) → IsPath port question before path → 1 ≤ length path.sets.items
-        → Adds before (exchange (Book (Look m (Asked path.last))) input.now) log
+) -> Result<Advance, NoMemory>
+    ensures { (port m : ℕ) (ids : Stream) (question : Question) (before log : List Exchange)
+        → IsPath port question before path → 1 ≤ length path.sets.items → AddsLook before m (Asked path.last) input.now log
         → Suits (Book (Look m (Asked path.last))) input.now
-        → IfOk result (λ t. Goes port question log moment (idle ids) (left_of_path path 3) t.phase t.want) }
+        → IfOk result (GoesOn port question log moment (idle ids) (left_of_path path 3)) }
 {
     match replied(input, &path.last.owner, path.last.kind) {
         Some(what) => seen_on(alloc, path, moment, what),

@@ -1,10 +1,10 @@
-//! Where a task stands, and how it goes on.
+//! The phases of a task, and the step from one to the next.
 
 ghost use Rattle.std.specs.Prelude.{◌≡◌, [], List, IfOk, IsErr};
 ghost use Rattle.iterate.specs.declared.want.Want.{Want};
 ghost use Rattle.iterate.specs.Exchanges.{Exchange, exchange, Adds};
 ghost use Rattle.iterate.specs.Measure.{left_in};
-ghost use Rattle.iterate.specs.Phase.{Fits, Goes, Suits, drawing};
+ghost use Rattle.iterate.specs.Phase.{Fits, GoesOn, Suits, drawing};
 
 use crate::admitting::admitted;
 use crate::came::came;
@@ -20,50 +20,50 @@ use dns_text::{Addr, Question};
 use rand_core::Rng;
 use std::alloc::{AllocError, Global};
 
-/// What is looked for of a server without an address.
+/// The lookup that is made for a server without an address.
 #[derive(Clone, Copy, PartialEq, Eq)]
 pub enum Stage {
-    /// Its address.
+    /// That of its address.
     Address,
-    /// An alias of its name: where it has one, the server is not used.
+    /// That of an alias of its name: if it has one, the server is not used.
     Alias,
-    /// The servers to ask about it.
+    /// That of the servers to ask about it.
     Servers,
 }
 
-/// Where a task stands. What only a search remembers has a block of its own, so that a step which needs none moves little.
+/// The phase of a task. The parts that only a search needs are boxed, so the other steps move little.
 #[derive(Drop)]
 pub enum Phase {
     /// It has not begun.
     Fresh,
-    /// It looks at the question.
+    /// It looks the question up.
     First,
-    /// It looks for an alias of the last name.
+    /// It looks up an alias of the last name.
     Aliasing {
         path: Path,
     },
-    /// It looks at the question behind an alias.
+    /// It looks up the question behind an alias.
     Looking {
         path: Path,
     },
-    /// It looks for the servers of the last name.
+    /// It looks up the servers of the last name.
     Listing {
         path: Path,
     },
-    /// It looks for a server without an address.
+    /// It looks up a server without an address.
     Seeking {
         search: Box<Search>,
         target: Name,
         stage: Stage,
     },
-    /// It asks a server, the next one of the innermost question.
+    /// It waits for the outcome of a query to the next server of the innermost question.
     Sent {
         search: Box<Search>,
         server: Addr,
         id: u16,
         over: Over,
     },
-    /// It hands what a response taught to the book, the find of this place now.
+    /// It hands the finds of a response to the book, now the one at this place.
     Admitting {
         search: Box<Search>,
         heard: Box<Heard>,
@@ -71,18 +71,18 @@ pub enum Phase {
     },
     /// It has answered.
     Ended,
-    /// It found no memory.
+    /// It ran out of memory.
     Broken,
 }
 
-/// How a task goes on.
-pub(crate) struct Turn {
+/// A step: the next phase, and what is wanted.
+pub(crate) struct Advance {
     pub(crate) phase: Phase,
     pub(crate) want: Want,
 }
 
-/// Goes on from where a task stands.
-pub(crate) fn advance<R: Rng>(
+/// Makes the step from this phase with this input.
+pub(crate) fn step_on<R: Rng>(
     alloc: Global,
     port: u16,
     question: &Question,
@@ -90,10 +90,12 @@ pub(crate) fn advance<R: Rng>(
     moment: u64,
     ids: &mut R,
     input: &Input,
-) -> Result<Turn, NoMemory>
-    ensures goes { (before log : List Exchange) (want : Want) → Fits port question.now before want phase → Suits want input.now
-        → Adds before (exchange want input.now) log → IfOk result (λ t. Goes port question.now log moment (drawing (R.stream ids.old) (R.stream ids.new)) (left_in phase) t.phase t.want) }
-    ensures fresh { phase ≡ Phase.Fresh → IfOk result (λ t. Goes port question.now [] moment (drawing (R.stream ids.old) (R.stream ids.new)) (left_in phase) t.phase t.want) }
+) -> Result<Advance, NoMemory>
+    ensures goes { (before log : List Exchange) (want : Want) → Fits port question.now before want phase
+        → Suits want input.now → Adds before (exchange want input.now) log
+        → IfOk result (GoesOn port question.now log moment (drawing (R.stream ids.old) (R.stream ids.new)) (left_in phase)) }
+    ensures fresh { phase ≡ Phase.Fresh
+        → IfOk result (GoesOn port question.now [] moment (drawing (R.stream ids.old) (R.stream ids.new)) (left_in phase)) }
     ensures broken { phase ≡ Phase.Broken → IsErr result }
 {
     match phase {

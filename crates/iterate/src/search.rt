@@ -1,24 +1,22 @@
-//! Servers that are asked in turn, and the questions for their addresses.
+//! The servers that are asked in turn, and nested questions for their addresses.
 
-ghost use Rattle.std.specs.Prelude.{◌≡◌, ◌⊎◌, ◌+◌, ◌<◌, ◌≤◌, ◌∷◌, [], ℕ, List, IsTrue, MatchOption, IfOk, false, length, take, drop};
-ghost use Rattle.std.specs.List.{Contains};
+ghost use Rattle.std.specs.Prelude.{◌≡◌, ◌<◌, ◌≤◌, [], ℕ, List, IsTrue, MatchOption, IfOk, false, length, drop};
 ghost use Rattle.dns_name.specs.Labels.{Labels, IsAtOrBelow};
-ghost use Rattle.dns_text.specs.declared.addr.Addr.{Addr};
 ghost use Rattle.dns_text.specs.declared.record.Question.{Question};
 ghost use Rattle.dns_query.specs.Query.{address_question};
 ghost use Rattle.iterate.specs.Exchanges.{Exchange};
-ghost use Rattle.iterate.specs.Hunting.{AllServe, IsFresh, IsSupplied, AreSupplied, IsTried, IsSmaller, IsAt, IsNextStep};
+ghost use Rattle.iterate.specs.Hunting.{AllServe, IsReached, IsFresh, IsSupplied, AreSupplied, IsTried, IsSmaller, IsAt, IsNextStep};
 ghost use Rattle.iterate.specs.Known.{Known, Listed};
 ghost use Rattle.iterate.specs.Measure.{hunts_left, left_of_path, left_of_search, left_of_seek, left_of_hearing};
-ghost use Rattle.iterate.specs.Phase.{Goes, IsSeeking, drawing};
-ghost use Rattle.iterate.specs.Resolved.{ReachedFor, MaySeek};
-ghost use Rattle.iterate.specs.Searching.{IsPath, IsSearch, IsNext, hunt_of, hunt_behind, question_of};
+ghost use Rattle.iterate.specs.Phase.{GoesOn, IsSeeking, drawing};
+ghost use Rattle.iterate.specs.Resolved.{MaySeek};
+ghost use Rattle.iterate.specs.Searching.{IsAskable, IsSearch, hunt_of, hunt_behind, question_of};
 
 use crate::finishing::failed;
 use crate::joining::join_addrs;
 use crate::limits::MOST_DEPTH;
 use crate::path::Path;
-use crate::phase::{Stage, Turn};
+use crate::phase::{Advance, Stage};
 use crate::seeking::seek;
 use crate::sending::ask;
 use crate::shown::is_name;
@@ -29,21 +27,21 @@ use history::Servers;
 use rand_core::Rng;
 use std::alloc::Global;
 
-/// The servers of a zone, as they are asked about a name.
+/// The servers of a zone that are asked about a name, and how far they were asked.
 #[derive(Drop)]
 pub struct Hunt {
     pub servers: Shared<Servers>,
-    /// Where to ask, each once: where the servers listen, then what was found of those without an address.
+    /// The addresses to ask, each once: those that came with the servers, then those found for servers without one.
     pub addrs: Vec<Addr>,
-    /// How many of these were asked in vain.
+    /// The number of these that were asked in vain.
     pub asked: usize,
-    /// How many of the servers without an address were looked for, or may not be.
+    /// The number of servers without an address that were looked up, or may not be.
     pub sought: usize,
 }
 
-/// A question for the address of a server that the question behind it lacks.
+/// A nested question, for the address of a server that the question behind it needs.
 #[derive(Drop)]
-pub struct Frame {
+pub struct Nested {
     pub target: Name,
     pub hunt: Hunt,
 }
@@ -54,18 +52,18 @@ pub struct Search {
     pub path: Path,
     /// The servers that are asked for the last question of the path.
     pub base: Hunt,
-    /// The questions inside it, the innermost first.
-    pub frames: Vec<Frame>,
+    /// The nested questions, the innermost first.
+    pub frames: Vec<Nested>,
 }
 
-// ---- servers are reached
+// ---- reaching servers
 
-/// Servers of which none was asked.
+/// These servers, none of them asked yet.
 pub(crate) fn begin_hunt(alloc: Global, servers: Shared<Servers>) -> Result<Hunt, NoMemory>
     ensures { IfOk result (IsFresh servers) }
 {
     let list = servers.get();
-    // A slice tells that they can be counted.
+    // The length of a slice is below 2^64.
     let _missing = list.missing.as_slice().len();
     let addrs = join_addrs(alloc, Vec::new(alloc), list.addrs.as_slice())?;
     Ok(Hunt {
@@ -76,11 +74,11 @@ pub(crate) fn begin_hunt(alloc: Global, servers: Shared<Servers>) -> Result<Hunt
     })
 }
 
-/// The search for the last question of a path, among servers that were reached for it.
+/// The search for the last question of a path, among these servers.
 pub(crate) fn reach(alloc: Global, path: Path, servers: Shared<Servers>) -> Result<Search, NoMemory>
     ensures path { IfOk result (λ search. search.path ≡ path) }
-    ensures reached { (port : ℕ) (question : Question) (log since : List Exchange) → IsPath port question log path → Known port log (Listed servers)
-        → ReachedFor port log path.last servers since → IsAtOrBelow path.last.owner servers.zone → IfOk result (IsSmaller port question log (left_of_path path 1)) }
+    ensures reached { (port : ℕ) (question : Question) (log since : List Exchange) → IsAskable port question log path
+        → IsReached port log path.last since servers → IfOk result (IsSmaller port question log (left_of_path path 1)) }
 {
     let base = begin_hunt(alloc, servers)?;
     Ok(Search {
@@ -90,14 +88,14 @@ pub(crate) fn reach(alloc: Global, path: Path, servers: Shared<Servers>) -> Resu
     })
 }
 
-/// A response to the last question of the path referred to these servers.
+/// Continues the last question of the path with the servers of a referral.
 pub(crate) fn refer_base(
     alloc: Global,
     search: Search,
     servers: Shared<Servers>,
 ) -> Result<Search, NoMemory>
-    ensures { (port : ℕ) (question : Question) (log since : List Exchange) → IsSearch port question log search → Known port log (Listed servers)
-        → ReachedFor port log search.path.last servers since → IsAtOrBelow search.path.last.owner servers.zone
+    ensures { (port : ℕ) (question : Question) (log since : List Exchange) → IsSearch port question log search
+        → IsReached port log search.path.last since servers
         → IfOk result (IsSmaller port question log (left_of_hearing search.path 1)) }
 {
     let Search { path, .. } = search;
@@ -105,7 +103,7 @@ pub(crate) fn refer_base(
     Ok(after)
 }
 
-/// A response to the innermost question, for the address of a server, referred to these servers.
+/// Continues the innermost question, which is nested, with the servers of a referral.
 pub(crate) fn refer_frame(
     alloc: Global,
     search: Search,
@@ -121,19 +119,20 @@ pub(crate) fn refer_frame(
         base,
         mut frames,
     } = search;
-    let Frame { target, .. } = frames.remove(0);
-    frames.insert(0, Frame { target, hunt })?;
+    let Nested { target, .. } = frames.remove(0);
+    frames.insert(0, Nested { target, hunt })?;
     Ok(Search { path, base, frames })
 }
 
-/// A question for the address of the next server that the innermost question lacks, among the servers that were named for it.
+/// Opens a nested question for the address of the next server that the innermost question needs, among these servers.
 pub(crate) fn open(
     alloc: Global,
     search: Search,
     target: Name,
     servers: Shared<Servers>,
 ) -> Result<Search, NoMemory>
-    ensures { (port : ℕ) (question : Question) (log : List Exchange) → IsSeeking port question log search target Stage.Servers → Known port log (Listed servers)
+    ensures { (port : ℕ) (question : Question) (log : List Exchange)
+        → IsSeeking port question log search target Stage.Servers → Known port log (Listed servers)
         → IsAtOrBelow target servers.zone → IfOk result (IsSmaller port question log (left_of_seek search Stage.Servers)) }
 {
     let hunt = begin_hunt(alloc, servers)?;
@@ -142,13 +141,13 @@ pub(crate) fn open(
         base,
         mut frames,
     } = search;
-    frames.insert(0, Frame { target, hunt })?;
+    frames.insert(0, Nested { target, hunt })?;
     Ok(Search { path, base, frames })
 }
 
-// ---- servers without an address are looked for
+// ---- servers without an address
 
-/// The next server without an address is done with; these addresses of it were found.
+/// Ends the work for the next server without an address: these addresses of it were found.
 fn supply_hunt(alloc: Global, hunt: Hunt, found: &[Addr]) -> Result<Hunt, NoMemory>
     ensures { IfOk result (λ after. IsSupplied hunt found.now after) }
 {
@@ -181,13 +180,13 @@ fn supply_innermost(alloc: Global, search: Search, found: &[Addr]) -> Result<Sea
         let base = supply_hunt(alloc, base, found)?;
         return Ok(Search { path, base, frames });
     }
-    let Frame { target, hunt } = frames.remove(0);
+    let Nested { target, hunt } = frames.remove(0);
     let hunt = supply_hunt(alloc, hunt, found)?;
-    frames.insert(0, Frame { target, hunt })?;
+    frames.insert(0, Nested { target, hunt })?;
     Ok(Search { path, base, frames })
 }
 
-/// The next server that the innermost question lacks is done with; these addresses of it were found.
+/// Ends the work for the next server that the innermost question needs: these addresses of it were found.
 pub(crate) fn supply(alloc: Global, search: Search, found: &[Addr]) -> Result<Search, NoMemory>
     ensures path { IfOk result (λ after. after.path ≡ search.path) }
     ensures supplied { IfOk result (λ after. AreSupplied search.frames.items search.base found.now after.frames.items after.base) }
@@ -198,13 +197,14 @@ pub(crate) fn supply(alloc: Global, search: Search, found: &[Addr]) -> Result<Se
     Ok(after)
 }
 
-/// The innermost question, for the address of a server, is done with; these addresses were found.
+/// Closes the innermost question, which is nested: these addresses were found.
 pub(crate) fn close(alloc: Global, search: Search, found: &[Addr]) -> Result<Search, NoMemory>
     requires { 0 < length search.frames.items }
     ensures path { IfOk result (λ after. after.path ≡ search.path) }
     ensures fewer { IfOk result (λ after. hunts_left after < hunts_left search) }
     ensures further { (port : ℕ) (question : Question) (log : List Exchange) → IsSearch port question log search
-        → AllServe port log (hunt_behind (drop 1 search.frames.items) search.base).servers.zone found.now → IfOk result (IsSmaller port question log (left_of_search search 0)) }
+        → AllServe port log (hunt_behind (drop 1 search.frames.items) search.base).servers.zone found.now
+        → IfOk result (IsSmaller port question log (left_of_search search 0)) }
 {
     let Search {
         path,
@@ -216,17 +216,17 @@ pub(crate) fn close(alloc: Global, search: Search, found: &[Addr]) -> Result<Sea
     Ok(after)
 }
 
-// ---- what comes next
+// ---- the next move
 
-/// What comes next for the innermost question.
-pub(crate) enum Next {
-    /// This server is asked.
+/// The next move for the innermost question.
+pub(crate) enum Move {
+    /// Ask this server.
     Ask(Addr),
-    /// This server without an address is looked for.
+    /// Look up this server, which has no address.
     Seek(Name),
-    /// The next server without an address may not be looked for.
+    /// Pass over the next server without an address: it may not be looked up.
     Pass,
-    /// Nothing is left.
+    /// Close the question: no server is left.
     Close,
 }
 
@@ -237,7 +237,7 @@ fn asks_address(question: &Question, target: &Name) -> bool
     question.kind == A && is_name(&question.owner, target)
 }
 
-/// Whether the address of a server is asked already.
+/// Whether the address of a server is asked for already.
 fn is_sought(search: &Search, target: &Name) -> bool
     ensures { IsTrue result → search.now.frames.items ≡ [] → address_question target.now ≡ search.now.path.last }
 {
@@ -247,7 +247,7 @@ fn is_sought(search: &Search, target: &Name) -> bool
     asks_address(&search.path.last, target)
 }
 
-/// Whether a server without an address may be looked for: it does not lie in the zone, and its address is not asked already.
+/// Whether a server without an address may be looked up: it does not lie in the zone, and is not asked for already.
 fn may_seek(search: &Search, target: &Name) -> bool
     ensures shallow { IsTrue result → length search.now.frames.items < MOST_DEPTH }
     ensures passes { search.now.frames.items ≡ [] → MaySeek search.now.path.last search.now.base.servers target.now → IsTrue result }
@@ -278,33 +278,34 @@ fn name_at(names: &[Name], place: usize) -> Option<&Name>
 
 /// The next server without an address.
 fn next_missing(hunt: &Hunt) -> Option<&Name>
-    ensures { MatchOption result (length hunt.now.servers.missing ≤ hunt.now.sought) (λ name. IsAt hunt.now.servers.missing hunt.now.sought name.now) }
+    ensures { MatchOption result (length hunt.now.servers.missing ≤ hunt.now.sought)
+        (λ name. IsAt hunt.now.servers.missing hunt.now.sought name.now) }
 {
     name_at(hunt.servers.get().missing.as_slice(), hunt.sought)
 }
 
-/// What comes next for the innermost question: its servers are asked in turn, then those without an address are looked for.
-fn choose(search: &Search) -> Result<Next, NoMemory>
+/// The next move for the innermost question: its servers are asked in turn, then those without an address are looked up.
+fn choose(search: &Search) -> Result<Move, NoMemory>
     ensures { IfOk result (λ next. IsNextStep search.now next) }
 {
     let hunt = search.hunt();
     if let Some(server) = addr_at(&hunt.addrs, hunt.asked) {
-        return Ok(Next::Ask(server));
+        return Ok(Move::Ask(server));
     }
     match next_missing(hunt) {
         Some(name) => {
             if may_seek(search, name) {
                 let target = name.clone()?;
-                Ok(Next::Seek(target))
+                Ok(Move::Seek(target))
             } else {
-                Ok(Next::Pass)
+                Ok(Move::Pass)
             }
         }
-        None => Ok(Next::Close),
+        None => Ok(Move::Close),
     }
 }
 
-/// Whether no question is open inside the last one of the path.
+/// Whether no nested question is open.
 fn is_outermost(search: &Search) -> bool
     ensures outermost { IsTrue result → search.now.frames.items ≡ [] }
     ensures inner { result ≡ false → 0 < length search.now.frames.items }
@@ -312,23 +313,24 @@ fn is_outermost(search: &Search) -> bool
     search.frames.is_empty()
 }
 
-/// Goes on with a search: the next server of the innermost question is asked, or looked for; where there is none, the question behind it goes on.
+/// Continues a search: asks the next server of the innermost question, or looks it up. If none is left, continues with the
+/// question behind it.
 pub(crate) fn go_on<R: Rng>(
     alloc: Global,
     ids: &mut R,
     moment: u64,
     search: Search,
-) -> Result<Turn, NoMemory>
+) -> Result<Advance, NoMemory>
     ensures { (port : ℕ) (question : Question) (log : List Exchange) → IsSearch port question log search
-        → IfOk result (λ t. Goes port question log moment (drawing (R.stream ids.old) (R.stream ids.new)) (left_of_search search 4) t.phase t.want) }
+        → IfOk result (GoesOn port question log moment (drawing (R.stream ids.old) (R.stream ids.new)) (left_of_search search 4)) }
 {
     let mut current = search;
     'going: loop {
         match choose(&current)? {
-            Next::Ask(server) => return ask(alloc, ids, current, server),
-            Next::Seek(target) => return seek(alloc, moment, current, target, Stage::Address),
-            Next::Pass => current = supply(alloc, current, &[])?,
-            Next::Close => {
+            Move::Ask(server) => return ask(alloc, ids, current, server),
+            Move::Seek(target) => return seek(alloc, moment, current, target, Stage::Address),
+            Move::Pass => current = supply(alloc, current, &[])?,
+            Move::Close => {
                 if is_outermost(&current) {
                     return Ok(failed(alloc));
                 }

@@ -1,19 +1,19 @@
-//! Servers without an address are looked for.
+//! Lookups for servers without an address.
 
 ghost use Rattle.std.specs.Prelude.{◌≡◌, ◌<◌, ℕ, List, IfOk};
 ghost use Rattle.std.specs.List.{AllByRecursion};
 ghost use Rattle.dns_text.specs.declared.record.Question.{Question};
-ghost use Rattle.dns_query.specs.Query.{address_question, alias_question};
+ghost use Rattle.dns_query.specs.Query.{address_question};
 ghost use Rattle.history.specs.declared.event.Ask.TheVariants.{Answer as Asked};
 ghost use Rattle.history.specs.declared.event.Event.TheVariants.{Look};
 ghost use Rattle.history.specs.declared.event.Reply.TheVariants.{Seen as SeenReply};
 ghost use Rattle.iterate.specs.declared.want.Input.TheVariants.{Reply as Replied};
 ghost use Rattle.iterate.specs.declared.want.Want.TheVariants.{Book};
-ghost use Rattle.iterate.specs.Exchanges.{Exchange, exchange, Adds};
+ghost use Rattle.iterate.specs.Exchanges.{Exchange, AddsLook};
 ghost use Rattle.iterate.specs.Hunting.{IsAddressSeen, IsTried, is_set_seen};
 ghost use Rattle.iterate.specs.Looked.{seen_of};
 ghost use Rattle.iterate.specs.Measure.{left_of_search, left_of_seek};
-ghost use Rattle.iterate.specs.Phase.{Goes, Suits, IsSeeking, ask_at, drawing, idle};
+ghost use Rattle.iterate.specs.Phase.{GoesOn, Suits, IsSeeking, ask_at, drawing, idle};
 ghost use Rattle.iterate.specs.Shown.{IsReplyTo};
 ghost use Rattle.rand_core.specs.Stream.{Stream};
 
@@ -21,7 +21,7 @@ use crate::addresses::addresses;
 use crate::finishing::failed;
 use crate::limits::MOST_BEGUN;
 use crate::listing::servers_for;
-use crate::phase::{Phase, Stage, Turn};
+use crate::phase::{Advance, Phase, Stage};
 use crate::search::{Search, go_on, open, supply};
 use crate::shown::{Looked, replied, set_in};
 use crate::want::{Input, Want};
@@ -34,7 +34,7 @@ use rand_core::Rng;
 use ranked::Body;
 use std::alloc::Global;
 
-/// What is asked of a book about a server without an address.
+/// The lookup for a server without an address at this stage.
 fn ask_at(stage: Stage, target: &Name) -> Result<Ask, NoMemory>
     ensures { IfOk result (λ ask. ask ≡ ask_at stage target.now) }
 {
@@ -46,19 +46,20 @@ fn ask_at(stage: Stage, target: &Name) -> Result<Ask, NoMemory>
     }
 }
 
-/// Looks for a server without an address, the next one of the innermost question.
+/// Looks up the next server without an address of the innermost question.
 pub(crate) fn seek(
     alloc: Global,
     moment: u64,
     search: Search,
     target: Name,
     stage: Stage,
-) -> Result<Turn, NoMemory>
-    ensures { (port : ℕ) (ids : Stream) (left : ℕ) (question : Question) (log : List Exchange) → IsSeeking port question log search target stage
-        → left_of_seek search stage < left → IfOk result (λ t. Goes port question log moment (idle ids) left t.phase t.want) }
+) -> Result<Advance, NoMemory>
+    ensures { (port : ℕ) (ids : Stream) (left : ℕ) (question : Question) (log : List Exchange)
+        → IsSeeking port question log search target stage → left_of_seek search stage < left
+        → IfOk result (GoesOn port question log moment (idle ids) left) }
 {
     let ask = ask_at(stage, &target)?;
-    Ok(Turn {
+    Ok(Advance {
         phase: Phase::Seeking {
             search: Box::new(alloc, search)?,
             target,
@@ -68,7 +69,7 @@ pub(crate) fn seek(
     })
 }
 
-/// The IPv4 addresses of what a look was answered.
+/// The IPv4 addresses that a lookup found.
 fn addresses_seen(alloc: Global, port: u16, what: Looked<'_>) -> Result<Vec<Addr>, NoMemory>
     ensures { IfOk result (λ v. AllByRecursion (IsAddressSeen port (seen_of what.entry)) v.items) }
 {
@@ -78,16 +79,17 @@ fn addresses_seen(alloc: Global, port: u16, what: Looked<'_>) -> Result<Vec<Addr
     }
 }
 
-/// Looks further for a server whose address is not known: a question for it is begun, unless enough were.
+/// Begins a nested question for a server whose address is not known, unless too many were begun.
 fn seek_on<R: Rng>(
     alloc: Global,
     ids: &mut R,
     moment: u64,
     search: Search,
     target: Name,
-) -> Result<Turn, NoMemory>
-    ensures { (port : ℕ) (question : Question) (log : List Exchange) → IsTried port question log search target → IsSeeking port question log search target Stage.Alias
-        → IfOk result (λ t. Goes port question log moment (drawing (R.stream ids.old) (R.stream ids.new)) (left_of_search search 3) t.phase t.want) }
+) -> Result<Advance, NoMemory>
+    ensures { (port : ℕ) (question : Question) (log : List Exchange) → IsTried port question log search target
+        → IsSeeking port question log search target Stage.Alias
+        → IfOk result (GoesOn port question log moment (drawing (R.stream ids.old) (R.stream ids.new)) (left_of_search search 3)) }
 {
     if search.path.begun < MOST_BEGUN {
         return seek(alloc, moment, search.begun(), target, Stage::Alias);
@@ -96,7 +98,7 @@ fn seek_on<R: Rng>(
     go_on(alloc, ids, moment, after)
 }
 
-/// Goes on from what the look for an address was answered: behind an answer of any kind the server is done with.
+/// Continues with what the lookup of an address found. After an answer of any kind the server is done with.
 fn address_seen<R: Rng>(
     alloc: Global,
     port: u16,
@@ -105,11 +107,11 @@ fn address_seen<R: Rng>(
     search: Search,
     target: Name,
     what: Looked<'_>,
-) -> Result<Turn, NoMemory>
+) -> Result<Advance, NoMemory>
     ensures { (m : ℕ) (question : Question) (before log : List Exchange) → IsSeeking port question before search target Stage.Address
-        → Adds before (exchange (Book (Look m (Asked (address_question target)))) (Replied (SeenReply (seen_of what.entry)))) log
+        → AddsLook before m (Asked (address_question target)) (Replied (SeenReply (seen_of what.entry))) log
         → IsReplyTo (Asked (address_question target)) (SeenReply (seen_of what.entry))
-        → IfOk result (λ t. Goes port question log moment (drawing (R.stream ids.old) (R.stream ids.new)) (left_of_search search 3) t.phase t.want) }
+        → IfOk result (GoesOn port question log moment (drawing (R.stream ids.old) (R.stream ids.new)) (left_of_search search 3)) }
 {
     match what {
         Looked::Unknown => seek_on(alloc, ids, moment, search, target),
@@ -121,7 +123,7 @@ fn address_seen<R: Rng>(
     }
 }
 
-/// Goes on from the look for an address.
+/// Continues with the reply to the lookup of an address.
 fn address_came<R: Rng>(
     alloc: Global,
     port: u16,
@@ -130,10 +132,10 @@ fn address_came<R: Rng>(
     search: Search,
     target: Name,
     input: &Input,
-) -> Result<Turn, NoMemory>
+) -> Result<Advance, NoMemory>
     ensures { (m : ℕ) (question : Question) (before log : List Exchange) → IsSeeking port question before search target Stage.Address
-        → Adds before (exchange (Book (Look m (ask_at Stage.Address target))) input.now) log → Suits (Book (Look m (ask_at Stage.Address target))) input.now
-        → IfOk result (λ t. Goes port question log moment (drawing (R.stream ids.old) (R.stream ids.new)) (left_of_search search 3) t.phase t.want) }
+        → AddsLook before m (ask_at Stage.Address target) input.now log → Suits (Book (Look m (ask_at Stage.Address target))) input.now
+        → IfOk result (GoesOn port question log moment (drawing (R.stream ids.old) (R.stream ids.new)) (left_of_search search 3)) }
 {
     match replied(input, &target, A) {
         Some(what) => address_seen(alloc, port, ids, moment, search, target, what),
@@ -141,7 +143,7 @@ fn address_came<R: Rng>(
     }
 }
 
-/// Whether a look was answered by a set.
+/// Whether a lookup found a set.
 fn is_set(what: Looked<'_>) -> bool
     ensures { result ≡ is_set_seen (seen_of what.entry) }
 {
@@ -152,7 +154,7 @@ fn is_set(what: Looked<'_>) -> bool
     }
 }
 
-/// Goes on from the look for an alias: a server whose name is one is not used.
+/// Continues with the reply to the lookup of an alias. A server whose name is an alias is not used.
 fn alias_came<R: Rng>(
     alloc: Global,
     ids: &mut R,
@@ -160,10 +162,10 @@ fn alias_came<R: Rng>(
     search: Search,
     target: Name,
     input: &Input,
-) -> Result<Turn, NoMemory>
+) -> Result<Advance, NoMemory>
     ensures { (port m : ℕ) (question : Question) (before log : List Exchange) → IsSeeking port question before search target Stage.Alias
-        → Adds before (exchange (Book (Look m (ask_at Stage.Alias target))) input.now) log → Suits (Book (Look m (ask_at Stage.Alias target))) input.now
-        → IfOk result (λ t. Goes port question log moment (drawing (R.stream ids.old) (R.stream ids.new)) (left_of_seek search Stage.Alias) t.phase t.want) }
+        → AddsLook before m (ask_at Stage.Alias target) input.now log → Suits (Book (Look m (ask_at Stage.Alias target))) input.now
+        → IfOk result (GoesOn port question log moment (drawing (R.stream ids.old) (R.stream ids.new)) (left_of_seek search Stage.Alias)) }
 {
     match replied(input, &target, CNAME) {
         Some(what) => {
@@ -178,7 +180,7 @@ fn alias_came<R: Rng>(
     }
 }
 
-/// Goes on from the look for the servers to ask about a server: a question for its address is opened.
+/// Continues with the servers to ask about a server: opens a nested question for its address.
 fn servers_came<R: Rng>(
     alloc: Global,
     ids: &mut R,
@@ -186,10 +188,13 @@ fn servers_came<R: Rng>(
     search: Search,
     target: Name,
     input: &Input,
-) -> Result<Turn, NoMemory>
-    ensures { (port m : ℕ) (question : Question) (before log : List Exchange) → IsSeeking port question before search target Stage.Servers
-        → Adds before (exchange (Book (Look m (ask_at Stage.Servers target))) input.now) log → Suits (Book (Look m (ask_at Stage.Servers target))) input.now
-        → IfOk result (λ t. Goes port question log moment (drawing (R.stream ids.old) (R.stream ids.new)) (left_of_seek search Stage.Servers) t.phase t.want) }
+) -> Result<Advance, NoMemory>
+    ensures { (port m : ℕ) (question : Question) (before log : List Exchange)
+        → IsSeeking port question before search target Stage.Servers
+        → AddsLook before m (ask_at Stage.Servers target) input.now log
+        → Suits (Book (Look m (ask_at Stage.Servers target))) input.now
+        → IfOk result (GoesOn port question log moment (drawing (R.stream ids.old) (R.stream ids.new))
+        (left_of_seek search Stage.Servers)) }
 {
     match servers_for(&target, input) {
         Some(servers) => {
@@ -201,7 +206,7 @@ fn servers_came<R: Rng>(
     }
 }
 
-/// Goes on when a look for a server without an address was answered.
+/// Continues with the reply to a lookup for a server without an address.
 pub(crate) fn sought<R: Rng>(
     alloc: Global,
     port: u16,
@@ -211,10 +216,10 @@ pub(crate) fn sought<R: Rng>(
     target: Name,
     stage: Stage,
     input: &Input,
-) -> Result<Turn, NoMemory>
+) -> Result<Advance, NoMemory>
     ensures { (m : ℕ) (question : Question) (before log : List Exchange) → IsSeeking port question before search target stage
-        → Adds before (exchange (Book (Look m (ask_at stage target))) input.now) log → Suits (Book (Look m (ask_at stage target))) input.now
-        → IfOk result (λ t. Goes port question log moment (drawing (R.stream ids.old) (R.stream ids.new)) (left_of_seek search stage) t.phase t.want) }
+        → AddsLook before m (ask_at stage target) input.now log → Suits (Book (Look m (ask_at stage target))) input.now
+        → IfOk result (GoesOn port question log moment (drawing (R.stream ids.old) (R.stream ids.new)) (left_of_seek search stage)) }
 {
     match stage {
         Stage::Address => address_came(alloc, port, ids, moment, search, target, input),

@@ -1,17 +1,17 @@
-//! Queries go out.
+//! Queries to send.
 
-ghost use Rattle.std.specs.Prelude.{◌≡◌, ◌∷◌, ◌<◌, ℕ, List, IfOk, drop};
+ghost use Rattle.std.specs.Prelude.{◌<◌, ℕ, List, IfOk};
 ghost use Rattle.dns_text.specs.declared.addr.Addr.{Addr};
 ghost use Rattle.dns_text.specs.declared.record.Question.{Question};
 ghost use Rattle.iterate.specs.Exchanges.{Exchange};
 ghost use Rattle.iterate.specs.Measure.{left_of_search, left_of_sending};
-ghost use Rattle.iterate.specs.Phase.{Goes, drawing};
-ghost use Rattle.iterate.specs.Searching.{IsSearch, hunt_of, question_of};
+ghost use Rattle.iterate.specs.Phase.{GoesOn, drawing};
+ghost use Rattle.iterate.specs.Searching.{IsSearch, question_of, IsNextServer};
 ghost use Rattle.iterate.specs.Wanted.{MayGo};
 
 use crate::finishing::failed;
 use crate::limits::MOST_SENDS;
-use crate::phase::{Phase, Turn};
+use crate::phase::{Advance, Phase};
 use crate::search::Search;
 use crate::want::Want;
 use dns_name::NoMemory;
@@ -20,21 +20,22 @@ use dns_text::{Addr, Shared};
 use rand_core::Rng;
 use std::alloc::Global;
 
-/// Asks a server, the next one of the innermost question, with an identifier that is drawn.
+/// Asks the next server of the innermost question, with a random identifier.
 pub(crate) fn send<R: Rng>(
     alloc: Global,
     ids: &mut R,
     search: Search,
     server: Addr,
     over: Over,
-) -> Result<Turn, NoMemory>
-    ensures { (port moment left : ℕ) (question : Question) (log : List Exchange) (rest : List Addr) → IsSearch port question log search → search.path.sent < MOST_SENDS
-        → drop (hunt_of search).asked (hunt_of search).addrs.items ≡ server ∷ rest → MayGo log server (question_of search) over → left_of_sending search.path < left
-        → IfOk result (λ t. Goes port question log moment (drawing (R.stream ids.old) (R.stream ids.new)) left t.phase t.want) }
+) -> Result<Advance, NoMemory>
+    ensures { (port moment left : ℕ) (question : Question) (log : List Exchange) (rest : List Addr)
+        → IsSearch port question log search → search.path.sent < MOST_SENDS → IsNextServer search server rest
+        → MayGo log server (question_of search) over → left_of_sending search.path < left
+        → IfOk result (GoesOn port question log moment (drawing (R.stream ids.old) (R.stream ids.new)) left) }
 {
     let id = (ids.next_u32() % 65536) as u16;
     let bytes = query(alloc, id, &search.question()?)?;
-    Ok(Turn {
+    Ok(Advance {
         phase: Phase::Sent {
             search: Box::new(alloc, search)?,
             server,
@@ -49,16 +50,16 @@ pub(crate) fn send<R: Rng>(
     })
 }
 
-/// Asks the next server of the innermost question in a datagram, unless enough queries were sent.
+/// Asks the next server of the innermost question over UDP, unless too many queries were sent.
 pub(crate) fn ask<R: Rng>(
     alloc: Global,
     ids: &mut R,
     search: Search,
     server: Addr,
-) -> Result<Turn, NoMemory>
+) -> Result<Advance, NoMemory>
     ensures { (port moment : ℕ) (question : Question) (log : List Exchange) (rest : List Addr) → IsSearch port question log search
-        → drop (hunt_of search).asked (hunt_of search).addrs.items ≡ server ∷ rest
-        → IfOk result (λ t. Goes port question log moment (drawing (R.stream ids.old) (R.stream ids.new)) (left_of_search search 4) t.phase t.want) }
+        → IsNextServer search server rest
+        → IfOk result (GoesOn port question log moment (drawing (R.stream ids.old) (R.stream ids.new)) (left_of_search search 4)) }
 {
     if search.path.sent >= MOST_SENDS {
         return Ok(failed(alloc));

@@ -1,13 +1,12 @@
-//! What a look was answered, of what may be replied to it.
+//! The reply to a lookup, narrowed to what is valid for it.
 
-ghost use Rattle.std.specs.Prelude.{◌≡◌, ◌↔◌, ◌∷◌, [], ℕ, List, map, IfOk, IsTrue, MatchOption};
+ghost use Rattle.std.specs.Prelude.{◌≡◌, ◌↔◌, ◌∷◌, [], ℕ, List, IfOk, IsTrue, MatchOption};
 ghost use Rattle.std.specs.List.{AllByRecursion};
 ghost use Rattle.dns_text.specs.declared.record.Data.{Data};
 ghost use Rattle.dns_text.specs.declared.record.Data.TheVariants.{One};
 ghost use Rattle.dns_name.specs.Labels.{Labels};
 ghost use Rattle.ranked.specs.Body.{data_of};
-ghost use Rattle.iterate.specs.declared.answer.Told.{Told};
-ghost use Rattle.iterate.specs.declared.answer.Told.TheVariants.{Local as LocalTold};
+ghost use Rattle.iterate.specs.declared.answer.AnswerSet.TheVariants.{Local as LocalTold};
 ghost use Rattle.history.specs.declared.event.Ask.TheVariants.{Answer as Asked};
 ghost use Rattle.history.specs.declared.event.Event.TheVariants.{Look};
 ghost use Rattle.history.specs.declared.event.Reply.TheVariants.{Seen as SeenReply};
@@ -16,10 +15,10 @@ ghost use Rattle.iterate.specs.declared.want.Input.TheVariants.{Reply as Replied
 ghost use Rattle.iterate.specs.declared.want.Want.TheVariants.{Book};
 ghost use Rattle.iterate.specs.Phase.{Suits};
 ghost use Rattle.iterate.specs.Shown.{IsShownFor, IsLocalRecord, IsLocalSet, IsSoaFormed, IsLocalFor, IsReplyTo, IsMisanswered};
-ghost use Rattle.iterate.specs.Told.{data_told, told_of, IsTarget};
-ghost use Rattle.iterate.specs.Looked.{seen_of, IsReplied, IsSetSeen, IsUnseen};
+ghost use Rattle.iterate.specs.Told.{data_told, local_data, told_of, IsTarget};
+ghost use Rattle.iterate.specs.Looked.{seen_of, IsReplied, IsSetIn, IsUnseen};
 
-use crate::answer::Told;
+use crate::answer::AnswerSet;
 use crate::want::Input;
 use dns_name::{Name, NoMemory};
 use dns_text::types::CNAME;
@@ -29,18 +28,19 @@ use local_zone::{Local, LocalRecord, SeenRecord};
 use ranked::{Body, SharedFind, Shown};
 use std::alloc::Global;
 
-/// What a look at a question was answered.
+/// What the lookup of a question found.
 #[derive(Clone, Copy)]
 pub(crate) enum Looked<'a> {
-    /// Nothing that may be shown.
+    /// Nothing.
     Unknown,
-    /// A find that is about the question, and may be answered.
+    /// A cached find that is about the question and may answer it.
     Held(&'a Shown<SharedFind>),
-    /// What local zones answer the question.
+    /// The answer of local zones.
     Local(&'a Local<Items<SeenRecord>, LocalRecord>),
 }
 
-/// Whether a find is about the question of this name and type, and its rank allows that it is answered (RFC 2181, section 5.4.1).
+/// Whether a find is about the question of this name and type, with a rank that is good enough to answer with (RFC 2181,
+/// section 5.4.1).
 pub(crate) fn is_shown_for(shown: &Shown<SharedFind>, owner: &Name, kind: u16) -> bool
     ensures { IsTrue result ↔ IsShownFor (record { owner = owner.now; kind = kind }) shown.now }
 {
@@ -105,7 +105,7 @@ pub(crate) fn is_local_for(
     }
 }
 
-/// What was seen, of what may be replied.
+/// What was seen, if it is a valid reply to the lookup.
 fn looked_in<'a>(seen: &'a Seen, owner: &Name, kind: u16) -> Option<Looked<'a>>
     ensures { MatchOption result (¬ (IsReplyTo (Asked (record { owner = owner.now; kind = kind })) (SeenReply seen.now)))
         (λ what. (seen.now ≡ seen_of what) × IsReplyTo (Asked (record { owner = owner.now; kind = kind })) (SeenReply (seen_of what))) }
@@ -139,7 +139,7 @@ fn seen_in(input: &Input) -> Option<&Seen>
     }
 }
 
-/// What a look at the question of this name and type was answered. None where that may not be replied to it.
+/// What the lookup of the question of this name and type found. None if the reply is not valid for it.
 pub(crate) fn replied<'a>(input: &'a Input, owner: &Name, kind: u16) -> Option<Looked<'a>>
     ensures { (m : ℕ) → Suits (Book (Look m (Asked (record { owner = owner.now; kind = kind })))) input.now
         → MatchOption result (IsMisanswered (Look m (Asked (record { owner = owner.now; kind = kind }))) input.now)
@@ -161,27 +161,27 @@ fn share_records(alloc: Global, records: &[SeenRecord]) -> Result<Items<SeenReco
     Ok(Items::new(shares))
 }
 
-/// A set of a local zone, as an answer tells it.
-pub(crate) fn copy_set(alloc: Global, records: &Items<SeenRecord>) -> Result<Told, NoMemory>
+/// A set of a local zone, as a set of an answer.
+pub(crate) fn copy_set(alloc: Global, records: &Items<SeenRecord>) -> Result<AnswerSet, NoMemory>
     ensures { IfOk result (λ told. told ≡ LocalTold records.now) }
 {
     let shares = share_records(alloc, records.as_slice())?;
-    Ok(Told::Local(Shared::new(alloc, shares)?))
+    Ok(AnswerSet::Local(Shared::new(alloc, shares)?))
 }
 
-/// A set that is held, with the seconds left.
-pub(crate) fn held_set(shown: &Shown<SharedFind>) -> Result<Told, NoMemory>
+/// A cached set, with the seconds left.
+pub(crate) fn held_set(shown: &Shown<SharedFind>) -> Result<AnswerSet, NoMemory>
     ensures { IfOk result (λ told. told ≡ told_of shown.now) }
 {
-    Ok(Told::Find {
+    Ok(AnswerSet::Find {
         ttl: shown.left,
         find: shown.body.share()?,
     })
 }
 
-/// A set that is held, unless the find denies.
-fn set_held(shown: &Shown<SharedFind>) -> Result<Option<Told>, NoMemory>
-    ensures { IfOk result (λ told. MatchOption told ((t : Told) → ¬ (IsSetSeen (SeenHeld shown.now) t)) (IsSetSeen (SeenHeld shown.now))) }
+/// A cached set, unless the find is negative.
+fn set_held(shown: &Shown<SharedFind>) -> Result<Option<AnswerSet>, NoMemory>
+    ensures { IfOk result (IsSetIn (SeenHeld shown.now)) }
 {
     match &shown.body.find().body {
         Body::Set(_) => Ok(Some(held_set(shown)?)),
@@ -192,8 +192,8 @@ fn set_held(shown: &Shown<SharedFind>) -> Result<Option<Told>, NoMemory>
 fn local_set(
     alloc: Global,
     answer: &Local<Items<SeenRecord>, LocalRecord>,
-) -> Result<Option<Told>, NoMemory>
-    ensures { IfOk result (λ told. MatchOption told ((t : Told) → ¬ (IsSetSeen (SeenLocal answer.now) t)) (IsSetSeen (SeenLocal answer.now))) }
+) -> Result<Option<AnswerSet>, NoMemory>
+    ensures { IfOk result (IsSetIn (SeenLocal answer.now)) }
 {
     match answer {
         Local::Data(records) => Ok(Some(copy_set(alloc, records)?)),
@@ -201,9 +201,9 @@ fn local_set(
     }
 }
 
-/// The set that a look was answered, where it was one.
-pub(crate) fn set_in(alloc: Global, what: Looked<'_>) -> Result<Option<Told>, NoMemory>
-    ensures { IfOk result (λ told. MatchOption told ((t : Told) → ¬ (IsSetSeen (seen_of what.entry) t)) (IsSetSeen (seen_of what.entry))) }
+/// The set that a lookup found, if it found one.
+pub(crate) fn set_in(alloc: Global, what: Looked<'_>) -> Result<Option<AnswerSet>, NoMemory>
+    ensures { IfOk result (IsSetIn (seen_of what.entry)) }
 {
     match what {
         Looked::Unknown => Ok(None),
@@ -218,7 +218,7 @@ fn first_of(items: &[Data]) -> Option<&Data>
     items.first()
 }
 
-/// The first datum of a find, unless it denies.
+/// The first datum of a find, unless it is negative.
 fn first_found(body: &Body) -> Option<&Data>
     ensures { MatchOption result (data_of body.now ≡ []) (λ datum. (rest : List Data) × (data_of body.now ≡ datum.now ∷ rest)) }
 {
@@ -229,7 +229,7 @@ fn first_found(body: &Body) -> Option<&Data>
 }
 
 fn first_local(records: &[SeenRecord]) -> Option<&Data>
-    ensures { MatchOption result (map (λ r. r.body) records.now ≡ []) (λ datum. (rest : List Data) × (map (λ r. r.body) records.now ≡ datum.now ∷ rest)) }
+    ensures { MatchOption result (local_data records.now ≡ []) (λ datum. (rest : List Data) × (local_data records.now ≡ datum.now ∷ rest)) }
 {
     match records.first() {
         Some(record) => Some(record.body()),
@@ -238,17 +238,17 @@ fn first_local(records: &[SeenRecord]) -> Option<&Data>
 }
 
 /// The first datum of a set.
-fn first_datum(told: &Told) -> Option<&Data>
+fn first_datum(told: &AnswerSet) -> Option<&Data>
     ensures { MatchOption result (data_told told.now ≡ []) (λ datum. (rest : List Data) × (data_told told.now ≡ datum.now ∷ rest)) }
 {
     match told {
-        Told::Find { find, .. } => first_found(&find.find().body),
-        Told::Local(records) => first_local(records.get().as_slice()),
-        Told::Passing(set) => first_of(set.get().data.as_slice()),
+        AnswerSet::Find { find, .. } => first_found(&find.find().body),
+        AnswerSet::Local(records) => first_local(records.get().as_slice()),
+        AnswerSet::Passing(set) => first_of(set.get().data.as_slice()),
     }
 }
 
-/// The name that a datum is, where it is one.
+/// The name in a datum, if it holds one name.
 fn name_in(datum: &Data) -> Result<Option<Name>, NoMemory>
     ensures { IfOk result (λ to. MatchOption to ((name : Labels) → ¬ (datum.now ≡ One name)) (λ name. datum.now ≡ One name)) }
 {
@@ -259,7 +259,7 @@ fn name_in(datum: &Data) -> Result<Option<Name>, NoMemory>
 }
 
 /// The first target of a set of aliases.
-pub(crate) fn first_target(told: &Told) -> Result<Option<Name>, NoMemory>
+pub(crate) fn first_target(told: &AnswerSet) -> Result<Option<Name>, NoMemory>
     ensures { IfOk result (λ to. MatchOption to ((name : Labels) → ¬ (IsTarget told.now name)) (IsTarget told.now)) }
 {
     match first_datum(told) {

@@ -1,20 +1,15 @@
-//! The task.
+//! The task: the resolution of one question, with all its steps.
 
-ghost use Rattle.std.specs.Prelude.{◌≡◌, ◌<◌, ◌≤◌, ◌++◌, ◌∷◌, [], IfOk, OnOk, OnErr, IsErr};
-ghost use Rattle.iterate.specs.declared.answer.Answer.{Answer};
+ghost use Rattle.std.specs.Prelude.{◌≡◌, ◌∷◌, [], IfOk, OnErr, IsErr};
 ghost use Rattle.history.specs.declared.event.Ask.TheVariants.{Answer as Asked};
 ghost use Rattle.history.specs.declared.event.Event.TheVariants.{Look};
 ghost use Rattle.iterate.specs.declared.want.Input.TheVariants.{Begin};
-ghost use Rattle.iterate.specs.declared.want.Want.TheVariants.{Book, Finish};
-ghost use Rattle.iterate.specs.Exchanges.{exchanges_of, sent_in};
-ghost use Rattle.iterate.specs.Measure.{left_in};
-ghost use Rattle.iterate.specs.Task.{IsTask, IsDueAt};
-ghost use Rattle.iterate.specs.Told.{IsFit};
-ghost use Rattle.iterate.specs.Wanted.{MayWant, id_drawn, stream_behind};
+ghost use Rattle.iterate.specs.declared.want.Want.TheVariants.{Book};
+ghost use Rattle.iterate.specs.Phase.{drawing};
+ghost use Rattle.iterate.specs.Task.{IsTask, IsDueAt, IsKept, IsSameTask, StepsOn, StepFails};
 
 use crate::first::first_look;
-use crate::limits::MOST_SENDS;
-use crate::phase::{Phase, Turn, advance};
+use crate::phase::{Advance, Phase, step_on};
 use crate::want::{Input, Step, Want};
 use dns_name::NoMemory;
 use dns_text::Question;
@@ -23,14 +18,33 @@ use std::alloc::Global;
 use std::marker::Model;
 use std::mem;
 
-/// What a task is about, what it did, and where it stands.
+/// The state of a task: its question, its steps and its phase.
 #[derive(Drop)]
 pub struct State {
     pub question: Question,
-    /// Where servers listen that have no port of their own.
+    /// The port of servers that are given without one.
     pub port: u16,
+    /// The inputs and the wants so far, in order.
     pub steps: Vec<Step>,
     pub phase: Phase,
+}
+
+/// Adds a step to the state.
+fn keep_step(
+    alloc: Global,
+    state: &mut State,
+    input: Input,
+    next: Advance,
+) -> Result<Want, NoMemory>
+    ensures same { IsSameTask state.old state.new }
+    ensures ok { IfOk result (IsKept state.old input next state.new) }
+    ensures err { OnErr result ((state.new.steps.items ≡ state.old.steps.items) × (state.new.phase ≡ state.old.phase)) }
+{
+    let Advance { phase, want } = next;
+    let kept = want.copy(alloc)?;
+    state.steps.push(Step { input, want: kept })?;
+    state.phase = phase;
+    Ok(want)
 }
 
 /// One step of a state.
@@ -44,19 +58,13 @@ fn take_step<R: Rng>(
     requires task { IsTask state.old.port state.old.question state.old.steps.items state.old.phase }
     requires due { IsDueAt state.old.phase state.old.steps.items input }
     ensures task { IsTask state.new.port state.new.question state.new.steps.items state.new.phase }
-    ensures question { state.new.question ≡ state.old.question }
-    ensures port { state.new.port ≡ state.old.port }
-    ensures ok { IfOk result (λ want. state.new.steps.items ≡ state.old.steps.items ++ record { input = input; want = want } ∷ []) }
-    ensures wants { IfOk result (λ want. MayWant state.old.port state.old.question (exchanges_of state.new.steps.items) moment (id_drawn (R.stream ids.old)) want) }
-    ensures drawn { IfOk result (λ want. R.stream ids.new ≡ stream_behind want (R.stream ids.old)) }
-    ensures fit { IfOk result (λ want. (answer : Answer) → want ≡ Finish answer → IsFit answer) }
-    ensures left { OnOk result (left_in state.new.phase < left_in state.old.phase) }
-    ensures few { OnOk result (sent_in state.new.steps.items ≤ MOST_SENDS) }
-    ensures err { OnErr result ((state.new.steps.items ≡ state.old.steps.items) × (state.new.phase ≡ Phase.Broken)) }
+    ensures same { IsSameTask state.old state.new }
+    ensures ok { IfOk result (StepsOn state.old input moment (drawing (R.stream ids.old) (R.stream ids.new)) state.new) }
+    ensures err { OnErr result (StepFails state.old state.new) }
     ensures broken { state.old.phase ≡ Phase.Broken → IsErr result }
 {
     let phase = mem::replace(&mut state.phase, Phase::Broken);
-    let Turn { phase, want } = advance(
+    let next = step_on(
         alloc,
         state.port,
         &state.question,
@@ -65,9 +73,7 @@ fn take_step<R: Rng>(
         ids,
         &input,
     )?;
-    let kept = want.copy(alloc)?;
-    state.steps.push(Step { input, want: kept })?;
-    state.phase = phase;
+    let want = keep_step(alloc, state, input, next)?;
     Ok(want)
 }
 
@@ -96,7 +102,7 @@ impl Model for Task {
 }
 
 impl Task {
-    /// A task that has not begun. It takes no memory.
+    /// A task that has not begun. This takes no memory.
     pub fn new(alloc: Global, question: Question, port: u16) -> Task
         ensures question { result.question ≡ question }
         ensures port { result.port ≡ port }
@@ -114,7 +120,7 @@ impl Task {
         }
     }
 
-    /// A task that has begun at this moment, and waits for what comes of the look at its question.
+    /// A task that has begun at this moment, and waits for the reply to the lookup of its question.
     pub fn begun(
         alloc: Global,
         question: Question,
@@ -143,36 +149,22 @@ impl Task {
         })
     }
 
-    /// Takes what came, and says what is wanted next.
+    /// Takes an input, and returns what is wanted next. After an error the task stays without memory: each later step fails.
     pub fn step<R: Rng>(&mut self, moment: u64, ids: &mut R, input: Input) -> Result<Want, NoMemory>
         requires { IsDueAt self.old.phase self.old.steps.items input }
-        ensures question { self.new.question ≡ self.old.question }
-        ensures port { self.new.port ≡ self.old.port }
+        ensures same { IsSameTask self.old self.new }
 
-        // The steps grow by this one.
-        ensures steps { IfOk result (λ want. self.new.steps.items ≡ self.old.steps.items ++ record { input = input; want = want } ∷ []) }
-
-        // What is wanted may be wanted by the exchanges so far; an answer resolves the question.
-        ensures wants { IfOk result (λ want. MayWant self.old.port self.old.question (exchanges_of self.new.steps.items) moment (id_drawn (R.stream ids.old)) want) }
-
-        // A query takes one word of the generator, and nothing else takes any.
-        ensures drawn { IfOk result (λ want. R.stream ids.new ≡ stream_behind want (R.stream ids.old)) }
-
-        // The answer can be written.
-        ensures fit { IfOk result (λ want. (answer : Answer) → want ≡ Finish answer → IsFit answer) }
-
-        // It ends.
-        ensures left { OnOk result (left_in self.new.phase < left_in self.old.phase) }
-        ensures few { OnOk result (sent_in self.new.steps.items ≤ MOST_SENDS) }
+        // The step is added, and it wants what the exchanges so far allow: an answer resolves the question.
+        ensures ok { IfOk result (StepsOn self.old input moment (drawing (R.stream ids.old) (R.stream ids.new)) self.new) }
 
         // Without memory nothing is added, then or later.
-        ensures err { OnErr result ((self.new.steps.items ≡ self.old.steps.items) × (self.new.phase ≡ Phase.Broken)) }
+        ensures err { OnErr result (StepFails self.old self.new) }
         ensures broken { self.old.phase ≡ Phase.Broken → IsErr result }
     {
         take_step(self.alloc, &mut self.state, moment, ids, input)
     }
 
-    /// What came and what was wanted, so far, in order.
+    /// The inputs and the wants so far, in order.
     pub fn steps(&self) -> &[Step]
         ensures { result.now ≡ self.now.steps.items }
     {

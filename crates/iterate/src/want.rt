@@ -1,4 +1,4 @@
-//! What comes to a task, and what it wants.
+//! The inputs of a task, and its wants.
 
 ghost use Rattle.std.specs.Prelude.{◌≡◌, IfOk};
 
@@ -9,37 +9,37 @@ use dns_text::{Addr, Octets, Shared};
 use history::{DeskFault, Event, Reply};
 use std::alloc::Global;
 
-/// What comes to a task.
+/// An input of a task.
 #[derive(Drop)]
 pub enum Input {
-    /// It begins.
+    /// The task begins.
     Begin,
     /// The book replied.
     Reply(Reply),
-    /// The book did not take the event.
+    /// The book refused the event.
     Refused(DeskFault),
-    /// These octets came from the server.
+    /// The server sent these octets.
     Came(Octets),
-    /// Nothing came.
+    /// No response came.
     Failed,
 }
 
 /// What a task wants.
 #[derive(Drop)]
 pub enum Want {
-    /// That a book takes an event.
+    /// An event for the book.
     Book(Event),
-    /// That a query goes out.
+    /// A query to send.
     Send {
         server: Addr,
         over: Over,
         bytes: Shared<Octets>,
     },
-    /// Nothing more: this is the answer.
+    /// The task ends with this answer.
     Finish(Answer),
 }
 
-/// What came, and what was wanted then.
+/// An input, and what was wanted then.
 #[derive(Drop)]
 pub struct Step {
     pub input: Input,

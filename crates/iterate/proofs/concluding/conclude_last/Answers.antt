@@ -5,7 +5,7 @@ use Rattle.iterate.proofs.concluding.conclude_last.Goals as goal
 
 pub returns-in-Answers : goal.returns-in-Answers
 returns-in-Answers g c = λ port question log h.
-    c.follow_in.ensures port _ _ question log (following_less c.args.search.path) (harvest_heard h) h.is_search.path
+    c.follow_in.ensures port _ _ question log (following_less c.args.search.path) (harvest_heard h) h.is_search.path (λ none. h.is_search.base.unknown)
 
 pub returns-in-Denies : goal.returns-in-Denies
 returns-in-Denies g c = λ port question log h.
@@ -14,5 +14,5 @@ returns-in-Denies g c = λ port question log h.
 pub returns-in_ok-refer_base-in-Refers : goal.returns-in_ok-refer_base-in-Refers
 returns-in_ok-refer_base-in-Refers g c = λ port question log h.
     let r = referring_last c.in-Refers.referral c.in_ok-servers-in-Refers.servers h c.requires c.in-Refers.is c.in_ok-servers-in-Refers.ensures in
-    let s = c.in_ok-refer_base-in-Refers.ensures port question log h.since h.is_search r.listed r.reached r.above in
+    let s = c.in_ok-refer_base-in-Refers.ensures port question log h.since h.is_search r in
     IfOk-weaker c.go_on.result _ _ (λ t goes. from_less s.falls goes) (c.go_on.ensures port question log s.is_search)

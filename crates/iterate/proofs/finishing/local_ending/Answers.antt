@@ -4,7 +4,7 @@ use Rattle.dns_text.specs.declared.record.Record.{Record}
 use Rattle.local_zone.specs.declared.local.Local.{Local}
 use Rattle.history.specs.declared.event.Seen.TheVariants.{Local as LocalSeen}
 use Rattle.iterate.specs.declared.answer.Soa.TheVariants.{Local as LocalSoa}
-use Rattle.iterate.specs.declared.answer.Told.TheVariants.{Local as LocalTold}
+use Rattle.iterate.specs.declared.answer.AnswerSet.TheVariants.{Local as LocalTold}
 use Rattle.iterate.specs.Resolved.{IsBarred}
 use Rattle.iterate.specs.Shown.{Ends, IsLocalFor}
 use Rattle.iterate.proofs.finishing.local_ending.Goals as goal

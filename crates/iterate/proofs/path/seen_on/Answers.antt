@@ -7,12 +7,15 @@ use Rattle.iterate.specs.declared.want.Input.{Input}
 use Rattle.iterate.specs.declared.want.Want.TheVariants.{Book}
 use Rattle.iterate.specs.Exchanges.{exchange, Adds}
 use Rattle.iterate.specs.Looked.{seen_of, IsReplied}
-use Rattle.iterate.proofs.Growing.{path_more}
+use Rattle.iterate.proofs.Growing.{happened_last, path_more}
 use Rattle.iterate.proofs.PathTurns.{turned, seeing, path_some}
 use Rattle.iterate.proofs.path.seen_on.Goals as goal
 
 pub returns-in-Unknown : goal.returns-in-Unknown
-returns-in-Unknown c = λ port m id question input before log p some replied adds. c.alias.ensures port id question log (path_more p adds refl)
+returns-in-Unknown c = λ port m id question input before log p some replied adds.
+    let here = subst (λ (w : Looked). IsReplied c.args.path.last input (seen_of w)) c.in-Unknown.is replied in
+    let none = subst (λ (i : Input). Adds before (exchange (Book (Look m (Asked c.args.path.last))) i) log) here.replied adds in
+    c.alias.ensures port id question log (record { is_path = path_more p adds refl; unknown = record { moment = m; looked = happened_last none } })
 
 pub returns-in_ok-held_ending-in-Held : goal.returns-in_ok-held_ending-in-Held
 returns-in_ok-held_ending-in-Held c = λ port m id question input before log p some replied adds.

@@ -1,5 +1,5 @@
 use Rattle.std.proofs.Common.{◌≡◌, [], ap, subst, rules}
-use Rattle.iterate.specs.declared.search.Next.{Next}
+use Rattle.iterate.specs.declared.search.Move.{Move}
 use Rattle.iterate.specs.Hunting.{IsNextStep, IsTried}
 use Rattle.iterate.specs.Measure.{left_of_search}
 use Rattle.iterate.specs.Searching.{hunt_of}
@@ -12,7 +12,7 @@ use Rattle.iterate.proofs.search.go_on.Goals as goal
 pub returns-in-Ask : goal.returns-in-Ask
 returns-in-Ask g c = λ port question log s.
     let at = c.going.invariant.going port question log s in
-    let next = subst (λ (n : Next). IsNextStep c.going.current n) c.in-Ask.is c.in_ok-server.ensures in
+    let next = subst (λ (n : Move). IsNextStep c.going.current n) c.in-Ask.is c.in_ok-server.ensures in
     let behind = g.R.Rng.stream c.ask.new.ids in
     let here : g.R.Rng.stream c.going.ids ≡ g.R.Rng.stream c.args.ids.now = cc in
     let same : drawing (g.R.Rng.stream c.going.ids) behind ≡ drawing (g.R.Rng.stream c.args.ids.now) behind = ap (λ (s : Stream). drawing s behind) here in
@@ -21,21 +21,21 @@ returns-in-Ask g c = λ port question log s.
 pub returns-in-Seek : goal.returns-in-Seek
 returns-in-Seek g c = λ port question log s.
     let at = c.going.invariant.going port question log s in
-    let next = subst (λ (n : Next). IsNextStep c.going.current n) c.in-Seek.is c.in_ok-server.ensures in
+    let next = subst (λ (n : Move). IsNextStep c.going.current n) c.in-Seek.is c.in_ok-server.ensures in
     let stream = g.R.Rng.stream c.going.ids in
     let here : stream ≡ g.R.Rng.stream c.args.ids.now = cc in
     from_more_ok port question log c.args.moment c.seek.result (ap (λ (s : Stream). drawing s stream) here) (at_most (left_of_search c.args.search 4))
-    (c.seek.ensures port stream (left_of_search c.args.search 4) question log record { is_search = at.0; shallow = next.1; next = next.0; sought = tt } (address_less c.going.current (left_of_search c.args.search 4) at.0 at.1))
+    (c.seek.ensures port stream (left_of_search c.args.search 4) question log record { is_search = at.0; shallow = next.1; next = next.0; unknown = tt } (address_less c.going.current (left_of_search c.args.search 4) at.0 at.1))
 
 pub going-smaller-in-Pass : goal.going-smaller-in-Pass
 going-smaller-in-Pass g c =
-    let next = subst (λ (n : Next). IsNextStep c.going.current n) c.in-Pass.is c.in_ok-server.ensures in
+    let next = subst (λ (n : Move). IsNextStep c.going.current n) c.in-Pass.is c.in_ok-server.ensures in
     hunts_fall c.going.current.frames.items c.in_ok-current-in-Pass.current.frames.items c.going.current.base c.in_ok-current-in-Pass.current.base []
     (next_within (hunt_of c.going.current).sought (hunt_of c.going.current).servers.missing next.0 next.1.rest next.1.next) c.in_ok-current-in-Pass.ensures.supplied
 
 pub going-preserved-in-Pass : goal.going-preserved-in-Pass
 going-preserved-in-Pass g c =
-    let next = subst (λ (n : Next). IsNextStep c.going.current n) c.in-Pass.is c.in_ok-server.ensures in
+    let next = subst (λ (n : Move). IsNextStep c.going.current n) c.in-Pass.is c.in_ok-server.ensures in
     record {
       same = c.going.invariant.same;
       going = λ port question log s.
@@ -47,7 +47,7 @@ going-preserved-in-Pass g c =
 pub returns-then-is_outermost : goal.returns-then-is_outermost
 returns-then-is_outermost g c = λ port question log s.
     let at = c.going.invariant.going port question log s in
-    let next = subst (λ (n : Next). IsNextStep c.going.current n) c.in-Close.is c.in_ok-server.ensures in
+    let next = subst (λ (n : Move). IsNextStep c.going.current n) c.in-Close.is c.in_ok-server.ensures in
     let none : c.going.current.frames.items ≡ [] = c.if-is_outermost.ensures.outermost (search rules) in
     let stream = g.R.Rng.stream c.going.ids in
     let here : stream ≡ g.R.Rng.stream c.args.ids.now = cc in

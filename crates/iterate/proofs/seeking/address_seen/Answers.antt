@@ -1,4 +1,4 @@
-use Rattle.std.proofs.Common.{List, sym, subst, refl, arith}
+use Rattle.std.proofs.Common.{List, sym, ap, subst, refl, arith}
 use Rattle.dns_text.specs.declared.addr.Addr.{Addr}
 use Rattle.history.specs.declared.event.Reply.TheVariants.{Seen as SeenReply}
 use Rattle.iterate.specs.declared.phase.Stage.TheVariants as stage
@@ -7,12 +7,12 @@ use Rattle.iterate.specs.Hunting.{AllServe}
 use Rattle.iterate.specs.Looked.{seen_of}
 use Rattle.iterate.specs.Searching.{hunt_of}
 use Rattle.iterate.proofs.Asking.{from_more_ok, smaller_goes}
-use Rattle.iterate.proofs.Finding.{tried_more, seeking_more, serving}
+use Rattle.iterate.proofs.Finding.{tried_more, seeking_unknown, serving}
 use Rattle.iterate.proofs.seeking.address_seen.Goals as goal
 
 pub returns-in-Unknown : goal.returns-in-Unknown
 returns-in-Unknown g c = λ m question before log k adds lawful.
-    let more = seeking_more c.args.port m question before log c.args.search c.args.target stage.Address stage.Alias _ k adds in
+    let more = seeking_unknown c.args.port m question before log c.args.search c.args.target (seen_of c.args.what) (ap seen_of c.in-Unknown.is) k adds in
     c.seek_on.ensures c.args.port question log (tried_more c.args.port m question before log c.args.search c.args.target stage.Address _ k adds) more
 
 pub returns-in_ok-after-in_default : goal.returns-in_ok-after-in_default

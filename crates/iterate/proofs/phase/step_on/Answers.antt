@@ -5,7 +5,7 @@ use Rattle.iterate.specs.Exchanges.{Exchange, exchange, Adds}
 use Rattle.iterate.specs.Measure.{left_of_seek, left_of_sending}
 use Rattle.iterate.specs.Phase.{IsSeeking, IsWaiting, Suits}
 use Rattle.iterate.proofs.Asking.{left_same}
-use Rattle.iterate.proofs.phase.advance.Goals as goal
+use Rattle.iterate.proofs.phase.step_on.Goals as goal
 
 pub returns-in-First-clause-goes : goal.returns-in-First-clause-goes
 returns-in-First-clause-goes g c = rw c.in-First.is (λ before log want f suits adds.
