@@ -1,4 +1,4 @@
--- What is written and read piece by piece.
+-- Octets that are written and read piece by piece.
 use Rattle.std.proofs.Common.{◌≡◌, ℕ, ◌+◌, ◌-◌, ◌<◌, ◌≤◌, List, ◌++◌, length, take, drop, slice_range, Option, inl, inr, refl, sym, ap, ◌∙◌, subst, arith, length-drop, append_assoc}
 use Rattle.std.proofs.Math.Nat.{eq-or-lt_of_le}
 use Rattle.std.proofs.Math.Seq.{drop-length, take-add}

@@ -1,6 +1,7 @@
 pub mod Answerable
 pub mod Asked
 pub mod Descriptors
+pub mod Failures
 pub mod Fits
 pub mod Line
 pub mod Moments

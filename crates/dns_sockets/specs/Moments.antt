@@ -4,12 +4,12 @@ use Rattle.std.specs.Duration.{as_nanos}
 use Rattle.std.specs.declared.time.Duration.{Duration}
 use Rattle.std.specs.declared.time.Instant.{Instant}
 
--- what can be seen of it
+-- the state of a clock, as contracts see it
 pub record ClockState : Type 0 where
   pub start : Instant  -- from when it counts
   pub last : ℕ  -- its last moment, in nanoseconds since then
 
--- the moment after this one, where so long had passed, or where that could not be told
+-- the moment after this one: so long passed since the start, or the clock could not be read
 abbrev pub moment_after : ℕ → Option Duration → ℕ
 moment_after last None = last
 moment_after last (Some passed) = max last (as_nanos passed)
@@ -25,6 +25,6 @@ pub record IsRead (passed : Instant → Option Duration → Type 0) (old new : C
 abbrev pub seconds_at : ℕ → ℕ
 seconds_at moment = moment / 1_000_000_000
 
--- its milliseconds, of which 2^64 - 1 are counted at most
+-- the milliseconds of a moment, up to 2^64 - 1
 abbrev pub millis_at : ℕ → ℕ
 millis_at moment = min (moment / 1_000_000) (2 ^ 64 - 1)

@@ -4,19 +4,21 @@
 
 // An address as the C library takes it.
 pub mod c_address;
-// What std does not offer of sockets and descriptors.
+// Options of sockets and descriptors that std lacks.
 pub mod options;
-// The sockets of the service, and how a worker that waits at one is woken.
-pub mod binding;
-// Which datagrams can be answered.
+// The UDP sockets of the service, one for each worker.
+pub mod udp_binding;
+// The TCP socket of the service, and the connection that wakes a worker.
+pub mod tcp_binding;
+// The test whether a reply to a datagram can be sent.
 pub mod answerable;
-// Where messages begin in what comes over a connection.
+// The place of an octet of a connection: at the start of a message, in its length or inside it.
 pub mod spot;
-// What is read of a connection.
+// The reader of a client's connection.
 pub mod frame_reader;
-// What is written to it.
+// The writer of a client's connection.
 pub mod frame_writer;
-// The errors by which a call says that it found no descriptor.
+// Errors that mean no file descriptors are left.
 pub mod descriptors;
-// Connections that clients open.
+// The listener at which clients' connections come in.
 pub mod connections;

@@ -1,34 +1,36 @@
-//! How long is waited.
+//! Deadlines, and the times that sockets wait and rest.
 
 ghost use Rattle.std.specs.Prelude.{◌≡◌, ◌<◌, ◌≤◌, ◌*◌, IfOk};
 ghost use Rattle.std.specs.Duration.{as_nanos};
+ghost use Rattle.front_workers.specs.declared.limits.TheConstants.{PATIENCE_SECONDS};
 
+use front_workers::PATIENCE_SECONDS;
 use std::io;
 use std::io::ErrorKind;
 use std::rt::Clock;
 use std::time::{Duration, Instant};
 
-/// How long an exchange and a message of a connection may take, in seconds.
-const MOST_SECONDS: u64 = 2;
-
-/// How long a socket waits before the stop flag is looked at again, in milliseconds.
+/// The milliseconds that a socket waits before its worker looks at the stop flag again.
 const GLANCE_MILLISECONDS: u64 = 500;
 
-/// How long an exchange and a message of a connection may take.
+/// The seconds that a listener rests after it failed to accept a connection.
+pub const REST_SECONDS: u64 = 1;
+
+/// The time that an exchange with a name server, and a client's message over TCP, may take.
 pub(crate) fn patience() -> Duration
-    ensures { as_nanos result ≡ MOST_SECONDS * 1_000_000_000 }
+    ensures { as_nanos result ≡ PATIENCE_SECONDS * 1_000_000_000 }
 {
-    Duration::from_secs(MOST_SECONDS)
+    Duration::from_secs(PATIENCE_SECONDS)
 }
 
-/// How long a socket waits before the stop flag is looked at again.
+/// The time that a socket waits before its worker looks at the stop flag again.
 pub fn glance() -> Duration
     ensures { 0 < as_nanos result }
 {
     Duration::from_millis(GLANCE_MILLISECONDS)
 }
 
-/// Whether a call ended since it had waited as long as it was to, or a signal came.
+/// Whether a call ended since its timeout passed, or a signal came.
 pub(crate) fn is_wait_over(error: &io::Error) -> bool {
     matches!(
         error.kind(),
@@ -36,23 +38,24 @@ pub(crate) fn is_wait_over(error: &io::Error) -> bool {
     )
 }
 
-/// A moment by which something has to be done: two seconds after it was set.
+/// A deadline: `PATIENCE_SECONDS` after it was set.
 #[derive(Clone, Copy)]
 pub(crate) struct Deadline {
     start: Instant,
 }
 
 impl Deadline {
+    /// A deadline that runs from now on. An error if the clock cannot be read.
     pub(crate) fn set<R: Clock>(rt: &R) -> io::Result<Deadline> {
         let start = Instant::now(rt)?;
         Ok(Deadline { start })
     }
 
-    /// What is left, which is some time: past the deadline it is the error `TimedOut`, since a socket takes a
-    /// timeout of 0 for none.
+    /// The time that is left, which is never 0, since a socket takes a timeout of 0 for none. Past the deadline it is the error
+    /// `TimedOut`.
     pub(crate) fn left<R: Clock>(&self, rt: &R) -> io::Result<Duration>
         ensures some { IfOk result (λ left. 0 < as_nanos left) }
-        ensures most { IfOk result (λ left. as_nanos left ≤ MOST_SECONDS * 1_000_000_000) }
+        ensures most { IfOk result (λ left. as_nanos left ≤ PATIENCE_SECONDS * 1_000_000_000) }
     {
         let left = patience().saturating_sub(self.start.elapsed(rt)?);
         if left.is_zero() {
@@ -62,7 +65,7 @@ impl Deadline {
     }
 }
 
-/// By when something has to be done that is begun now, if it was not earlier.
+/// The deadline that was set earlier, or else one that runs from now on.
 pub(crate) fn begin_wait<R: Clock>(
     rt: &R,
     deadline: &mut Option<Deadline>,

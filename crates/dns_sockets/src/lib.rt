@@ -1,19 +1,19 @@
-//! Queries come in and go out over sockets.
+//! Sockets at which clients' queries come in, and sockets by which queries go out to name servers.
 #![tactic(auto)]
 
 // In the order in which to read them.
 
-// How many octets a message has at most.
+// The length of a message over TCP.
 mod lengths;
-// How long is waited.
+// Deadlines, and the times that sockets wait and rest.
 mod deadline;
-// What a call that never waits returns where it would.
+// Errors of calls that never wait.
 mod waiting;
 // The time since a moment, by the system's monotonic clock.
 mod monotonic;
-// Calls of a connection that are limited in time.
-mod limits;
-// What workers are told to stop by.
+// Timeouts of a connection's calls.
+mod timeouts;
+// The flag by which workers stop.
 mod stop_flag;
 // Sockets at which clients' queries come in.
 mod clients;
@@ -21,14 +21,13 @@ mod clients;
 mod name_servers;
 
 pub use clients::answerable::is_answerable;
-pub use clients::binding::{bind_each, bind_tcp, wake_tcp};
 pub use clients::connections::Connections;
 pub use clients::frame_reader::FrameReader;
-pub use clients::frame_writer::{FrameWriter, Outgoing};
+pub use clients::frame_writer::{FrameWriter, StreamWriter};
 pub use clients::options::descriptor_limit;
-pub use deadline::glance;
-pub use lengths::MOST_MESSAGE;
-pub use limits::Limits;
+pub use clients::tcp_binding::{bind_tcp, wake_tcp};
+pub use clients::udp_binding::bind_each;
+pub use deadline::{REST_SECONDS, glance};
 pub use monotonic::{Elapsing, MonotonicClock};
 pub use name_servers::fitting::fits;
 pub use name_servers::place::place_of;
@@ -38,4 +37,5 @@ pub use name_servers::socket_exchange::SocketExchange;
 pub use name_servers::tcp_line::TcpLine;
 pub use name_servers::udp_line::UdpLine;
 pub use stop_flag::StopFlag;
+pub use timeouts::Timeouts;
 pub use waiting::would_wait;

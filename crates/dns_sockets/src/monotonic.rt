@@ -10,12 +10,12 @@ use command_text::Clock;
 use std::marker::Model;
 use std::time::{Duration, Instant};
 
-/// A clock that measures how long a moment is past.
+/// A clock that measures the time since a moment.
 pub trait Elapsing {
-    /// So long it was, or that could not be told.
+    /// The time that passed since a moment, or None if the clock could not be read.
     ghost passed: { Instant → Option DurationValue → Type 0 };
 
-    /// The time since then. None if the clock cannot be read.
+    /// The time since the start, or None if the clock cannot be read.
     fn since(&self, start: Instant) -> Option<Duration>
         ensures { passed start result };
 }
@@ -32,8 +32,8 @@ impl<R: std::rt::Clock> Elapsing for R {
     }
 }
 
-/// Counts from a start by the system's monotonic clock. If that cannot be read, it stays at its last moment. Contracts see the
-/// start, and the last moment in nanoseconds.
+/// A clock that counts from a start by the system's monotonic clock. If that cannot be read, it stays at its last moment.
+/// Contracts see the start, and the last moment in nanoseconds.
 #[derive(Drop)]
 pub struct MonotonicClock<'a, R> {
     rt: &'a R,
@@ -51,7 +51,7 @@ impl<'a, R> Model for MonotonicClock<'a, R> {
 }
 
 impl<'a, R> MonotonicClock<'a, R> {
-    /// Counts from this moment on.
+    /// A clock that counts from this moment on.
     pub fn new(rt: &'a R, start: Instant) -> MonotonicClock<'a, R>
         ensures { result ≡ record { start = start; last = 0 } }
     {
@@ -64,7 +64,7 @@ impl<'a, R> MonotonicClock<'a, R> {
 }
 
 impl<'a, R: Elapsing> MonotonicClock<'a, R> {
-    /// Reads the clock.
+    /// Reads the clock: the time since the start.
     #[tactic(auto, using(crate::proofs::Durations::longer_nanos))]
     fn moment(&mut self) -> Duration
         ensures read { IsRead R.passed self.old self.new }
@@ -86,7 +86,7 @@ impl<'a, R: Elapsing> MonotonicClock<'a, R> {
 }
 
 impl<'a, R: Elapsing> Clock for MonotonicClock<'a, R> {
-    // The moment is that of the system's clock, in seconds, and never falls.
+    // The moment is the system clock's, in whole seconds since the start, and never falls.
     ghost ticks = { λ before moment after. IsRead R.passed before after × (moment ≡ seconds_at after.last) };
 
     fn now(&mut self) -> u64 {

@@ -2,27 +2,27 @@
 
 // In the order in which to read them.
 
-// Where a server is.
+// The place of a name server: its address and port as std has them.
 pub mod place;
-// Which octets may be the reply to a query.
+// The test whether octets may be the reply to a query.
 pub mod fitting;
 // A socket at a port that the system draws.
 pub mod drawn_port;
-// The network in which name servers are.
+// The network of name servers.
 pub mod server_net;
 // A connection whose calls end by a deadline.
 pub mod timed;
-// A query and its reply, waited for until a deadline.
+// Exchanges with name servers, each waited for until a deadline.
 pub mod socket_exchange;
-// The same network, where no call waits.
+// The network of name servers, where no call waits.
 pub mod ready_net;
-// Places at which the service itself takes queries.
+// The service's own places, which it never asks.
 pub mod own;
-// A socket by which a query goes out and its reply comes in, without waiting.
+// A query and its reply over UDP, without waiting.
 pub mod udp_line;
-// A query behind its length, and what has left of it.
+// A query behind its length, and the count of octets that have left.
 pub mod framed_query;
-// What has come of a reply behind its length.
+// The octets of a reply that have come, behind its length.
 pub mod framed_reply;
-// A connection on which the one goes out and the other comes in, without waiting.
+// A query and its reply over TCP, without waiting.
 pub mod tcp_line;

@@ -1,14 +1,15 @@
-//! What workers are told to stop by.
+//! The flag by which workers stop.
 
 ghost use Rattle.std.specs.Prelude.{IsTrue};
 
 use std::sync::atomic::{AtomicBool, Ordering};
 
-/// A flag that is set where workers are to stop.
+/// A flag that is set when workers are to stop.
 pub trait StopFlag {
-    /// What holds once the flag is seen to be set.
+    /// A fact that holds once a worker saw the flag set.
     ghost stopped: { Type 0 };
 
+    /// Whether the flag is set.
     fn is_set(&self) -> bool
         ensures { IsTrue result → stopped };
 }

@@ -1,19 +1,21 @@
-//! What a call that never waits tells where it would.
+//! Errors of calls that never wait.
 
-ghost use Rattle.std.specs.Prelude.{◌≡◌, ◌≢◌, IfOk, IfErr, if◌then◌else◌};
+ghost use Rattle.std.specs.Prelude.{◌≡◌, IfOk, IfErr, if◌then◌else◌};
 ghost use Rattle.std.specs.IoError.{error_kind};
+ghost use Rattle.dns_sockets.specs.Failures.{IsFailure};
 
 use std::io;
 use std::io::ErrorKind;
 
-/// More calls than a message behind its length has octets, of which each call moves one at least. Beyond them signals keep
-/// ending calls, and the exchange fails.
+/// The most calls for one message behind its length: more than it has octets, of which a call moves one at least. An exchange
+/// fails beyond them, since signals keep ending its calls.
 pub(crate) const MOST_CALLS: u32 = 70_000;
 
-/// Whether a call that failed would have waited. Where a signal ended it, it is made again; another fault is handed back.
+/// Whether a call that failed would have waited. False if a signal ended it, so that it is to be made again. Any other error
+/// is returned.
 pub fn would_wait(error: io::Error) -> io::Result<bool>
     ensures waits { IfOk result (λ waits. error_kind error ≡ (if waits then ErrorKind.WouldBlock else ErrorKind.Interrupted)) }
-    ensures fault { IfErr result (λ fault. (fault ≡ error) × (error_kind error ≢ ErrorKind.WouldBlock) × (error_kind error ≢ ErrorKind.Interrupted)) }
+    ensures fault { IfErr result (λ fault. (fault ≡ error) × IsFailure error) }
 {
     match error.kind() {
         ErrorKind::WouldBlock => Ok(true),

@@ -1,4 +1,4 @@
--- What octets have that are no reply and have a header.
+-- Octets that ask for something: they have a header, and are no response.
 use Rattle.std.proofs.Common.{◌≡◌, ◌<◌, ◌≤◌, ℕ, List, length, true, false, arith}
 use Rattle.dns_wire.specs.declared.server.query.Query.{Query}
 use Rattle.dns_wire.specs.declared.server.query.Asked.TheVariants.{Drop, Fault, Good}

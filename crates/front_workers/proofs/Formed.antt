@@ -1,4 +1,4 @@
--- What is fit to be told has records with data of their form.
+-- The records of an answer that is fit for a reply have data of their form.
 use Rattle.std.proofs.Common.{ℕ, List, [], ◌∷◌, ◌++◌, map, Option, Some, None}
 use Rattle.std.specs.List.{AllByRecursion, flat_map}
 use Rattle.std.specs.Option.{option_to_list}
@@ -14,8 +14,8 @@ use Rattle.dns_wire.specs.Write.Question.{in_class_in}
 use Rattle.ranked.specs.Body.{data_of}
 use Rattle.iterate.specs.declared.answer.Soa.{Soa}
 use Rattle.iterate.specs.declared.answer.Soa.TheVariants.{Find as FindSoa, Local as LocalSoa}
-use Rattle.iterate.specs.declared.answer.Told.{Told}
-use Rattle.iterate.specs.declared.answer.Told.TheVariants.{Find as FindTold, Local as LocalTold, Passing as PassingTold}
+use Rattle.iterate.specs.declared.answer.AnswerSet.{AnswerSet}
+use Rattle.iterate.specs.declared.answer.AnswerSet.TheVariants.{Find as FoundSet, Local as LocalSet, Passing as PassedSet}
 use Rattle.iterate.specs.Told.{IsFormed, kinds_of, records_of_soa, records_told, soa_in}
 use Rattle.front_workers.specs.Lending.{answer_parts, authority_parts, records_written, seconds_written, soa_written}
 
@@ -39,18 +39,18 @@ records_formed : (records : List Record) → AllByRecursion IsFormed records →
 records_formed [] all = tt
 records_formed (r ∷ records) all = (all.0, records_formed records all.1)
 
-told_formed : (told : Told) → AllByRecursion IsFormed (records_told told) → AllByRecursion HasItsForm (records_written told)
-told_formed (FindTold ttl find) all = found_formed find.owner ttl (seconds_written ttl) (data_of find.body) (kinds_of find.scope) all
-told_formed (LocalTold records) all = records_formed records all
-told_formed (PassingTold set) all = set_formed set.owner set.kind 0 set.data (data_formed set.owner set.kind 0 set.data all)
+told_formed : (told : AnswerSet) → AllByRecursion IsFormed (records_told told) → AllByRecursion HasItsForm (records_written told)
+told_formed (FoundSet ttl find) all = found_formed find.owner ttl (seconds_written ttl) (data_of find.body) (kinds_of find.scope) all
+told_formed (LocalSet records) all = records_formed records all
+told_formed (PassedSet set) all = set_formed set.owner set.kind 0 set.data (data_formed set.owner set.kind 0 set.data all)
 
-sets_formed : (sets : List Told) → AllByRecursion IsFormed (flat_map records_told sets) → AllByRecursion (AllByRecursion HasItsForm) (map records_written sets)
+sets_formed : (sets : List AnswerSet) → AllByRecursion IsFormed (flat_map records_told sets) → AllByRecursion (AllByRecursion HasItsForm) (map records_written sets)
 sets_formed [] all = tt
 sets_formed (told ∷ sets) all =
     let both = all_split IsFormed (records_told told) (flat_map records_told sets) all in
     (told_formed told both.0, sets_formed sets both.1)
 
-pub answer_formed : (aliases : List Told) (last : Option Told) → AllByRecursion IsFormed (flat_map records_told (aliases ++ option_to_list last)) → AllByRecursion (AllByRecursion HasItsForm) (answer_parts aliases last)
+pub answer_formed : (aliases : List AnswerSet) (last : Option AnswerSet) → AllByRecursion IsFormed (flat_map records_told (aliases ++ option_to_list last)) → AllByRecursion (AllByRecursion HasItsForm) (answer_parts aliases last)
 answer_formed aliases last all = sets_formed (aliases ++ option_to_list last) all
 
 soas_formed : (ttl seconds : ℕ) (soas : List Record) → AllByRecursion IsFormed (map (λ (soa : Record). record soa { ttl = ttl }) soas)

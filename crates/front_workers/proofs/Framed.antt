@@ -1,4 +1,4 @@
--- What came of a message.
+-- A message that broke off behind its length.
 use Rattle.std.proofs.Common.{◌<◌, ◌^◌, ℕ, List, ◌++◌, [], refl, inr, arith}
 use Rattle.std.specs.Prelude.{Option, Err}
 use Rattle.std.specs.Io.KnownBytes.{Consumes}
@@ -7,7 +7,7 @@ use Rattle.front_workers.specs.declared.fault.StreamFault.{StreamFault}
 use Rattle.front_workers.specs.declared.fault.StreamFault.TheVariants.{Read, Write, Short, NoMemory}
 use Rattle.front_workers.specs.Framing.{length_octets, BodyCame, MessageCame}
 
--- What broke a message off behind its length broke it off.
+-- The fault that ended the message itself ended the message with its length.
 pub broken_behind : (size : ℕ) (fault : StreamFault) (u v w : Option (List ℕ)) → size < 2 ^ 16 → Consumes u v (length_octets size) → BodyCame (Err fault) size v w
     → MessageCame (Err fault) u w
 broken_behind size Read u v w small head body =

@@ -1,4 +1,4 @@
--- How the calls of a task go on, and how they end.
+-- The next call of a task, and its end.
 use Rattle.std.proofs.Common.{◌≡◌, ℕ, List, [], ◌∷◌, ◌++◌, refl, sym, subst, ◌∙◌}
 use Rattle.dns_text.specs.declared.record.Question.{Question}
 use Rattle.iterate.specs.declared.answer.Answer.{Answer}
@@ -21,7 +21,7 @@ suits (refused p) = tt
 suits (came p) = tt
 suits (failed p) = tt
 
--- What comes next is due.
+-- The next input is due.
 pub due : {D X C : Type 0} {calls : Calls D} {asks : Asks X} {ticks : Ticks C} {port : ℕ} {question : Question} {desk d : D} {exchange x : X} {lent l : Lent C} {steps : List Step} {input : Input}
     → ((phase : Phase) → IsDueAt phase [] Begin)
     → ((phase : Phase) (steps : List Step) (step : Step) (input : Input) → Suits step.want input → IsDueAt phase (steps ++ step ∷ []) input)

@@ -11,15 +11,15 @@ use Rattle.front_workers.specs.declared.fault.StreamFault.TheVariants.{Read, Wri
 use Rattle.front_workers.specs.Framing.{framed, length_octets, HasLength, MessageCame}
 use Rattle.dns_query.specs.declared.over.Over.TheVariants.{Tcp}
 use Rattle.front_workers.specs.Leads.{Calls, Asks, Ticks, Lent}
-use Rattle.front_workers.specs.Stream.{Serving, Lacking, Served, ToldOne, Streams, serving, lacking, unread, unserved, untold}
+use Rattle.front_workers.specs.Stream.{Serving, Lacking, Served, ServedOne, Streams, serving, lacking, unread, unserved, untold}
 
--- A message more is read.
+-- One message more is read.
 pub read_one : (u v w : Option (List ℕ)) (messages : List (List ℕ)) (m : List ℕ) → Consumes u v (flat_map framed messages) → Consumes v w (framed m) → Consumes u w (flat_map framed (messages ++ m ∷ []))
 read_one u v w messages m before one =
     let e : flat_map framed (messages ++ m ∷ []) ≡ flat_map framed messages ++ framed m = flat_map-append framed messages (m ∷ []) ∙ ap (λ (l : List ℕ). flat_map framed messages ++ l) (append-nil (framed m)) in
     subst (λ (l : List ℕ). Consumes u w l) (sym e) (Consumes-then u v w (flat_map framed messages) (framed m) before one)
 
--- A message more is told.
+-- One message more is served, and its reply written.
 pub tell_one : (O : Type 0) (obeys : Obeying O) (o mid next : O) (messages : List (List ℕ)) (m out text : List ℕ)
     → Transcript obeys o messages out mid → obeys mid m text false next → Transcript obeys o (messages ++ m ∷ []) (out ++ text) next
 tell_one O obeys o mid next [] m out text before one =
@@ -31,7 +31,7 @@ tell_one O obeys o mid next (x ∷ xs) m out text before one =
 -- A message that came is the last, by a fault.
 pub stopped : {O : Type 0} (serves : Serving O) (lacks : Lacking O) (fault : StreamFault) (o mid next : O) (u v w held part held' : Option (List ℕ)) (messages : List (List ℕ)) (m out : List ℕ)
     → Consumes u v (flat_map framed messages) → Served serves o messages out mid → Appends held part out
-    → HasLength m → Consumes v w (framed m) → ToldOne {A = Unit {0}} serves lacks (Err fault) m mid next part held'
+    → HasLength m → Consumes v w (framed m) → ServedOne {A = Unit {0}} serves lacks (Err fault) m mid next part held'
     → Streams {A = Unit {0}} serves lacks (Err fault) o next u w held held'
 stopped serves lacks Write o mid next u v w held part held' messages m out before served wrote short came one =
     (messages, m, out, mid, one.0, one.2, read_one u v w messages m before came, served, short, one.1, Appends-then held part held' out (take one.2 (framed one.0)) wrote one.3)
@@ -66,9 +66,9 @@ pub handed_on : {O : Type 0} (serves : Serving O) (lacks : Lacking O) (fault : S
 handed_on serves lacks fault o next u v held held' (Ok _) is streams = absurd is
 handed_on serves lacks fault o next u v held held' (Err e) is streams = subst (λ (f : StreamFault). Streams {A = Unit {0}} serves lacks (Err f) o next u v held held') (sym is) streams
 
--- One message is told at the same port.
+-- One message is served at the same port of name servers.
 pub at_port : {D X C : Type 0} (calls : Calls D) (asks : Asks X) (ticks : Ticks C) (fault : StreamFault) (here there : ℕ) (m : List ℕ) (o next : D × X × Lent C) (old new : Option (List ℕ)) → here ≡ there
-    → ToldOne {A = Unit {0}} (serving calls asks ticks here Tcp) (lacking calls asks ticks here) (Err fault) m o next old new
-    → ToldOne {A = Unit {0}} (serving calls asks ticks there Tcp) (lacking calls asks ticks there) (Err fault) m o next old new
+    → ServedOne {A = Unit {0}} (serving calls asks ticks here Tcp) (lacking calls asks ticks here) (Err fault) m o next old new
+    → ServedOne {A = Unit {0}} (serving calls asks ticks there Tcp) (lacking calls asks ticks there) (Err fault) m o next old new
 at_port calls asks ticks fault here there m o next old new e one =
-    subst (λ (n : ℕ). ToldOne {A = Unit {0}} (serving calls asks ticks n Tcp) (lacking calls asks ticks n) (Err fault) m o next old new) e one
+    subst (λ (n : ℕ). ServedOne {A = Unit {0}} (serving calls asks ticks n Tcp) (lacking calls asks ticks n) (Err fault) m o next old new) e one

@@ -1,4 +1,4 @@
--- A query is served by what it is told of its answer.
+-- A query is served by the reply that its answer gives.
 use Rattle.std.proofs.Common.{ℕ, List}
 use Rattle.std.specs.Prelude.{Option, Some, None}
 use Rattle.dns_query.specs.declared.over.Over.{Over}

@@ -1,9 +1,9 @@
--- How failures are counted.
+-- The count of failures.
 use Rattle.std.specs.Prelude.{◌≡◌, ◌⊎◌, ℕ, ◌+◌, ◌-◌, ◌^◌, Result, Ok, Err}
 use Rattle.front_workers.specs.declared.device.DeviceFault.{DeviceFault}
 use Rattle.front_workers.specs.declared.device.DeviceFault.TheVariants.{Device, NoMemory}
 
--- one more is counted, unless the count stands at its last value
+-- The count rises by one, unless it is at its last value.
 abbrev pub Rises : ℕ → ℕ → Type 0
 Rises old new = (new ≡ old + 1) ⊎ ((old ≡ 2 ^ 64 - 1) × (new ≡ old))
 

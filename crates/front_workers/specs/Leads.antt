@@ -1,4 +1,4 @@
--- The calls of a task, and where they lead.
+-- The calls of a task: of a desk, an exchange, a clock and a generator.
 use Rattle.std.specs.Prelude.{◌≡◌, ℕ, Result, Ok, Err, List, [], ◌∷◌, ◌++◌}
 use Rattle.dns_query.specs.declared.over.Over.{Over}
 use Rattle.dns_text.specs.declared.addr.Addr.{Addr}
@@ -18,13 +18,15 @@ use Rattle.rand_core.specs.Stream.{Stream}
 use Rattle.front_workers.specs.declared.device.DeviceFault.{DeviceFault}
 use Rattle.front_workers.specs.declared.device.DeviceFault.TheVariants.{Device, NoMemory}
 
--- what a desk tells of one call, an exchange of one query, and a clock of one reading
+-- One call of a desk: the desk before, the event, the reply or the fault, the desk after.
 abbrev pub Calls : Type 0 → Type 1
 Calls D = D → Event → Result Reply DeskFault → D → Type 0
 
+-- One exchange with a name server: the client before, the server, the transport, the query, the response or the fault, the client after.
 abbrev pub Asks : Type 0 → Type 1
 Asks X = X → Addr → Over → List ℕ → Result (List ℕ) DeviceFault → X → Type 0
 
+-- One reading of a clock: the clock before, the moment, the clock after.
 abbrev pub Ticks : Type 0 → Type 1
 Ticks C = C → ℕ → C → Type 0
 
@@ -32,7 +34,7 @@ Ticks C = C → ℕ → C → Type 0
 abbrev pub Lent : Type 0 → Type 0
 Lent C = C × Stream
 
--- The clock is read, and a task that is handed this input then may want this.
+-- The clock was read, and a task that gets this input then may want this.
 pub record Wants {C : Type 0} (ticks : Ticks C) (port : ℕ) (question : Question) (steps : List Step) (input : Input) (clock : C) (want : Want) (after : List Step) (clock' : C) : Type 0 where
   pub moment : ℕ
   pub ticked : ticks clock moment clock'
@@ -40,20 +42,20 @@ pub record Wants {C : Type 0} (ticks : Ticks C) (port : ℕ) (question : Questio
   pub id : ℕ
   pub may : MayWant port question (exchanges_of after) moment id want
 
--- The same, and its identifier is drawn of the generator: the low 16 bits of a word, which only a query takes.
+-- The same, and a query has the identifier that the generator gave: the low 16 bits of its next word, which only a query uses up.
 pub record Draws {C : Type 0} (ticks : Ticks C) (port : ℕ) (question : Question) (steps : List Step) (input : Input) (lent : Lent C) (want : Want) (after : List Step) (lent' : Lent C) : Type 0 where
   pub wants : Wants ticks port question steps input lent.0 want after lent'.0
   pub identifier : wants.id ≡ id_drawn lent.1
   pub taken : lent'.1 ≡ stream_behind want lent.1
 
--- What is wanted is met by one call: the desk and the exchange before, the want, what the task is handed then, the desk and the exchange after.
+-- One call met a want: the desk and the exchange before, the want, the input that the task gets for it, the desk and the exchange after.
 pub data Met {D X : Type 0} (calls : Calls D) (asks : Asks X) : D → X → Want → Input → D → X → Type 0 where
   replied : {d d' : D} {x : X} {event : Event} {reply : Reply} → calls d event (Ok reply) d' → Met calls asks d x (Book event) (Replied reply) d' x
   refused : {d d' : D} {x : X} {event : Event} {fault : DeskFault} → calls d event (Err fault) d' → Met calls asks d x (Book event) (Refused fault) d' x
   came : {d : D} {x x' : X} {server : Addr} {over : Over} {bytes octets : List ℕ} → asks x server over bytes (Ok octets) x' → Met calls asks d x (Send server over bytes) (Came octets) d x'
   failed : {d : D} {x x' : X} {server : Addr} {over : Over} {bytes : List ℕ} → asks x server over bytes (Err Device) x' → Met calls asks d x (Send server over bytes) Failed d x'
 
--- Steps of a task for the question lead from a desk, an exchange, a clock and a generator to others, and this input comes next.
+-- Steps of a task for the question led from one state of desk, exchange, clock and generator to another, and the task gets this input next.
 pub data Leads {D X C : Type 0} (calls : Calls D) (asks : Asks X) (ticks : Ticks C) (port : ℕ) (question : Question) (desk : D) (exchange : X) (lent : Lent C)
     : List Step → Input → D → X → Lent C → Type 0 where
   begins : Leads calls asks ticks port question desk exchange lent [] Begin desk exchange lent
@@ -62,7 +64,7 @@ pub data Leads {D X C : Type 0} (calls : Calls D) (asks : Asks X) (ticks : Ticks
       → Draws ticks port question steps input l want after l' → Met calls asks d x want next d' x'
       → Leads calls asks ticks port question desk exchange lent after next d' x' l'
 
--- A question ends in an answer: steps lead from the desk, the exchange, the clock and the generator to these, and a task may answer so then (what it may answer resolves the question).
+-- A question ended in an answer: steps led from the first state to the last, where a task may give this answer. `MayWant` says that it resolves the question.
 pub record Ends {D X C : Type 0} (calls : Calls D) (asks : Asks X) (ticks : Ticks C) (port : ℕ) (question : Question) (desk : D) (exchange : X) (lent : Lent C)
     (answer : Answer) (d : D) (x : X) (l' : Lent C) : Type 0 where
   pub steps : List Step
@@ -72,7 +74,7 @@ pub record Ends {D X C : Type 0} (calls : Calls D) (asks : Asks X) (ticks : Tick
   pub after : List Step
   pub draws : Draws ticks port question steps input l (Finish answer) after l'
 
--- It breaks off for want of memory: the task finds none, and the generator is left as it may be, or an exchange.
+-- A question broke off, since no memory was left: the task found none, which says nothing of the generator then, or an exchange found none.
 pub data BreaksOff {D X C : Type 0} (calls : Calls D) (asks : Asks X) (ticks : Ticks C) (port : ℕ) (question : Question) (desk : D) (exchange : X) (lent : Lent C)
     : D → X → Lent C → Type 0 where
   in_the_task : {steps : List Step} {input : Input} {d : D} {x : X} {moment : ℕ} {l l' : Lent C}

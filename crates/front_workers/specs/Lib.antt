@@ -6,3 +6,4 @@ pub mod Turning
 pub mod Framing
 pub mod Stream
 pub mod Working
+pub mod States

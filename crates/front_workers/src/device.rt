@@ -1,14 +1,14 @@
-//! What a device failed by.
+//! The fault of a device.
 
 use thiserror::Error;
 
-/// Why an exchange, a port or a listener gives nothing.
+/// The cause for which an exchange, a port or a listener returned nothing.
 #[derive(Clone, Copy, Debug, PartialEq, Eq, Error)]
 pub enum DeviceFault {
-    /// The device failed, or what it waited for did not come.
+    /// The device failed, or a response did not come in time.
     #[error("the device failed")]
     Device,
-    /// Memory was refused.
+    /// No memory was left.
     #[error("out of memory")]
     NoMemory,
 }

@@ -1,4 +1,4 @@
-//! A query to a name server, and what comes of it.
+//! Exchanges with name servers: a query goes out, and its response comes in.
 
 ghost use Rattle.std.specs.Prelude.{ℕ, List, Result};
 ghost use Rattle.dns_text.specs.declared.addr.Addr.{Addr};
@@ -10,15 +10,16 @@ use crate::device::DeviceFault;
 use dns_query::Over;
 use dns_text::{Addr, Octets};
 
-/// What asks name servers.
+/// A client of name servers.
 pub trait Exchange {
-    /// One exchange: the device before, the server, the transport, the query, what came, the device after.
+    /// One exchange: the client before, the server, the transport, the query, the response or the fault, the client after.
     ghost asks: { Self → Addr → Over → List ℕ → Result (List ℕ) DeviceFault → Self → Type 0 };
 
-    /// How many exchanges failed. At most 2^64 - 1 are counted.
+    /// The count of exchanges that failed, up to 2^64 - 1.
     ghost failures: { Self → ℕ };
 
-    /// Sends a query, and gives what comes: at most 65,535 octets.
+    /// Sends a query, and returns the response: at most `MOST_MESSAGE` octets. `Device` if none came, `NoMemory` if there was no
+    /// memory for it.
     fn ask(&mut self, server: &Addr, over: Over, query: &[u8]) -> Result<Octets, DeviceFault>
         ensures asked { asks self.old server.now over query.now result self.new }
         ensures counted { Counts result (failures self.old) (failures self.new) };

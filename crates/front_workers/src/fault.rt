@@ -1,13 +1,13 @@
-//! Why a stream is served no further.
+//! The faults that end a stream.
 
 use std::alloc::{AllocError, AllocFailed};
 use streams::{ReadFailed, WriteFailed};
 use thiserror::Error;
 
-/// Why a stream is served no further.
+/// The fault that ended a stream of messages.
 #[derive(Clone, Copy, Debug, PartialEq, Eq, Error)]
 pub enum StreamFault {
-    /// A read failed, or the reader was read as often as it may be.
+    /// A read failed, or the stream took `MOST_READS` reads.
     #[error("read failed")]
     Read,
     /// A write failed.
@@ -16,7 +16,7 @@ pub enum StreamFault {
     /// The input ended inside a message.
     #[error("the input ended inside a message")]
     Short,
-    /// Memory was refused.
+    /// No memory was left.
     #[error("out of memory")]
     NoMemory,
 }

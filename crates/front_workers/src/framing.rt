@@ -1,7 +1,8 @@
-//! Messages behind their length in two octets (RFC 1035, section 4.2.2).
+//! Messages over TCP, each behind its length in two octets (RFC 1035, section 4.2.2).
 
 ghost use Rattle.std.specs.Prelude.{◌≡◌, [], ◌∷◌, ◌+◌, ◌^◌, ◌<◌, ◌≤◌, length, IfOk, OnOk};
 ghost use Rattle.streams.specs.declared.source.TheConstants.{MOST_COUNTED};
+ghost use Rattle.front_workers.specs.declared.limits.TheConstants.{MOST_MESSAGE};
 ghost use Rattle.front_workers.specs.Framing.{length_octets, framed, SizeCame, BodyCame, MessageCame, CountsRead};
 
 use crate::fault::StreamFault;
@@ -10,7 +11,7 @@ use dns_text::Octets;
 use std::alloc::Global;
 use streams::{Source, fill};
 
-/// The number that two octets spell.
+/// The length that two octets spell, the high one first.
 pub fn size_of(high: u8, low: u8) -> usize
     ensures spelled { length_octets result ≡ high ∷ low ∷ [] }
     ensures range { result < 2 ^ 16 }
@@ -18,7 +19,7 @@ pub fn size_of(high: u8, low: u8) -> usize
     usize::from(high) * 256 + usize::from(low)
 }
 
-/// The length of the next message. None where no more comes.
+/// The length of the next message, or None at the end of the input.
 fn take_size<S: Source>(reader: &mut S, left: &mut u64) -> Result<Option<usize>, StreamFault>
     requires { S.calls reader.old + left.old ≤ MOST_COUNTED }
     ensures came { SizeCame result (S.remaining reader.old) (S.remaining reader.new) }
@@ -39,7 +40,7 @@ fn take_size<S: Source>(reader: &mut S, left: &mut u64) -> Result<Option<usize>,
     Ok(Some(size_of(high, low)))
 }
 
-/// A message of so many octets.
+/// The next message, of so many octets.
 fn take_body<S: Source>(
     alloc: Global,
     reader: &mut S,
@@ -60,7 +61,7 @@ fn take_body<S: Source>(
     Ok(Octets::new(body))
 }
 
-/// The next message, in so many reads at most as are left. None where no more comes.
+/// The next message, or None at the end of the input. `left` counts the reads that remain, and falls with each.
 pub(crate) fn take_message<S: Source>(
     alloc: Global,
     reader: &mut S,
@@ -81,9 +82,9 @@ pub(crate) fn take_message<S: Source>(
     }
 }
 
-/// A message behind its length.
+/// A message behind its length, as it goes out over TCP.
 pub fn frame(alloc: Global, message: &[u8]) -> Result<Vec<u8>, NoMemory>
-    requires { length message.now ≤ 65535 }
+    requires { length message.now ≤ MOST_MESSAGE }
     ensures { IfOk result (λ out. out.items ≡ framed message.now) }
 {
     let size = message.len();

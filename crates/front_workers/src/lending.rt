@@ -1,4 +1,4 @@
-//! What an answer tells, lent as the sections of a reply.
+//! The records of an answer, lent as the sections of a reply.
 
 ghost use Rattle.std.specs.Prelude.{◌≡◌, ℕ, ◌++◌, length, slice_get};
 ghost use Rattle.std.specs.Option.{option_copied, option_to_list};
@@ -7,17 +7,17 @@ ghost use Rattle.front_workers.specs.Lending.{answer_parts, authority_parts, rec
 
 use dns_text::{Items, MOST_TTL, Ttl};
 use dns_wire::{LentRecord, Section};
-use iterate::{Soa, Told};
+use iterate::{AnswerSet, Soa};
 use ranked::{Body, Find, Scope};
 
-/// So many seconds, as a record tells them.
+/// A TTL of so many seconds, or the longest there is (RFC 2181, section 8).
 fn ttl_of(seconds: u32) -> Ttl
     ensures { result ≡ seconds_written seconds }
 {
     Ttl::from_seconds(seconds.min(MOST_TTL as u32)).unwrap()
 }
 
-/// How many data a find has for a type.
+/// The number of records that a find gives: 0 for a negative answer.
 fn found_count(find: &Find) -> usize
     ensures { (ttl : ℕ) → result ≡ length (records_found ttl find.now) }
 {
@@ -27,7 +27,7 @@ fn found_count(find: &Find) -> usize
     }
 }
 
-/// The record of a place in a find.
+/// The record at a place among those of a find.
 fn found_record(find: &Find, ttl: u32, place: usize) -> Option<LentRecord<'_>>
     ensures { result ≡ slice_get (records_found ttl find.now) place }
 {
@@ -41,28 +41,28 @@ fn found_record(find: &Find, ttl: u32, place: usize) -> Option<LentRecord<'_>>
     Some(LentRecord::new(&find.owner, kind, ttl_of(ttl), body))
 }
 
-/// How many records a set has.
-fn told_count(told: &Told) -> usize
-    ensures { result ≡ length (records_written told.now) }
+/// The number of records in a set.
+fn set_count(answer: &AnswerSet) -> usize
+    ensures { result ≡ length (records_written answer.now) }
 {
-    match told {
-        Told::Find { find, .. } => found_count(find.find()),
-        Told::Local(records) => records.get().as_slice().len(),
-        Told::Passing(set) => set.get().data.as_slice().len(),
+    match answer {
+        AnswerSet::Find { find, .. } => found_count(find.find()),
+        AnswerSet::Local(records) => records.get().as_slice().len(),
+        AnswerSet::Passing(set) => set.get().data.as_slice().len(),
     }
 }
 
-/// The record of a place in a set.
-fn told_record(told: &Told, place: usize) -> Option<LentRecord<'_>>
-    ensures { result ≡ slice_get (records_written told.now) place }
+/// The record at a place in a set.
+fn set_record(answer: &AnswerSet, place: usize) -> Option<LentRecord<'_>>
+    ensures { result ≡ slice_get (records_written answer.now) place }
 {
-    match told {
-        Told::Find { ttl, find } => found_record(find.find(), *ttl, place),
-        Told::Local(records) => {
+    match answer {
+        AnswerSet::Find { ttl, find } => found_record(find.find(), *ttl, place),
+        AnswerSet::Local(records) => {
             let record = records.get().as_slice().get(place)?;
             Some(LentRecord::new(record.owner(), record.kind(), record.ttl(), record.body()))
         }
-        Told::Passing(set) => {
+        AnswerSet::Passing(set) => {
             let set = set.get();
             let body = set.data.as_slice().get(place)?;
             Some(LentRecord::new(&set.owner, set.kind, Ttl::ZERO, body))
@@ -70,7 +70,7 @@ fn told_record(told: &Told, place: usize) -> Option<LentRecord<'_>>
     }
 }
 
-/// The SOA record of a negative answer, where there is one.
+/// The SOA record of a negative answer, if it has one.
 fn soa_record(soa: &Soa) -> Option<LentRecord<'_>>
     ensures { option_to_list result ≡ soa_written soa.now }
 {
@@ -96,13 +96,13 @@ fn soa_record(soa: &Soa) -> Option<LentRecord<'_>>
 /// The answer section: the sets of the aliases, and the last set.
 #[derive(Drop)]
 pub(crate) struct AnswerSection<'a> {
-    pub(crate) aliases: &'a Items<Told>,
-    pub(crate) last: &'a Option<Told>,
+    pub(crate) aliases: &'a Items<AnswerSet>,
+    pub(crate) last: &'a Option<AnswerSet>,
 }
 
 impl AnswerSection<'_> {
-    /// The set of a part.
-    fn set(&self, part: usize) -> Option<&Told>
+    /// The set at a place: an alias, or the last set behind them.
+    fn set(&self, part: usize) -> Option<&AnswerSet>
         ensures { option_copied result ≡ slice_get (self.now.aliases.now ++ option_to_list self.now.last.now) part }
     {
         let aliases = self.aliases.as_slice();
@@ -123,14 +123,14 @@ impl Section for AnswerSection<'_> {
 
     fn record_count(&self, part: usize) -> usize {
         match self.set(part) {
-            Some(told) => told_count(told),
+            Some(set) => set_count(set),
             None => 0,
         }
     }
 
     fn record(&self, part: usize, place: usize) -> Option<LentRecord<'_>> {
         match self.set(part) {
-            Some(told) => told_record(told, place),
+            Some(set) => set_record(set, place),
             None => None,
         }
     }
@@ -143,7 +143,7 @@ pub(crate) struct AuthoritySection<'a> {
 }
 
 impl AuthoritySection<'_> {
-    /// The record of a part.
+    /// The SOA record, which is part 0. None for any other part.
     fn soa(&self, part: usize) -> Option<LentRecord<'_>>
         ensures { option_to_list result ≡ part_at (authority_parts self.now.authority.now) part }
     {

@@ -1,34 +1,40 @@
-//! Questions are served, over any desk, exchange, clock and port.
+//! Engines that serve questions, over any desk, exchange, clock and port.
 #![tactic(auto)]
 
 // In the order in which to read them.
 
-// What a device failed by.
+// The limits of messages, of exchanges and of a worker's failures.
+mod limits;
+// Lines of the log that more than one place writes.
+mod log_lines;
+// The fault of a device.
 mod device;
-// A query to a name server, and what comes of it.
+// Exchanges with name servers: a query goes out, and its response comes in.
 mod exchange;
-// Where datagrams come in and replies go out.
+// Ports, at which datagrams come in and replies go out.
 mod port;
-// Where connections come in.
+// Listeners, at which connections come in.
 mod listener;
-// What a task is run with.
+// The tools of a task.
 mod tools;
-// A task from its question to its answer.
+// A task, from its question to its answer.
 mod run;
-// What an answer tells, lent as the sections of a reply.
+// The records of an answer, lent as the sections of a reply.
 mod lending;
 // Replies as octets.
 mod reply;
-// One query.
+// A query, from its octets to its reply.
 mod query;
-// Why a stream is served no further.
+// The test whether octets get a reply.
+mod owed;
+// The faults that end a stream.
 mod fault;
 // Messages behind their length.
 mod framing;
 // A stream of messages.
 mod stream;
-// How workers end, and which octets get a reply.
-mod working;
+// The end of a worker.
+mod work_end;
 // A worker that serves connections.
 mod tcp_worker;
 // A worker that serves datagrams, for tests and readers: the service has `fly_udp` of `flight_sockets`.
@@ -38,7 +44,12 @@ pub use device::DeviceFault;
 pub use exchange::Exchange;
 pub use fault::StreamFault;
 pub use framing::{frame, size_of};
+pub use limits::{
+    DATAGRAM_ROOM, MOST_DATAGRAM, MOST_FAILURES, MOST_MESSAGE, MOST_UDP_REPLY, PATIENCE_SECONDS,
+};
 pub use listener::Listener;
+pub use log_lines::{DEVICE_FAULT, WORKER_ENDED};
+pub use owed::wants_reply;
 pub use port::{Came, Port};
 pub use query::{copy_question, serve_query};
 pub use reply::write_answer;
@@ -47,4 +58,4 @@ pub use stream::serve_stream;
 pub use tcp_worker::work_tcp;
 pub use tools::Tools;
 pub use udp_worker::work_udp;
-pub use working::{MOST_DATAGRAM, MOST_FAILURES, WorkEnd, wants_reply};
+pub use work_end::WorkEnd;

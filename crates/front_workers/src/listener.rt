@@ -1,4 +1,4 @@
-//! Where connections come in.
+//! Listeners, at which connections come in.
 
 ghost use Rattle.std.specs.Prelude.{◌≡◌, ℕ, Option, Result, IfOk, IfSome};
 ghost use Rattle.front_workers.specs.declared.device.DeviceFault.{DeviceFault};
@@ -7,15 +7,15 @@ ghost use Rattle.front_workers.specs.Counts.{Counts};
 use crate::device::DeviceFault;
 use streams::{Sink, Source};
 
-/// Where connections come in. Each is read from and written to.
+/// A socket at which connections come in: each gives a reader and a writer.
 pub trait Listener<S: Source, W: Sink> {
-    /// One call: the listener before, what came, the listener after.
+    /// One call: the listener before, the connection, None or the fault, the listener after.
     ghost accepts: { Self → Result (Option (S × W)) DeviceFault → Self → Type 0 };
 
-    /// How many calls failed. At most 2^64 - 1 are counted.
+    /// The count of calls that failed, up to 2^64 - 1.
     ghost failures: { Self → ℕ };
 
-    /// The next connection. None where the listener has ended.
+    /// The next connection, or None once the listener has ended.
     fn accept(&mut self) -> Result<Option<(S, W)>, DeviceFault>
         ensures accepted { accepts self.old result self.new }
         ensures fresh { IfOk result (λ came. IfSome came (λ c. (S.calls c.0 ≡ 0) × (W.failures c.1 ≡ 0))) }

@@ -1,4 +1,4 @@
-//! Where datagrams come in and replies go out, for a worker that serves one after another.
+//! Ports, at which datagrams come in and replies go out, for a worker that serves one after another.
 
 ghost use Rattle.std.specs.Prelude.{◌≡◌, ℕ, ◌≤◌, List, Option, Result, length, IfOk, IfSome};
 ghost use Rattle.std.specs.declared.net.SocketAddr.{SocketAddr};
@@ -9,33 +9,33 @@ ghost use Rattle.front_workers.specs.Counts.{Counts};
 use crate::device::DeviceFault;
 use std::net::SocketAddr;
 
-/// A datagram that came.
+/// A datagram that came in.
 #[derive(Clone, Copy)]
 pub struct Came {
     /// Who sent it.
     pub peer: SocketAddr,
-    /// How many octets of the room it fills.
+    /// The number of octets at the front of the room that it fills.
     pub count: usize,
 }
 
-/// Where datagrams come in and replies go out.
+/// A socket at which datagrams come in and replies go out.
 pub trait Port {
-    /// One call of `take`: the port before, what came, the room, the port after.
+    /// One call of `take`: the port before, the datagram, None or the fault, the room, the port after.
     ghost takes: { Self → Result (Option Came) DeviceFault → List ℕ → Self → Type 0 };
 
-    /// One call of `give`: the port before, to whom, the reply, what came of it, the port after.
+    /// One call of `give`: the port before, the peer, the reply, the result, the port after.
     ghost gives: { Self → SocketAddr → List ℕ → Result (Unit {0}) DeviceFault → Self → Type 0 };
 
-    /// How many calls failed. At most 2^64 - 1 are counted.
+    /// The count of calls that failed, up to 2^64 - 1.
     ghost failures: { Self → ℕ };
 
-    /// The next datagram. None where the port has ended. Octets for which there is no room are lost.
+    /// The next datagram, or None once the port has ended. Octets beyond the room are lost.
     fn take(&mut self, room: &mut [u8]) -> Result<Option<Came>, DeviceFault>
         ensures taken { takes self.old result room.new self.new }
         ensures within { IfOk result (λ came. IfSome came (λ c. c.count ≤ length room.new)) }
         ensures counted { Counts result (failures self.old) (failures self.new) };
 
-    /// Sends a reply.
+    /// Sends a reply to a peer.
     fn give(&mut self, peer: SocketAddr, reply: &[u8]) -> Result<(), DeviceFault>
         ensures given { gives self.old peer reply.now result self.new }
         ensures counted { Counts result (failures self.old) (failures self.new) };

@@ -1,9 +1,10 @@
-//! One query.
+//! A query, from its octets to its reply.
 
 ghost use Rattle.std.specs.Prelude.{◌≡◌, ◌≤◌, length, option_map, IfOk, IfSome, OnErr};
 ghost use Rattle.dns_wire.specs.declared.server.query.Asked.TheVariants.{Good};
 ghost use Rattle.dns_wire.specs.Server.Asking.{AsksFor};
-ghost use Rattle.front_workers.specs.Serves.{most_octets, Serves, Unserved};
+ghost use Rattle.front_workers.specs.Serves.{most_octets};
+ghost use Rattle.front_workers.specs.States.{QueryServed, QueryUnserved};
 
 use crate::exchange::Exchange;
 use crate::reply::{write_answer, write_fault};
@@ -18,7 +19,7 @@ use history::Desk;
 use rand_core::Rng;
 use std::alloc::Global;
 
-/// The same question, which takes no memory.
+/// A copy of a question.
 pub fn copy_question(question: &Question) -> Result<Question, NoMemory>
     ensures { IfOk result (λ copy. copy ≡ question.now) }
 {
@@ -28,7 +29,7 @@ pub fn copy_question(question: &Question) -> Result<Question, NoMemory>
     })
 }
 
-/// Serves a query that asks for an answer.
+/// Serves a query that asks for an answer: resolves its question, and writes the reply.
 fn answer_query<D: Desk, X: Exchange, C: Clock, R: Rng>(
     alloc: Global,
     desk: &mut D,
@@ -40,16 +41,17 @@ fn answer_query<D: Desk, X: Exchange, C: Clock, R: Rng>(
     requires { AsksFor octets.now (Good query.now) }
     ensures port { tools.new.server_port ≡ tools.old.server_port }
     ensures short { IfOk result (λ reply. IfSome reply (λ out. length out.items ≤ most_octets over)) }
-    ensures serves { IfOk result (λ reply. Serves D.calls X.asks C.ticks tools.old.server_port over octets.now desk.old tools.old.exchange (tools.old.clock, R.stream tools.old.ids)
-        (option_map (λ out. out.items) reply) desk.new tools.new.exchange (tools.new.clock, R.stream tools.new.ids)) }
-    ensures unserved { OnErr result (Unserved D.calls X.asks C.ticks tools.old.server_port octets.now desk.old tools.old.exchange (tools.old.clock, R.stream tools.old.ids) desk.new tools.new.exchange (tools.new.clock, R.stream tools.new.ids)) }
+    ensures serves { IfOk result (λ reply. QueryServed D.calls X.asks C.ticks R.stream over octets.now (option_map (λ out. out.items) reply)
+        desk.old tools.old desk.new tools.new) }
+    ensures unserved { OnErr result (QueryUnserved D.calls X.asks C.ticks R.stream octets.now desk.old tools.old desk.new tools.new) }
 {
     let question = copy_question(&query.question)?;
     let answer = run_task(alloc, desk, tools, question)?;
     Ok(write_answer(alloc, Vec::new(alloc), over, octets, query, &answer)?)
 }
 
-/// Serves a query that came in these octets. None where it gets no reply.
+/// Serves the query in these octets: returns its reply, or None if it gets none. Octets that are no well-formed query get a
+/// fault, a header with the RCODE alone. It fails only if no memory is left.
 pub fn serve_query<D: Desk, X: Exchange, C: Clock, R: Rng>(
     alloc: Global,
     desk: &mut D,
@@ -59,9 +61,9 @@ pub fn serve_query<D: Desk, X: Exchange, C: Clock, R: Rng>(
 ) -> Result<Option<Vec<u8>>, NoMemory>
     ensures port { tools.new.server_port ≡ tools.old.server_port }
     ensures short { IfOk result (λ reply. IfSome reply (λ out. length out.items ≤ most_octets over)) }
-    ensures serves { IfOk result (λ reply. Serves D.calls X.asks C.ticks tools.old.server_port over octets.now desk.old tools.old.exchange (tools.old.clock, R.stream tools.old.ids)
-        (option_map (λ out. out.items) reply) desk.new tools.new.exchange (tools.new.clock, R.stream tools.new.ids)) }
-    ensures unserved { OnErr result (Unserved D.calls X.asks C.ticks tools.old.server_port octets.now desk.old tools.old.exchange (tools.old.clock, R.stream tools.old.ids) desk.new tools.new.exchange (tools.new.clock, R.stream tools.new.ids)) }
+    ensures serves { IfOk result (λ reply. QueryServed D.calls X.asks C.ticks R.stream over octets.now (option_map (λ out. out.items) reply)
+        desk.old tools.old desk.new tools.new) }
+    ensures unserved { OnErr result (QueryUnserved D.calls X.asks C.ticks R.stream octets.now desk.old tools.old desk.new tools.new) }
 {
     match read_question(alloc, octets)? {
         Asked::Drop => Ok(None),

@@ -7,6 +7,7 @@ ghost use Rattle.dns_wire.specs.Lent.{lent_reply};
 ghost use Rattle.dns_wire.specs.Server.Asking.{AsksFor};
 ghost use Rattle.dns_wire.specs.WellFormed.{HasItsForm};
 ghost use Rattle.iterate.specs.Told.{IsFit};
+ghost use Rattle.front_workers.specs.declared.limits.TheConstants.{MOST_MESSAGE};
 ghost use Rattle.front_workers.specs.Serves.{fault_octets, head_told, most_octets, IsSent, Tells, Written};
 
 use crate::lending::{AnswerSection, AuthoritySection};
@@ -36,7 +37,7 @@ fn head_of(query: &Query, rcode: Rcode, aa: bool) -> Head
     }
 }
 
-/// The reply that tells a fault: a header alone.
+/// The reply to a faulty query: a header with the RCODE, alone.
 pub(crate) fn write_fault(alloc: Global, octets: &[u8], rcode: Rcode) -> Result<Vec<u8>, NoMemory>
     requires { 12 ≤ length octets.now }
     ensures octets { IfOk result (λ out. out.items ≡ fault_octets octets.now rcode) }
@@ -46,9 +47,9 @@ pub(crate) fn write_fault(alloc: Global, octets: &[u8], rcode: Rcode) -> Result<
     Vec::from_slice(alloc, &reply)
 }
 
-/// Cuts a reply that is too long for UDP.
+/// Cuts a reply that is too long for UDP to its header, with TC set, and the question.
 fn cut(over: Over, query: &Query, mut out: Vec<u8>) -> Vec<u8>
-    requires { length out.items ≤ 65535 }
+    requires { length out.items ≤ MOST_MESSAGE }
     ensures sent { IsSent over query.now out.items result.items }
     ensures short { length result.items ≤ most_octets over }
 {
@@ -61,8 +62,8 @@ fn cut(over: Over, query: &Query, mut out: Vec<u8>) -> Vec<u8>
     }
 }
 
-/// A reply as it goes out, in place of what a buffer holds. Where it has too many octets for any message, it tells that
-/// the server failed.
+/// Writes a reply as it goes out, in place of what a buffer holds. If it has too many octets for any message, the reply is
+/// SERVFAIL, a header alone.
 fn write_reply<A: Section, B: Section>(
     alloc: Global,
     buffer: Vec<u8>,
@@ -77,7 +78,8 @@ fn write_reply<A: Section, B: Section>(
     requires answer { AllByRecursion (AllByRecursion HasItsForm) (A.parts answer.now) }
     requires authority { AllByRecursion (AllByRecursion HasItsForm) (B.parts authority.now) }
     ensures short { IfOk result (λ out. length out.items ≤ most_octets over) }
-    ensures written { IfOk result (λ out. Written over octets.now query.now (lent_reply head.now query.now.question (A.parts answer.now) (B.parts authority.now)) out.items) }
+    ensures written { IfOk result (λ out.
+        Written over octets.now query.now (lent_reply head.now query.now.question (A.parts answer.now) (B.parts authority.now)) out.items) }
 {
     match encode_lent(buffer, query, head, answer, authority) {
         Ok(out) => Ok(cut(over, query, out)),
@@ -86,7 +88,8 @@ fn write_reply<A: Section, B: Section>(
     }
 }
 
-/// What a query is told of an answer, as it goes out, in place of what a buffer holds. None where the answer is silence.
+/// Writes the reply to a query, as it goes out, in place of what a buffer holds. None if the answer is silence. It fails only
+/// if no memory is left.
 pub fn write_answer(
     alloc: Global,
     buffer: Vec<u8>,

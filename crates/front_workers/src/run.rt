@@ -1,8 +1,8 @@
-//! A task from its question to its answer.
+//! A task, from its question to its answer.
 
 ghost use Rattle.std.specs.Prelude.{◌≡◌, IfOk, OnErr};
 ghost use Rattle.iterate.specs.Told.{IsFit};
-ghost use Rattle.front_workers.specs.Leads.{Ends, BreaksOff};
+ghost use Rattle.front_workers.specs.States.{TaskBreaksOff, TaskEnds};
 ghost use Rattle.front_workers.specs.Turning.{Turns, Lacks};
 
 use crate::device::DeviceFault;
@@ -16,38 +16,43 @@ use iterate::{Answer, Input, Task, Want, due_law};
 use rand_core::Rng;
 use std::alloc::{AllocError, Global};
 
-/// What a want comes to.
-pub(crate) enum Turn {
-    /// The task goes on with this.
+/// The outcome of a want.
+pub(crate) enum Outcome {
+    /// The task goes on with this input.
     Go(Input),
-    /// It has ended.
+    /// The task has ended in this answer.
     Done(Answer),
 }
 
-/// Meets a want.
-fn meet<D: Desk, X: Exchange>(desk: &mut D, exchange: &mut X, want: Want) -> Result<Turn, NoMemory>
-    ensures turns { IfOk result (λ turn. Turns D.calls X.asks desk.old exchange.old want turn desk.new exchange.new) }
+/// Meets a want: by a call of the desk, or by an exchange with a name server.
+fn meet<D: Desk, X: Exchange>(
+    desk: &mut D,
+    exchange: &mut X,
+    want: Want,
+) -> Result<Outcome, NoMemory>
+    ensures turns { IfOk result (λ outcome. Turns D.calls X.asks desk.old exchange.old want outcome desk.new exchange.new) }
     ensures lacks { OnErr result (Lacks X.asks desk.old exchange.old want desk.new exchange.new) }
 {
     match want {
         Want::Book(event) => match desk.call(event) {
-            Ok(reply) => Ok(Turn::Go(Input::Reply(reply))),
-            Err(fault) => Ok(Turn::Go(Input::Refused(fault))),
+            Ok(reply) => Ok(Outcome::Go(Input::Reply(reply))),
+            Err(fault) => Ok(Outcome::Go(Input::Refused(fault))),
         },
         Want::Send {
             server,
             over,
             bytes,
         } => match exchange.ask(&server, over, bytes.get().as_slice()) {
-            Ok(octets) => Ok(Turn::Go(Input::Came(octets))),
-            Err(DeviceFault::Device) => Ok(Turn::Go(Input::Failed)),
+            Ok(octets) => Ok(Outcome::Go(Input::Came(octets))),
+            Err(DeviceFault::Device) => Ok(Outcome::Go(Input::Failed)),
             Err(DeviceFault::NoMemory) => Err(AllocError),
         },
-        Want::Finish(answer) => Ok(Turn::Done(answer)),
+        Want::Finish(answer) => Ok(Outcome::Done(answer)),
     }
 }
 
-/// Resolves a question: what a task wants is met at the desk and by exchanges, at the moments of the clock.
+/// Resolves a question: runs a task to its answer, and meets what it wants by the desk and by exchanges. It fails only if no
+/// memory is left.
 pub fn run_task<D: Desk, X: Exchange, C: Clock, R: Rng>(
     alloc: Global,
     desk: &mut D,
@@ -56,8 +61,8 @@ pub fn run_task<D: Desk, X: Exchange, C: Clock, R: Rng>(
 ) -> Result<Answer, NoMemory>
     ensures port { tools.new.server_port ≡ tools.old.server_port }
     ensures fit { IfOk result IsFit }
-    ensures ends { IfOk result (λ answer. Ends D.calls X.asks C.ticks tools.old.server_port question desk.old tools.old.exchange (tools.old.clock, R.stream tools.old.ids) answer desk.new tools.new.exchange (tools.new.clock, R.stream tools.new.ids)) }
-    ensures breaks_off { OnErr result (BreaksOff D.calls X.asks C.ticks tools.old.server_port question desk.old tools.old.exchange (tools.old.clock, R.stream tools.old.ids) desk.new tools.new.exchange (tools.new.clock, R.stream tools.new.ids)) }
+    ensures ends { IfOk result (λ answer. TaskEnds D.calls X.asks C.ticks R.stream question answer desk.old tools.old desk.new tools.new) }
+    ensures breaks_off { OnErr result (TaskBreaksOff D.calls X.asks C.ticks R.stream question desk.old tools.old desk.new tools.new) }
 {
     due_law();
     let mut task = Task::new(alloc, question, tools.server_port);
@@ -66,8 +71,8 @@ pub fn run_task<D: Desk, X: Exchange, C: Clock, R: Rng>(
         let moment = tools.clock.now();
         let want = task.step(moment, &mut tools.ids, input)?;
         match meet(desk, &mut tools.exchange, want)? {
-            Turn::Go(next) => input = next,
-            Turn::Done(answer) => return Ok(answer),
+            Outcome::Go(next) => input = next,
+            Outcome::Done(answer) => return Ok(answer),
         }
     }
 }

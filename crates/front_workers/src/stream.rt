@@ -1,12 +1,12 @@
 //! A stream of messages.
 
-ghost use Rattle.std.specs.Prelude.{◌≡◌, ◌+◌, ◌<◌, ◌≤◌, ◌⊎◌, IsErrOf};
+ghost use Rattle.std.specs.Prelude.{◌≡◌, ◌+◌, ◌<◌, ◌≤◌, IsErrOf};
+ghost use Rattle.streams.specs.Engine.{FailsToRead};
 ghost use Rattle.streams.specs.declared.engine.TheConstants.{MOST_READS};
 ghost use Rattle.streams.specs.declared.source.TheConstants.{MOST_COUNTED};
-ghost use Rattle.dns_query.specs.declared.over.Over.TheVariants.{Tcp};
 ghost use Rattle.front_workers.specs.declared.fault.StreamFault.TheVariants.{Read as ReadFault, Write as WriteFault};
 ghost use Rattle.front_workers.specs.Framing.{CountsWrite};
-ghost use Rattle.front_workers.specs.Stream.{serving, lacking, ToldOne, Streams};
+ghost use Rattle.front_workers.specs.States.{MessageServed, StreamServed};
 
 use crate::exchange::Exchange;
 use crate::fault::StreamFault;
@@ -21,7 +21,7 @@ use rand_core::Rng;
 use std::alloc::Global;
 use streams::{MOST_READS, Sink, Source, send};
 
-/// Serves one message of a stream.
+/// Serves one message of a stream, and writes its reply.
 fn serve_message<D: Desk, X: Exchange, C: Clock, R: Rng, W: Sink>(
     alloc: Global,
     desk: &mut D,
@@ -31,8 +31,8 @@ fn serve_message<D: Desk, X: Exchange, C: Clock, R: Rng, W: Sink>(
 ) -> Result<(), StreamFault>
     requires { W.failures writer.old < MOST_COUNTED }
     ensures port { tools.new.server_port ≡ tools.old.server_port }
-    ensures told { ToldOne (serving D.calls X.asks C.ticks tools.old.server_port Tcp) (lacking D.calls X.asks C.ticks tools.old.server_port) result message.now
-        (desk.old, tools.old.exchange, (tools.old.clock, R.stream tools.old.ids)) (desk.new, tools.new.exchange, (tools.new.clock, R.stream tools.new.ids)) (W.contents writer.old) (W.contents writer.new) }
+    ensures served { MessageServed D.calls X.asks C.ticks R.stream result message.now
+        desk.old tools.old (W.contents writer.old) desk.new tools.new (W.contents writer.new) }
     ensures failures { CountsWrite result (W.failures writer.old) (W.failures writer.new) }
 {
     match serve_query(alloc, desk, tools, Over::Tcp, message.as_slice())? {
@@ -45,7 +45,8 @@ fn serve_message<D: Desk, X: Exchange, C: Clock, R: Rng, W: Sink>(
     }
 }
 
-/// Serves a stream of messages to its end: each is served when it has come whole, and its reply written, in order.
+/// Serves a stream of messages to its end: each when it has come whole, and its reply is written before the next is served.
+/// `Read` and `Write` if a read or a write failed, `Short` if the input ended inside a message, `NoMemory` if none was left.
 pub fn serve_stream<D: Desk, X: Exchange, C: Clock, R: Rng, S: Source, W: Sink>(
     alloc: Global,
     desk: &mut D,
@@ -56,12 +57,12 @@ pub fn serve_stream<D: Desk, X: Exchange, C: Clock, R: Rng, S: Source, W: Sink>(
     requires reads { S.calls reader.old + MOST_READS ≤ MOST_COUNTED }
     requires writes { W.failures writer.old < MOST_COUNTED }
     ensures port { tools.new.server_port ≡ tools.old.server_port }
-    ensures streams { Streams (serving D.calls X.asks C.ticks tools.old.server_port Tcp) (lacking D.calls X.asks C.ticks tools.old.server_port) result
-        (desk.old, tools.old.exchange, (tools.old.clock, R.stream tools.old.ids)) (desk.new, tools.new.exchange, (tools.new.clock, R.stream tools.new.ids))
+    ensures streams { StreamServed D.calls X.asks C.ticks R.stream result desk.old tools.old desk.new tools.new
         (S.remaining reader.old) (S.remaining reader.new) (W.contents writer.old) (W.contents writer.new) }
-    // It gives up only where a read or a write failed, or where it may not read once more.
+    // It gives up only if a read or a write failed, or if it took as many reads as it may.
     ensures few { S.calls reader.new < S.calls reader.old + MOST_READS }
-    ensures read_failed { IsErrOf result ReadFault → (S.failures reader.new ≡ S.failures reader.old + 1) ⊎ (S.calls reader.new + 1 ≡ S.calls reader.old + MOST_READS) }
+    ensures read_failed { IsErrOf result ReadFault
+        → FailsToRead (S.calls reader.old) (S.calls reader.new) (S.failures reader.old) (S.failures reader.new) }
     ensures write_failed { IsErrOf result WriteFault → W.failures writer.new ≡ W.failures writer.old + 1 }
 {
     let mut left = MOST_READS - 1;

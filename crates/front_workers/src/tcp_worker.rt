@@ -3,18 +3,19 @@
 ghost use Rattle.std.specs.Prelude.{◌≡◌, ◌+◌, ◌≤◌, ◌<◌};
 ghost use Rattle.streams.specs.declared.engine.TheConstants.{MOST_READS};
 ghost use Rattle.streams.specs.declared.source.TheConstants.{MOST_COUNTED};
-ghost use Rattle.dns_query.specs.declared.over.Over.TheVariants.{Tcp};
-ghost use Rattle.front_workers.specs.declared.working.WorkEnd.TheVariants.{Failing};
-ghost use Rattle.front_workers.specs.declared.working.TheConstants.{MOST_FAILURES};
-ghost use Rattle.front_workers.specs.Stream.{serving, lacking};
-ghost use Rattle.front_workers.specs.Working.{Streamed, connections, streaming, WorksUntil, HasFailed};
+ghost use Rattle.front_workers.specs.declared.limits.TheConstants.{MOST_FAILURES};
+ghost use Rattle.front_workers.specs.declared.work_end.WorkEnd.TheVariants.{Failing};
+ghost use Rattle.front_workers.specs.States.{ConnectionServed, ConnectionsServed};
+ghost use Rattle.front_workers.specs.Working.{HasFailed};
 
 use crate::device::DeviceFault;
 use crate::exchange::Exchange;
+use crate::limits::MOST_FAILURES;
 use crate::listener::Listener;
+use crate::log_lines::{DEVICE_FAULT, WORKER_ENDED};
 use crate::stream::serve_stream;
 use crate::tools::Tools;
-use crate::working::{MOST_FAILURES, WorkEnd};
+use crate::work_end::WorkEnd;
 use command_text::Clock;
 use history::Desk;
 use log::{Log, warn};
@@ -23,7 +24,7 @@ use std::alloc::Global;
 use std::sync::Wait;
 use streams::{Sink, Source};
 
-/// Serves a connection as a stream, and drops it.
+/// Serves a connection as a stream of messages, and closes it.
 pub(crate) fn serve_connection<
     D: Desk,
     X: Exchange,
@@ -35,15 +36,14 @@ pub(crate) fn serve_connection<
     requires reads { S.calls reader + MOST_READS ≤ MOST_COUNTED }
     requires writes { W.failures writer < MOST_COUNTED }
     ensures server_port { tools.new.server_port ≡ tools.old.server_port }
-    ensures streamed { Streamed (serving D.calls X.asks C.ticks tools.old.server_port Tcp) (lacking D.calls X.asks C.ticks tools.old.server_port)
-        S.remaining S.calls S.failures W.contents W.failures (reader, writer)
-        (desk.old, tools.old.exchange, (tools.old.clock, G.stream tools.old.ids)) (desk.new, tools.new.exchange, (tools.new.clock, G.stream tools.new.ids)) }
+    ensures streamed { ConnectionServed D.calls X.asks C.ticks G.stream S.remaining S.calls S.failures W.contents W.failures
+        (reader, writer) desk.old tools.old desk.new tools.new }
 {
-    // A fault ends this connection, and no more.
+    // A fault ends this connection alone.
     let _ = serve_stream(alloc, desk, tools, &mut reader, &mut writer);
 }
 
-/// Serves connections, one after another, until the listener has ended, or has failed too often in a row.
+/// Serves connections, one after another, until the listener has ended, or has failed `MOST_FAILURES` times in a row.
 pub fn work_tcp<
     D: Desk,
     L: Listener<S, W>,
@@ -56,9 +56,8 @@ pub fn work_tcp<
 >(rt: &R, alloc: Global, desk: &mut D, listener: &mut L, tools: &mut Tools<X, C, G>) -> WorkEnd
     ensures server_port { tools.new.server_port ≡ tools.old.server_port }
     // Each connection was served as a stream before the next was accepted.
-    ensures works { WorksUntil result (connections L.accepts) (streaming (Streamed (serving D.calls X.asks C.ticks tools.old.server_port Tcp) (lacking D.calls X.asks C.ticks tools.old.server_port)
-        S.remaining S.calls S.failures W.contents W.failures))
-        (desk.old, tools.old.exchange, (tools.old.clock, G.stream tools.old.ids)) listener.old (desk.new, tools.new.exchange, (tools.new.clock, G.stream tools.new.ids)) listener.new }
+    ensures works { ConnectionsServed D.calls X.asks C.ticks G.stream L.accepts S.remaining S.calls S.failures W.contents W.failures
+        result desk.old tools.old listener.old desk.new tools.new listener.new }
     ensures failing { result ≡ Failing → HasFailed MOST_FAILURES (L.failures listener.old) (L.failures listener.new) }
 {
     let mut failed = 0u8;
@@ -71,10 +70,10 @@ pub fn work_tcp<
             Ok(None) => return WorkEnd::Ended,
             Err(DeviceFault::NoMemory) => {}
             Err(DeviceFault::Device) => {
-                warn!(rt; "resolver: device fault");
+                warn!(rt; "{DEVICE_FAULT}");
                 failed += 1;
                 if failed == MOST_FAILURES {
-                    warn!(rt; "resolver: worker ended by failures");
+                    warn!(rt; "{WORKER_ENDED}");
                     return WorkEnd::Failing;
                 }
             }

@@ -1,14 +1,14 @@
-//! What a task is run with.
+//! The tools of a task.
 
-/// What the resolution of a question is lent beside its desk.
+/// The tools that resolve a question, beside the desk that answers from the cache.
 #[derive(Drop)]
 pub struct Tools<X, C, R> {
-    /// Asks name servers.
+    /// Sends queries to name servers.
     pub exchange: X,
-    /// Tells the seconds.
+    /// Counts the seconds.
     pub clock: C,
     /// Draws the identifiers of queries.
     pub ids: R,
-    /// The port of name servers that are known by name.
+    /// The port of name servers whose addresses come from the cache or from a response.
     pub server_port: u16,
 }

@@ -1,22 +1,24 @@
 //! A worker that serves datagrams, one after another.
 //!
-//! The service takes datagrams by `flight_sockets`, which keeps many questions in flight. This worker is the plain form of
-//! the same promise, for tests and readers: a datagram is answered before the next is taken.
+//! The service serves datagrams by `flight_sockets`, which keeps many questions in flight. This worker is the plain form of
+//! the same promise, for tests and readers: it answers a datagram before it takes the next.
 
-ghost use Rattle.std.specs.Prelude.{◌≡◌, ◌≤◌, Option, List, ℕ, length};
-ghost use Rattle.dns_query.specs.declared.over.Over.TheVariants.{Udp};
-ghost use Rattle.front_workers.specs.declared.working.WorkEnd.TheVariants.{Failing};
-ghost use Rattle.front_workers.specs.declared.working.TheConstants.{MOST_FAILURES};
+ghost use Rattle.std.specs.Prelude.{◌≡◌, ◌≤◌, length};
+ghost use Rattle.front_workers.specs.declared.limits.TheConstants.{MOST_FAILURES};
+ghost use Rattle.front_workers.specs.declared.work_end.WorkEnd.TheVariants.{Failing};
 ghost use Rattle.front_workers.specs.Serves.{fault_octets};
-ghost use Rattle.front_workers.specs.Stream.{serving, lacking};
-ghost use Rattle.front_workers.specs.Working.{Answered, Given, datagrams, answering, WorksUntil, HasFailed};
+ghost use Rattle.front_workers.specs.States.{DatagramServed, DatagramsServed};
+ghost use Rattle.front_workers.specs.Working.{Given, HasFailed};
 
 use crate::device::DeviceFault;
 use crate::exchange::Exchange;
+use crate::limits::{DATAGRAM_ROOM, MOST_DATAGRAM, MOST_FAILURES};
+use crate::log_lines::{DEVICE_FAULT, WORKER_ENDED};
+use crate::owed::wants_reply;
 use crate::port::Port;
 use crate::query::serve_query;
 use crate::tools::Tools;
-use crate::working::{MOST_DATAGRAM, MOST_FAILURES, WorkEnd, wants_reply};
+use crate::work_end::WorkEnd;
 use command_text::Clock;
 use dns_query::Over;
 use dns_wire::{Rcode, fault_reply};
@@ -27,20 +29,17 @@ use std::alloc::Global;
 use std::net::SocketAddr;
 use std::sync::Wait;
 
-/// One octet more than the longest datagram tells of one that is too long.
-const ROOM: usize = MOST_DATAGRAM + 1;
-
-/// Hands a reply to the port. What fails here does not end a worker: it may be the client that cannot be reached.
+/// Hands a reply to the port. A failure here does not end a worker: it may be the client that cannot be reached.
 fn give<P: Port, R: Log>(rt: &R, port: &mut P, peer: SocketAddr, reply: &[u8])
     ensures given { Given P.gives peer (Some reply.now) port.old port.new }
     ensures failures { P.failures port.old ≤ P.failures port.new }
 {
     if port.give(peer, reply).is_err() {
-        warn!(rt; "resolver: device fault");
+        warn!(rt; "{DEVICE_FAULT}");
     }
 }
 
-/// Hands the reply to the port that tells a fault. It takes no memory.
+/// Hands a reply with an RCODE alone to the port. It takes no memory.
 fn give_fault<P: Port, R: Log>(rt: &R, port: &mut P, peer: SocketAddr, octets: &[u8], rcode: Rcode)
     requires { 12 ≤ length octets.now }
     ensures given { Given P.gives peer (Some (fault_octets octets.now rcode)) port.old port.new }
@@ -50,7 +49,7 @@ fn give_fault<P: Port, R: Log>(rt: &R, port: &mut P, peer: SocketAddr, octets: &
     give(rt, port, peer, &reply);
 }
 
-/// Serves a datagram that came from a peer.
+/// Serves a datagram from a peer: one reply goes to the peer at most.
 pub(crate) fn serve_datagram<D: Desk, P: Port, X: Exchange, C: Clock, G: Rng, R: Log>(
     rt: &R,
     alloc: Global,
@@ -61,9 +60,8 @@ pub(crate) fn serve_datagram<D: Desk, P: Port, X: Exchange, C: Clock, G: Rng, R:
     octets: &[u8],
 )
     ensures server_port { tools.new.server_port ≡ tools.old.server_port }
-    ensures answered { (reply : Option (List ℕ)) × Answered (serving D.calls X.asks C.ticks tools.old.server_port Udp) (lacking D.calls X.asks C.ticks tools.old.server_port)
-        octets.now (desk.old, tools.old.exchange, (tools.old.clock, G.stream tools.old.ids)) reply (desk.new, tools.new.exchange, (tools.new.clock, G.stream tools.new.ids))
-        × Given P.gives peer reply port.old port.new }
+    ensures answered { DatagramServed D.calls X.asks C.ticks G.stream P.gives peer octets.now
+        desk.old tools.old port.old desk.new tools.new port.new }
     ensures failures { P.failures port.old ≤ P.failures port.new }
 {
     if octets.len() > MOST_DATAGRAM {
@@ -79,7 +77,7 @@ pub(crate) fn serve_datagram<D: Desk, P: Port, X: Exchange, C: Clock, G: Rng, R:
     }
 }
 
-/// Serves datagrams until the port has ended, or has failed too often in a row.
+/// Serves datagrams, one after another, until the port has ended, or has failed `MOST_FAILURES` times in a row.
 pub fn work_udp<D: Desk, P: Port, X: Exchange, C: Clock, G: Rng, R: Wait + Log>(
     rt: &R,
     alloc: Global,
@@ -88,12 +86,12 @@ pub fn work_udp<D: Desk, P: Port, X: Exchange, C: Clock, G: Rng, R: Wait + Log>(
     tools: &mut Tools<X, C, G>,
 ) -> WorkEnd
     ensures server_port { tools.new.server_port ≡ tools.old.server_port }
-    // Each datagram was served before the next was taken, and its reply handed to the port for who asked.
-    ensures works { WorksUntil result (datagrams P.takes) (answering (serving D.calls X.asks C.ticks tools.old.server_port Udp) (lacking D.calls X.asks C.ticks tools.old.server_port) P.gives)
-        (desk.old, tools.old.exchange, (tools.old.clock, G.stream tools.old.ids)) port.old (desk.new, tools.new.exchange, (tools.new.clock, G.stream tools.new.ids)) port.new }
+    // The worker served each datagram, and handed its reply to the port for the peer that sent it, before it took the next.
+    ensures works { DatagramsServed D.calls X.asks C.ticks G.stream P.takes P.gives result
+        desk.old tools.old port.old desk.new tools.new port.new }
     ensures failing { result ≡ Failing → HasFailed MOST_FAILURES (P.failures port.old) (P.failures port.new) }
 {
-    let mut room = [0u8; ROOM];
+    let mut room = [0u8; DATAGRAM_ROOM];
     let mut failed = 0u8;
     for _ in rt.forever() {
         match port.take(&mut room) {
@@ -104,10 +102,10 @@ pub fn work_udp<D: Desk, P: Port, X: Exchange, C: Clock, G: Rng, R: Wait + Log>(
             Ok(None) => return WorkEnd::Ended,
             Err(DeviceFault::NoMemory) => {}
             Err(DeviceFault::Device) => {
-                warn!(rt; "resolver: device fault");
+                warn!(rt; "{DEVICE_FAULT}");
                 failed += 1;
                 if failed == MOST_FAILURES {
-                    warn!(rt; "resolver: worker ended by failures");
+                    warn!(rt; "{WORKER_ENDED}");
                     return WorkEnd::Failing;
                 }
             }

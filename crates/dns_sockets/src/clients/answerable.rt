@@ -1,11 +1,11 @@
-//! Which datagrams can be answered.
+//! The test whether a reply to a datagram can be sent.
 
 ghost use Rattle.std.specs.Prelude.{◌↔◌, IsTrue};
 ghost use Rattle.dns_sockets.specs.Answerable.{IsAnswerable};
 
 use std::net::SocketAddr;
 
-/// No reply reaches port 0, and an empty datagram asks nothing.
+/// Whether a reply to a datagram of so many octets can be sent: none reaches port 0, and an empty datagram asks nothing.
 pub fn is_answerable(peer: SocketAddr, count: usize) -> bool
     ensures { IsTrue result ↔ IsAnswerable peer count }
 {

@@ -12,7 +12,7 @@ const V4_OCTETS: u32 = 16;
 /// The octets of `sockaddr_in6`.
 const V6_OCTETS: u32 = 28;
 
-/// Writes the next field.
+/// Writes the next field of an address.
 fn put(raw: &mut [u8; c::_SS_SIZE], at: usize, octets: &[u8])
     requires { at + length octets.now ≤ 128 }
     ensures { (front : List ℕ) → length front ≡ at → raw.old ≡ in_storage front → raw.new ≡ in_storage (front ++ octets.now) }
@@ -20,6 +20,7 @@ fn put(raw: &mut [u8; c::_SS_SIZE], at: usize, octets: &[u8])
     raw[at..at + octets.len()].copy_from_slice(octets);
 }
 
+/// The two fields with which either address begins.
 fn family_and_port(family: u16, port: u16) -> [u8; c::_SS_SIZE]
     ensures { result ≡ in_storage (family_and_port family port) }
 {
@@ -29,6 +30,7 @@ fn family_and_port(family: u16, port: u16) -> [u8; c::_SS_SIZE]
     raw
 }
 
+/// An IPv4 address as `sockaddr_in`.
 fn encode_v4(addr: SocketAddrV4) -> [u8; c::_SS_SIZE]
     ensures { result ≡ in_storage (sockaddr_in addr) }
 {
@@ -37,6 +39,7 @@ fn encode_v4(addr: SocketAddrV4) -> [u8; c::_SS_SIZE]
     raw
 }
 
+/// An IPv6 address as `sockaddr_in6`.
 fn encode_v6(addr: SocketAddrV6) -> [u8; c::_SS_SIZE]
     ensures { result ≡ in_storage (sockaddr_in6 addr) }
 {
@@ -47,7 +50,7 @@ fn encode_v6(addr: SocketAddrV6) -> [u8; c::_SS_SIZE]
     raw
 }
 
-/// The octets, and how many of them the C library is to read.
+/// The octets of an address, and how many of them the C library is to read.
 pub(crate) fn encode(addr: SocketAddr) -> ([u8; c::_SS_SIZE], u32)
     ensures octets { result.0 ≡ in_storage (sockaddr addr) }
     ensures count { result.1 ≡ sockaddr_len addr }

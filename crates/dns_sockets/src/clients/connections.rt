@@ -1,13 +1,14 @@
-//! Connections.
+//! The listener at which clients' connections come in.
 
 ghost use Rattle.std.specs.Prelude.{◌≡◌, IfOk, IfErr, IfSome, IsNone};
-ghost use Rattle.dns_sockets.specs.Descriptors.{IsWantOfDescriptors};
+ghost use Rattle.dns_sockets.specs.Descriptors.{LacksDescriptors};
 
-use crate::clients::descriptors::is_want_of_descriptors;
+use crate::clients::descriptors::lacks_descriptors;
 use crate::clients::frame_reader::FrameReader;
-use crate::clients::frame_writer::{FrameWriter, Outgoing};
+use crate::clients::frame_writer::{FrameWriter, StreamWriter};
+use crate::deadline::REST_SECONDS;
 use crate::stop_flag::StopFlag;
-use front_workers::{DeviceFault, Listener};
+use front_workers::{DEVICE_FAULT, DeviceFault, Listener};
 use log::{Log, warn};
 use std::alloc::Global;
 use std::net::{TcpListener, TcpStream};
@@ -17,13 +18,10 @@ use std::time::Duration;
 use std::{io, thread};
 use streams::CountedWriter;
 
-/// How long a listener rests where accepting a connection failed, in seconds.
-const REST_SECONDS: u64 = 1;
-
-/// Accepts connections at a socket that several workers share, until the stop flag is set.
+/// A listener that accepts connections at a socket that several workers share, until the stop flag is set.
 ///
-/// Where accepting fails it rests for a second. A want of descriptors is no failure of the listener's: it is logged, and
-/// accepting is tried again, however long there are none.
+/// If accepting fails, it rests for `REST_SECONDS`. If no descriptors are left, that is no failure of the listener: it logs
+/// it, rests and tries again, however long that lasts.
 #[derive(Drop)]
 pub struct Connections<'a, R: Clock, F: StopFlag> {
     rt: &'a R,
@@ -34,7 +32,7 @@ pub struct Connections<'a, R: Clock, F: StopFlag> {
 }
 
 impl<'a, R: Clock, F: StopFlag> Connections<'a, R, F> {
-    /// Accepts connections at a socket of `bind_tcp`.
+    /// A listener at a socket of `bind_tcp`.
     pub fn new(
         rt: &'a R,
         alloc: Global,
@@ -52,7 +50,7 @@ impl<'a, R: Clock, F: StopFlag> Connections<'a, R, F> {
         }
     }
 
-    /// The next connection, to be read from and to be written to.
+    /// The next connection: one handle to read from it, one to write to it.
     fn next(&self) -> io::Result<(TcpStream, TcpStream)> {
         let (stream, _) = self.listener.accept()?;
         stream.set_nodelay(true)?;
@@ -60,17 +58,18 @@ impl<'a, R: Clock, F: StopFlag> Connections<'a, R, F> {
         Ok((stream, other))
     }
 
+    /// Waits before the next try.
     fn rest(&self) {
         thread::sleep(self.rt, Duration::from_secs(REST_SECONDS));
     }
 }
 
 impl<'a, R: Wait + Clock + Log, F: StopFlag> Connections<'a, R, F> {
-    /// Goes round on a want of descriptors until a connection comes or the stop flag is set, or accepting fails.
+    /// Tries again while no descriptors are left, until a connection comes in, the stop flag is set, or accepting fails.
     fn come(&self) -> io::Result<Option<(TcpStream, TcpStream)>>
-        // It ends where the flag is set alone, and what is told is never a want of descriptors.
+        // It ends only if the flag is set, and the error is never that no descriptors are left.
         ensures ended { IfOk result (λ came. IsNone came → F.stopped) }
-        ensures err { IfErr result (λ error. ¬ IsWantOfDescriptors error) }
+        ensures err { IfErr result (λ error. ¬ LacksDescriptors error) }
     {
         for _ in self.rt.forever() {
             if self.stop.is_set() {
@@ -79,10 +78,10 @@ impl<'a, R: Wait + Clock + Log, F: StopFlag> Connections<'a, R, F> {
             match self.next() {
                 Ok(connection) => return Ok(Some(connection)),
                 Err(error) => {
-                    if !is_want_of_descriptors(&error) {
+                    if !lacks_descriptors(&error) {
                         return Err(error);
                     }
-                    warn!(self.rt; "resolver: device fault");
+                    warn!(self.rt; "{DEVICE_FAULT}");
                     self.rest();
                 }
             }
@@ -95,7 +94,7 @@ impl<'a, R: Wait + Clock + Log, F: StopFlag> Listener<
     FrameReader<'a, R, F, TcpStream>,
     FrameWriter<'a, R, TcpStream>,
 > for Connections<'a, R, F> {
-    // It ends where the flag is set alone. Nothing is known of who connects.
+    // It ends only if the flag is set. Nothing is known of who connects.
     ghost accepts = { λ _ came _. IfOk came (λ came. IsNone came → F.stopped) };
 
     ghost failures = { λ connections. connections.failures };
@@ -120,13 +119,13 @@ impl<'a, R: Wait + Clock + Log, F: StopFlag> Listener<
                 return Err(DeviceFault::Device);
             }
         };
-        // It came to wake.
+        // This connection came to wake the worker.
         if self.stop.is_set() {
             return Ok(None);
         }
         match FrameReader::new(self.rt, self.alloc, stream, self.stop) {
             Ok(reader) => {
-                let writer = CountedWriter::new(Outgoing::new(self.rt, other));
+                let writer = CountedWriter::new(StreamWriter::new(self.rt, other));
                 Ok(Some((reader, writer)))
             }
             Err(_) => Err(DeviceFault::NoMemory),

@@ -1,19 +1,19 @@
-//! What a want of descriptors is told by.
+//! Errors that mean no file descriptors are left.
 
 ghost use Rattle.std.specs.Prelude.{◌↔◌, IsTrue};
-ghost use Rattle.dns_sockets.specs.Descriptors.{IsWantOfDescriptors};
+ghost use Rattle.dns_sockets.specs.Descriptors.{LacksDescriptors};
 
 use std::io;
 
-/// The process has as many descriptors as it may have.
+/// The error of a process that has as many descriptors as it may have.
 const EMFILE: i32 = 24;
 
-/// The system has as many as it may have.
+/// The error of a system that has as many descriptors as it may have.
 const ENFILE: i32 = 23;
 
-/// Whether a call failed since no descriptor was to be had.
-pub(crate) fn is_want_of_descriptors(error: &io::Error) -> bool
-    ensures { IsTrue result ↔ IsWantOfDescriptors error.now }
+/// Whether a call failed since no file descriptor was left.
+pub(crate) fn lacks_descriptors(error: &io::Error) -> bool
+    ensures { IsTrue result ↔ LacksDescriptors error.now }
 {
     let code = error.raw_os_error();
     code == Some(EMFILE) || code == Some(ENFILE)

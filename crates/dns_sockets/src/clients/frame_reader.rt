@@ -1,4 +1,4 @@
-//! What is read of a connection.
+//! The reader of a client's connection.
 
 ghost use Rattle.std.specs.Prelude.{◌≡◌, ◌+◌, ◌<◌, ◌≤◌, None, length, take, drop, IfOk, IfSome, MatchBool, MatchOption, OnErr};
 ghost use Rattle.std.specs.Io.Buffered.{reader_buffer, reader_capacity, reader_inner, reader_remaining};
@@ -12,33 +12,33 @@ ghost use Rattle.dns_sockets.specs.Spots.{spot_after, IsOfOneMessage};
 use crate::clients::spot::Spot;
 use crate::deadline::{Deadline, begin_wait, glance, is_wait_over};
 use crate::lengths::MOST_FRAMED;
-use crate::limits::Limits;
 use crate::stop_flag::StopFlag;
+use crate::timeouts::Timeouts;
 use std::alloc::Global;
 use std::io;
 use std::io::{BufRead, BufReader, Read};
 use std::rt::Clock;
 use streams::{ReadFailed, Source};
 
-/// Reads messages behind their lengths (RFC 1035, section 4.2.2) from a connection, ahead of what it hands out.
+/// A reader of messages behind their lengths (RFC 1035, section 4.2.2), which reads ahead of what it hands out.
 ///
-/// A message that has not come whole two seconds after the reader first waited for it ends the connection by a failed
-/// read, and so does one that does not begin. Where a message would begin and the stop flag is set, the connection is
-/// at its end.
+/// If a message has not come whole `PATIENCE_SECONDS` after the reader first waited for it, the read fails, which ends the
+/// connection. If the stop flag is set where a message would begin, the connection is at its end.
 #[derive(Drop)]
 pub struct FrameReader<'a, R: Clock, F: StopFlag, S: Read> {
     rt: &'a R,
     stop: &'a F,
     stream: BufReader<S>,
     spot: Spot,
-    /// By when the message has to come, once it was waited for.
+    /// The deadline of the message, once the reader has waited for it.
     deadline: Option<Deadline>,
     calls: u64,
     failures: u64,
     ghost fewer: { failures ≤ calls },
 }
 
-impl<'a, R: Clock, F: StopFlag, S: Read + Limits + Drop> FrameReader<'a, R, F, S> {
+impl<'a, R: Clock, F: StopFlag, S: Read + Timeouts + Drop> FrameReader<'a, R, F, S> {
+    /// A reader at the start of a connection. An error if there is no memory for what it reads ahead.
     pub(crate) fn new(
         rt: &'a R,
         alloc: Global,
@@ -60,8 +60,8 @@ impl<'a, R: Clock, F: StopFlag, S: Read + Limits + Drop> FrameReader<'a, R, F, S
     }
 }
 
-/// Has the next read wait no longer than until the deadline, nor than until the stop flag is looked at again.
-fn limit_wait<R: Clock, S: Limits>(
+/// Limits the next read: it waits until the deadline at most, and no longer than `glance`.
+fn limit_wait<R: Clock, S: Timeouts>(
     rt: &R,
     stream: &S,
     deadline: &mut Option<Deadline>,
@@ -70,8 +70,8 @@ fn limit_wait<R: Clock, S: Limits>(
     stream.limit_read(left.min(glance()))
 }
 
-impl<'a, R: Clock, F: StopFlag, S: Read + Limits> FrameReader<'a, R, F, S> {
-    /// Hands out octets of one message.
+impl<'a, R: Clock, F: StopFlag, S: Read + Timeouts> FrameReader<'a, R, F, S> {
+    /// Hands out octets of one message: the number of octets at the front of the room.
     fn hand_out(&mut self, room: &mut [u8]) -> usize
         ensures within { result ≤ length room.new }
         ensures held { take result room.new ≡ take result (reader_buffer self.old.stream) }
@@ -87,14 +87,14 @@ impl<'a, R: Clock, F: StopFlag, S: Read + Limits> FrameReader<'a, R, F, S> {
         let count = self.spot.go_on(&held[..most]);
         room[..count].copy_from_slice(&held[..count]);
         self.stream.consume(count);
-        // What waited in vain goes on waiting: only what came ends a wait.
+        // Only a message that came whole ends its deadline.
         if count > 0 && self.spot == Spot::Beginning {
             self.deadline = None;
         }
         count
     }
 
-    /// Waits for octets where none are held, and not for ever: none may have come. False at the end of the connection.
+    /// Waits for octets if none are held, up to the limit: then none may have come. False at the end of the connection.
     fn fill(&mut self) -> io::Result<bool>
         ensures kept { Keeps (reader_remaining S.remaining self.old.stream) (reader_remaining S.remaining self.new.stream) }
         ensures end { IfOk result (λ going. MatchBool going (Unit {0}) (IsAtEnd (reader_remaining S.remaining self.old.stream))) }
@@ -117,9 +117,9 @@ impl<'a, R: Clock, F: StopFlag, S: Read + Limits> FrameReader<'a, R, F, S> {
         }
     }
 
-    /// Some octets of one message, none where none came so far, or the end.
+    /// Some octets of one message, or no octets if none came so far. None at the end.
     fn come(&mut self, room: &mut [u8]) -> io::Result<Option<usize>>
-        // It ends where a message begins and the flag is set, or with the connection.
+        // It ends if the flag is set where a message begins, or with the connection.
         ensures read { IfOk result (λ came. Reads came ((self.old.spot ≡ Beginning) × F.stopped)
             (reader_remaining S.remaining self.old.stream) (reader_remaining S.remaining self.new.stream) room.new) }
         ensures within { IfOk result (λ came. IfSome came (λ count. count ≤ length room.new)) }
@@ -137,7 +137,7 @@ impl<'a, R: Clock, F: StopFlag, S: Read + Limits> FrameReader<'a, R, F, S> {
     }
 }
 
-impl<'a, R: Clock, F: StopFlag, S: Read + Limits> Source for FrameReader<'a, R, F, S> {
+impl<'a, R: Clock, F: StopFlag, S: Read + Timeouts> Source for FrameReader<'a, R, F, S> {
     // Nothing is known of what a peer sends.
     ghost remaining = { λ _. None };
 
@@ -149,9 +149,10 @@ impl<'a, R: Clock, F: StopFlag, S: Read + Limits> Source for FrameReader<'a, R, 
         requires room { 0 < length room.old }
         requires few { self.old.calls < MOST_COUNTED }
         // As at a source of which nothing is known,
-        ensures some { IfOk result (λ came. MatchOption came (Keeps None None × IsAtEnd None) (λ n. (n ≤ length room.new) × Consumes None None (take n room.new))) }
+        ensures some { IfOk result (λ came.
+            MatchOption came (Keeps None None × IsAtEnd None) (λ n. (n ≤ length room.new) × Consumes None None (take n room.new))) }
         ensures err { OnErr result (Keeps None None) }
-        // and it ends where a message begins and the flag is set, or with the connection.
+        // and it ends if the flag is set where a message begins, or with the connection.
         ensures read { IfOk result (λ came. Reads came ((self.old.spot ≡ Beginning) × F.stopped)
             (reader_remaining S.remaining self.old.stream) (reader_remaining S.remaining self.new.stream) room.new) }
         ensures length { length room.new ≡ length room.old }

@@ -1,4 +1,4 @@
-//! What is written to a connection.
+//! The writer of a client's connection.
 
 ghost use Rattle.std.specs.Prelude.{◌≡◌, ◌≤◌, length, take, IfOk};
 ghost use Rattle.std.specs.Io.KnownBytes.{WriteAppends};
@@ -6,32 +6,33 @@ ghost use Rattle.dns_sockets.specs.Spots.{spot_after, IsOfOneMessage};
 
 use crate::clients::spot::Spot;
 use crate::deadline::{Deadline, begin_wait};
-use crate::limits::Limits;
+use crate::timeouts::Timeouts;
 use std::io;
 use std::io::Write;
 use std::rt::Clock;
 use streams::CountedWriter;
 
-/// Writes messages behind their lengths (RFC 1035, section 4.2.2) to a connection.
+/// A writer of messages behind their lengths (RFC 1035, section 4.2.2).
 ///
-/// A message that has not left whole two seconds after its first write ends the connection by a failed write.
-pub type FrameWriter<'a, R, S> = CountedWriter<Outgoing<'a, R, S>>;
+/// If a message has not left whole `PATIENCE_SECONDS` after its first write, the write fails, which ends the connection.
+pub type FrameWriter<'a, R, S> = CountedWriter<StreamWriter<'a, R, S>>;
 
 /// The connection of a `FrameWriter`.
 #[derive(Drop)]
-pub struct Outgoing<'a, R: Clock, S> {
+pub struct StreamWriter<'a, R: Clock, S> {
     rt: &'a R,
     stream: S,
     spot: Spot,
-    /// By when the message has to leave, once it was begun.
+    /// The deadline of the message, once its first write began.
     deadline: Option<Deadline>,
 }
 
-impl<'a, R: Clock, S: Write + Limits> Outgoing<'a, R, S> {
-    pub(crate) fn new(rt: &'a R, stream: S) -> Outgoing<'a, R, S>
+impl<'a, R: Clock, S: Write + Timeouts> StreamWriter<'a, R, S> {
+    /// A writer at the start of a connection.
+    pub(crate) fn new(rt: &'a R, stream: S) -> StreamWriter<'a, R, S>
         ensures { result.stream ≡ stream }
     {
-        Outgoing {
+        StreamWriter {
             rt,
             stream,
             spot: Spot::Beginning,
@@ -39,7 +40,7 @@ impl<'a, R: Clock, S: Write + Limits> Outgoing<'a, R, S> {
         }
     }
 
-    /// Writes octets of one message.
+    /// Writes octets of one message: the number of octets that the connection took.
     fn pass(&mut self, octets: &[u8]) -> io::Result<usize>
         ensures written { WriteAppends (S.contents self.old.stream) (S.contents self.new.stream) result octets.now }
         ensures within { IfOk result (λ count. count ≤ length octets.now) }
@@ -59,9 +60,9 @@ impl<'a, R: Clock, S: Write + Limits> Outgoing<'a, R, S> {
     }
 }
 
-impl<'a, R: Clock, S: Write + Limits> Write for Outgoing<'a, R, S> {
+impl<'a, R: Clock, S: Write + Timeouts> Write for StreamWriter<'a, R, S> {
     // It holds what the connection holds.
-    ghost contents = { λ outgoing. S.contents outgoing.stream };
+    ghost contents = { λ writer. S.contents writer.stream };
 
     fn write(&mut self, octets: &[u8]) -> io::Result<usize> {
         self.pass(octets)

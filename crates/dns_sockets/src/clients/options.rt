@@ -1,4 +1,4 @@
-//! What std does not offer of sockets and descriptors: the only file that calls the C library.
+//! Options of sockets and descriptors that std lacks: the only file that calls the C library.
 
 ghost use Rattle.std.specs.Prelude.{◌↔◌, ◌≤ℤ◌, pos, IsOk};
 ghost use Rattle.libc.specs.Net.{SockOption};
@@ -11,10 +11,10 @@ use std::io;
 use std::net::{Net, SocketAddr, UdpSocket};
 use std::os::fd::AsRawFd;
 
-/// The octets of datagrams that wait to be taken. With the system's default, bursts of some hundred are lost.
+/// The octets of the datagrams that may wait at a socket. With the system's default, bursts of some hundred are lost.
 const RECEIVE_BUFFER: i32 = 1 << 20;
 
-/// What a call of the C library came to.
+/// The result of a call of the C library, by its status.
 fn check(status: i32) -> io::Result<()>
     ensures { IsOk result ↔ (pos 0 ≤ℤ status) }
 {
@@ -33,13 +33,13 @@ fn set_option(socket: &UdpSocket, name: i32, value: i32) -> io::Result<()>
     check(unsafe { c::setsockopt(socket.as_raw_fd(), c::SOL_SOCKET, name, &octets, 4) })
 }
 
-/// Has a socket hold more datagrams that wait. The system gives less than this where it allows less.
+/// Lets more datagrams wait at a socket. The system gives less than this if it allows less.
 pub(crate) fn widen_receive_buffer(socket: &UdpSocket) -> io::Result<()> {
     set_option(socket, c::SO_RCVBUF, RECEIVE_BUFFER)
 }
 
-/// A socket that has its address together with others that are bound so by the same user. The system hands each datagram
-/// to one of them, by who sent it.
+/// A socket that shares its address with others that the same user bound so. The system gives each datagram to one of them,
+/// by its sender.
 pub(crate) fn bind_beside<R: Net>(_rt: &R, addr: SocketAddr) -> io::Result<UdpSocket> {
     let kind = c::SOCK_DGRAM | c::SOCK_CLOEXEC;
     let fd = match addr {
@@ -54,7 +54,7 @@ pub(crate) fn bind_beside<R: Net>(_rt: &R, addr: SocketAddr) -> io::Result<UdpSo
     Ok(socket)
 }
 
-/// How many descriptors the process may have (`getrlimit(2)`).
+/// The number of descriptors that the process may have (`getrlimit(2)`).
 pub fn descriptor_limit() -> io::Result<u64> {
     let mut limit = rlimit {
         rlim_cur: 0,

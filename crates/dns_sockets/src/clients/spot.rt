@@ -1,22 +1,22 @@
-//! Where messages begin in what comes over a connection: each stands behind its length in two octets
-//! (RFC 1035, section 4.2.2).
+//! The place of an octet of a connection, whose messages are each behind a length in two octets (RFC 1035, section 4.2.2).
 
 ghost use Rattle.std.specs.Prelude.{◌≡◌, ◌<◌, ◌≤◌, ◌⊎◌, length, take};
 ghost use Rattle.dns_sockets.specs.declared.clients.spot.Spot.TheVariants.{Beginning};
 ghost use Rattle.dns_sockets.specs.Spots.{spot_inside, spot_behind, spot_after, IsOfOneMessage};
 
-/// Where an octet of a connection stands.
+/// The place of an octet of a connection.
 #[derive(Clone, Copy, PartialEq, Eq)]
 pub(crate) enum Spot {
-    /// It is the first of a length: a message begins.
+    /// The first octet of a length: a message begins.
     Beginning,
-    /// It is the second of a length whose first octet is this.
+    /// The second octet of a length whose first is this.
     Length(u8),
-    /// It is in a message, with which so many octets are left.
+    /// An octet inside a message, of which so many are left, this one included.
     Inside(u16),
 }
 
 impl Spot {
+    /// The place if so many octets of a message are left.
     fn inside(left: u16) -> Spot
         ensures { result ≡ spot_inside left }
     {
@@ -27,7 +27,7 @@ impl Spot {
         }
     }
 
-    /// Where the octet behind this one stands.
+    /// The place of the next octet, behind this one.
     fn behind(self, octet: u8) -> Spot
         ensures { result ≡ spot_behind self octet }
     {
@@ -38,7 +38,7 @@ impl Spot {
         }
     }
 
-    /// Where the octet behind all of these stands.
+    /// The place of the next octet, behind all of these.
     pub(crate) fn after(self, octets: &[u8]) -> Spot
         ensures { result ≡ spot_after self octets.now }
     {
@@ -49,7 +49,7 @@ impl Spot {
         spot
     }
 
-    /// Goes on over the octets to where a message begins, or over all of them. Tells how many those are.
+    /// Goes on over the octets until a message begins, or over all of them: the number of those octets.
     pub(crate) fn go_on(&mut self, octets: &[u8]) -> usize
         ensures within { result ≤ length octets.now }
         ensures spot { self.new ≡ spot_after self.old (take result octets.now) }

@@ -1,15 +1,16 @@
-//! Which octets may be the reply to a query.
+//! The test whether octets may be the reply to a query.
 
 ghost use Rattle.std.specs.Prelude.{◌≡◌, ◌↔◌, IsTrue};
 ghost use Rattle.dns_sockets.specs.Fits.{Fits};
 
+/// Whether two runs of octets are equal.
 fn same(one: &[u8], other: &[u8]) -> bool
     ensures { IsTrue result ↔ (one.now ≡ other.now) }
 {
     one == other
 }
 
-/// Whether octets may be the reply to a query.
+/// Whether octets may be the reply to a query: a response with its identifier and its question (RFC 5452, section 9.1).
 pub fn fits(query: &[u8], reply: &[u8]) -> bool
     ensures { IsTrue result ↔ Fits query.now reply.now }
 {

@@ -1,29 +1,29 @@
-//! A query behind its length, and what has left of it.
+//! A query behind its length, and the count of octets that have left.
 
 ghost use Rattle.std.specs.Prelude.{◌≡◌, ◌↔◌, ◌<◌, ◌≤◌, ◌⊎◌, length, slice_range, vec_len, IsTrue, IfOk, IfErr};
 ghost use Rattle.std.specs.Io.KnownBytes.{Appends};
 ghost use Rattle.std.specs.IoError.{error_kind};
-ghost use Rattle.dns_sockets.specs.declared.lengths.TheConstants.{MOST_MESSAGE};
+ghost use Rattle.front_workers.specs.declared.limits.TheConstants.{MOST_MESSAGE};
 ghost use Rattle.front_workers.specs.Framing.{framed};
 
-use crate::lengths::MOST_MESSAGE;
 use crate::waiting::{MOST_CALLS, would_wait};
-use front_workers::frame;
+use front_workers::{MOST_MESSAGE, frame};
 use std::alloc::Global;
 use std::io;
 use std::io::{ErrorKind, Write};
 
-/// A query behind its length, and what has left of it.
+/// A query behind its length, and the count of octets that have left.
 #[derive(Drop)]
 pub(crate) struct FramedQuery {
     octets: Vec<u8>,
-    /// So many of them have left.
+    /// The count of octets that have left.
     left: usize,
     ghost front: { left ≤ vec_len octets },
 }
 
 impl FramedQuery {
-    /// Nothing of the query has left.
+    /// A query of which nothing has left. It fails with `InvalidInput` if the query is longer than a message may be, and with
+    /// `OutOfMemory`.
     pub fn new(alloc: Global, query: &[u8]) -> io::Result<FramedQuery>
         ensures octets { IfOk result (λ made. made.octets.items ≡ framed query.now) }
         ensures left { IfOk result (λ made. made.left ≡ 0) }
@@ -38,11 +38,13 @@ impl FramedQuery {
         })
     }
 
-    /// Writes what the connection takes. Whether the whole query has left.
+    /// Writes as much as the connection takes: whether the whole query has left. It fails if a write fails or takes nothing, or
+    /// after `MOST_CALLS` calls.
     pub fn write_on<W: Write>(&mut self, stream: &mut W) -> io::Result<bool>
         ensures octets { self.new.octets ≡ self.old.octets }
         ensures left { self.old.left ≤ self.new.left }
-        ensures written { Appends (W.contents stream.old) (W.contents stream.new) (slice_range self.old.octets.items self.old.left self.new.left) }
+        ensures written { Appends (W.contents stream.old) (W.contents stream.new)
+            (slice_range self.old.octets.items self.old.left self.new.left) }
         ensures idle { self.old.left ≡ vec_len self.old.octets → stream.new ≡ stream.old }
         ensures whole { IfOk result (λ has_left. IsTrue has_left ↔ (self.new.left ≡ vec_len self.old.octets)) }
     {

@@ -1,26 +1,26 @@
-//! What has come of a reply behind its length.
+//! The octets of a reply that have come, behind its length.
 
 ghost use Rattle.std.specs.Prelude.{◌≡◌, ◌↔◌, ◌<◌, ◌≤◌, [], length, IsTrue, IfOk, IfSome, IsNone, OnOk};
 ghost use Rattle.std.specs.Io.{StartsWith, appended_bytes};
 ghost use Rattle.std.specs.Io.KnownBytes.{Consumes};
-ghost use Rattle.dns_sockets.specs.declared.lengths.TheConstants.{MOST_MESSAGE};
+ghost use Rattle.front_workers.specs.declared.limits.TheConstants.{MOST_MESSAGE};
 ghost use Rattle.front_workers.specs.Framing.{framed};
 ghost use Rattle.dns_sockets.specs.Wanting.{framed_size, octets_wanting, IsWhole};
 
 use crate::waiting::{MOST_CALLS, would_wait};
-use front_workers::size_of;
+use front_workers::{MOST_MESSAGE, size_of};
 use std::alloc::Global;
 use std::io;
 use std::io::{ErrorKind, Read};
 
-/// What has come of a reply behind its length, and of nothing after it.
+/// The octets that have come of a reply behind its length, and none of what follows it.
 #[derive(Drop)]
 pub(crate) struct FramedReply {
     octets: Vec<u8>,
     ghost within: { length octets.items ≤ framed_size octets.items },
 }
 
-/// How many octets more make a message whole, where these came.
+/// The number of octets that a message still lacks, if these came.
 fn wanting(came: &[u8]) -> usize
     ensures wanting { result ≡ octets_wanting came.now }
     ensures none { length came.now ≤ framed_size came.now → ((result ≡ 0) ↔ IsWhole came.now) }
@@ -32,7 +32,7 @@ fn wanting(came: &[u8]) -> usize
     }
 }
 
-/// The message behind its length that these octets are.
+/// The message in these octets, or None if they are no whole message behind its length.
 fn whole(came: &[u8]) -> Option<&[u8]>
     ensures message { IfSome result (λ message. came.now ≡ framed message.now) }
     ensures within { IfSome result (λ message. length message.now ≤ MOST_MESSAGE) }
@@ -48,7 +48,7 @@ fn whole(came: &[u8]) -> Option<&[u8]>
 }
 
 impl FramedReply {
-    /// Nothing has come.
+    /// A reply of which nothing has come.
     pub fn new(alloc: Global) -> FramedReply
         ensures { result.octets.items ≡ [] }
     {
@@ -57,11 +57,13 @@ impl FramedReply {
         }
     }
 
-    /// Reads what the connection has, and nothing that stands after the reply. Whether the reply has come whole.
+    /// Reads as much as the connection has, and nothing behind the reply: whether the reply has come whole. It fails if a read
+    /// fails, if the connection ends or no memory is left, or after `MOST_CALLS` calls.
     pub fn read_on<S: Read>(&mut self, stream: &mut S, room: &mut [u8]) -> io::Result<bool>
         requires { 0 < length room.old }
         ensures came { StartsWith self.new.octets.items self.old.octets.items }
-        ensures read { OnOk result (Consumes (S.remaining stream.old) (S.remaining stream.new) (appended_bytes self.old.octets.items self.new.octets.items)) }
+        ensures read { OnOk result
+            (Consumes (S.remaining stream.old) (S.remaining stream.new) (appended_bytes self.old.octets.items self.new.octets.items)) }
         ensures whole { IfOk result (λ is_whole. IsTrue is_whole ↔ IsWhole self.new.octets.items) }
     {
         for _ in 0..MOST_CALLS {
@@ -82,7 +84,7 @@ impl FramedReply {
         Err(io::Error::from(ErrorKind::TimedOut))
     }
 
-    /// The reply, where it has come whole.
+    /// The reply, or None if it has not come whole.
     pub fn message(&self) -> Option<&[u8]>
         ensures message { IfSome result (λ message. self.now.octets.items ≡ framed message.now) }
         ensures within { IfSome result (λ message. length message.now ≤ MOST_MESSAGE) }

@@ -1,19 +1,19 @@
-//! Places at which the service itself takes queries.
+//! The service's own places, which it never asks.
 
 ghost use Rattle.std.specs.Prelude.{◌↔◌, IsTrue};
 ghost use Rattle.dns_sockets.specs.Own.{IsHere, IsOwn};
 
 use std::net::{IpAddr, SocketAddr};
 
-/// Whether who listens at the first address takes what is sent to the last, from the second.
+/// Whether a service that listens at the first address gets what is sent from the second to the last.
 fn is_here(listens: IpAddr, asks: IpAddr, asked: IpAddr) -> bool
     ensures { IsTrue result ↔ IsHere listens asks asked }
 {
     asked == listens || (listens.is_unspecified() && (asked.is_loopback() || asked == asks))
 }
 
-/// Whether a service that listens here takes queries at a place which it would ask from there. What it asked there would
-/// come back as a question of its own.
+/// Whether a service that listens at `service` would ask itself, if it sent a query from `from` to `place`. Its own query would
+/// come back to it as a question.
 pub(crate) fn is_own(service: SocketAddr, from: SocketAddr, place: SocketAddr) -> bool
     ensures { IsTrue result ↔ IsOwn service from place }
 {

@@ -1,11 +1,11 @@
-//! Where a server is.
+//! The place of a name server: its address and port as std has them.
 
 ghost use Rattle.dns_sockets.specs.Place.{IsPlaceOf};
 
 use dns_text::{Addr, Ip};
 use std::net::{IpAddr, Ipv4Addr, Ipv6Addr, SocketAddr};
 
-/// The address of a server as std has it.
+/// The address and port of a server as std has them.
 pub fn place_of(server: &Addr) -> SocketAddr
     ensures { IsPlaceOf server.now result }
 {

@@ -1,9 +1,10 @@
-//! The network in which name servers are, where no call waits.
+//! The network of name servers, where no call waits.
 
-ghost use Rattle.std.specs.Prelude.{◌≡◌, ◌≢◌, ℕ, List, ◌≤◌, length, take, IfOk, IfErr, OnOk, OnErr};
+ghost use Rattle.std.specs.Prelude.{◌≡◌, ℕ, List, ◌≤◌, length, take, IfOk, IfErr, OnOk, OnErr};
 ghost use Rattle.std.specs.IoError.{error_kind};
 ghost use Rattle.std.specs.declared.net.SocketAddr.{SocketAddr};
 ghost use Rattle.mio.specs.declared.token.Token.{Token};
+ghost use Rattle.dns_sockets.specs.Failures.{IsFailure};
 
 use crate::name_servers::drawn_port::bind_any;
 use mio::net::{TcpStream, UdpSocket};
@@ -12,73 +13,80 @@ use std::io;
 use std::io::{ErrorKind, Read, Write};
 use std::net::{Net, SocketAddr};
 
-/// A socket for datagrams to and from one server, whose calls tell where they would wait.
+/// A socket for datagrams to and from one server. A call that would wait fails with `WouldBlock`.
 pub trait ReadySocket: Drop {
-    /// It is connected to this place.
+    /// The socket is connected to this place.
     ghost opened: { Self → SocketAddr → Type 0 };
 
-    /// What leaves by it comes from this place.
+    /// Its datagrams leave from this place.
     ghost is_at: { Self → SocketAddr → Type 0 };
 
-    /// What comes is reported under this token.
+    /// The poll reports its datagrams under this token.
     ghost reported: { Self → Token → Type 0 };
 
-    /// A datagram left by it.
+    /// No datagram has left by it.
+    ghost unused: { Self → Type 0 };
+
+    /// Exactly one datagram has left by it, which is this one.
     ghost sent: { Self → List ℕ → Type 0 };
 
     /// A datagram came to it.
     ghost came: { Self → List ℕ → Type 0 };
 
-    /// A call told that none was there.
+    /// A call found no datagram waiting.
     ghost drained: { Self → Type 0 };
 
-    /// What had come and was not taken is reported once more, under this token.
+    /// The poll reports once more, under this token, the datagrams that came and were not taken.
     ghost reported_again: { Self → Token → Type 0 };
 
-    /// A call failed, and not for want of a datagram or by a signal.
+    /// A call failed, other than by `WouldBlock` or a signal.
     ghost failed: { Self → Type 0 };
 
-    /// From where its datagrams come.
+    /// The place from which its datagrams leave.
     fn place(&self) -> io::Result<SocketAddr>
         ensures place { IfOk result (λ place. is_at self.now place) }
         ensures failed { OnErr result (failed self.now) };
 
-    /// Sends a query to where it is connected.
-    fn send_datagram(&self, query: &[u8]) -> io::Result<()>
-        ensures sent { OnOk result (sent self.now query.now) }
-        ensures failed { OnErr result (failed self.now) };
+    /// Sends a query to the place to which it is connected.
+    fn send_datagram(&mut self, query: &[u8]) -> io::Result<()>
+        // Only the first datagram of a socket is exactly one.
+        ensures sent { OnOk result (unused self.old → sent self.new query.now) }
+        ensures opened { (place : SocketAddr) → opened self.old place → opened self.new place }
+        ensures is_at { (place : SocketAddr) → is_at self.old place → is_at self.new place }
+        ensures reported { (token : Token) → reported self.old token → reported self.new token }
+        ensures failed { OnErr result (failed self.new) };
 
-    /// The next datagram: how many octets of the room it fills.
+    /// The next datagram: the number of octets at the front of the room that it fills.
     fn take_datagram(&self, room: &mut [u8]) -> io::Result<usize>
         ensures within { IfOk result (λ count. count ≤ length room.new) }
         ensures came { IfOk result (λ count. came self.now (take count room.new)) }
         ensures drained { IfErr result (λ error. error_kind error ≡ ErrorKind.WouldBlock → drained self.now) }
-        ensures failed { IfErr result (λ error. error_kind error ≢ ErrorKind.WouldBlock → error_kind error ≢ ErrorKind.Interrupted → failed self.now) };
+        ensures failed { IfErr result (λ error. IsFailure error → failed self.now) };
 
-    /// Has the poll report what is there once more.
+    /// Makes the poll report once more the datagrams that are there.
     fn report_again(&mut self, registry: &Registry, token: Token) -> io::Result<()>
         ensures kept { self.new ≡ self.old }
         ensures again { OnOk result (reported_again self.new token) }
         ensures failed { OnErr result (failed self.new) };
 }
 
-/// A connection to one server, whose reads and writes tell where they would wait.
+/// A connection to one server. A read or a write that would wait fails with `WouldBlock`.
 pub trait ReadyConnection: Read + Write + Drop {
-    /// It is to this place.
+    /// The connection is to this place.
     ghost connected: { Self → SocketAddr → Type 0 };
 
-    /// What comes is reported under this token.
+    /// The poll reports what comes under this token.
     ghost reported: { Self → Token → Type 0 };
 
-    /// Neither connecting nor the connection was known to have failed.
+    /// No fault of connecting or of the connection was known.
     ghost has_no_fault: { Self → Type 0 };
 
-    /// Fails by what it failed by.
+    /// An error if connecting or the connection has failed: its own.
     fn check(&self) -> io::Result<()>
         ensures { OnOk result (has_no_fault self.now) };
 }
 
-/// A network in which name servers are, where no call waits.
+/// A network of name servers, where no call waits.
 pub trait ReadyNet {
     /// A socket for datagrams to and from one server.
     type Datagrams: ReadySocket;
@@ -86,10 +94,10 @@ pub trait ReadyNet {
     /// A connection to one server.
     type Connection: ReadyConnection;
 
-    /// No socket was to be had, or no way to a place is known.
+    /// No socket was left, or the system knows no way to a place.
     ghost failed: { Type 0 };
 
-    /// A socket at a port that the system draws, and has the poll watch for what comes.
+    /// A socket at a port that the system draws, watched by the poll.
     fn open_socket(
         &self,
         registry: &Registry,
@@ -98,9 +106,10 @@ pub trait ReadyNet {
     ) -> io::Result<Self::Datagrams>
         ensures opened { IfOk result (λ socket. Self.Datagrams.opened socket place) }
         ensures reported { IfOk result (λ socket. Self.Datagrams.reported socket token) }
+        ensures unused { IfOk result Self.Datagrams.unused }
         ensures failed { OnErr result failed };
 
-    /// Begins to connect, and has the poll watch for what comes.
+    /// A connection that begins to connect, watched by the poll.
     fn begin_connection(
         &self,
         registry: &Registry,
@@ -120,6 +129,8 @@ impl ReadySocket for UdpSocket {
 
     ghost reported = { λ _ _. Unit {0} };
 
+    ghost unused = { λ _. Unit {0} };
+
     ghost sent = { λ _ _. Unit {0} };
 
     ghost came = { λ _ _. Unit {0} };
@@ -134,7 +145,7 @@ impl ReadySocket for UdpSocket {
         self.local_addr()
     }
 
-    fn send_datagram(&self, query: &[u8]) -> io::Result<()> {
+    fn send_datagram(&mut self, query: &[u8]) -> io::Result<()> {
         self.send(query)?;
         Ok(())
     }

@@ -1,22 +1,22 @@
-//! The network in which name servers are.
+//! The network of name servers.
 
 ghost use Rattle.std.specs.Prelude.{ℕ, List, ◌≤◌, length, take, IfOk, OnOk};
 ghost use Rattle.std.specs.declared.net.SocketAddr.{SocketAddr};
 
-use crate::limits::Limits;
 use crate::name_servers::drawn_port::bind_any;
+use crate::timeouts::Timeouts;
 use std::io;
 use std::io::{Read, Write};
 use std::net::{Net, SocketAddr, TcpStream, UdpSocket};
 use std::time::Duration;
 
-/// A network in which name servers are.
+/// A network of name servers. Its calls wait.
 pub trait ServerNet {
     /// A socket for datagrams to and from one server.
     type Datagrams: Drop;
 
     /// A connection to one server.
-    type Connection: Read + Write + Limits + Drop;
+    type Connection: Read + Write + Timeouts + Drop;
 
     /// The socket is connected to this place.
     ghost opened: { Self.Datagrams → SocketAddr → Type 0 };
@@ -34,10 +34,11 @@ pub trait ServerNet {
     fn open_socket(&self, place: SocketAddr) -> io::Result<Self::Datagrams>
         ensures { IfOk result (λ socket. opened socket place) };
 
+    /// Sends a query to the place to which the socket is connected.
     fn send_datagram(&self, socket: &Self::Datagrams, query: &[u8]) -> io::Result<()>
         ensures { OnOk result (sent socket.now query.now) };
 
-    /// The next datagram: how many octets of the room it fills. It is waited for so long at most.
+    /// The next datagram: the number of octets at the front of the room that it fills. It waits so long at most.
     fn take_datagram(
         &self,
         socket: &Self::Datagrams,
@@ -47,7 +48,7 @@ pub trait ServerNet {
         ensures within { IfOk result (λ count. count ≤ length room.new) }
         ensures came { IfOk result (λ count. came socket.now (take count room.new)) };
 
-    /// A connection, which comes in so long at most.
+    /// A connection to a place. Connecting takes so long at most.
     fn open_connection(&self, place: SocketAddr, most: Duration) -> io::Result<Self::Connection>
         ensures { IfOk result (λ connection. connected connection place) };
 }

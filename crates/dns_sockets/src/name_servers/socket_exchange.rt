@@ -1,23 +1,22 @@
-//! Queries to name servers.
+//! Exchanges with name servers, each waited for until a deadline.
 
 ghost use Rattle.std.specs.Prelude.{◌≡◌, ◌≤◌, ◌<◌, ◌+◌, ◌++◌, length, take, drop, vec_len, IfOk, OnOk};
 ghost use Rattle.std.specs.Io.KnownBytes.{Appends, Consumes};
-ghost use Rattle.std.specs.declared.net.SocketAddr.{SocketAddr};
 ghost use Rattle.front_workers.specs.Framing.{framed};
-ghost use Rattle.dns_sockets.specs.declared.lengths.TheConstants.{MOST_MESSAGE, MOST_FRAMED};
-ghost use Rattle.dns_sockets.specs.Asked.{ByDatagrams, ByStream, IsAskedAt};
+ghost use Rattle.front_workers.specs.declared.limits.TheConstants.{MOST_MESSAGE};
+ghost use Rattle.dns_sockets.specs.declared.lengths.TheConstants.{MOST_FRAMED};
+ghost use Rattle.dns_sockets.specs.Asked.{ByDatagrams, ByStream, IsAskedOf};
 ghost use Rattle.dns_sockets.specs.Fits.{Fits};
-ghost use Rattle.dns_sockets.specs.Place.{IsPlaceOf};
 
 use crate::deadline::Deadline;
-use crate::lengths::{MOST_FRAMED, MOST_MESSAGE};
+use crate::lengths::MOST_FRAMED;
 use crate::name_servers::fitting::fits;
 use crate::name_servers::place::place_of;
 use crate::name_servers::server_net::ServerNet;
 use crate::name_servers::timed::Timed;
 use dns_query::Over;
 use dns_text::{Addr, NoMemory, Octets};
-use front_workers::{DeviceFault, Exchange};
+use front_workers::{DEVICE_FAULT, DeviceFault, Exchange, MOST_MESSAGE};
 use log::{Log, warn};
 use std::alloc::Global;
 use std::io;
@@ -25,16 +24,18 @@ use std::io::{ErrorKind, Read, Write};
 use std::net::SocketAddr;
 use std::rt::Clock;
 
-/// So many datagrams are looked at for one reply. The deadline ends most exchanges earlier.
+/// The most datagrams that one exchange takes. The deadline ends most exchanges earlier.
 const MOST_DATAGRAMS: u32 = 65_536;
 
-/// Asks name servers over sockets, a new one for each query.
+/// A client of name servers over sockets, with a new socket for each query.
 ///
-/// An exchange has two seconds for all of it, connecting included. Over UDP the socket is connected to the server
-/// (RFC 5452, section 9.2), at a port that the system draws, and each datagram that does not fit the query is passed
-/// over. Over TCP a message stands behind its length in two octets (RFC 1035, section 4.2.2), and the exchange fails
-/// where the first message does not fit. A reply fits that has the query's identifier and question. Each exchange that
-/// fails is logged.
+/// An exchange may take `PATIENCE_SECONDS`, connecting included. A reply fits if it has the query's identifier and question.
+/// - Over UDP the socket is connected to the server (RFC 5452, section 9.2), at a port that the system draws. Datagrams that do
+///   not fit the query are dropped.
+/// - Over TCP each message is behind its length in two octets (RFC 1035, section 4.2.2). The exchange fails if the first message
+///   does not fit.
+///
+/// Each exchange that fails is logged.
 #[derive(Drop)]
 pub struct SocketExchange<'a, R> {
     rt: &'a R,
@@ -45,7 +46,7 @@ pub struct SocketExchange<'a, R> {
 }
 
 impl<'a, R> SocketExchange<'a, R> {
-    /// Makes room for the longest message.
+    /// A client with room for the longest message.
     pub fn new(rt: &'a R, alloc: Global) -> Result<SocketExchange<'a, R>, NoMemory>
         ensures { IfOk result (λ exchange. exchange.failures ≡ 0) }
     {
@@ -59,6 +60,7 @@ impl<'a, R> SocketExchange<'a, R> {
     }
 }
 
+/// One exchange over UDP: the number of octets at the front of the room that the reply fills.
 fn ask_udp<R: ServerNet + Clock>(
     rt: &R,
     place: SocketAddr,
@@ -90,7 +92,7 @@ fn ask_udp<R: ServerNet + Clock>(
     Err(io::Error::from(ErrorKind::TimedOut))
 }
 
-/// Puts octets at a place of the room.
+/// Copies octets to a place of the room.
 fn put(room: &mut [u8], at: usize, octets: &[u8])
     requires { at + length octets.now ≤ length room.old }
     ensures { room.new ≡ take at room.old ++ (octets.now ++ drop (at + length octets.now) room.old) }
@@ -112,7 +114,7 @@ fn send_framed<W: Write>(stream: &mut W, message: &[u8], room: &mut [u8]) -> io:
     stream.write_all(&room[..2 + size])
 }
 
-/// Reads a message behind its length: how many octets of the room it fills.
+/// Reads a message behind its length: the number of octets at the front of the room that it fills.
 fn read_framed<S: Read>(stream: &mut S, room: &mut [u8]) -> io::Result<usize>
     requires { length room.old ≡ MOST_FRAMED }
     ensures few { IfOk result (λ count. count ≤ MOST_MESSAGE) }
@@ -126,6 +128,7 @@ fn read_framed<S: Read>(stream: &mut S, room: &mut [u8]) -> io::Result<usize>
     Ok(count)
 }
 
+/// One exchange over TCP: the number of octets at the front of the room that the reply fills.
 fn ask_tcp<R: ServerNet + Clock>(
     rt: &R,
     place: SocketAddr,
@@ -135,7 +138,8 @@ fn ask_tcp<R: ServerNet + Clock>(
     requires { length room.old ≡ MOST_FRAMED }
     ensures few { IfOk result (λ count. count ≤ MOST_MESSAGE) }
     ensures fits { IfOk result (λ count. Fits query.now (take count room.new)) }
-    ensures asked { IfOk result (λ count. ByStream R.connected R.Connection.contents R.Connection.remaining place query.now (take count room.new)) }
+    ensures asked { IfOk result (λ count.
+        ByStream R.connected R.Connection.contents R.Connection.remaining place query.now (take count room.new)) }
 {
     let deadline = Deadline::set(rt)?;
     let stream = rt.open_connection(place, deadline.left(rt)?)?;
@@ -152,7 +156,7 @@ fn ask_tcp<R: ServerNet + Clock>(
     Ok(count)
 }
 
-/// One exchange: how many octets of the room the reply fills.
+/// One exchange: the number of octets at the front of the room that the reply fills.
 fn ask_over<R: ServerNet + Clock>(
     rt: &R,
     server: &Addr,
@@ -163,8 +167,8 @@ fn ask_over<R: ServerNet + Clock>(
     requires { length room.old ≡ MOST_FRAMED }
     ensures few { IfOk result (λ count. count ≤ MOST_MESSAGE) }
     ensures fits { IfOk result (λ count. Fits query.now (take count room.new)) }
-    ensures asked { IfOk result (λ count. (place : SocketAddr) × IsPlaceOf server.now place
-        × IsAskedAt R.opened R.sent R.came R.connected R.Connection.contents R.Connection.remaining over place query.now (take count room.new)) }
+    ensures asked { IfOk result (λ count. IsAskedOf R.opened R.sent R.came R.connected R.Connection.contents R.Connection.remaining
+        over server.now query.now (take count room.new)) }
 {
     let place = place_of(server);
     match over {
@@ -174,9 +178,9 @@ fn ask_over<R: ServerNet + Clock>(
 }
 
 impl<'a, R: ServerNet + Clock + Log> Exchange for SocketExchange<'a, R> {
-    // What comes is of the server's place, over the transport, behind the query, and fits it.
+    // The reply fits the query, and came from the server's place, over the transport, behind the query.
     ghost asks = { λ _ server over query came _. IfOk came (λ reply. (length reply ≤ MOST_MESSAGE) × Fits query reply
-        × ((place : SocketAddr) × IsPlaceOf server place × IsAskedAt R.opened R.sent R.came R.connected R.Connection.contents R.Connection.remaining over place query reply)) };
+        × IsAskedOf R.opened R.sent R.came R.connected R.Connection.contents R.Connection.remaining over server query reply) };
 
     ghost failures = { λ exchange. exchange.failures };
 
@@ -187,7 +191,7 @@ impl<'a, R: ServerNet + Clock + Log> Exchange for SocketExchange<'a, R> {
                 Err(_) => Err(DeviceFault::NoMemory),
             },
             Err(_) => {
-                warn!(self.rt; "resolver: device fault");
+                warn!(self.rt; "{DEVICE_FAULT}");
                 self.failures = self.failures.saturating_add(1);
                 Err(DeviceFault::Device)
             }

@@ -1,10 +1,10 @@
-//! A query and its reply over a connection, without waiting.
+//! A query and its reply over TCP, without waiting.
 
 ghost use Rattle.std.specs.Prelude.{◌≡◌, ◌↔◌, ◌<◌, ◌≤◌, [], length, IsTrue, IfOk, IfSome, IsNone, OnOk};
 ghost use Rattle.std.specs.Io.{StartsWith};
-ghost use Rattle.dns_sockets.specs.declared.lengths.TheConstants.{MOST_MESSAGE};
+ghost use Rattle.front_workers.specs.declared.limits.TheConstants.{MOST_MESSAGE};
 ghost use Rattle.front_workers.specs.Framing.{framed};
-ghost use Rattle.dns_sockets.specs.Line.{IsDone, Moves, WentFrom};
+ghost use Rattle.dns_sockets.specs.Line.{IsDone, Moves, WentFrom, WentOn};
 ghost use Rattle.dns_sockets.specs.Wanting.{IsWhole};
 
 use crate::name_servers::framed_query::FramedQuery;
@@ -16,8 +16,8 @@ use std::io;
 use std::marker::Model;
 use std::net::SocketAddr;
 
-/// A connection on which one query goes out and one reply comes in, each behind its length. Contracts see it, what has left
-/// and what has come.
+/// A connection on which one query goes out and one reply comes in, each behind its length. Contracts see the connection, the
+/// octets that have left and those that have come.
 #[derive(Drop)]
 pub struct TcpLine<S> {
     stream: S,
@@ -30,12 +30,17 @@ impl<S> Model for TcpLine<S> {
 
     ghost Value = { LineState S };
 
-    ghost view = { λ line. record { stream = line.stream; asks = line.query.octets.items; left = line.query.left; came = line.reply.octets.items } };
+    ghost view = { λ line. record {
+      stream = line.stream;
+      asks = line.query.octets.items;
+      left = line.query.left;
+      came = line.reply.octets.items;
+    } };
 }
 
 impl<S: ReadyConnection> TcpLine<S> {
-    /// Begins to connect, and has the poll watch for what comes. It fails where the query is longer than a message may be,
-    /// where memory or a descriptor is not to be had, or where the system knows no way to the place.
+    /// Begins to connect, watched by the poll. It fails if the query is longer than a message may be, if no memory or no
+    /// descriptor is left, or if the system knows no way to the place.
     pub fn begin<R: ReadyNet<Connection = S>>(
         rt: &R,
         alloc: Global,
@@ -59,9 +64,9 @@ impl<S: ReadyConnection> TcpLine<S> {
         })
     }
 
-    /// Goes on as far as the connection lets it. Whether the reply has come whole. It fails where connecting did, where the
-    /// connection failed or ended, where signals end each call, or where no memory is found for what came: octets may be
-    /// lost then, and the line is of no more use.
+    /// Goes on as far as the connection lets it: whether the reply has come whole. It fails if connecting did, if the connection
+    /// failed or ended, if signals end each call, or if no memory is left for the reply. After an error octets may be lost, and the
+    /// line is of no more use.
     pub fn go_on(&mut self, room: &mut [u8]) -> io::Result<bool>
         requires { 0 < length room.old }
         ensures asks { self.new.asks ≡ self.old.asks }
@@ -69,7 +74,7 @@ impl<S: ReadyConnection> TcpLine<S> {
         ensures came { StartsWith self.new.came self.old.came }
         ensures checked { OnOk result (S.has_no_fault self.old.stream) }
         ensures moves { OnOk result (Moves S.contents S.remaining self.old self.new) }
-        ensures went { OnOk result ((fresh : S) → WentFrom S.contents S.remaining fresh self.old → WentFrom S.contents S.remaining fresh self.new) }
+        ensures went { OnOk result (WentOn S.contents S.remaining self.old self.new) }
         ensures done { IfOk result (λ is_done. IsTrue is_done ↔ IsDone self.new) }
     {
         self.stream.check()?;
@@ -79,7 +84,7 @@ impl<S: ReadyConnection> TcpLine<S> {
         self.reply.read_on(&mut self.stream, room)
     }
 
-    /// The reply. None where it has not come whole.
+    /// The reply, or None if it has not come whole.
     pub fn reply(&self) -> Option<&[u8]>
         ensures reply { IfSome result (λ reply. self.now.came ≡ framed reply.now) }
         ensures within { IfSome result (λ reply. length reply.now ≤ MOST_MESSAGE) }

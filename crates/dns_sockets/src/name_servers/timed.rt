@@ -1,8 +1,8 @@
 //! A connection whose calls end by a deadline.
 
 use crate::deadline::Deadline;
-use crate::limits::Limits;
 use crate::name_servers::server_net::ServerNet;
+use crate::timeouts::Timeouts;
 use std::io;
 use std::io::{Read, Write};
 use std::rt::Clock;

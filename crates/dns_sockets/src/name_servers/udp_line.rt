@@ -1,27 +1,27 @@
-//! A query and its reply over datagrams, without waiting.
+//! A query and its reply over UDP, without waiting.
 
 ghost use Rattle.std.specs.Prelude.{◌≡◌, ◌≤◌, ◌⊎◌, length, take, IfOk, IfSome, IsNone, OnErr};
 ghost use Rattle.std.specs.declared.net.SocketAddr.{SocketAddr};
-ghost use Rattle.dns_sockets.specs.declared.lengths.TheConstants.{MOST_MESSAGE};
+ghost use Rattle.front_workers.specs.declared.limits.TheConstants.{MOST_MESSAGE};
 ghost use Rattle.dns_sockets.specs.Fits.{Fits};
-ghost use Rattle.dns_sockets.specs.Own.{IsOwn};
+ghost use Rattle.dns_sockets.specs.Own.{IsNoLine, IsOwn};
 
-use crate::lengths::MOST_MESSAGE;
 use crate::name_servers::fitting::fits;
 use crate::name_servers::own::is_own;
 use crate::name_servers::ready_net::{ReadyNet, ReadySocket};
 use crate::waiting::would_wait;
+use front_workers::MOST_MESSAGE;
 use mio::{Registry, Token};
 use std::io;
 use std::io::ErrorKind;
 use std::marker::Model;
 use std::net::SocketAddr;
 
-/// So many datagrams are looked at in one look for one reply. If others wait behind them there is another look.
+/// The most datagrams that one call of `hear` takes. If others wait behind them, the poll reports them once more.
 const MOST_LOOKED_AT: u32 = 64;
 
-/// A socket of its own by which one query went out, and to which the reply comes, connected to the server (RFC 5452,
-/// section 9.2). Contracts see the socket.
+/// The socket of one exchange, connected to the server (RFC 5452, section 9.2): one query went out by it, and the reply comes to
+/// it. Contracts see the socket.
 #[derive(Drop)]
 pub struct UdpLine<S> {
     socket: S,
@@ -34,8 +34,8 @@ impl<S> Model for UdpLine<S> {
 }
 
 impl<S: ReadySocket> UdpLine<S> {
-    /// Sends a query. It fails where no descriptor is to be had, where the system knows no way to the place or cannot send
-    /// or tell from where, or where the service itself, which listens here, takes queries there.
+    /// Sends one query, in one datagram, by a new socket. It fails if no descriptor is left, if the system knows no way to the
+    /// place or cannot send, or if the service, which listens at `service`, would ask itself.
     pub fn begin<R: ReadyNet<Datagrams = S>>(
         rt: &R,
         registry: &Registry,
@@ -48,9 +48,9 @@ impl<S: ReadySocket> UdpLine<S> {
         ensures reported { IfOk result (λ line. S.reported line token) }
         ensures sent { IfOk result (λ line. S.sent line query.now) }
         ensures elsewhere { IfOk result (λ line. (from : SocketAddr) × S.is_at line from × ¬ (IsOwn service from place)) }
-        ensures failed { OnErr result (R.failed ⊎ ((socket : S) × S.opened socket place × (S.failed socket ⊎ ((from : SocketAddr) × S.is_at socket from × IsOwn service from place)))) }
+        ensures failed { OnErr result (IsNoLine R.failed S.opened S.is_at S.failed service place) }
     {
-        let socket = rt.open_socket(registry, token, place)?;
+        let mut socket = rt.open_socket(registry, token, place)?;
         if is_own(service, socket.place()?, place) {
             return Err(io::Error::from(ErrorKind::AddrNotAvailable));
         }
@@ -58,8 +58,8 @@ impl<S: ReadySocket> UdpLine<S> {
         Ok(UdpLine { socket })
     }
 
-    /// Takes the datagrams that came, up to one that fits the query: how many octets of the room it fills. None where none
-    /// is there that fits, or where others wait behind many that do not.
+    /// Takes the datagrams that came, up to one that fits the query: the number of octets at the front of the room that it fills.
+    /// None if none of them fits. If others wait behind `MOST_LOOKED_AT` that do not fit, the poll reports them once more.
     pub fn hear(
         &mut self,
         registry: &Registry,
@@ -89,7 +89,7 @@ impl<S: ReadySocket> UdpLine<S> {
                 }
             }
         }
-        // What waits behind these is reported once more.
+        // The poll reports once more what waits behind these.
         self.socket.report_again(registry, token)?;
         Ok(None)
     }

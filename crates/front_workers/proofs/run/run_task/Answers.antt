@@ -14,11 +14,11 @@ pub loop-task-preserved : goal.loop-task-preserved
 loop-task-preserved g c =
     let task = c.loop-task.task in
     let draws = draws_at c.args.tools.now.server_port task.port c.args.question task.question c.now-moment.result
-    c.loop-task.invariant.port c.loop-task.invariant.question c.now-moment.ensures c.in_ok-want.ensures.steps c.in_ok-want.ensures.wants c.in_ok-want.ensures.drawn in
+    c.loop-task.invariant.port c.loop-task.invariant.question c.now-moment.ensures c.in_ok-want.ensures.ok.steps c.in_ok-want.ensures.ok.wants c.in_ok-want.ensures.ok.drawn in
     record {
       leads = goes_on c.loop-task.invariant.leads draws (rw c.in-Go.is at c.in_ok-next.ensures.turns);
-      question = c.step.ensures.question ∙ c.loop-task.invariant.question;
-      port = c.step.ensures.port ∙ c.loop-task.invariant.port;
+      question = c.step.ensures.same.question ∙ c.loop-task.invariant.question;
+      port = c.step.ensures.same.port ∙ c.loop-task.invariant.port;
       kept = c.loop-task.invariant.kept;
     }
 
@@ -29,13 +29,13 @@ pub returns-in_err-next-clause-breaks_off : goal.returns-in_err-next-clause-brea
 returns-in_err-next-clause-breaks_off g c =
     let task = c.loop-task.task in
     let draws = draws_at c.args.tools.now.server_port task.port c.args.question task.question c.now-moment.result
-    c.loop-task.invariant.port c.loop-task.invariant.question c.now-moment.ensures c.in_ok-want.ensures.steps c.in_ok-want.ensures.wants c.in_ok-want.ensures.drawn in
+    c.loop-task.invariant.port c.loop-task.invariant.question c.now-moment.ensures c.in_ok-want.ensures.ok.steps c.in_ok-want.ensures.ok.wants c.in_ok-want.ensures.ok.drawn in
     failing c.from_residual-in_err-next.result _ (breaks_off c.loop-task.invariant.leads draws c.in_err-next.ensures.lacks)
 
 pub returns-in-Done-clause-ends : goal.returns-in-Done-clause-ends
 returns-in-Done-clause-ends g c =
     let task = c.loop-task.task in
     let draws = draws_at c.args.tools.now.server_port task.port c.args.question task.question c.now-moment.result
-    c.loop-task.invariant.port c.loop-task.invariant.question c.now-moment.ensures c.in_ok-want.ensures.steps c.in_ok-want.ensures.wants c.in_ok-want.ensures.drawn in
+    c.loop-task.invariant.port c.loop-task.invariant.question c.now-moment.ensures c.in_ok-want.ensures.ok.steps c.in_ok-want.ensures.ok.wants c.in_ok-want.ensures.ok.drawn in
     let done = rw c.in-Done.is at c.in_ok-next.ensures.turns in
     ends c.loop-task.invariant.leads draws done.0 done.1 done.2

@@ -2,7 +2,7 @@ use Rattle.std.proofs.Common.{◌≡◌, [], ◌∷◌, ◌++◌, refl, ◌∙�
 use Rattle.std.specs.Io.KnownBytes.{Appends}
 use Rattle.streams.specs.Laws.{Consumes-same, Appends-same, Appends-then}
 use Rattle.dns_query.specs.declared.over.Over.TheVariants.{Tcp}
-use Rattle.front_workers.specs.Stream.{serving, lacking, told, Telling}
+use Rattle.front_workers.specs.Stream.{serving, lacking, written_for, Replying}
 use Rattle.front_workers.proofs.Streaming.{read_one, tell_one, stopped, broken, handed_on, at_port}
 use Rattle.front_workers.proofs.stream.serve_stream.Goals as goal
 
@@ -21,15 +21,15 @@ loop-message-preserved g c =
     let so = before.so_far in
     let came = rw c.in-Some.is at c.in_ok-message.ensures.came in
     let m = c.in-Some.message in
-    let one = rw before.port at c.in-Ok.ensures.told in
+    let one = rw before.port at c.in-Ok.ensures.served in
     record {
       port = c.in-Ok.ensures.port ∙ before.port;
       so_far = (
         so.0 ++ m ∷ [],
-        so.1 ++ told one.0,
+        so.1 ++ written_for one.0,
         read_one _ _ _ so.0 m so.2 came.1,
-        tell_one _ (Telling (serving g.D.Desk.calls g.X.Exchange.asks g.C.Clock.ticks c.args.tools.now.server_port Tcp)) _ _ _ so.0 m so.1 (told one.0) so.3 (one.0, came.0, one.1, refl),
-        Appends-then _ _ _ so.1 (told one.0) so.4 one.2,
+        tell_one _ (Replying (serving g.D.Desk.calls g.X.Exchange.asks g.C.Clock.ticks c.args.tools.now.server_port Tcp)) _ _ _ so.0 m so.1 (written_for one.0) so.3 (one.0, came.0, one.1, refl),
+        Appends-then _ _ _ so.1 (written_for one.0) so.4 one.2,
       );
       calls = omega (arith, c.take_message.ensures.calls, before.calls);
       read_failures = c.in_ok-message.ensures.failures ∙ before.read_failures;
@@ -42,7 +42,7 @@ returns-in-Err-clause-streams g c =
     let so = before.so_far in
     let came = rw c.in-Some.is at c.in_ok-message.ensures.came in
     let m = c.in-Some.message in
-    let one = at_port g.D.Desk.calls g.X.Exchange.asks g.C.Clock.ticks c.in-Err.fault _ _ m _ _ _ _ before.port c.in-Err.ensures.told in
+    let one = at_port g.D.Desk.calls g.X.Exchange.asks g.C.Clock.ticks c.in-Err.fault _ _ m _ _ _ _ before.port c.in-Err.ensures.served in
     stopped _ _ c.in-Err.fault _ _ _ _ _ _ _ _ _ so.0 m so.1 so.2 so.3 so.4 came.0 came.1 one
 
 pub returns-in_err-message-clause-streams : goal.returns-in_err-message-clause-streams

@@ -1,5 +1,5 @@
 use Rattle.std.proofs.Common.{◌≡◌, vec_len}
-use Rattle.dns_sockets.proofs.clients.binding.bind_each.Given as goal
+use Rattle.dns_sockets.proofs.clients.udp_binding.bind_each.Given as goal
 
 -- as many sockets as rounds
 abbrev pub invariant-loop : goal.invariant-loop

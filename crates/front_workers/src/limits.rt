@@ -1,0 +1,21 @@
+//! The limits of messages, of exchanges and of a worker's failures.
+
+use dns_wire::MOST_OCTETS;
+
+/// The octets of the longest message: over TCP its length has two octets (RFC 1035, section 4.2.2).
+pub const MOST_MESSAGE: usize = MOST_OCTETS;
+
+/// The octets of the longest reply over UDP (RFC 1035, section 4.2.1).
+pub const MOST_UDP_REPLY: usize = 512;
+
+/// The octets of the longest datagram that a worker reads whole.
+pub const MOST_DATAGRAM: usize = 4096;
+
+/// The octets of the room for a datagram: one more than the longest that a worker reads whole, so truncation is detectable.
+pub const DATAGRAM_ROOM: usize = MOST_DATAGRAM + 1;
+
+/// The seconds that an exchange with a name server may take, connecting included, and so a client's message over TCP.
+pub const PATIENCE_SECONDS: u64 = 2;
+
+/// A worker ends after so many failures in a row.
+pub const MOST_FAILURES: u8 = 16;
