@@ -1,4 +1,4 @@
--- A question that a client asked, for contracts inside the crate.
+-- A client's question, for contracts inside the crate.
 use Rattle.std.specs.Prelude.{◌≡◌, ℕ, List}
 use Rattle.dns_text.specs.declared.record.Question.{Question}
 use Rattle.dns_wire.specs.declared.server.query.Query.{Query}
@@ -11,26 +11,26 @@ use Rattle.iterate.specs.declared.want.Want.TheVariants.{Book}
 use Rattle.history.specs.declared.event.Ask.TheVariants.{Answer as Asked}
 use Rattle.history.specs.declared.event.Event.TheVariants.{Look}
 use Rattle.front_workers.specs.Leads.{Calls, Ticks}
-use Rattle.flight.specs.declared.outside.Heard.{Heard}
+use Rattle.flight.specs.declared.outside.Listened.{Listened}
 use Rattle.flight.specs.Flight.{Sent, Hears, Answered, Awaits}
 use Rattle.flight.specs.Told.{IsHeard}
 
--- The client may have sent the octets, they are this query, and the task is for its question.
+-- The client may have sent these octets, they are this query, and the task is for its question.
 pub record IsAskedBy {K : Type 0} (sends : K → List ℕ → Type 0) (port : ℕ) (octets : List ℕ) (client : K) (query : Query) (task : State) : Type 0 where
   pub own : sends client octets
   pub good : AsksFor octets (Good query)
   pub question : task.question ≡ query.question
   pub port_is : task.port ≡ port
 
--- A question began by a look at it, at a reading of the clock: this came of that, and this is the number of the desk's latest call that it knows of.
+-- A question began by a lookup of it, at a reading of the clock. This came of it, and n is the number of the desk's latest call that the question knows of.
 pub record HasLooked {D C : Type 0} (calls : Calls D) (seen : D → ℕ) (hears : Hears) (ticks : Ticks C) (question : Question) (moment : ℕ) (came : Input) (n : ℕ) : Type 0 where
   pub clock : C
   pub clock' : C
   pub ticked : ticks clock moment clock'
   pub answered : Answered calls seen hears 0 (Book (Look moment (Asked question))) came n
 
--- A question waited for the reply to a query, of which this was heard.
-pub record HasHeard {D C : Type 0} (calls : Calls D) (seen : D → ℕ) (hears : Hears) (ticks : Ticks C) (port : ℕ) (question : Question) (steps : List Step) (heard : Heard) (n : ℕ) : Type 0 where
+-- A question waited for the reply to a query, and this was heard of it.
+pub record HasHeard {D C : Type 0} (calls : Calls D) (seen : D → ℕ) (hears : Hears) (ticks : Ticks C) (port : ℕ) (question : Question) (steps : List Step) (heard : Listened) (n : ℕ) : Type 0 where
   pub query : Sent
   pub awaits : Awaits calls seen hears ticks port question steps query n
   pub came : IsHeard (hears query) heard

@@ -1,16 +1,16 @@
--- What becomes of clients.
+-- The fate of clients: settled, or waiting for an exchange.
 use Rattle.std.specs.Prelude.{◌≡◌, ◌≤◌, ℕ, List}
 use Rattle.flight.specs.declared.counts.Counts.{Counts}
 use Rattle.flight.specs.Counted.{CountsSettled}
 use Rattle.flight.specs.Told.{Keeps}
 use Rattle.flight.specs.Waiting.{FlightState, GoesOnOrBegins, IsAccounted, WaitsFrom, outstanding}
 
--- One client is settled, and no other count changes. The port of name servers is the same, and what clients were told stays told.
+-- One client is settled, and no other counter changes. The port of name servers is the same, and replies stay sent.
 pub record Settles {W K : Type 0} (server_port : W → ℕ) (counts : W → Counts) (told : W → K → List ℕ → Type 0) (old new : W) : Type 0 where
   pub keeps : Keeps server_port told old new
   pub settled : CountsSettled (counts old) (counts new)
 
--- One client more is settled, or waits for an exchange that begins now. No exchange is listened to, and none expires. No more are under way than may be, if that was so before. What clients were told stays told.
+-- One client more is settled, or waits for an exchange that begins now. No exchange is listened to, and none expires. The limit of exchanges is kept if it was kept before. Replies stay sent.
 pub record SettlesOrWaits {W K : Type 0} (server_port : W → ℕ) (counts : W → Counts) (told : W → K → List ℕ → Type 0) (now : ℕ) (flight : FlightState) (old : W) (flight' : FlightState) (new : W) : Type 0 where
   pub keeps : Keeps server_port told old new
   pub accounted : IsAccounted 1 (outstanding flight) (counts old) (outstanding flight') (counts new)
@@ -20,7 +20,7 @@ pub record SettlesOrWaits {W K : Type 0} (server_port : W → ℕ) (counts : W �
   pub within : outstanding flight ≤ flight.limit → outstanding flight' ≤ flight.limit
   pub limit : flight'.limit ≡ flight.limit
 
--- No client is lost: each that waited is settled, or waits still. Each exchange under way was so before, or begins now, and there are no more of them. What clients were told stays told.
+-- No client is lost: each that waited is settled, or still waits. Each exchange under way was under way before or begins now, and there are no more of them. Replies stay sent.
 pub record LosesNone {W K : Type 0} (server_port : W → ℕ) (counts : W → Counts) (told : W → K → List ℕ → Type 0) (now : ℕ) (flight : FlightState) (old : W) (flight' : FlightState) (new : W) : Type 0 where
   pub keeps : Keeps server_port told old new
   pub accounted : IsAccounted 0 (outstanding flight) (counts old) (outstanding flight') (counts new)

@@ -1,9 +1,13 @@
--- How a worker counts what happens to clients and to exchanges.
+-- The counters of a worker, as clients are settled and exchanges begin and end.
 use Rattle.std.specs.Prelude.{◌≡◌, ◌⊎◌, ◌≤◌, ℕ, ◌-◌, ◌^◌}
 use Rattle.front_workers.specs.Counts.{Rises}
 use Rattle.flight.specs.declared.counts.Counts.{Counts}
-use Rattle.flight.specs.declared.outside.Heard.{Heard}
-use Rattle.flight.specs.declared.outside.Heard.TheVariants.{Nothing}
+use Rattle.flight.specs.declared.outside.Listened.{Listened}
+use Rattle.flight.specs.declared.outside.Listened.TheVariants.{Nothing}
+
+-- all counters at zero
+abbrev pub no_counts : Counts
+no_counts = record { settled = 0; opened = 0; ended = 0; listened = 0; expired = 0 }
 
 -- One client more was settled, and nothing else happened.
 pub record CountsSettled (old new : Counts) : Type 0 where
@@ -21,7 +25,7 @@ pub record CountsOpened (old new : Counts) : Type 0 where
   pub listened : new.listened ≡ old.listened
   pub expired : new.expired ≡ old.expired
 
--- One exchange more ended, whose time was up.
+-- One exchange more ended because its time was up.
 pub record CountsExpired (old new : Counts) : Type 0 where
   pub settled : new.settled ≡ old.settled
   pub opened : new.opened ≡ old.opened
@@ -29,13 +33,13 @@ pub record CountsExpired (old new : Counts) : Type 0 where
   pub listened : new.listened ≡ old.listened
   pub expired : Rises old.expired new.expired
 
--- An exchange goes on where nothing was heard, and else has ended.
-abbrev pub EndsBy : Heard → ℕ → ℕ → Type 0
+-- An exchange goes on if nothing was heard of it, and else has ended.
+abbrev pub EndsBy : Listened → ℕ → ℕ → Type 0
 EndsBy Nothing old new = new ≡ old
 EndsBy _ old new = Rises old new
 
--- An exchange was listened to once more, and this was heard.
-pub record CountsListened (heard : Heard) (old new : Counts) : Type 0 where
+-- A call listened to an exchange, and this was heard.
+pub record CountsListened (heard : Listened) (old new : Counts) : Type 0 where
   pub settled : new.settled ≡ old.settled
   pub opened : new.opened ≡ old.opened
   pub ended : EndsBy heard old.ended new.ended
@@ -50,6 +54,6 @@ pub record NeverFall (old new : Counts) : Type 0 where
   pub listened : old.listened ≤ new.listened
   pub expired : old.expired ≤ new.expired
 
--- The count of clients that were settled, or one of exchanges that began or ended, has its last value.
+-- The counter of settled clients, or that of exchanges that began or ended, has reached its last value.
 abbrev pub IsFull : Counts → Type 0
 IsFull counts = (2 ^ 64 - 1 ≤ counts.settled) ⊎ ((2 ^ 64 - 1 ≤ counts.opened) ⊎ (2 ^ 64 - 1 ≤ counts.ended))

@@ -1,4 +1,4 @@
--- Questions in flight: what one of them asks of the desk and of name servers, while others ask between.
+-- One question in flight: its calls of the desk and its exchanges with name servers, while other questions call between.
 use Rattle.std.specs.Prelude.{◌≡◌, ◌≤◌, ℕ, Ok, Err, List, []}
 use Rattle.dns_query.specs.declared.over.Over.{Over}
 use Rattle.dns_text.specs.declared.addr.Addr.{Addr}
@@ -14,27 +14,28 @@ use Rattle.iterate.specs.declared.want.Want.{Want}
 use Rattle.iterate.specs.declared.want.Want.TheVariants.{Book, Send, Finish}
 use Rattle.front_workers.specs.Leads.{Calls, Ticks, Lent, Draws}
 
--- a query that went out: to which server, over what, its octets
+-- a query that went out: the server, the transport, and the octets
 pub record Sent : Type 0 where
   pub server : Addr
   pub over : Over
   pub query : List ℕ
 
+-- the query with these octets to this server, over this transport
 abbrev pub query_to : Addr → Over → List ℕ → Sent
 query_to server over query = record { server = server; over = over; query = query }
 
--- what may be heard of a query
+-- the octets that may come as the reply to a query
 abbrev pub Hears : Type 1
 Hears = Sent → List ℕ → Type 0
 
--- What a question wants is answered by one call of the desk, whose calls are numbered, or by one exchange. The first number is that of the latest call that the desk knew of when this question last called it, 0 before; the last is the same afterwards. Between two calls of this question others may lie.
+-- One call of the desk, or one exchange, answers what a question wants. The desk numbers its calls. The first number is that of the latest call that the desk knew of when this question last called it, 0 before its first call. The last number is the same afterwards. Calls of other questions may come between two calls of this one.
 pub data Answered {D : Type 0} (calls : Calls D) (seen : D → ℕ) (hears : Hears) : ℕ → Want → Input → ℕ → Type 0 where
   replied : {n n' : ℕ} {d d' : D} {event : Event} {reply : Reply} → n ≤ seen d → calls d event (Ok reply) d' → n' ≡ seen d' → Answered calls seen hears n (Book event) (Replied reply) n'
   refused : {n n' : ℕ} {d d' : D} {event : Event} {fault : DeskFault} → n ≤ seen d → calls d event (Err fault) d' → n' ≡ seen d' → Answered calls seen hears n (Book event) (Refused fault) n'
   came : {n : ℕ} {server : Addr} {over : Over} {query octets : List ℕ} → hears (query_to server over query) octets → Answered calls seen hears n (Send server over query) (Came octets) n
   failed : {n : ℕ} {server : Addr} {over : Over} {query : List ℕ} → Answered calls seen hears n (Send server over query) Failed n
 
--- The task of a question took these steps, each at a reading of the clock, each query with an identifier drawn of the generator, and each step after the first behind the answer to the want before it. This input comes next, and this is the number of the desk's latest call that it knows of.
+-- The task of a question took these steps. Each step read the clock, each query has an identifier that the generator drew, and each step but the first had the answer to the want before it. This input comes next, and n is the number of the desk's latest call that the question knows of.
 pub data Flies {D C : Type 0} (calls : Calls D) (seen : D → ℕ) (hears : Hears) (ticks : Ticks C) (port : ℕ) (question : Question) : List Step → Input → ℕ → Type 0 where
   begins : Flies calls seen hears ticks port question [] Begin 0
   goes_on : {steps after : List Step} {input next : Input} {want : Want} {l l' : Lent C} {n n' : ℕ}
@@ -42,7 +43,7 @@ pub data Flies {D C : Type 0} (calls : Calls D) (seen : D → ℕ) (hears : Hear
       → Draws ticks port question steps input l want after l' → Answered calls seen hears n want next n'
       → Flies calls seen hears ticks port question after next n'
 
--- After these steps a question's task wants this, and nothing has come of it.
+-- After these steps the task of a question wants this, and has no answer to it yet.
 pub record IsOpen {D C : Type 0} (calls : Calls D) (seen : D → ℕ) (hears : Hears) (ticks : Ticks C) (port : ℕ) (question : Question) (steps : List Step) (want : Want) (n : ℕ) : Type 0 where
   pub before : List Step
   pub input : Input
@@ -51,11 +52,11 @@ pub record IsOpen {D C : Type 0} (calls : Calls D) (seen : D → ℕ) (hears : H
   pub flies : Flies calls seen hears ticks port question before input n
   pub draws : Draws ticks port question before input l want steps l'
 
--- It waits for the reply to a query.
+-- The task waits for the reply to a query.
 abbrev pub Awaits : {D C : Type 0} → Calls D → (D → ℕ) → Hears → Ticks C → ℕ → Question → List Step → Sent → ℕ → Type 0
 Awaits calls seen hears ticks port question steps query n = IsOpen calls seen hears ticks port question steps (Send query.server query.over query.query) n
 
--- It ends in this answer, which a task may give after its steps (what it may give resolves the question).
+-- The task ends in this answer, which its steps allow it to give: the answer resolves the question.
 pub record Lands {D C : Type 0} (calls : Calls D) (seen : D → ℕ) (hears : Hears) (ticks : Ticks C) (port : ℕ) (question : Question) (answer : Answer) : Type 0 where
   pub steps : List Step
   pub n : ℕ

@@ -1,4 +1,4 @@
--- What the definitions come to at a seat of a shared book.
+-- Laws of the definitions at a seat of a shared book.
 use Rattle.std.specs.Prelude.{◌≤◌, ◌<◌, ℕ}
 use Rattle.history.specs.declared.event.Event.{Event}
 use Rattle.history.specs.declared.event.Reply.{Reply}
@@ -15,7 +15,7 @@ use Rattle.flight.specs.Flight.{Hears, Answered}
 abbrev pub NumbersNeverFall : {D : Type 0} → Calls D → (D → ℕ) → Hears → Type 0
 NumbersNeverFall calls seen hears = (n n' : ℕ) (want : Want) (input : Input) → Answered calls seen hears n want input n' → n ≤ n'
 
--- Each reply of the book to a question has a receipt with a higher number than those before it, and is that of some history of as many events as there were calls before that.
+-- Each reply of the book to a question has a receipt with a higher number than those before it. It is the reply that some history gives whose length is the number of calls before it.
 abbrev pub ReceiptsRise : {D : Type 0} → Calls D → (D → ℕ) → Hears → Settings → Type 0
 ReceiptsRise calls seen hears settings =
     (n n' : ℕ) (event : Event) (reply : Reply) → Answered calls seen hears n (Book event) (Replied reply) n' → (n < n') × IsJustified settings n' event reply

@@ -4,22 +4,22 @@ use Rattle.std.specs.List.{All, list_any}
 use Rattle.std.specs.List.Sorted.{IsNonDecreasingBy}
 use Rattle.flight.specs.declared.table.Wait.{Wait}
 
--- whether the exchange that began then under this key stands in the queue
+-- whether the queue has the exchange that began at this moment under this key
 abbrev pub is_queued : List Wait → ℕ → ℕ → Bool
 is_queued waits key since = list_any (λ wait. (wait.key == key) && (wait.since == since)) waits
 
--- Exchanges stand in the order in which they began, none behind the latest moment, and each that is under way is among them.
+-- The queue is in the order in which exchanges began, none after the latest moment, and has each exchange that is under way.
 pub record IsQueue (exchanges : List (Option ℕ)) (waits : List Wait) (latest : ℕ) : Type 0 where
   pub ordered : IsNonDecreasingBy (λ wait. wait.since) waits
   pub past : All (λ wait. wait.since ≤ latest) waits
   pub queued : (key since : ℕ) → slice_index_or exchanges key None ≡ Some since → IsTrue (is_queued waits key since)
 
--- This is the first.
+-- This exchange is the first of the queue.
 pub record FirstIs (waits : List Wait) (wait : Wait) : Type 0 where
   pub rest : List Wait
   pub is : waits ≡ wait ∷ rest
 
--- This is the first, and began so many milliseconds ago or more.
+-- This exchange is the first of the queue, and began at least so many milliseconds ago.
 pub record IsFirstDue (patience now : ℕ) (waits : List Wait) (wait : Wait) : Type 0 where
   pub first : FirstIs waits wait
   pub due : wait.since + patience ≤ now

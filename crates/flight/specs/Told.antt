@@ -1,4 +1,4 @@
--- What a client is told over UDP.
+-- The reply to a client over UDP.
 use Rattle.std.specs.Prelude.{◌≡◌, ℕ, Option, Bool, List}
 use Rattle.dns_query.specs.declared.over.Over.TheVariants.{Udp}
 use Rattle.dns_wire.specs.declared.server.query.Query.{Query}
@@ -6,30 +6,30 @@ use Rattle.dns_wire.specs.declared.server.query.Asked.TheVariants.{Drop, Fault, 
 use Rattle.dns_wire.specs.Server.Asking.{AsksFor}
 use Rattle.iterate.specs.declared.answer.Answer.TheVariants.{Reply as Replies, Silent}
 use Rattle.iterate.specs.declared.answer.Soa.{Soa}
-use Rattle.iterate.specs.declared.answer.Told.{Told}
+use Rattle.iterate.specs.declared.answer.AnswerSet.{AnswerSet}
 use Rattle.front_workers.specs.Leads.{Calls, Ticks}
 use Rattle.front_workers.specs.Serves.{fault_octets, reply_told, Written}
 use Rattle.flight.specs.declared.reply.ReplyOctets.{ReplyOctets}
 use Rattle.flight.specs.declared.reply.ReplyOctets.TheVariants.{Header, Message}
-use Rattle.flight.specs.declared.outside.Heard.{Heard}
-use Rattle.flight.specs.declared.outside.Heard.TheVariants.{Came}
+use Rattle.flight.specs.declared.outside.Listened.{Listened}
+use Rattle.flight.specs.declared.outside.Listened.TheVariants.{Came}
 use Rattle.flight.specs.Flight.{Hears, Lands}
 
--- Octets may be told this reply: that of their fault, or that of an answer in which their question ended.
+-- The octets of a client may get this reply: the one that reports their fault, or the one that spells an answer in which their question ended.
 pub data IsTold {D C : Type 0} (calls : Calls D) (seen : D → ℕ) (hears : Hears) (ticks : Ticks C) (port : ℕ) (m out : List ℕ) : Type 0 where
   faulty : {rcode : ℕ} → AsksFor m (Fault rcode) → out ≡ fault_octets m rcode → IsTold calls seen hears ticks port m out
-  answered : {query : Query} {rcode : ℕ} {aa : Bool} {aliases : List Told} {last : Option Told} {authority : Option Soa}
+  answered : {query : Query} {rcode : ℕ} {aa : Bool} {aliases : List AnswerSet} {last : Option AnswerSet} {authority : Option Soa}
       → AsksFor m (Good query) → Lands calls seen hears ticks port query.question (Replies rcode aa aliases last authority)
       → Written Udp m query (reply_told query rcode aa aliases last authority) out
       → IsTold calls seen hears ticks port m out
 
--- No reply is owed: the octets ask for none, or their question ended in silence.
+-- The octets of a client are owed no reply: they ask for none, or their question ended in silence.
 pub data IsUntold {D C : Type 0} (calls : Calls D) (seen : D → ℕ) (hears : Hears) (ticks : Ticks C) (port : ℕ) (m : List ℕ) : Type 0 where
   dropped : AsksFor m Drop → IsUntold calls seen hears ticks port m
   silent : {query : Query} → AsksFor m (Good query) → Lands calls seen hears ticks port query.question Silent → IsUntold calls seen hears ticks port m
 
--- What came is such.
-abbrev pub IsHeard : (List ℕ → Type 0) → Heard → Type 0
+-- If octets came, they are such.
+abbrev pub IsHeard : (List ℕ → Type 0) → Listened → Type 0
 IsHeard may (Came octets) = may octets
 IsHeard may _ = Unit {0}
 
@@ -38,7 +38,7 @@ abbrev pub octets_of : ReplyOctets → List ℕ
 octets_of (Header octets) = octets
 octets_of (Message octets) = octets.items
 
--- Between two states of a worker's sockets the port of name servers is the same, and whatever a client was told stays told.
+-- Between two states of a worker's sockets the port of name servers is the same, and each reply that was sent, or waits to be sent, still is.
 pub record Keeps {W K : Type 0} (server_port : W → ℕ) (told : W → K → List ℕ → Type 0) (old new : W) : Type 0 where
   pub port : server_port new ≡ server_port old
   pub kept : (client : K) (octets : List ℕ) → told old client octets → told new client octets

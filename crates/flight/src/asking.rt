@@ -1,29 +1,29 @@
-//! A question on its way.
+//! A client's question and its task.
 
 ghost use Rattle.std.specs.Prelude.{◌≡◌, ◌≤◌};
 ghost use Rattle.iterate.specs.declared.want.Want.{Want};
 ghost use Rattle.flight.specs.Flight.{Answered};
 
-use crate::line::Line;
+use crate::line::InFlight;
 use crate::numbered::Numbered;
 use dns_wire::Query;
 use history::Event;
 use iterate::{Input, Task};
 
-/// A question on its way, and whose it is.
+/// A client's question and its task.
 #[derive(Drop)]
 pub(crate) struct Asking<K> {
     pub(crate) client: K,
     pub(crate) query: Query,
-    /// The port with which the task began.
+    /// The port of name servers with which the task began.
     pub(crate) port: u16,
     pub(crate) task: Task,
-    /// The number of the desk's latest call that it knows of.
+    /// The number of the desk's latest call when this question last called it.
     pub(crate) seen: u64,
 }
 
-/// Hands the event of a question to the desk.
-pub(crate) fn ask<D: Numbered, L: Line>(desk: &mut D, seen: &mut u64, event: Event) -> Input
+/// Calls the desk with an event of a question.
+pub(crate) fn ask<D: Numbered, L: InFlight>(desk: &mut D, seen: &mut u64, event: Event) -> Input
     requires known { seen.old ≤ D.seen desk.old }
     ensures answered { Answered D.calls D.seen L.hears seen.old (Want.Book event) result seen.new }
     ensures known { seen.new ≡ D.seen desk.new }

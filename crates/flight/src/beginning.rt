@@ -1,4 +1,4 @@
-//! How a question begins.
+//! The beginning of a question: its first lookup, then its task.
 
 ghost use Rattle.std.specs.Prelude.{◌≤◌};
 ghost use Rattle.dns_wire.specs.declared.server.query.Asked.TheVariants.{Good};
@@ -8,7 +8,7 @@ ghost use Rattle.flight.specs.Clients.{SettlesOrWaits};
 
 use crate::asking::{Asking, ask};
 use crate::engine::Flight;
-use crate::line::Line;
+use crate::line::InFlight;
 use crate::numbered::Numbered;
 use crate::outside::{Client, Outside, Unserved};
 use crate::telling::tell;
@@ -18,8 +18,8 @@ use front_workers::copy_question;
 use iterate::{Input, Task, first_look, resolved_law, settled};
 use rand_core::Rng;
 
-impl<D: Numbered, L: Line, C: Clock, G: Rng, K: Client> Flight<D, L, C, G, K> {
-    /// Begins the question of a query by its first look. What is held or local settles it at once, without a task.
+impl<D: Numbered, L: InFlight, C: Clock, G: Rng, K: Client> Flight<D, L, C, G, K> {
+    /// Begins the question of a query by its first lookup. A cached or local answer settles it at once, without a task.
     pub(crate) fn begin_query<O: Outside<D, L, C, K>>(
         &mut self,
         desk: &mut D,
@@ -37,6 +37,7 @@ impl<D: Numbered, L: Line, C: Clock, G: Rng, K: Client> Flight<D, L, C, G, K> {
         let moment = self.clock.now();
         let Ok(look) = first_look(&query.question, moment) else {
             outside.fail(client, octets, Unserved::NoMemory);
+            drop(query);
             return;
         };
         let mut seen = 0;
@@ -44,18 +45,26 @@ impl<D: Numbered, L: Line, C: Clock, G: Rng, K: Client> Flight<D, L, C, G, K> {
         match settled(self.alloc, &query.question, &came) {
             Ok(Some(answer)) => {
                 tell::<D, L, C, K, O>(self.alloc, outside, client, &query, octets, &answer);
+                // Dropped by calls: the proof then does not follow what these values may hold.
+                drop(answer);
+                drop(came);
+                drop(query);
             }
             Ok(None) => {
                 self.begin_task(
                     desk, outside, now, client, octets, query, moment, came, seen,
                 );
             }
-            Err(_) => outside.fail(client, octets, Unserved::NoMemory),
+            Err(_) => {
+                outside.fail(client, octets, Unserved::NoMemory);
+                drop(came);
+                drop(query);
+            }
         }
     }
 
-    /// Begins the task of a question that its first look, at this moment, did not settle. It stands apart, since a task takes
-    /// much of the stack.
+    /// Begins the task of a question that its first lookup, at this moment, did not settle. It is a function of its own
+    /// because a task takes much of the stack.
     #[inline(never)]
     fn begin_task<O: Outside<D, L, C, K>>(
         &mut self,

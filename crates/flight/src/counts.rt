@@ -1,29 +1,29 @@
-//! What a worker counts.
+//! The counters of a worker.
 
 ghost use Rattle.std.specs.Prelude.{◌≡◌};
-ghost use Rattle.flight.specs.Counted.{CountsExpired, CountsListened, CountsOpened, CountsSettled};
+ghost use Rattle.flight.specs.Counted.{CountsExpired, CountsListened, CountsOpened, CountsSettled, no_counts};
 
-use crate::outside::Heard;
+use crate::outside::Listened;
 
-/// What a worker counted. Each count ends at 2^64 - 1.
+/// The counters of a worker. Each stops at 2^64 - 1.
 #[derive(Clone, Copy, PartialEq, Eq)]
 pub struct Counts {
-    /// Clients that were told a reply, told that the server failed, or owed none.
+    /// Clients that got a reply, got SERVFAIL, or were owed no reply.
     pub settled: u64,
     /// Exchanges that began.
     pub opened: u64,
-    /// Exchanges that were seen to end: a reply came, they broke, or their time was up.
+    /// Exchanges that ended: a reply came, the exchange broke, or its time was up.
     pub ended: u64,
-    /// How often an exchange was listened to.
+    /// Calls that listened to an exchange.
     pub listened: u64,
-    /// Exchanges of those that ended whose time was up.
+    /// Exchanges that ended because their time was up.
     pub expired: u64,
 }
 
 impl Counts {
-    /// Nothing happened yet.
+    /// All counters at zero.
     pub fn new() -> Counts
-        ensures { result ≡ record { settled = 0; opened = 0; ended = 0; listened = 0; expired = 0 } }
+        ensures { result ≡ no_counts }
     {
         Counts {
             settled: 0,
@@ -34,31 +34,31 @@ impl Counts {
         }
     }
 
-    /// A client was settled.
+    /// Counts a client that was settled.
     pub fn settle(&mut self)
         ensures { CountsSettled self.old self.new }
     {
         self.settled = self.settled.saturating_add(1);
     }
 
-    /// An exchange began.
+    /// Counts an exchange that began.
     pub fn open(&mut self)
         ensures { CountsOpened self.old self.new }
     {
         self.opened = self.opened.saturating_add(1);
     }
 
-    /// An exchange was listened to.
-    pub fn listen(&mut self, heard: &Heard)
+    /// Counts a call that listened to an exchange, and the end of the exchange if something was heard.
+    pub fn listen(&mut self, heard: &Listened)
         ensures { CountsListened heard.now self.old self.new }
     {
         self.listened = self.listened.saturating_add(1);
-        if !matches!(heard, Heard::Nothing) {
+        if !matches!(heard, Listened::Nothing) {
             self.ended = self.ended.saturating_add(1);
         }
     }
 
-    /// An exchange ended whose time was up.
+    /// Counts an exchange that ended because its time was up.
     pub fn expire(&mut self)
         ensures { CountsExpired self.old self.new }
     {

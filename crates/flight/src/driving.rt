@@ -1,4 +1,4 @@
-//! How a question goes on.
+//! The course of a question from one exchange to the next.
 
 ghost use Rattle.std.specs.Prelude.{◌≡◌, ◌≤◌, ◌+◌};
 ghost use Rattle.front_workers.specs.Counts.{Rises};
@@ -12,9 +12,9 @@ ghost use Rattle.iterate.specs.declared.want.Want.{Want};
 use crate::asking::{Asking, ask};
 use crate::engine::Flight;
 use crate::job::Job;
-use crate::line::Line;
+use crate::line::InFlight;
 use crate::numbered::Numbered;
-use crate::outside::{Client, Heard, Outside, Unserved};
+use crate::outside::{Client, Listened, Outside, Unserved};
 use crate::telling::{refuse, tell};
 use command_text::Clock;
 use dns_text::Octets;
@@ -22,8 +22,8 @@ use iterate::{Input, Want, due_law};
 use rand_core::Rng;
 use std::marker::PhantomData;
 
-impl<D: Numbered, L: Line, C: Clock, G: Rng, K: Client> Flight<D, L, C, G, K> {
-    /// Ends the exchange of a question that waited, whose time is up, unless its reply is there by now.
+impl<D: Numbered, L: InFlight, C: Clock, G: Rng, K: Client> Flight<D, L, C, G, K> {
+    /// Ends the exchange of a question whose time is up. A reply that is there by now is still used.
     pub(crate) fn end<O: Outside<D, L, C, K>>(
         &mut self,
         desk: &mut D,
@@ -45,14 +45,14 @@ impl<D: Numbered, L: Line, C: Clock, G: Rng, K: Client> Flight<D, L, C, G, K> {
         } = job;
         let heard = outside.hear(&mut line);
         match &heard {
-            Heard::Nothing => outside.expire(line),
+            Listened::Nothing => outside.expire(line),
             _ => drop(line),
         }
         self.go_on(desk, outside, now, asking, octets, heard);
     }
 
-    /// Goes on with a question whose exchange ended, by what was heard of it: nothing where its time was up. What the
-    /// question began with is where it began, unless the caller mixed two.
+    /// Goes on with a question whose exchange ended, by what was heard of it (nothing if its time was up). The desk and the
+    /// port must be those with which the question began: a caller that passes others gets SERVFAIL for its client.
     pub(crate) fn go_on<O: Outside<D, L, C, K>>(
         &mut self,
         desk: &mut D,
@@ -60,7 +60,7 @@ impl<D: Numbered, L: Line, C: Clock, G: Rng, K: Client> Flight<D, L, C, G, K> {
         now: u64,
         asking: Asking<K>,
         octets: Octets,
-        heard: Heard,
+        heard: Listened,
     )
         requires asked { IsAskedBy K.sent asking.port octets asking.client asking.query asking.task }
         requires heard { HasHeard D.calls D.seen L.hears C.ticks asking.port asking.query.question asking.task.steps.items
@@ -68,9 +68,9 @@ impl<D: Numbered, L: Line, C: Clock, G: Rng, K: Client> Flight<D, L, C, G, K> {
         ensures { SettlesOrWaits O.server_port O.counts O.told now self.old outside.old self.new outside.new }
     {
         let input = match heard {
-            Heard::Came(reply) => Input::Came(reply),
-            Heard::Nothing | Heard::Broken => Input::Failed,
-            Heard::NoMemory => {
+            Listened::Came(reply) => Input::Came(reply),
+            Listened::Nothing | Listened::Broken => Input::Failed,
+            Listened::NoMemory => {
                 refuse::<D, L, C, K, O>(outside, asking, octets.as_slice(), Unserved::NoMemory);
                 return;
             }
@@ -82,7 +82,7 @@ impl<D: Numbered, L: Line, C: Clock, G: Rng, K: Client> Flight<D, L, C, G, K> {
         self.drive(desk, outside, now, asking, octets.as_slice(), input);
     }
 
-    /// Goes on with a question until it waits for an exchange or its client is settled.
+    /// Goes on with a question until it waits for an exchange, or its client is settled.
     pub(crate) fn drive<O: Outside<D, L, C, K>>(
         &mut self,
         desk: &mut D,
@@ -117,7 +117,7 @@ impl<D: Numbered, L: Line, C: Clock, G: Rng, K: Client> Flight<D, L, C, G, K> {
                         ..
                     } = asking;
                     tell::<D, L, C, K, O>(self.alloc, outside, client, &query, octets, &answer);
-                    // Dropped by calls, since the proof then does not follow what they may hold.
+                    // Dropped by calls: the proof then does not follow what these values may hold.
                     drop(answer);
                     drop(query);
                     drop(task);

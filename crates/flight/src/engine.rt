@@ -1,4 +1,4 @@
-//! Questions in flight.
+//! The questions of one worker that are in flight.
 
 ghost use Rattle.std.specs.Prelude.{◌≡◌, ◌⊎◌, ◌+◌, [], None, IfSome};
 ghost use Rattle.dns_wire.specs.declared.server.query.Asked.TheVariants.{Good};
@@ -8,9 +8,9 @@ ghost use Rattle.flight.specs.Clients.{LosesNone, SettlesOrWaits};
 ghost use Rattle.flight.specs.Waiting.{EarlyGoOn, IsPatient, IsPatientUntil, OthersGoOn, outstanding, since_at, time_left};
 
 use crate::job::Job;
-use crate::line::Line;
+use crate::line::InFlight;
 use crate::numbered::Numbered;
-use crate::outside::{Client, Heard, Outside, Unserved};
+use crate::outside::{Client, Listened, Outside, Unserved};
 use crate::reply::ReplyOctets;
 use crate::table::{PATIENCE, Table};
 use crate::telling::fault_of;
@@ -20,10 +20,9 @@ use rand_core::Rng;
 use std::alloc::Global;
 use std::marker::Model;
 
-/// The questions of a worker that are in flight. Contracts see the exchanges that clients wait for, and since when each is
-/// under way.
+/// The questions of one worker that are in flight. Contracts see the exchanges that clients wait for, and when each began.
 #[derive(Drop)]
-pub struct Flight<D: Numbered, L: Line, C: Clock, G: Rng, K: Client> {
+pub struct Flight<D: Numbered, L: InFlight, C: Clock, G: Rng, K: Client> {
     pub(crate) alloc: Global,
     pub(crate) clock: C,
     /// Draws the identifiers of queries.
@@ -31,17 +30,22 @@ pub struct Flight<D: Numbered, L: Line, C: Clock, G: Rng, K: Client> {
     pub(crate) table: Table<D, L, C, K>,
 }
 
-impl<D: Numbered, L: Line, C: Clock, G: Rng, K: Client> Model for Flight<D, L, C, G, K> {
+impl<D: Numbered, L: InFlight, C: Clock, G: Rng, K: Client> Model for Flight<D, L, C, G, K> {
     ghost use Rattle.std.specs.Prelude.{map};
     ghost use Rattle.flight.specs.Waiting.{FlightState};
 
     ghost Value = { FlightState };
 
-    ghost view = { λ f. record { exchanges = f.table.jobs.slots; begun = map (λ wait. wait.since) f.table.waits.items; latest = f.table.latest; limit = f.table.limit } };
+    ghost view = { λ f. record {
+      exchanges = f.table.jobs.slots;
+      begun = map (λ wait. wait.since) f.table.waits.items;
+      latest = f.table.latest;
+      limit = f.table.limit;
+    } };
 }
 
-impl<D: Numbered, L: Line, C: Clock, G: Rng, K: Client> Flight<D, L, C, G, K> {
-    /// None in flight, and at most so many exchanges under way.
+impl<D: Numbered, L: InFlight, C: Clock, G: Rng, K: Client> Flight<D, L, C, G, K> {
+    /// No question in flight. At most `limit` exchanges may be under way.
     pub fn new(alloc: Global, clock: C, ids: G, limit: usize) -> Flight<D, L, C, G, K>
         ensures { result ≡ record { exchanges = []; begun = []; latest = 0; limit = limit } }
     {
@@ -53,15 +57,15 @@ impl<D: Numbered, L: Line, C: Clock, G: Rng, K: Client> Flight<D, L, C, G, K> {
         }
     }
 
-    /// How many exchanges are under way, each of which a client waits for.
+    /// The number of exchanges under way. One client waits for each.
     pub fn outstanding(&self) -> usize
         ensures { result ≡ outstanding self.now }
     {
         self.table.jobs.len()
     }
 
-    /// How many milliseconds until `expire` has something to do: what the exchange that began first has left, which may
-    /// have ended since. None only where no exchange is under way.
+    /// The milliseconds until `expire` has something to do: the time that the oldest exchange has left. That exchange may have
+    /// ended since. Returns `None` only if no exchange is under way.
     pub fn next_expiry(&self, now: u64) -> Option<u64>
         ensures first { result ≡ time_left PATIENCE now self.now.begun }
         ensures idle { result ≡ None → outstanding self.now ≡ 0 }
@@ -70,7 +74,7 @@ impl<D: Numbered, L: Line, C: Clock, G: Rng, K: Client> Flight<D, L, C, G, K> {
         self.table.next_expiry(now)
     }
 
-    /// Takes octets that came from a client: it is told at once, or waits for an exchange. `now` is in milliseconds.
+    /// Takes the octets of a client. The client gets its reply at once, or waits for an exchange. `now` is in milliseconds.
     pub fn begin<O: Outside<D, L, C, K>>(
         &mut self,
         desk: &mut D,
@@ -96,8 +100,8 @@ impl<D: Numbered, L: Line, C: Clock, G: Rng, K: Client> Flight<D, L, C, G, K> {
         }
     }
 
-    /// Listens on the line under a key, and ends its exchange where something came. There may be nothing yet, and no line: an
-    /// event of readiness is only a hint.
+    /// Listens to the exchange under a key, and ends it if something came. Readiness events are only hints: nothing may have
+    /// come yet, and the key may name no exchange.
     pub fn look<O: Outside<D, L, C, K>>(
         &mut self,
         desk: &mut D,
@@ -123,7 +127,7 @@ impl<D: Numbered, L: Line, C: Clock, G: Rng, K: Client> Flight<D, L, C, G, K> {
             clock,
         } = job;
         match outside.hear(&mut line) {
-            Heard::Nothing => self.table.put_back(Job {
+            Listened::Nothing => self.table.put_back(Job {
                 asking,
                 octets,
                 line,
@@ -138,7 +142,7 @@ impl<D: Numbered, L: Line, C: Clock, G: Rng, K: Client> Flight<D, L, C, G, K> {
         }
     }
 
-    /// Ends each exchange that has taken `PATIENCE` milliseconds, and whose reply is not there by now.
+    /// Ends each exchange that has taken `PATIENCE` milliseconds. A reply that is there by now is still used.
     pub fn expire<O: Outside<D, L, C, K>>(&mut self, desk: &mut D, outside: &mut O, now: u64)
         ensures patient { IsPatient PATIENCE now self.new }
         ensures early { EarlyGoOn PATIENCE now self.old self.new }

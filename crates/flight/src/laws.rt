@@ -1,8 +1,8 @@
-//! What the definitions come to at a seat of a shared book.
+//! Laws of the definitions at a seat of a shared book.
 
 ghost use Rattle.flight.specs.Laws.{NumbersNeverFall, ReceiptsRise};
 
-use crate::line::Line;
+use crate::line::InFlight;
 use crate::numbered::Numbered;
 use history::{Book, Desk};
 use shared_book::{CallLedger, Seat};
@@ -10,12 +10,12 @@ use std::sync::Wait;
 
 /// The number of the latest call that a question knows of never falls.
 #[tactic(auto, using(crate::proofs::Seats::never_falls))]
-pub fn fall_law<B: Book + 'static, P: CallLedger + 'static, R: Wait + 'static, L: Line>()
+pub fn fall_law<B: Book + 'static, P: CallLedger + 'static, R: Wait + 'static, L: InFlight>()
     ensures { NumbersNeverFall (⟦<Seat<'static, B, P, R> as Desk>⟧.calls) (⟦<Seat<'static, B, P, R> as Numbered>⟧.seen) L.hears }
 {}
 
 /// Each reply of the book to a question has a receipt with a higher number than those before it.
 #[tactic(auto, using(crate::proofs::Seats::rises))]
-pub fn rise_law<B: Book + 'static, P: CallLedger + 'static, R: Wait + 'static, L: Line>()
+pub fn rise_law<B: Book + 'static, P: CallLedger + 'static, R: Wait + 'static, L: InFlight>()
     ensures { ReceiptsRise (⟦<Seat<'static, B, P, R> as Desk>⟧.calls) (⟦<Seat<'static, B, P, R> as Numbered>⟧.seen) L.hears P.settings }
 {}

@@ -1,42 +1,42 @@
-//! Many questions in flight in one worker: each is a task that waits for one reply, and the worker carries octets between
-//! tasks, the desk and the lines. It owns no socket.
+//! Many questions in flight in one worker. Each is a task that waits for one reply, and the worker carries octets between
+//! tasks, the desk and the exchanges. It owns no socket.
 #![tactic(auto)]
 
 // In the order in which to read them.
 
-// A desk whose calls are numbered.
+// A desk that numbers its calls.
 mod numbered;
-// An exchange under way.
+// An exchange under way with a name server.
 mod line;
-// What a worker counts.
+// The counters of a worker.
 mod counts;
 // The octets of a reply.
 mod reply;
-// Clients and the sockets of a worker.
+// The clients of a worker, and its sockets.
 mod outside;
-// A question on its way.
+// A client's question and its task.
 mod asking;
-// A question that waits for the reply to a query.
+// A client's question that waits for the reply to an upstream query.
 mod job;
-// The questions that wait, and since when.
+// The questions that wait, and when each began to.
 mod table;
-// What a client is told.
+// The reply to a client.
 mod telling;
-// Questions in flight.
+// The questions of one worker that are in flight.
 mod engine;
-// How a question begins.
+// The beginning of a question: its first lookup, then its task.
 mod beginning;
-// How a question goes on.
+// The course of a question from one exchange to the next.
 mod driving;
 
-// What the definitions come to at a seat of a shared book.
+// Laws of the definitions at a seat of a shared book.
 mod laws;
 
 pub use counts::Counts;
 pub use engine::Flight;
 pub use laws::{fall_law, rise_law};
-pub use line::Line;
+pub use line::InFlight;
 pub use numbered::Numbered;
-pub use outside::{Client, Heard, Outside, Unserved};
+pub use outside::{Client, Listened, Outside, Unserved};
 pub use reply::ReplyOctets;
 pub use table::PATIENCE;

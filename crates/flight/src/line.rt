@@ -1,13 +1,13 @@
-//! An exchange under way.
+//! An exchange under way with a name server.
 
 ghost use Rattle.std.specs.Prelude.{ℕ, List};
 ghost use Rattle.flight.specs.Flight.{Sent};
 
 /// An exchange under way with a name server. Dropping it closes it.
-pub trait Line: Drop {
+pub trait InFlight: Drop {
     /// The query that went out.
     ghost asked: { Self → Sent };
 
-    /// What may be heard of a query.
+    /// The octets that may come as the reply to a query.
     ghost hears: { Sent → List ℕ → Type 0 };
 }

@@ -1,4 +1,4 @@
-//! A desk whose calls are numbered.
+//! A desk that numbers its calls.
 
 ghost use Rattle.std.specs.Prelude.{◌≡◌, ℕ};
 
@@ -6,12 +6,12 @@ use history::{Book, Desk};
 use shared_book::{CallLedger, Seat};
 use std::sync::Wait;
 
-/// A desk whose calls are numbered, as those of a seat at a shared book.
+/// A desk that numbers its calls, as a seat of a shared book does.
 pub trait Numbered: Desk {
-    /// The number of the latest call that it knows of.
+    /// The number of the latest call that this desk knows of.
     ghost seen: { Self → ℕ };
 
-    /// The number of the latest call that it knows of.
+    /// The number of the latest call that this desk knows of.
     fn seen(&self) -> u64
         ensures { result ≡ seen self.now };
 }

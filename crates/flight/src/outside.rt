@@ -1,4 +1,4 @@
-//! Clients and the sockets of a worker.
+//! The clients of a worker, and its sockets.
 
 ghost use Rattle.std.specs.Prelude.{◌≡◌, ◌≤◌, ℕ, List, length, IfNone, IfSome, OnSome};
 ghost use Rattle.dns_wire.specs.declared.server.query.Asked.TheVariants.{Drop};
@@ -10,83 +10,83 @@ ghost use Rattle.flight.specs.Counted.{CountsExpired, CountsListened, CountsOpen
 ghost use Rattle.flight.specs.Flight.{query_to};
 ghost use Rattle.flight.specs.Told.{octets_of, IsHeard, IsTold, IsUntold, Keeps};
 
-use crate::line::Line;
+use crate::line::InFlight;
 use crate::numbered::Numbered;
 use crate::reply::ReplyOctets;
 use command_text::Clock;
 use dns_query::Over;
 use dns_text::{Addr, Octets, Shared};
 
-/// Someone who waits for the reply to what it sent. It has no copy, and each end takes it.
+/// A client that is owed a reply. It cannot be cloned and every outcome consumes it, so it is answered at most once.
 pub trait Client: Drop {
-    /// It may have sent these octets.
+    /// The client may have sent these octets.
     ghost sent: { Self → List ℕ → Type 0 };
 }
 
-/// What listening gave.
+/// The result of listening to an exchange.
 #[derive(Drop)]
-pub enum Heard {
+pub enum Listened {
     /// Nothing yet.
     Nothing,
-    /// These octets, and nothing more.
+    /// These octets came, and nothing more will.
     Came(Octets),
-    /// Nothing, then or later: the device failed, the server closed, or what it said first over TCP does not fit.
+    /// Nothing will come: the device failed, the server closed the connection, or its first message over TCP does not fit.
     Broken,
-    /// Something for which there is no memory.
+    /// Something came, but there is no memory for it.
     NoMemory,
 }
 
-/// Why a client is told that the server failed.
+/// The reason for a SERVFAIL that is not the answer to the question.
 #[derive(Clone, Copy, PartialEq, Eq)]
 pub enum Unserved {
-    /// There was no memory.
+    /// There is no memory.
     NoMemory,
-    /// As many exchanges are under way as there may be.
+    /// As many exchanges are under way as there may be at most.
     TooMany,
-    /// The desk or the port of name servers is not that with which the question began.
+    /// The desk or the port of name servers is not the one with which the question began.
     Elsewhere,
 }
 
-/// The sockets of a worker: those on which clients are told, and those of exchanges.
-pub trait Outside<D: Numbered, L: Line, C: Clock, K: Client> {
+/// The sockets of a worker: those by which replies leave, and those of exchanges.
+pub trait Outside<D: Numbered, L: InFlight, C: Clock, K: Client> {
     /// The port of name servers that are known by name.
     ghost server_port: { Self → ℕ };
 
-    /// What was counted, each up to 2^64 - 1.
+    /// The counters, each up to 2^64 - 1.
     ghost counts: { Self → Counts };
 
-    /// It was tried to send these octets to this client, or they wait to be sent.
+    /// These octets were sent to this client (perhaps in vain), or wait to be sent.
     ghost told: { Self → K → List ℕ → Type 0 };
 
     /// The port of name servers that are known by name.
     fn server_port(&self) -> u16
         ensures { result ≡ server_port self.now };
 
-    /// A buffer for a reply: whatever octets it holds, those of the reply take their place.
+    /// A buffer for a reply. The reply replaces whatever octets it holds.
     fn buffer(&mut self) -> Vec<u8>
         ensures counts { counts self.new ≡ counts self.old }
         ensures keeps { Keeps server_port told self.old self.new };
 
-    /// Begins an exchange, which is watched under the key. None where it could not be begun.
+    /// Begins an exchange, which is watched under the key. Returns `None` if it could not begin.
     fn open(&mut self, key: usize, server: &Addr, over: Over, query: Shared<Octets>) -> Option<L>
         ensures asked { IfSome result (λ line. L.asked line ≡ query_to server.now over query) }
         ensures opened { OnSome result (CountsOpened (counts self.old) (counts self.new)) }
         ensures unopened { IfNone result (counts self.new ≡ counts self.old) }
         ensures keeps { Keeps server_port told self.old self.new };
 
-    /// Goes on with an exchange, without waiting.
-    fn hear(&mut self, line: &mut L) -> Heard
+    /// Listens to an exchange, without waiting.
+    fn hear(&mut self, line: &mut L) -> Listened
         ensures heard { IsHeard (L.hears (L.asked line.old)) result }
         ensures asked { L.asked line.new ≡ L.asked line.old }
         ensures listened { CountsListened result (counts self.old) (counts self.new) }
         ensures keeps { Keeps server_port told self.old self.new };
 
-    /// Ends an exchange whose time is up.
+    /// Ends an exchange because its time is up.
     fn expire(&mut self, line: L)
         ensures expired { CountsExpired (counts self.old) (counts self.new) }
         ensures keeps { Keeps server_port told self.old self.new };
 
-    /// Tells a client the reply to its octets, now or later. Whether it reaches the client is not known.
+    /// Sends a client the reply to its octets, now or later. It may be lost on the way.
     fn give(&mut self, client: K, octets: &[u8], reply: ReplyOctets)
         requires own { K.sent client octets.now }
         requires told { IsTold D.calls D.seen L.hears C.ticks (server_port self.old) octets.now (octets_of reply) }
@@ -94,7 +94,7 @@ pub trait Outside<D: Numbered, L: Line, C: Clock, K: Client> {
         ensures told { told self.new client (octets_of reply) }
         ensures settles { Settles server_port counts told self.old self.new };
 
-    /// Tells a client that the server failed (RFC 1035, section 4.1.1, RCODE 2), by the header alone.
+    /// Sends a client SERVFAIL (RFC 1035, section 4.1.1, RCODE 2), by the header alone.
     fn fail(&mut self, client: K, octets: &[u8], why: Unserved)
         requires own { K.sent client octets.now }
         requires header { 12 ≤ length octets.now }
@@ -102,7 +102,7 @@ pub trait Outside<D: Numbered, L: Line, C: Clock, K: Client> {
         ensures told { told self.new client (fault_octets octets.now 2) }
         ensures settles { Settles server_port counts told self.old self.new };
 
-    /// Lets a client go to whom no reply is owed.
+    /// Drops a client that is owed no reply.
     fn pass_over(&mut self, client: K, octets: &[u8])
         requires own { K.sent client octets.now }
         requires untold { IsUntold D.calls D.seen L.hears C.ticks (server_port self.old) octets.now }

@@ -3,10 +3,10 @@
 ghost use Rattle.std.specs.Prelude.{◌≡◌};
 ghost use Rattle.flight.specs.Told.{octets_of};
 
-/// The octets of a reply, which keep until they are sent.
+/// The octets of a reply. They keep until they are sent.
 #[derive(Drop)]
 pub enum ReplyOctets {
-    /// A header alone, which takes no memory.
+    /// A header alone. It takes no memory.
     Header([u8; 12]),
     /// A message.
     Message(Vec<u8>),

@@ -1,4 +1,4 @@
-//! The questions that wait, and since when.
+//! The questions that wait, and when each began to.
 
 ghost use Rattle.std.specs.Prelude.{◌≡◌, ◌⊎◌, ◌<◌, ◌≤◌, ◌+◌, ◌∷◌, ◌++◌, [], ℕ, map, max, None, Some, IfOk, IfSome, IsTrue, OnOk, OnSome};
 ghost use Rattle.slab.specs.Slab.{HasRoomFor, Updates, get, slab_len};
@@ -8,29 +8,30 @@ ghost use Rattle.flight.specs.Table.{FreesKey, OneMore};
 ghost use Rattle.flight.specs.Waiting.{time_left};
 
 use crate::job::Job;
-use crate::line::Line;
+use crate::line::InFlight;
 use crate::numbered::Numbered;
 use crate::outside::{Client, Unserved};
 use command_text::Clock;
 use dns_text::Octets;
+use front_workers::PATIENCE_SECONDS;
 use slab::Slab;
 use std::alloc::Global;
 use std::collections::VecDeque;
 
-/// How many milliseconds an exchange may take.
-pub const PATIENCE: u64 = 2_000;
+/// The milliseconds that an exchange may take.
+pub const PATIENCE: u64 = 1_000 * PATIENCE_SECONDS;
 
-/// An exchange that began then.
+/// An entry of the queue: an exchange, and the moment at which it began.
 #[derive(Clone, Copy)]
 pub(crate) struct Wait {
     pub(crate) key: usize,
     pub(crate) since: u64,
 }
 
-/// The questions that wait. All have the same patience, so that those whose exchange began first are first in the queue;
-/// it may still name exchanges that have ended.
+/// The questions that wait. All exchanges have the same patience, so the queue is in the order in which they began. It may
+/// still name exchanges that have ended.
 #[derive(Drop)]
-pub(crate) struct Table<D: Numbered, L: Line, C: Clock, K: Client> {
+pub(crate) struct Table<D: Numbered, L: InFlight, C: Clock, K: Client> {
     alloc: Global,
     pub(crate) jobs: Slab<Job<D, L, C, K>>,
     waits: VecDeque<Wait>,
@@ -40,8 +41,8 @@ pub(crate) struct Table<D: Numbered, L: Line, C: Clock, K: Client> {
     ghost queue: { IsQueue jobs.slots waits.items latest },
 }
 
-impl<D: Numbered, L: Line, C: Clock, K: Client> Table<D, L, C, K> {
-    /// An empty table for at most so many.
+impl<D: Numbered, L: InFlight, C: Clock, K: Client> Table<D, L, C, K> {
+    /// An empty table for at most `limit` questions.
     pub(crate) fn new(alloc: Global, limit: usize) -> Table<D, L, C, K>
         ensures jobs { result.jobs.slots ≡ [] }
         ensures waits { result.waits.items ≡ [] }
@@ -57,7 +58,7 @@ impl<D: Numbered, L: Line, C: Clock, K: Client> Table<D, L, C, K> {
         }
     }
 
-    /// Makes room for one more, and copies what its client sent.
+    /// Makes room for one more question, and copies the octets of its client.
     pub(crate) fn make_room(&mut self, octets: &[u8]) -> Result<Octets, Unserved>
         ensures room { OnOk result (HasRoomFor self.new.jobs 1) }
         ensures queue_room { OnOk result (deque_len self.new.waits < deque_capacity self.new.waits) }
@@ -80,19 +81,19 @@ impl<D: Numbered, L: Line, C: Clock, K: Client> Table<D, L, C, K> {
         Ok(Octets::new(copy))
     }
 
-    /// The key of the next question.
+    /// The key that the next question gets.
     pub(crate) fn vacant_key(&self) -> usize {
         self.jobs.vacant_key()
     }
 
-    /// When an exchange begins that begins now: no earlier than those before, also where the clock goes back.
+    /// The moment of an exchange that begins now: no earlier than those before, even if the clock went back.
     pub(crate) fn since(&self, now: u64) -> u64
         ensures { result ≡ max now self.now.latest }
     {
         now.max(self.latest)
     }
 
-    /// Keeps a question whose exchange begins.
+    /// Keeps a question whose exchange begins now.
     pub(crate) fn keep(&mut self, job: Job<D, L, C, K>)
         requires room { HasRoomFor self.old.jobs 1 }
         requires queue_room { deque_len self.old.waits < deque_capacity self.old.waits }
@@ -135,7 +136,7 @@ impl<D: Numbered, L: Line, C: Clock, K: Client> Table<D, L, C, K> {
         let _ = self.jobs.insert_reserved(job);
     }
 
-    /// The first exchange of the queue, where its time is up.
+    /// The first exchange of the queue, if its time is up.
     pub(crate) fn next_due(&self, now: u64) -> Option<Wait>
         ensures first_due { IfSome result (IsFirstDue PATIENCE now self.now.waits.items) }
         ensures none { result ≡ None → (key since : ℕ) → get self.now.jobs key ≡ Some since → now < since + PATIENCE }
@@ -147,8 +148,8 @@ impl<D: Numbered, L: Line, C: Clock, K: Client> Table<D, L, C, K> {
         Some(wait)
     }
 
-    /// Passes the first exchange of the queue, whose time is up. The question that waits under its key is taken out where
-    /// its own time is up: it may be another.
+    /// Drops the first entry of the queue, whose time is up. The question under its key may be another by now: it is taken
+    /// out only if its own time is up.
     pub(crate) fn pass(&mut self, wait: Wait, now: u64) -> Option<Job<D, L, C, K>>
         requires { IsFirstDue PATIENCE now self.old.waits.items wait }
         ensures waits { self.old.waits.items ≡ wait ∷ self.new.waits.items }
@@ -167,7 +168,7 @@ impl<D: Numbered, L: Line, C: Clock, K: Client> Table<D, L, C, K> {
         self.jobs.try_remove(wait.key)
     }
 
-    /// How many milliseconds until the first exchange's time is up.
+    /// The milliseconds until the time of the first exchange is up.
     pub(crate) fn next_expiry(&self, now: u64) -> Option<u64>
         ensures first { result ≡ time_left PATIENCE now (map (λ wait. wait.since) self.now.waits.items) }
         ensures idle { result ≡ None → slab_len self.now.jobs ≡ 0 }

@@ -1,4 +1,4 @@
-//! What a client is told.
+//! The reply to a client.
 
 ghost use Rattle.std.specs.Prelude.{◌≡◌};
 ghost use Rattle.dns_wire.specs.declared.server.query.Asked.TheVariants.{Fault, Good};
@@ -10,7 +10,7 @@ ghost use Rattle.flight.specs.Clients.{Settles};
 ghost use Rattle.flight.specs.Flight.{Lands};
 
 use crate::asking::Asking;
-use crate::line::Line;
+use crate::line::InFlight;
 use crate::numbered::Numbered;
 use crate::outside::{Client, Outside, Unserved};
 use crate::reply::ReplyOctets;
@@ -21,7 +21,7 @@ use front_workers::write_answer;
 use iterate::Answer;
 use std::alloc::Global;
 
-/// The reply that tells the fault of octets. It takes no memory.
+/// The header that reports a fault of the client's octets. It takes no memory.
 pub(crate) fn fault_of(octets: &[u8], rcode: Rcode) -> [u8; 12]
     requires { AsksFor octets.now (Fault rcode) }
     ensures { result ≡ fault_octets octets.now rcode }
@@ -29,8 +29,8 @@ pub(crate) fn fault_of(octets: &[u8], rcode: Rcode) -> [u8; 12]
     fault_reply(octets, rcode).unwrap()
 }
 
-/// Tells a client that the server failed.
-pub(crate) fn refuse<D: Numbered, L: Line, C: Clock, K: Client, O: Outside<D, L, C, K>>(
+/// Sends a client SERVFAIL.
+pub(crate) fn refuse<D: Numbered, L: InFlight, C: Clock, K: Client, O: Outside<D, L, C, K>>(
     outside: &mut O,
     asking: Asking<K>,
     octets: &[u8],
@@ -42,8 +42,8 @@ pub(crate) fn refuse<D: Numbered, L: Line, C: Clock, K: Client, O: Outside<D, L,
     outside.fail(asking.client, octets, why);
 }
 
-/// Tells a client the answer to its question, or nothing where that is silence.
-pub(crate) fn tell<D: Numbered, L: Line, C: Clock, K: Client, O: Outside<D, L, C, K>>(
+/// Sends a client the answer to its question, or nothing if the answer is silence.
+pub(crate) fn tell<D: Numbered, L: InFlight, C: Clock, K: Client, O: Outside<D, L, C, K>>(
     alloc: Global,
     outside: &mut O,
     client: K,

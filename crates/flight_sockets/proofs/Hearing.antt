@@ -1,5 +1,5 @@
 -- What is heard of an exchange over a connection.
-use Rattle.std.proofs.Common.{◌≡◌, ℕ, List, length, take, Option, sym, ◌∙◌, subst, arith}
+use Rattle.std.proofs.Common.{◌≡◌, ℕ, List, take, Option, sym, ◌∙◌, subst, arith}
 use Rattle.std.proofs.lemmas.List.{take_all}
 use Rattle.std.specs.Io.KnownBytes.{Appends, Consumes}
 use Rattle.std.specs.declared.net.SocketAddr.{SocketAddr}
@@ -8,21 +8,20 @@ use Rattle.dns_query.specs.declared.over.Over.{Over}
 use Rattle.dns_query.specs.declared.over.Over.TheVariants.{Udp as OverUdp, Tcp as OverTcp}
 use Rattle.dns_sockets.specs.Asked.{ByStream, IsAskedAt}
 use Rattle.front_workers.specs.Framing.{framed}
-use Rattle.dns_sockets.specs.Line.{LineState, WentFrom}
-use Rattle.flight.specs.declared.outside.Heard.{Heard}
-use Rattle.flight.specs.declared.outside.Heard.TheVariants.{Nothing, Came, Broken, NoMemory}
+use Rattle.dns_sockets.specs.Line.{LineState}
+use Rattle.flight.specs.declared.outside.Listened.{Listened}
+use Rattle.flight.specs.declared.outside.Listened.TheVariants.{Nothing, Came, Broken, NoMemory}
 use Rattle.flight.specs.Told.{IsHeard}
 use Rattle.flight_sockets.specs.declared.way.Way.{Way}
 use Rattle.flight_sockets.specs.declared.way.Way.TheVariants.{Udp, Tcp, Closed}
-use Rattle.flight_sockets.specs.Exchanges.{ExchangeState, AsksOn, HasNoneYet, IsQuiet, IsUnderWay, OnUnbroken}
-use Rattle.flight_sockets.specs.Replies.{IsReply, IsReplyTo}
+use Rattle.flight_sockets.specs.Exchanges.{ExchangeState, AsksOn, HasNoneYet, IsQuiet, IsUnderWay, OnUnbroken, WentOn}
+use Rattle.flight_sockets.specs.Replies.{IsReply, IsReplyTo, IsWholeReply}
 
 -- The whole query has left and a message came behind it, which may be its reply: so it is.
 pub heard_on : {S C : Type 0} (opened : S → SocketAddr → Type 0) (sent came : S → List ℕ → Type 0) (connected : C → SocketAddr → Type 0) (reported : C → Token → Type 0) (contents remaining : C → Option (List ℕ))
-    (exchange : ExchangeState) (query : List ℕ) (old new : LineState C) (heard : Heard)
+    (exchange : ExchangeState) (query : List ℕ) (old new : LineState C) (heard : Listened)
     → exchange.asked.query ≡ query → AsksOn connected reported contents remaining exchange old → new.asks ≡ old.asks
-    → OnUnbroken heard ((fresh : C) → WentFrom contents remaining fresh old → WentFrom contents remaining fresh new)
-    → IsHeard (λ octets. IsReply query octets × (new.left ≡ length new.asks) × (new.came ≡ framed octets)) heard
+    → OnUnbroken heard (WentOn contents remaining old new) → IsHeard (IsWholeReply query new) heard
     → IsHeard (IsReplyTo opened sent came connected contents remaining exchange.asked) heard
 heard_on opened sent came connected reported contents remaining exchange query old new Nothing is line asks went heard = tt
 heard_on opened sent came connected reported contents remaining exchange query old new Broken is line asks went heard = tt

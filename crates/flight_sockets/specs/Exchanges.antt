@@ -9,18 +9,18 @@ use Rattle.dns_sockets.specs.Place.{IsPlaceOf}
 use Rattle.front_workers.specs.Framing.{framed}
 use Rattle.dns_sockets.specs.Line.{LineState, WentFrom}
 use Rattle.dns_sockets.specs.Own.{IsOwn}
-use Rattle.flight.specs.declared.outside.Heard.{Heard}
-use Rattle.flight.specs.declared.outside.Heard.TheVariants.{Nothing, Came}
+use Rattle.flight.specs.declared.outside.Listened.{Listened}
+use Rattle.flight.specs.declared.outside.Listened.TheVariants.{Nothing, Came}
 use Rattle.flight.specs.Flight.{Sent}
 use Rattle.flight_sockets.specs.declared.way.Way.{Way}
 use Rattle.flight_sockets.specs.declared.way.Way.TheVariants.{Udp, Tcp, Closed}
 
--- what can be seen of an exchange
+-- the visible state of an exchange
 pub record ExchangeState : Type 0 where
   pub asked : Sent  -- the query that went out
-  pub token : Token  -- what its socket is reported under
+  pub token : Token  -- the token under which the poll reports its socket
 
--- A socket is connected to the server's place and reported under the token, and the query left by it.
+-- A socket is connected to the server's address and reported under the token, and the query left by it.
 pub record AsksBy {S : Type 0} (opened : S → SocketAddr → Type 0) (reported : S → Token → Type 0) (sent : S → List ℕ → Type 0) (exchange : ExchangeState) (socket : S) : Type 0 where
   pub over : exchange.asked.over ≡ OverUdp
   pub place : SocketAddr
@@ -29,7 +29,7 @@ pub record AsksBy {S : Type 0} (opened : S → SocketAddr → Type 0) (reported 
   pub reported_as : reported socket exchange.token
   pub asks : sent socket exchange.asked.query
 
--- A connection to the server's place was reported under the token as it began, and came so far with the query behind its length.
+-- A connection to the server's address was reported under the token from the start, and has written part or all of the query, behind its length.
 pub record AsksOn {C : Type 0} (connected : C → SocketAddr → Type 0) (reported : C → Token → Type 0) (contents remaining : C → Option (List ℕ)) (exchange : ExchangeState) (line : LineState C) : Type 0 where
   pub over : exchange.asked.over ≡ OverTcp
   pub place : SocketAddr
@@ -40,32 +40,36 @@ pub record AsksOn {C : Type 0} (connected : C → SocketAddr → Type 0) (report
   pub asks : line.asks ≡ framed exchange.asked.query
   pub went : WentFrom contents remaining fresh line
 
--- So it is of an exchange that has not ended.
+-- A connection went on: whatever it came from, it still comes from.
+abbrev pub WentOn : {C : Type 0} → (C → Option (List ℕ)) → (C → Option (List ℕ)) → LineState C → LineState C → Type 0
+WentOn {C} contents remaining old new = (fresh : C) → WentFrom contents remaining fresh old → WentFrom contents remaining fresh new
+
+-- The state of an exchange, by its transport. Nothing is said of one that has ended.
 abbrev pub IsUnderWay : {S C : Type 0} → (S → SocketAddr → Type 0) → (S → Token → Type 0) → (S → List ℕ → Type 0) → (C → SocketAddr → Type 0) → (C → Token → Type 0) → (C → Option (List ℕ)) → (C → Option (List ℕ))
     → ExchangeState → Way S C → Type 0
 IsUnderWay opened reported sent connected reported' contents remaining exchange (Udp line) = AsksBy opened reported sent exchange line
 IsUnderWay opened reported sent connected reported' contents remaining exchange (Tcp line) = AsksOn connected reported' contents remaining exchange line
 IsUnderWay opened reported sent connected reported' contents remaining exchange Closed = Unit {0}
 
--- The socket of an exchange over UDP told that it had nothing more, or tells of what it has once more.
+-- The socket of an exchange over UDP had nothing more, or the poll will report it once more.
 abbrev pub HasNoneYet : {S C : Type 0} → (S → Type 0) → (S → Token → Type 0) → Token → Way S C → Type 0
 HasNoneYet drained reported_again token (Udp line) = drained line ⊎ reported_again line token
 HasNoneYet drained reported_again token (Tcp line) = Unit {0}
 HasNoneYet drained reported_again token Closed = ⊥
 
--- Of an exchange over UDP: so it is of a socket by which its query left.
+-- Of an exchange over UDP: a socket by which its query left had nothing more, or the poll will report it once more.
 abbrev pub IsQuiet : {S : Type 0} → (S → List ℕ → Type 0) → (S → Type 0) → (S → Token → Type 0) → ExchangeState → Type 0
 IsQuiet {S} sent drained reported_again exchange =
     exchange.asked.over ≡ OverUdp → (socket : S) × sent socket exchange.asked.query × (drained socket ⊎ reported_again socket exchange.token)
 
--- Over UDP no exchange with a server is to be had: no socket was, or one that is connected to its place failed, or the place is the service's own.
+-- Over UDP no exchange with a server could begin: there was no socket, or one that is connected to its address failed, or the address is the service's own.
 abbrev pub IsNotToBeHad : {S : Type 0} → Type 0 → (S → SocketAddr → Type 0) → (S → SocketAddr → Type 0) → (S → Type 0) → SocketAddr → Addr → Over → Type 0
 IsNotToBeHad {S} failed opened is_at failed' service server over =
     over ≡ OverUdp → failed ⊎ ((socket : S) × (place : SocketAddr) × IsPlaceOf server place × opened socket place
     × (failed' socket ⊎ ((from : SocketAddr) × is_at socket from × IsOwn service from place)))
 
--- So it is where nothing came yet, or a reply did.
-abbrev pub OnUnbroken : Heard → Type 0 → Type 0
+-- The fact holds if nothing came yet, or a reply did.
+abbrev pub OnUnbroken : Listened → Type 0 → Type 0
 OnUnbroken Nothing fact = fact
 OnUnbroken (Came octets) fact = fact
 OnUnbroken _ fact = Unit {0}

@@ -1,4 +1,5 @@
 pub mod Accounts
+pub mod Descriptors
 pub mod Exchanges
 pub mod Outgoing
 pub mod Patience

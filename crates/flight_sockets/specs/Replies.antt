@@ -1,17 +1,23 @@
--- What may be heard of a name server over a socket that is connected to it.
-use Rattle.std.specs.Prelude.{◌≤◌, ℕ, Option, List, length}
+-- The octets that may come as the reply of a name server.
+use Rattle.std.specs.Prelude.{◌≡◌, ◌≤◌, ℕ, Option, List, length}
 use Rattle.std.specs.declared.net.SocketAddr.{SocketAddr}
-use Rattle.dns_sockets.specs.declared.lengths.TheConstants.{MOST_MESSAGE}
+use Rattle.front_workers.specs.declared.limits.TheConstants.{MOST_MESSAGE}
 use Rattle.dns_sockets.specs.Asked.{IsAskedAt}
 use Rattle.dns_sockets.specs.Fits.{Fits}
+use Rattle.dns_sockets.specs.Line.{LineState}
 use Rattle.dns_sockets.specs.Place.{IsPlaceOf}
+use Rattle.front_workers.specs.Framing.{framed}
 use Rattle.flight.specs.Flight.{Sent}
 
--- Octets that may be the reply to a query, and no more than a message has.
+-- Octets that fit a query, and are no longer than a message may be.
 abbrev pub IsReply : List ℕ → List ℕ → Type 0
 IsReply query octets = (length octets ≤ MOST_MESSAGE) × Fits query octets
 
--- They came from the place of the server that was asked, over the transport that the query took.
+-- The whole query has left by a connection, and these octets came behind it as one message, which fits the query.
+abbrev pub IsWholeReply : {C : Type 0} → List ℕ → LineState C → List ℕ → Type 0
+IsWholeReply query line octets = IsReply query octets × (line.left ≡ length line.asks) × (line.came ≡ framed octets)
+
+-- Octets that fit a query, and came from the address of the server that was asked, over the transport of the query.
 abbrev pub IsReplyTo : {S C : Type 0} → (S → SocketAddr → Type 0) → (S → List ℕ → Type 0) → (S → List ℕ → Type 0) → (C → SocketAddr → Type 0) → (C → Option (List ℕ)) → (C → Option (List ℕ))
     → Sent → List ℕ → Type 0
 IsReplyTo opened sent came connected contents remaining asked octets =

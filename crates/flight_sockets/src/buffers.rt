@@ -1,8 +1,8 @@
-//! Buffers of replies that were sent, for replies to come.
+//! The buffers of sent replies, kept for later replies.
 
 ghost use Rattle.std.specs.Prelude.{◌≡◌, ◌≤◌, [], vec_capacity, vec_len};
 ghost use Rattle.std.specs.List.{All};
-ghost use Rattle.front_workers.specs.declared.working.TheConstants.{MOST_DATAGRAM};
+ghost use Rattle.front_workers.specs.declared.limits.TheConstants.{MOST_DATAGRAM};
 ghost use Rattle.flight_sockets.specs.declared.inbox.TheConstants.{BATCH};
 
 use crate::inbox::BATCH;
@@ -11,7 +11,8 @@ use flight::ReplyOctets;
 use front_workers::MOST_DATAGRAM;
 use std::alloc::Global;
 
-/// Buffers that wait for a reply, so that a short one takes no memory: as many as a batch has datagrams at most, and no large one.
+/// Buffers that are kept, so that a short reply takes no memory. There are at most as many as a batch has datagrams, and none is
+/// large.
 #[derive(Drop)]
 pub(crate) struct Buffers {
     spare: Vec<Vec<u8>>,
@@ -27,7 +28,7 @@ impl Buffers {
         }
     }
 
-    /// A buffer that is kept, or a new one without room.
+    /// Takes out a kept buffer, or makes an empty one that has no memory yet.
     pub fn take(&mut self, alloc: Global) -> Vec<u8> {
         match self.spare.pop() {
             Some(buffer) => buffer,
@@ -35,7 +36,7 @@ impl Buffers {
         }
     }
 
-    /// Keeps the buffer of a reply, where it is not large and there is a place for it.
+    /// Keeps the buffer of a reply, if it is not large and there is a place for it.
     fn keep(&mut self, reply: ReplyOctets) {
         let ReplyOctets::Message(buffer) = reply else {
             return;
@@ -43,7 +44,7 @@ impl Buffers {
         if buffer.capacity() > MOST_DATAGRAM || self.spare.len() >= BATCH {
             return;
         }
-        // Where there is no memory in which to keep it, it goes.
+        // It is dropped if there is no memory to keep it.
         drop(self.spare.push(buffer));
     }
 

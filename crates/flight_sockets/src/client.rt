@@ -1,28 +1,25 @@
-//! Who waits for the reply to a datagram.
+//! The client of a datagram, which waits for its reply.
 
 ghost use Rattle.std.specs.Prelude.{◌≡◌, ◌≤◌, take};
-ghost use Rattle.front_workers.specs.declared.working.TheConstants.{MOST_DATAGRAM};
+ghost use Rattle.front_workers.specs.declared.limits.TheConstants.{MOST_DATAGRAM};
 
 use flight::Client;
-use front_workers::{Came, MOST_DATAGRAM};
+use front_workers::{Came, DATAGRAM_ROOM, MOST_DATAGRAM};
 use std::net::SocketAddr;
 use std::snapshot::Snapshot;
 
-/// One octet more than the longest datagram tells of one that is too long.
-pub(crate) const ROOM: usize = MOST_DATAGRAM + 1;
-
-/// Who waits for the reply to a datagram. A worker makes one of each.
+/// The client of a datagram, which waits for its reply. A worker makes one client of each datagram.
 #[derive(Drop)]
 pub(crate) struct UdpClient {
     came: Came,
     /// The room whose front the datagram filled.
-    room: Snapshot<[u8; ROOM]>,
+    room: Snapshot<[u8; DATAGRAM_ROOM]>,
     ghost within: { came.count ≤ MOST_DATAGRAM },
 }
 
 impl UdpClient {
-    /// Whose datagram fills so many octets of the room.
-    pub fn new(came: Came, room: &[u8; ROOM]) -> UdpClient
+    /// The client whose datagram fills the front of the room.
+    pub fn new(came: Came, room: &[u8; DATAGRAM_ROOM]) -> UdpClient
         requires { came.count ≤ MOST_DATAGRAM }
         ensures came { result.came ≡ came }
         ensures room { result.room.value ≡ room.now }
@@ -33,14 +30,14 @@ impl UdpClient {
         }
     }
 
-    /// Where the reply goes.
+    /// The address to which the reply goes.
     pub fn peer(&self) -> SocketAddr
         ensures { result ≡ self.now.came.peer }
     {
         self.came.peer
     }
 
-    /// How many octets came.
+    /// The length of the datagram.
     pub fn count(&self) -> usize
         ensures same { result ≡ self.now.came.count }
         ensures within { result ≤ MOST_DATAGRAM }
@@ -50,6 +47,6 @@ impl UdpClient {
 }
 
 impl Client for UdpClient {
-    // It sent what its datagram put into the room.
+    // It sent the octets that its datagram put into the room.
     ghost sent = { λ client octets. octets ≡ take client.came.count client.room.value };
 }

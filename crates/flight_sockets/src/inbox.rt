@@ -1,61 +1,62 @@
-//! Datagrams that have come in, and what they are.
+//! The datagrams that have come in.
 
-ghost use Rattle.std.specs.Prelude.{◌≡◌, ◌≢◌, ◌⊎◌, ◌≤◌, false, true, IfErr, IfOk, IfSome, IsSome, OnErr, take, vec_len};
+ghost use Rattle.std.specs.Prelude.{◌≡◌, ◌⊎◌, ◌≤◌, false, true, IfErr, IfOk, IfSome, IsSome, OnErr, take, vec_len};
 ghost use Rattle.std.specs.IoError.{error_kind};
 ghost use Rattle.std.specs.List.{AllWithin};
 ghost use Rattle.flight_sockets.specs.declared.inbox.TheConstants.{BATCH};
-ghost use Rattle.flight_sockets.specs.Taken.{IsTakenFrom};
+ghost use Rattle.flight_sockets.specs.Taken.{IsTakenFrom, OnFault};
 
-use crate::client::{ROOM, UdpClient};
+use crate::client::UdpClient;
 use crate::service_socket::ServiceSocket;
 use dns_sockets::{is_answerable, would_wait};
 use dns_text::NoMemory;
-use front_workers::{Came, MOST_DATAGRAM};
+use front_workers::{Came, DATAGRAM_ROOM, MOST_DATAGRAM};
 use std::alloc::Global;
 use std::io;
 use std::io::ErrorKind;
 use std::marker::PhantomData;
 use std::net::SocketAddr;
 
-/// So many datagrams at most are taken before the first of them begins. What takes, what answers and what sends are each
-/// made so often in a row, since a processor does best what it has just done.
+/// The most datagrams that are taken before the first of them begins. Receiving, answering and sending are batched to keep
+/// the code of each loop in the processor's cache.
 pub(crate) const BATCH: usize = 32;
 
-/// What a datagram is.
-pub(crate) enum Taken {
-    /// One that no reply can reach, or that is empty.
+/// A datagram, sorted by what the worker does with it.
+pub(crate) enum Arrival {
+    /// No reply can reach its sender, or it is empty.
     Passed,
-    /// One that is not read whole, from here.
+    /// It is longer than a query may be. This is its sender.
     TooLong(SocketAddr),
+    /// It is read whole, and may be answered.
     Query(UdpClient),
 }
 
-/// Room for a datagram.
+/// A room for one datagram.
 #[derive(Drop)]
 pub(crate) struct Slot<S: ServiceSocket> {
-    /// The datagram that fills the front of the room. It stands before the room, near what is read of it.
+    /// The datagram that fills the front of the room. The field is before the room, next to the octets that are read first.
     came: Option<Came>,
-    pub(crate) room: [u8; ROOM],
+    pub(crate) room: [u8; DATAGRAM_ROOM],
     socket: PhantomData<S>,
     ghost came_so: { ∥ IfSome came (λ c. S.came c.peer (take c.count room)) ∥₁ },
 }
 
 impl<S: ServiceSocket> Slot<S> {
-    /// Nothing has come.
+    /// An empty room.
     fn new() -> Slot<S> {
         Slot {
             came: None,
-            room: [0; ROOM],
+            room: [0; DATAGRAM_ROOM],
             socket: PhantomData,
         }
     }
 
-    /// Takes a socket's next datagram.
+    /// Takes the next datagram of a socket.
     fn fill(&mut self, socket: &S) -> io::Result<()>
         ensures filled { IfOk result (λ _. IsSome self.new.came) }
         ensures drained { IfErr result (λ error. error_kind error ≡ ErrorKind.WouldBlock → S.drained) }
         ensures interrupted { IfErr result (λ error. error_kind error ≡ ErrorKind.Interrupted → S.interrupted) }
-        ensures failed { IfErr result (λ error. error_kind error ≢ ErrorKind.WouldBlock → error_kind error ≢ ErrorKind.Interrupted → S.failed) }
+        ensures failed { IfErr result (OnFault S.failed) }
     {
         self.came = None;
         let (count, peer) = socket.take_datagram(&mut self.room)?;
@@ -63,19 +64,19 @@ impl<S: ServiceSocket> Slot<S> {
         Ok(())
     }
 
-    /// What has come.
-    pub fn taken(&self) -> Taken
+    /// Sorts the datagram that has come.
+    pub fn taken(&self) -> Arrival
         ensures { IsTakenFrom self.now.room self.now.came result }
     {
         let Some(came) = self.came else {
-            return Taken::Passed;
+            return Arrival::Passed;
         };
         if !is_answerable(came.peer, came.count) {
-            Taken::Passed
+            Arrival::Passed
         } else if came.count > MOST_DATAGRAM {
-            Taken::TooLong(came.peer)
+            Arrival::TooLong(came.peer)
         } else {
-            Taken::Query(UdpClient::new(came, &self.room))
+            Arrival::Query(UdpClient::new(came, &self.room))
         }
     }
 }
@@ -84,7 +85,7 @@ impl<S: ServiceSocket> Slot<S> {
 #[derive(Drop)]
 pub(crate) struct Inbox<S: ServiceSocket> {
     slots: Vec<Slot<S>>,
-    /// So many of them have a datagram.
+    /// The number of slots, from the first on, that have a datagram.
     filled: usize,
     ghost whole: { vec_len slots ≡ BATCH },
     ghost within: { filled ≤ BATCH },
@@ -92,7 +93,7 @@ pub(crate) struct Inbox<S: ServiceSocket> {
 }
 
 impl<S: ServiceSocket> Inbox<S> {
-    /// Nothing has come.
+    /// An empty inbox.
     pub fn new(alloc: Global) -> Result<Inbox<S>, NoMemory>
         ensures { IfOk result (λ inbox. inbox.filled ≡ 0) }
     {
@@ -103,7 +104,7 @@ impl<S: ServiceSocket> Inbox<S> {
         Ok(Inbox { slots, filled: 0 })
     }
 
-    /// Takes what datagrams a socket has, until as many are there as it may hold. Whether the socket may have more.
+    /// Takes datagrams of a socket until it has none, or the inbox is full. Returns whether the socket may have more.
     pub fn fill(&mut self, socket: &S) -> io::Result<bool>
         ensures drained { IfOk result (λ more. more ≡ false → S.drained) }
         ensures full { IfOk result (λ more. more ≡ true → S.interrupted ⊎ (self.new.filled ≡ BATCH)) }
@@ -119,14 +120,14 @@ impl<S: ServiceSocket> Inbox<S> {
         Ok(true)
     }
 
-    /// The datagrams that are there, as they came.
+    /// The datagrams of the inbox, in the order in which they came.
     pub fn datagrams(&self) -> &[Slot<S>]
         ensures { result.now ≡ take self.now.filled self.now.slots.items }
     {
         &self.slots[..self.filled]
     }
 
-    /// Lets the datagrams go.
+    /// Drops the datagrams.
     pub fn clear(&mut self)
         ensures { self.new.filled ≡ 0 }
     {

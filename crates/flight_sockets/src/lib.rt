@@ -3,23 +3,23 @@
 
 // In the order in which to read them.
 
-// How many exchanges a worker may have under way.
+// The limit of exchanges that a worker may have under way.
 mod limit;
-// The socket at which questions come in and by which replies go out.
+// The socket of the service: queries come in at it, and replies go out by it.
 mod service_socket;
-// Where datagrams come in for one worker, and what wakes it.
+// The listener of one worker: its socket of the service, and its poll.
 mod listener;
-// Who waits for the reply to a datagram.
+// The client of a datagram, which waits for its reply.
 mod client;
-// How a query goes out and its reply comes in.
+// The transport of an exchange.
 mod way;
 // An exchange over a socket of its own.
 mod socket_line;
-// Datagrams that have come in.
+// The datagrams that have come in.
 mod inbox;
 // A reply that waits to be sent.
 mod outgoing;
-// Buffers of replies that were sent.
+// The buffers of sent replies, kept for later replies.
 mod buffers;
 // The sockets of one worker.
 mod worker_sockets;

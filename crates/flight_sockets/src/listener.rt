@@ -1,4 +1,4 @@
-//! Where datagrams come in for one worker, and what wakes it.
+//! The listener of one worker: its socket of the service, and its poll.
 
 ghost use Rattle.std.specs.Prelude.{◌≡◌, IfOk, vec_len};
 
@@ -9,23 +9,23 @@ use std::alloc::Global;
 use std::io;
 use std::net::{Net, SocketAddr};
 
-/// What the service's socket is reported under. Exchanges are reported under their keys, which are small.
+/// The token of the service's socket. Exchanges are reported under their keys, which are small.
 pub(crate) const SERVICE: Token = Token(usize::MAX);
 
-/// What a wake is reported under.
+/// The token of a wake.
 const WAKE: Token = Token(usize::MAX - 1);
 
-/// A worker's socket of the service, and what watches it and the worker's exchanges.
+/// The socket of the service that one worker reads, and the poll that watches it and the worker's exchanges.
 #[derive(Drop)]
 pub struct UdpListener<S = UdpSocket> {
     pub(crate) poll: Poll,
     pub(crate) socket: S,
-    /// Where the service listens.
+    /// The address at which the service listens.
     pub(crate) place: SocketAddr,
 }
 
-/// So many listeners at one address, each for a worker of its own and with what wakes that worker. `[::]` takes IPv4 as
-/// well. It fails where another process listens there.
+/// Opens `count` listeners at one address, each for a worker of its own, and a waker for each. `[::]` takes IPv4 as well.
+/// It fails if another process listens there.
 pub fn listen_each<R: Net>(
     rt: &R,
     alloc: Global,

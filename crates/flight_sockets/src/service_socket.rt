@@ -1,40 +1,42 @@
-//! The socket at which questions come in and by which replies go out.
+//! The socket of the service: queries come in at it, and replies go out by it.
 
-ghost use Rattle.std.specs.Prelude.{◌≡◌, ◌≢◌, ℕ, List, ◌≤◌, length, take, IfOk, IfErr};
+ghost use Rattle.std.specs.Prelude.{◌≡◌, ℕ, List, ◌≤◌, length, take, IfOk, IfErr};
 ghost use Rattle.std.specs.IoError.{error_kind};
 ghost use Rattle.std.specs.declared.net.SocketAddr.{SocketAddr};
+ghost use Rattle.flight_sockets.specs.Taken.{OnFault};
 
 use mio::net::UdpSocket;
 use std::io;
 use std::io::ErrorKind;
 use std::net::SocketAddr;
 
-/// The socket of the service, whose calls tell where they would wait.
+/// The socket of the service. Its calls never wait: they return `WouldBlock` instead.
 pub trait ServiceSocket: Drop {
     /// A datagram came from this peer.
     ghost came: { SocketAddr → List ℕ → Type 0 };
 
-    /// A call told that none was there.
+    /// A call found no datagram.
     ghost drained: { Type 0 };
 
-    /// A call was ended by a signal.
+    /// A signal ended a call.
     ghost interrupted: { Type 0 };
 
     /// A call failed in another way.
     ghost failed: { Type 0 };
 
-    /// It was tried to send these octets to this peer.
+    /// These octets were sent to this peer, perhaps in vain.
     ghost tried: { SocketAddr → List ℕ → Type 0 };
 
-    /// The next datagram: how many octets of the room it fills, and from whom. What does not fit the room is lost.
+    /// Takes the next datagram. Returns how many octets of the room it fills, and its sender. Octets that do not fit the room
+    /// are lost.
     fn take_datagram(&self, room: &mut [u8]) -> io::Result<(usize, SocketAddr)>
         ensures within { IfOk result (λ r. r.0 ≤ length room.new) }
         ensures came { IfOk result (λ r. came r.1 (take r.0 room.new)) }
         ensures drained { IfErr result (λ error. error_kind error ≡ ErrorKind.WouldBlock → drained) }
         ensures interrupted { IfErr result (λ error. error_kind error ≡ ErrorKind.Interrupted → interrupted) }
-        ensures failed { IfErr result (λ error. error_kind error ≢ ErrorKind.WouldBlock → error_kind error ≢ ErrorKind.Interrupted → failed) };
+        ensures failed { IfErr result (OnFault failed) };
 
-    /// Sends a datagram. It may fail where the peer cannot be reached.
+    /// Sends a datagram. It may fail if the peer cannot be reached.
     fn send_datagram(&self, octets: &[u8], peer: SocketAddr) -> io::Result<()>
         ensures { tried peer octets.now };
 }

@@ -1,8 +1,8 @@
 //! An exchange over a socket of its own.
 
 ghost use Rattle.std.specs.Prelude.{◌≡◌, length, IfOk, OnErr};
-ghost use Rattle.dns_sockets.specs.declared.lengths.TheConstants.{MOST_MESSAGE};
-ghost use Rattle.flight.specs.declared.outside.Heard.TheVariants.{Nothing};
+ghost use Rattle.front_workers.specs.declared.limits.TheConstants.{MOST_MESSAGE};
+ghost use Rattle.flight.specs.declared.outside.Listened.TheVariants.{Nothing};
 ghost use Rattle.flight.specs.Flight.{query_to};
 ghost use Rattle.flight.specs.Told.{IsHeard};
 ghost use Rattle.flight_sockets.specs.Exchanges.{IsNotToBeHad, IsQuiet};
@@ -12,17 +12,17 @@ use crate::way::Way;
 use dns_query::Over;
 use dns_sockets::{ReadyNet, TcpLine, UdpLine, place_of};
 use dns_text::{Addr, Octets, Shared};
-use flight::{Heard, Line};
+use flight::{InFlight, Listened};
 use mio::{Registry, Token};
 use std::alloc::Global;
 use std::io;
 use std::marker::Model;
 use std::net::SocketAddr;
 
-/// An exchange over a socket of its own. Contracts see the query that went out, and what the socket is reported under.
+/// An exchange over a socket of its own. Contracts see the query that went out, and the token of the socket.
 ///
-/// Over UDP each datagram that does not fit the query is passed over. Over TCP the exchange is broken where the first
-/// message does not fit. A reply fits that has the query's identifier and question. What has ended is closed.
+/// A reply fits if it has the query's identifier and question. Over UDP each datagram that does not fit is dropped. Over TCP
+/// the exchange breaks if the first message does not fit. An exchange that has ended is closed.
 #[derive(Drop)]
 pub(crate) struct SocketLine<R: ReadyNet> {
     server: Addr,
@@ -40,20 +40,23 @@ impl<R: ReadyNet> Model for SocketLine<R> {
 
     ghost view = { λ line. record { asked = query_to line.server line.over line.query; token = line.token } };
 
-    ghost invariant = { λ line. IsUnderWay R.Datagrams.opened R.Datagrams.reported R.Datagrams.sent R.Connection.connected R.Connection.reported R.Connection.contents R.Connection.remaining
+    ghost invariant = { λ line. IsUnderWay R.Datagrams.opened R.Datagrams.reported R.Datagrams.sent
+        R.Connection.connected R.Connection.reported R.Connection.contents R.Connection.remaining
         (record { asked = query_to line.server line.over line.query; token = line.token }) line.way };
 }
 
-impl<R: ReadyNet> Line for SocketLine<R> {
+impl<R: ReadyNet> InFlight for SocketLine<R> {
     ghost asked = { λ line. line.asked };
 
-    // What fits the query, and came from the server's place, over the transport, behind the query.
-    ghost hears = { IsReplyTo R.Datagrams.opened R.Datagrams.sent R.Datagrams.came R.Connection.connected R.Connection.contents R.Connection.remaining };
+    // Octets that fit the query and came from the server's address, over the same transport, after the query.
+    ghost hears = { IsReplyTo R.Datagrams.opened R.Datagrams.sent R.Datagrams.came
+        R.Connection.connected R.Connection.contents R.Connection.remaining };
 }
 
 impl<R: ReadyNet> SocketLine<R> {
-    /// Sends a query, or begins to connect, and has the poll watch for what comes. The service listens here: what it takes
-    /// queries at is not asked over UDP, and so not over TCP, which a cut reply over UDP comes before.
+    /// Sends a query, or begins to connect, and has the poll watch the socket. The service listens at `service`, and never
+    /// queries that address over UDP. So it never queries it over TCP either: a query over TCP follows a truncated reply over
+    /// UDP.
     pub fn open(
         rt: &R,
         alloc: Global,
@@ -66,7 +69,8 @@ impl<R: ReadyNet> SocketLine<R> {
     ) -> io::Result<SocketLine<R>>
         ensures asked { IfOk result (λ line. line.asked ≡ query_to server.now over query) }
         ensures token { IfOk result (λ line. line.token ≡ token) }
-        ensures failed { OnErr result (IsNotToBeHad R.failed R.Datagrams.opened R.Datagrams.is_at R.Datagrams.failed service server.now over) }
+        ensures failed { OnErr result (IsNotToBeHad R.failed R.Datagrams.opened R.Datagrams.is_at R.Datagrams.failed
+            service server.now over) }
     {
         let place = place_of(server);
         let octets = query.get().as_slice();
@@ -83,16 +87,17 @@ impl<R: ReadyNet> SocketLine<R> {
         })
     }
 
-    /// Goes on as far as the socket lets it.
-    pub fn hear(&mut self, alloc: Global, registry: &Registry, room: &mut [u8]) -> Heard
+    /// Reads and writes as far as the socket allows.
+    pub fn hear(&mut self, alloc: Global, registry: &Registry, room: &mut [u8]) -> Listened
         requires { length room.old ≡ MOST_MESSAGE }
-        ensures heard { IsHeard (IsReplyTo R.Datagrams.opened R.Datagrams.sent R.Datagrams.came R.Connection.connected R.Connection.contents R.Connection.remaining self.old.asked) result }
+        ensures heard { IsHeard (IsReplyTo R.Datagrams.opened R.Datagrams.sent R.Datagrams.came
+            R.Connection.connected R.Connection.contents R.Connection.remaining self.old.asked) result }
         ensures nothing { result ≡ Nothing → IsQuiet R.Datagrams.sent R.Datagrams.drained R.Datagrams.reported_again self.old }
         ensures kept { self.new ≡ self.old }
     {
         let query = self.query.get().as_slice();
         match self.way.hear(alloc, registry, self.token, query, room) {
-            Heard::Nothing => Heard::Nothing,
+            Listened::Nothing => Listened::Nothing,
             heard => {
                 self.way = Way::Closed;
                 heard

@@ -1,4 +1,4 @@
-//! The turns of a worker: in each it waits, goes on with what came of exchanges, and takes datagrams.
+//! The turns of a worker. In each it waits, goes on with its exchanges, and takes datagrams.
 
 ghost use Rattle.std.specs.Prelude.{◌≡◌, ◌≤◌, false, IfOk, OnErr};
 ghost use Rattle.std.specs.Duration.{as_nanos};
@@ -6,12 +6,12 @@ ghost use Rattle.front_workers.specs.Counts.{Rises};
 ghost use Rattle.dns_sockets.specs.Moments.{millis_at, IsRead};
 ghost use Rattle.flight.specs.declared.table.TheConstants.{PATIENCE};
 ghost use Rattle.flight.specs.Waiting.{IsAccounted, outstanding, time_left};
-ghost use Rattle.flight_sockets.specs.Accounts.{GoesOn};
+ghost use Rattle.flight_sockets.specs.Accounts.{GoesOn, fresh_worker};
 ghost use Rattle.flight_sockets.specs.Patience.{patience_of};
 ghost use Rattle.flight_sockets.specs.Taken.{IsQuery};
 
 use crate::client::UdpClient;
-use crate::inbox::{BATCH, Inbox, Slot, Taken};
+use crate::inbox::{Arrival, BATCH, Inbox, Slot};
 use crate::listener::{SERVICE, UdpListener};
 use crate::service_socket::ServiceSocket;
 use crate::socket_line::SocketLine;
@@ -28,20 +28,20 @@ use std::io;
 use std::marker::Model;
 use std::time::{Duration, Instant};
 
-/// So many datagrams at most are taken in one turn.
+/// The most datagrams that are taken in one turn.
 const MOST_TAKEN: usize = 256;
 
-/// So many milliseconds are spent on them at most, and on the last: then exchanges are looked at again.
+/// The time for taking datagrams in one turn, in milliseconds. The batch in progress may overrun it.
 const MOST_TAKING: u64 = 10;
 
-/// So many events at most are looked at in one turn, so that a datagram does not wait behind many replies.
+/// The most events that are handled in one turn, so that a datagram does not wait behind many replies.
 const MOST_EVENTS: usize = 16;
 
 /// The questions of a worker that are in flight.
 pub(crate) type Questions<D, C, G, R> = Flight<D, SocketLine<R>, C, G, UdpClient>;
 
-/// What the turns of a worker are taken with. Contracts see its port of name servers, its counts, and how many replies wait
-/// to be sent.
+/// The state of a worker between its turns. Contracts see its port of name servers, its counters, and the number of replies
+/// that wait to be sent.
 #[derive(Drop)]
 pub(crate) struct Turns<'a, R, S: ServiceSocket> {
     sockets: WorkerSockets<'a, R, S>,
@@ -57,12 +57,18 @@ impl<'a, R, S: ServiceSocket> Model for Turns<'a, R, S> {
 
     ghost Value = { WorkerState };
 
-    ghost view = { λ turns. record { server_port = turns.sockets.server_port; taken = turns.taken; failures = turns.failures; unsent = length turns.sockets.waiting.items; counts = turns.sockets.counts } };
+    ghost view = { λ turns. record {
+      server_port = turns.sockets.server_port;
+      taken = turns.taken;
+      failures = turns.failures;
+      unsent = length turns.sockets.waiting.items;
+      counts = turns.sockets.counts;
+    } };
 }
 
 impl<'a, R: ReadyNet + Log + Elapsing, S: ServiceSocket> Turns<'a, R, S> {
-    /// Takes datagrams at a listener. Name servers that are known by name are asked at this port. Exchanges are timed from
-    /// the start on.
+    /// Takes datagrams at a listener. Name servers that are known by name are queried at this port. Exchanges are timed from
+    /// `start` on.
     pub fn new(
         rt: &'a R,
         alloc: Global,
@@ -70,7 +76,7 @@ impl<'a, R: ReadyNet + Log + Elapsing, S: ServiceSocket> Turns<'a, R, S> {
         server_port: u16,
         start: Instant,
     ) -> Result<Turns<'a, R, S>, NoMemory>
-        ensures { IfOk result (λ turns. turns ≡ record { server_port = server_port; taken = 0; failures = 0; unsent = 0; counts = record { settled = 0; opened = 0; ended = 0; expired = 0; listened = 0 } }) }
+        ensures { IfOk result (λ turns. turns ≡ fresh_worker server_port) }
     {
         Ok(Turns {
             sockets: WorkerSockets::new(rt, alloc, listener, server_port)?,
@@ -81,6 +87,7 @@ impl<'a, R: ReadyNet + Log + Elapsing, S: ServiceSocket> Turns<'a, R, S> {
         })
     }
 
+    /// Counts a query that was taken.
     fn count_taken(&mut self)
         ensures taken { Rises self.old.taken self.new.taken }
         ensures counts { self.new.counts ≡ self.old.counts }
@@ -89,7 +96,7 @@ impl<'a, R: ReadyNet + Log + Elapsing, S: ServiceSocket> Turns<'a, R, S> {
         self.taken = self.taken.saturating_add(1);
     }
 
-    /// One turn more has failed.
+    /// Counts a turn that failed.
     pub fn count_failure(&mut self)
         ensures failures { Rises self.old.failures self.new.failures }
         ensures taken { self.new.taken ≡ self.old.taken }
@@ -99,7 +106,7 @@ impl<'a, R: ReadyNet + Log + Elapsing, S: ServiceSocket> Turns<'a, R, S> {
         self.failures = self.failures.saturating_add(1);
     }
 
-    /// Begins what a datagram asks, at this millisecond.
+    /// Begins the question of a datagram, at this millisecond.
     fn begin<D: Numbered, C: Clock, G: Rng>(
         &mut self,
         desk: &mut D,
@@ -111,9 +118,9 @@ impl<'a, R: ReadyNet + Log + Elapsing, S: ServiceSocket> Turns<'a, R, S> {
         ensures goes_on { GoesOn questions.old self.old questions.new self.new }
     {
         match slot.taken() {
-            Taken::Passed => {}
-            Taken::TooLong(peer) => self.sockets.refuse(peer, &slot.room),
-            Taken::Query(client) => {
+            Arrival::Passed => {}
+            Arrival::TooLong(peer) => self.sockets.refuse(peer, &slot.room),
+            Arrival::Query(client) => {
                 let octets = &slot.room[..client.count()];
                 self.count_taken();
                 questions.begin(desk, &mut self.sockets, now, client, octets);
@@ -121,7 +128,7 @@ impl<'a, R: ReadyNet + Log + Elapsing, S: ServiceSocket> Turns<'a, R, S> {
         }
     }
 
-    /// Begins what each datagram asks.
+    /// Begins the question of each datagram.
     fn begin_each<D: Numbered, C: Clock, G: Rng>(
         &mut self,
         desk: &mut D,
@@ -136,8 +143,8 @@ impl<'a, R: ReadyNet + Log + Elapsing, S: ServiceSocket> Turns<'a, R, S> {
         }
     }
 
-    /// Takes a batch of datagrams, begins what they ask, and sends what is told at once. Whether more may be there, as where any
-    /// came: others may have followed while those were answered.
+    /// Takes a batch of datagrams, begins their questions, and sends the replies that are ready. Returns whether more datagrams
+    /// may be there: if any came, others may have followed while those were answered.
     fn take_batch<D: Numbered, C: Clock, G: Rng>(
         &mut self,
         desk: &mut D,
@@ -159,7 +166,7 @@ impl<'a, R: ReadyNet + Log + Elapsing, S: ServiceSocket> Turns<'a, R, S> {
         Ok(received? || took)
     }
 
-    /// Takes what datagrams there are, batch by batch, but no more than a turn may. Whether more may be there.
+    /// Takes the datagrams that are there, batch by batch, but no more than a turn may. Returns whether more may be there.
     fn take_datagrams<D: Numbered, C: Clock, G: Rng>(
         &mut self,
         desk: &mut D,
@@ -185,7 +192,7 @@ impl<'a, R: ReadyNet + Log + Elapsing, S: ServiceSocket> Turns<'a, R, S> {
         Ok(true)
     }
 
-    /// Goes on with those that wait: what came of their exchanges is heard, and what is overdue ends.
+    /// Goes on with the questions that wait: listens to their exchanges, and ends those that are overdue.
     fn go_on<D: Numbered, C: Clock, G: Rng>(
         &mut self,
         desk: &mut D,
@@ -207,8 +214,8 @@ impl<'a, R: ReadyNet + Log + Elapsing, S: ServiceSocket> Turns<'a, R, S> {
         self.sockets.flush();
     }
 
-    /// Waits for what comes, and goes on with it. Where datagrams were left, nothing is waited for. Whether more may be
-    /// there.
+    /// Waits for events, and handles them. It does not wait if the last turn left datagrams. Returns whether more datagrams may
+    /// be there.
     #[tactic(auto, using(crate::proofs::Accounting::gone_on))]
     pub fn turn<D: Numbered, C: Clock, G: Rng>(
         &mut self,
@@ -228,12 +235,12 @@ impl<'a, R: ReadyNet + Log + Elapsing, S: ServiceSocket> Turns<'a, R, S> {
         };
         self.sockets.wait(&mut self.events, wait)?;
         self.go_on(desk, questions);
-        // The event that names the service's socket may stand behind those of many replies.
+        // The event of the service's socket may come behind those of many replies.
         self.take_datagrams(desk, questions, inbox)
     }
 }
 
-/// How long the next wait may be: so long, and no longer than until an exchange is overdue.
+/// The time that the next wait may take: at most `most`, and at most until an exchange is overdue.
 #[tactic(auto, using(crate::proofs::Durations::shorter_nanos))]
 fn patience<D: Numbered, C: Clock, G: Rng, R: ReadyNet + Elapsing>(
     clock: &mut MonotonicClock<'_, R>,
@@ -250,7 +257,7 @@ fn patience<D: Numbered, C: Clock, G: Rng, R: ReadyNet + Elapsing>(
     }
 }
 
-/// Looks at the exchanges that events name.
+/// Listens to the exchanges that events name.
 fn look_all<D: Numbered, C: Clock, G: Rng, R: ReadyNet + Log + Elapsing, S: ServiceSocket>(
     events: &Events,
     sockets: &mut WorkerSockets<'_, R, S>,

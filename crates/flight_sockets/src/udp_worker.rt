@@ -1,10 +1,10 @@
 //! A worker that keeps many questions in flight.
 
 ghost use Rattle.std.specs.Prelude.{◌≡◌, ◌≤◌, ℕ, IfOk};
-ghost use Rattle.front_workers.specs.declared.working.TheConstants.{MOST_FAILURES};
-ghost use Rattle.front_workers.specs.declared.working.WorkEnd.TheVariants.{Ended, Failing};
+ghost use Rattle.front_workers.specs.declared.limits.TheConstants.{MOST_FAILURES};
+ghost use Rattle.front_workers.specs.declared.work_end.WorkEnd.TheVariants.{Ended, Failing};
 ghost use Rattle.front_workers.specs.Working.{HasFailed};
-ghost use Rattle.flight_sockets.specs.Accounts.{Accounts};
+ghost use Rattle.flight_sockets.specs.Accounts.{Accounts, fresh_worker};
 
 use crate::inbox::Inbox;
 use crate::listener::UdpListener;
@@ -14,7 +14,7 @@ use command_text::Clock;
 use dns_sockets::{Elapsing, ReadyNet, StopFlag};
 use dns_text::NoMemory;
 use flight::{Flight, Numbered};
-use front_workers::{MOST_FAILURES, WorkEnd};
+use front_workers::{DEVICE_FAULT, MOST_FAILURES, WORKER_ENDED, WorkEnd};
 use log::{Log, warn};
 use mio::net::UdpSocket;
 use rand_core::Rng;
@@ -23,7 +23,8 @@ use std::marker::Model;
 use std::sync::Wait;
 use std::time::Instant;
 
-/// A worker that takes datagrams. Contracts see its port of name servers, its counts, and how many replies wait to be sent.
+/// A worker that takes datagrams. Contracts see its port of name servers, its counters, and the number of replies that wait
+/// to be sent.
 #[derive(Drop)]
 pub struct UdpWorker<'a, R, S: ServiceSocket = UdpSocket> {
     inbox: Inbox<S>,
@@ -39,8 +40,8 @@ impl<'a, R, S: ServiceSocket> Model for UdpWorker<'a, R, S> {
 }
 
 impl<'a, R: ReadyNet + Log + Elapsing, S: ServiceSocket> UdpWorker<'a, R, S> {
-    /// Takes datagrams at a listener. Name servers that are known by name are asked at this port. Exchanges are timed from
-    /// the start on.
+    /// Takes datagrams at a listener. Name servers that are known by name are queried at this port. Exchanges are timed from
+    /// `start` on.
     pub fn new(
         rt: &'a R,
         alloc: Global,
@@ -48,7 +49,7 @@ impl<'a, R: ReadyNet + Log + Elapsing, S: ServiceSocket> UdpWorker<'a, R, S> {
         server_port: u16,
         start: Instant,
     ) -> Result<UdpWorker<'a, R, S>, NoMemory>
-        ensures { IfOk result (λ worker. worker ≡ record { server_port = server_port; taken = 0; failures = 0; unsent = 0; counts = record { settled = 0; opened = 0; ended = 0; expired = 0; listened = 0 } }) }
+        ensures { IfOk result (λ worker. worker ≡ fresh_worker server_port) }
     {
         Ok(UdpWorker {
             inbox: Inbox::new(alloc)?,
@@ -57,13 +58,14 @@ impl<'a, R: ReadyNet + Log + Elapsing, S: ServiceSocket> UdpWorker<'a, R, S> {
     }
 }
 
-/// Answers datagrams until the stop flag is set, or until turns have failed as often in a row as ends a worker. At most so
-/// many exchanges are under way, and a question that waits for one keeps no other waiting. The listener's waker has the
-/// flag seen at once; questions under way are dropped then.
+/// Answers datagrams until the stop flag is set, or until `MOST_FAILURES` turns have failed in a row. At most `limit`
+/// exchanges are under way, and a question that waits for one keeps no other waiting. The listener's waker makes the worker
+/// see the flag at once. Questions under way are dropped then.
 ///
-/// A line of the log tells of each turn that failed, of each reply that could not be sent, of each exchange that came to
-/// nothing, of each client that is told that the server failed since there is no memory, and of each that is told so since
-/// it would need one exchange more.
+/// The worker logs a line for each of these:
+/// - a turn that failed, or a reply that could not be sent
+/// - an exchange that brought no reply
+/// - a client that gets SERVFAIL because there is no memory, or because it would need an exchange above the limit
 pub fn fly_udp<
     D: Numbered,
     C: Clock + Drop,
@@ -81,7 +83,7 @@ pub fn fly_udp<
     limit: usize,
     stop: &F,
 ) -> WorkEnd
-    // Each query that was taken was settled once, and each exchange that began ended once, but for those that wait at the end.
+    // Each query that was taken was settled once, and each exchange that began ended once, except those that wait at the end.
     ensures accounts { (waiting : ℕ) × (waiting ≤ limit) × Accounts 0 worker.old waiting worker.new }
     // No reply waits at the end.
     ensures unsent { worker.old.unsent ≡ 0 → worker.new.unsent ≡ 0 }
@@ -104,12 +106,12 @@ pub fn fly_udp<
                 failed = 0;
             }
             Err(_) => {
-                warn!(rt; "resolver: device fault");
+                warn!(rt; "{DEVICE_FAULT}");
                 worker.turns.count_failure();
                 more = true;
                 failed += 1;
                 if failed == MOST_FAILURES {
-                    warn!(rt; "resolver: worker ended by failures");
+                    warn!(rt; "{WORKER_ENDED}");
                     return WorkEnd::Failing;
                 }
             }

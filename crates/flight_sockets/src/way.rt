@@ -1,22 +1,20 @@
-//! How a query goes out and its reply comes in.
+//! The transport of an exchange.
 
 ghost use Rattle.std.specs.Prelude.{◌≡◌, ◌≢◌, ◌<◌, length};
-ghost use Rattle.dns_sockets.specs.declared.lengths.TheConstants.{MOST_MESSAGE};
-ghost use Rattle.front_workers.specs.Framing.{framed};
-ghost use Rattle.dns_sockets.specs.Line.{WentFrom};
-ghost use Rattle.flight.specs.declared.outside.Heard.TheVariants.{Nothing};
+ghost use Rattle.front_workers.specs.declared.limits.TheConstants.{MOST_MESSAGE};
+ghost use Rattle.flight.specs.declared.outside.Listened.TheVariants.{Nothing};
 ghost use Rattle.flight.specs.Told.{IsHeard};
-ghost use Rattle.flight_sockets.specs.Exchanges.{ExchangeState, HasNoneYet, IsUnderWay, OnUnbroken};
-ghost use Rattle.flight_sockets.specs.Replies.{IsReply, IsReplyTo};
+ghost use Rattle.flight_sockets.specs.Exchanges.{ExchangeState, HasNoneYet, IsUnderWay, OnUnbroken, WentOn};
+ghost use Rattle.flight_sockets.specs.Replies.{IsReplyTo, IsWholeReply};
 
 use dns_sockets::{ReadyConnection, ReadySocket, TcpLine, UdpLine, fits};
 use dns_text::Octets;
-use flight::Heard;
+use flight::Listened;
 use mio::{Registry, Token};
 use std::alloc::Global;
 use std::io::ErrorKind;
 
-/// How a query went out.
+/// The transport of an exchange: the socket or connection by which its query left.
 #[derive(Drop)]
 pub(crate) enum Way<S, C> {
     Udp(UdpLine<S>),
@@ -25,50 +23,51 @@ pub(crate) enum Way<S, C> {
     Closed,
 }
 
-/// A copy of a reply.
-fn came(alloc: Global, reply: &[u8]) -> Heard
+/// A copy of the octets of a reply.
+fn came(alloc: Global, reply: &[u8]) -> Listened
     ensures heard { IsHeard (λ octets. octets ≡ reply.now) result }
     ensures ended { result ≢ Nothing }
 {
     match Vec::from_slice(alloc, reply) {
-        Ok(octets) => Heard::Came(Octets::new(octets)),
-        Err(_) => Heard::NoMemory,
+        Ok(octets) => Listened::Came(Octets::new(octets)),
+        Err(_) => Listened::NoMemory,
     }
 }
 
+/// Reads and writes as far as a connection allows, and returns the first message.
 fn hear_tcp<C: ReadyConnection>(
     alloc: Global,
     line: &mut TcpLine<C>,
     query: &[u8],
     room: &mut [u8],
-) -> Heard
+) -> Listened
     requires { 0 < length room.old }
     ensures asks { line.new.asks ≡ line.old.asks }
-    ensures went { OnUnbroken result ((fresh : C) → WentFrom C.contents C.remaining fresh line.old → WentFrom C.contents C.remaining fresh line.new) }
-    ensures heard { IsHeard (λ octets. IsReply query.now octets × (line.new.left ≡ length line.new.asks) × (line.new.came ≡ framed octets)) result }
+    ensures went { OnUnbroken result (WentOn C.contents C.remaining line.old line.new) }
+    ensures heard { IsHeard (IsWholeReply query.now line.new) result }
 {
     match line.go_on(room) {
-        Ok(false) => Heard::Nothing,
+        Ok(false) => Listened::Nothing,
         Ok(true) => match line.reply() {
             Some(reply) => {
                 if fits(query, reply) {
                     return came(alloc, reply);
                 }
-                Heard::Broken
+                Listened::Broken
             }
-            None => Heard::Broken,
+            None => Listened::Broken,
         },
         Err(error) => {
             if error.kind() == ErrorKind::OutOfMemory {
-                return Heard::NoMemory;
+                return Listened::NoMemory;
             }
-            Heard::Broken
+            Listened::Broken
         }
     }
 }
 
 impl<S: ReadySocket, C: ReadyConnection> Way<S, C> {
-    /// Goes on as far as the socket lets it.
+    /// Reads and writes as far as the socket allows.
     pub fn hear(
         &mut self,
         alloc: Global,
@@ -76,7 +75,7 @@ impl<S: ReadySocket, C: ReadyConnection> Way<S, C> {
         token: Token,
         query: &[u8],
         room: &mut [u8],
-    ) -> Heard
+    ) -> Listened
         requires { length room.old ≡ MOST_MESSAGE }
         ensures heard { (exchange : ExchangeState) → exchange.asked.query ≡ query.now
             → IsUnderWay S.opened S.reported S.sent C.connected C.reported C.contents C.remaining exchange self.old
@@ -89,11 +88,11 @@ impl<S: ReadySocket, C: ReadyConnection> Way<S, C> {
         match self {
             Way::Udp(line) => match line.hear(registry, token, query, room) {
                 Ok(Some(count)) => came(alloc, &room[..count]),
-                Ok(None) => Heard::Nothing,
-                Err(_) => Heard::Broken,
+                Ok(None) => Listened::Nothing,
+                Err(_) => Listened::Broken,
             },
             Way::Tcp(line) => hear_tcp(alloc, line, query, room),
-            Way::Closed => Heard::Broken,
+            Way::Closed => Listened::Broken,
         }
     }
 }

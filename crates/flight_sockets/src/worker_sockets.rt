@@ -4,10 +4,10 @@ ghost use Rattle.std.specs.Prelude.{◌≡◌, ◌⊎◌, ◌≤◌, [], false, 
 ghost use Rattle.std.specs.List.{All};
 ghost use Rattle.dns_wire.specs.declared.server.query.Asked.TheVariants.{Drop};
 ghost use Rattle.dns_wire.specs.Server.Asking.{AsksFor};
-ghost use Rattle.dns_sockets.specs.declared.lengths.TheConstants.{MOST_MESSAGE};
+ghost use Rattle.front_workers.specs.declared.limits.TheConstants.{MOST_MESSAGE};
 ghost use Rattle.front_workers.specs.Serves.{fault_octets};
-ghost use Rattle.flight.specs.declared.outside.Heard.TheVariants.{Nothing};
-ghost use Rattle.flight.specs.Counted.{CountsListened, CountsOpened};
+ghost use Rattle.flight.specs.declared.outside.Listened.TheVariants.{Nothing};
+ghost use Rattle.flight.specs.Counted.{CountsListened, CountsOpened, no_counts};
 ghost use Rattle.flight.specs.Flight.{query_to};
 ghost use Rattle.flight.specs.Told.{octets_of, IsHeard, Keeps};
 ghost use Rattle.flight_sockets.specs.Exchanges.{IsNotToBeHad, IsQuiet};
@@ -25,11 +25,11 @@ use crate::service_socket::ServiceSocket;
 use crate::socket_line::SocketLine;
 use command_text::Clock;
 use dns_query::Over;
-use dns_sockets::{MOST_MESSAGE, ReadyNet};
+use dns_sockets::ReadyNet;
 use dns_text::{Addr, NoMemory, Octets, Shared};
 use dns_wire::{Rcode, fault_reply};
-use flight::{Counts, Heard, Numbered, Outside, ReplyOctets, Unserved};
-use front_workers::wants_reply;
+use flight::{Counts, Listened, Numbered, Outside, ReplyOctets, Unserved};
+use front_workers::{DEVICE_FAULT, MOST_MESSAGE, wants_reply};
 use log::{Log, warn};
 use mio::{Events, Token};
 use std::alloc::Global;
@@ -37,7 +37,7 @@ use std::io;
 use std::net::SocketAddr;
 use std::time::Duration;
 
-/// The reply that tells a fault, by the header alone.
+/// The reply that reports a fault, by the header alone.
 fn fault_of(front: &[u8], rcode: Rcode) -> ReplyOctets
     requires { 12 ≤ length front.now }
     ensures { octets_of result ≡ fault_octets front.now rcode }
@@ -45,14 +45,14 @@ fn fault_of(front: &[u8], rcode: Rcode) -> ReplyOctets
     ReplyOctets::Header(fault_reply(front, rcode).unwrap())
 }
 
-/// The sockets of one worker: where questions come in and replies go out, and those of its exchanges.
+/// The sockets of one worker: that of the service, and those of its exchanges.
 #[derive(Drop)]
 pub(crate) struct WorkerSockets<'a, R, S: ServiceSocket> {
     rt: &'a R,
     alloc: Global,
     listener: UdpListener<S>,
     server_port: u16,
-    /// Where a reply of a name server is put.
+    /// The room for a reply of a name server.
     room: Vec<u8>,
     /// Replies that wait to be sent.
     waiting: Vec<Outgoing>,
@@ -63,7 +63,7 @@ pub(crate) struct WorkerSockets<'a, R, S: ServiceSocket> {
 }
 
 impl<'a, R: Log, S: ServiceSocket> WorkerSockets<'a, R, S> {
-    /// Takes datagrams at a listener. Name servers that are known by name are asked at this port.
+    /// Takes datagrams at a listener. Name servers that are known by name are queried at this port.
     pub fn new(
         rt: &'a R,
         alloc: Global,
@@ -71,7 +71,7 @@ impl<'a, R: Log, S: ServiceSocket> WorkerSockets<'a, R, S> {
         server_port: u16,
     ) -> Result<WorkerSockets<'a, R, S>, NoMemory>
         ensures port { IfOk result (λ sockets. sockets.server_port ≡ server_port) }
-        ensures counts { IfOk result (λ sockets. sockets.counts ≡ record { settled = 0; opened = 0; ended = 0; expired = 0; listened = 0 }) }
+        ensures counts { IfOk result (λ sockets. sockets.counts ≡ no_counts) }
         ensures none { IfOk result (λ sockets. sockets.waiting.items ≡ []) }
     {
         let room = Vec::from_elem(alloc, 0u8, MOST_MESSAGE)?;
@@ -87,7 +87,7 @@ impl<'a, R: Log, S: ServiceSocket> WorkerSockets<'a, R, S> {
         })
     }
 
-    /// Sends a reply. What fails here does not end a worker: it may be the client that cannot be reached.
+    /// Sends a reply. A failure is logged and does not end the worker: perhaps only this client cannot be reached.
     fn send_now(&self, outgoing: &Outgoing)
         ensures { S.tried outgoing.now.peer (octets_of outgoing.now.reply) }
     {
@@ -98,7 +98,7 @@ impl<'a, R: Log, S: ServiceSocket> WorkerSockets<'a, R, S> {
         }
     }
 
-    /// Sends a reply with the next that leave, or at once where there is no memory in which it could wait.
+    /// Sends a reply with the next batch, or at once if there is no memory for it to wait.
     fn send(&mut self, peer: SocketAddr, reply: ReplyOctets)
         ensures sent { IsOnItsWay S.tried self.new.waiting.items peer (octets_of reply) }
         ensures kept { StayOnTheirWay S.tried self.old.waiting.items self.new.waiting.items }
@@ -120,7 +120,7 @@ impl<'a, R: Log, S: ServiceSocket> WorkerSockets<'a, R, S> {
         }
     }
 
-    /// Sends each reply that waits, and then none does.
+    /// Sends each reply that waits. Then none waits.
     pub fn flush(&mut self)
         ensures none { self.new.waiting.items ≡ [] }
         ensures kept { StayOnTheirWay S.tried self.old.waiting.items self.new.waiting.items }
@@ -131,7 +131,7 @@ impl<'a, R: Log, S: ServiceSocket> WorkerSockets<'a, R, S> {
         self.buffers.keep_each(&mut self.waiting);
     }
 
-    /// Waits no longer than this for what the sockets report.
+    /// Waits until a socket reports something, but no longer than this.
     pub fn wait(&mut self, events: &mut Events, most: Duration) -> io::Result<()>
         ensures port { self.new.server_port ≡ self.old.server_port }
         ensures counts { self.new.counts ≡ self.old.counts }
@@ -141,7 +141,7 @@ impl<'a, R: Log, S: ServiceSocket> WorkerSockets<'a, R, S> {
         listener.poll.poll(events, Some(most))
     }
 
-    /// Takes what datagrams there are, and no more than the inbox holds. Whether there may be more.
+    /// Takes the datagrams that are there, up to a full inbox. Returns whether there may be more.
     pub fn receive(&self, inbox: &mut Inbox<S>) -> io::Result<bool>
         ensures drained { IfOk result (λ more. more ≡ false → S.drained) }
         ensures full { IfOk result (λ more. more ≡ true → S.interrupted ⊎ (inbox.new.filled ≡ BATCH)) }
@@ -151,7 +151,7 @@ impl<'a, R: Log, S: ServiceSocket> WorkerSockets<'a, R, S> {
         inbox.fill(&self.listener.socket)
     }
 
-    /// Tells who sent a datagram that is not read whole that it is malformed, unless it is a reply itself.
+    /// Sends FORMERR to the sender of a datagram that is too long, unless the datagram is itself a reply.
     pub fn refuse(&mut self, peer: SocketAddr, front: &[u8])
         requires { 12 ≤ length front.now }
         ensures sent { ¬ (AsksFor front.now Drop) → IsOnItsWay S.tried self.new.waiting.items peer (fault_octets front.now 1) }
@@ -166,10 +166,10 @@ impl<'a, R: Log, S: ServiceSocket> WorkerSockets<'a, R, S> {
 
     /// Logs that a datagram could not be sent, or that an exchange came to nothing.
     fn log_fault(&self) {
-        warn!(self.rt; "resolver: device fault");
+        warn!(self.rt; "{DEVICE_FAULT}");
     }
 
-    /// Logs why a client is told that the server failed.
+    /// Logs why a client gets SERVFAIL.
     fn log(&self, why: Unserved) {
         match why {
             Unserved::NoMemory => warn!(self.rt; "resolver: no memory"),
@@ -189,7 +189,7 @@ impl<'a, D: Numbered, C: Clock, R: ReadyNet + Log, S: ServiceSocket> Outside<
 
     ghost counts = { λ sockets. sockets.counts };
 
-    // They are on their way to where the client's datagram came from.
+    // Sent to the address from which the client's datagram came, or waiting to be.
     ghost told = { λ sockets client octets. IsOnItsWay S.tried sockets.waiting.items client.came.peer octets };
 
     fn server_port(&self) -> u16 {
@@ -207,7 +207,7 @@ impl<'a, D: Numbered, C: Clock, R: ReadyNet + Log, S: ServiceSocket> Outside<
         over: Over,
         query: Shared<Octets>,
     ) -> Option<SocketLine<R>>
-        // As of any `Outside`, and the exchange is reported under the key; over UDP there is one unless the network
+        // As for any `Outside`. Also, the exchange is reported under the key. Over UDP there is one unless the network
         // failed, or the server is the service itself.
         ensures asked { IfSome result (λ line. line.asked ≡ query_to server.now over query) }
         ensures opened { OnSome result (CountsOpened self.old.counts self.new.counts) }
@@ -216,7 +216,8 @@ impl<'a, D: Numbered, C: Clock, R: ReadyNet + Log, S: ServiceSocket> Outside<
         ensures keeps { Keeps (λ sockets. sockets.server_port)
             (λ sockets (client : UdpClientValue) octets. IsOnItsWay S.tried sockets.waiting.items client.came.peer octets)
             self.old self.new }
-        ensures failed { IfNone result (IsNotToBeHad R.failed R.Datagrams.opened R.Datagrams.is_at R.Datagrams.failed self.old.listener.place server.now over) }
+        ensures failed { IfNone result (IsNotToBeHad R.failed R.Datagrams.opened R.Datagrams.is_at R.Datagrams.failed
+            self.old.listener.place server.now over) }
     {
         let registry = self.listener.poll.registry();
         match SocketLine::open(
@@ -240,9 +241,10 @@ impl<'a, D: Numbered, C: Clock, R: ReadyNet + Log, S: ServiceSocket> Outside<
         }
     }
 
-    fn hear(&mut self, line: &mut SocketLine<R>) -> Heard
-        // As of any `Outside`, and nothing is heard only of a quiet exchange.
-        ensures heard { IsHeard (IsReplyTo R.Datagrams.opened R.Datagrams.sent R.Datagrams.came R.Connection.connected R.Connection.contents R.Connection.remaining line.old.asked) result }
+    fn hear(&mut self, line: &mut SocketLine<R>) -> Listened
+        // As for any `Outside`. Also, nothing is heard only of a quiet exchange.
+        ensures heard { IsHeard (IsReplyTo R.Datagrams.opened R.Datagrams.sent R.Datagrams.came
+            R.Connection.connected R.Connection.contents R.Connection.remaining line.old.asked) result }
         ensures asked { line.new.asked ≡ line.old.asked }
         ensures listened { CountsListened result self.old.counts self.new.counts }
         ensures keeps { Keeps (λ sockets. sockets.server_port)
@@ -252,7 +254,7 @@ impl<'a, D: Numbered, C: Clock, R: ReadyNet + Log, S: ServiceSocket> Outside<
     {
         let heard = line.hear(self.alloc, self.listener.poll.registry(), &mut self.room);
         self.counts.listen(&heard);
-        if matches!(heard, Heard::Broken) {
+        if matches!(heard, Listened::Broken) {
             self.log_fault();
         }
         heard

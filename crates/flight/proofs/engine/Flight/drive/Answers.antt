@@ -15,9 +15,9 @@ loop-want-preserved-in-Book g c =
     let before = c.loop-want.invariant in
     let task = c.loop-want.asking.task in
     let is = open_on task.port task.question task.steps.items c.now-moment.result (g.G.Rng.stream c.loop-want.self-inside.ids) before.asked.port_is before.asked.question
-    before.flies c.now-moment.ensures c.in-Ok.ensures.steps c.in-Ok.ensures.wants c.in-Ok.ensures.drawn c.in-Book.is in
+    before.flies c.now-moment.ensures c.in-Ok.ensures.ok.steps c.in-Ok.ensures.ok.wants c.in-Ok.ensures.ok.drawn c.in-Book.is in
     record {
-      asked = asked_on before.asked c.step.ensures.question c.step.ensures.port;
+      asked = asked_on before.asked c.step.ensures.same.question c.step.ensures.same.port;
       flies = flown is c.ask-input.ensures.answered;
       port = before.port;
       known = omega (arith, c.ask-input.ensures.known);
@@ -34,9 +34,9 @@ loop-want-preserved g c =
     let before = c.loop-want.invariant in
     let task = c.loop-want.asking.task in
     let is = open_on task.port task.question task.steps.items c.now-moment.result (g.G.Rng.stream c.loop-want.self-inside.ids) before.asked.port_is before.asked.question
-    before.flies c.now-moment.ensures c.in-Ok.ensures.steps c.in-Ok.ensures.wants c.in-Ok.ensures.drawn c.in-Send.is in
+    before.flies c.now-moment.ensures c.in-Ok.ensures.ok.steps c.in-Ok.ensures.ok.wants c.in-Ok.ensures.ok.drawn c.in-Send.is in
     record {
-      asked = asked_on before.asked c.step.ensures.question c.step.ensures.port;
+      asked = asked_on before.asked c.step.ensures.same.question c.step.ensures.same.port;
       flies = flown is failed;
       port = before.port ∙ sym c.open.ensures.keeps.port;
       known = before.known;
@@ -53,7 +53,7 @@ tell-requires-clause-lands g c =
     let before = c.loop-want.invariant in
     let task = c.loop-want.asking.task in
     let is = open_on task.port task.question task.steps.items c.now-moment.result (g.G.Rng.stream c.loop-want.self-inside.ids) before.asked.port_is before.asked.question
-    before.flies c.now-moment.ensures c.in-Ok.ensures.steps c.in-Ok.ensures.wants c.in-Ok.ensures.drawn c.in-Finish.is in
+    before.flies c.now-moment.ensures c.in-Ok.ensures.ok.steps c.in-Ok.ensures.ok.wants c.in-Ok.ensures.ok.drawn c.in-Finish.is in
     lands_at before.port is
 
 pub invariant_of-keep : goal.invariant_of-keep
@@ -61,8 +61,8 @@ invariant_of-keep g c =
     let before = c.loop-want.invariant in
     let task = c.loop-want.asking.task in
     let is = open_on task.port task.question task.steps.items c.now-moment.result (g.G.Rng.stream c.loop-want.self-inside.ids) before.asked.port_is before.asked.question
-    before.flies c.now-moment.ensures c.in-Ok.ensures.steps c.in-Ok.ensures.wants c.in-Ok.ensures.drawn c.in-Send.is in
-    (asked_on (rw (sym c.in-Ok-make_room.ensures.octets) at before.asked) c.step.ensures.question c.step.ensures.port, awaits_at c.in-Some.ensures.asked is)
+    before.flies c.now-moment.ensures c.in-Ok.ensures.ok.steps c.in-Ok.ensures.ok.wants c.in-Ok.ensures.ok.drawn c.in-Send.is in
+    (asked_on (rw (sym c.in-Ok-make_room.ensures.octets) at before.asked) c.step.ensures.same.question c.step.ensures.same.port, awaits_at c.in-Some.ensures.asked is)
 
 pub returns-in-Finish : goal.returns-in-Finish
 returns-in-Finish g c =

@@ -9,7 +9,7 @@ use Rattle.flight.proofs.engine.Flight.drive.Given as goal
 abbrev pub invariant-loop-want : goal.invariant-loop-want
 invariant-loop-want g l = record {
   asked : IsAskedBy g.K.Client.sent l.asking.port l.octets l.asking.client l.asking.query l.asking.task;
-  flies : Flies g.D.Desk.calls g.D.Numbered.seen g.L.Line.hears g.C.Clock.ticks l.asking.port l.asking.query.question l.asking.task.steps.items l.input l.asking.seen;
+  flies : Flies g.D.Desk.calls g.D.Numbered.seen g.L.InFlight.hears g.C.Clock.ticks l.asking.port l.asking.query.question l.asking.task.steps.items l.input l.asking.seen;
   port : l.asking.port ≡ g.O.Outside.server_port l.outside;
   known : l.asking.seen ≤ g.D.Numbered.seen l.desk;
   keeps : Keeps g.O.Outside.server_port g.O.Outside.told l.fn.outside l.outside;
