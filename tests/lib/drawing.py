@@ -67,7 +67,7 @@ WEIGHTS = [
         at=6, clock=1, admit=16, ns=8, denial=6, look=16, servers=8, flush=7,
         stub=4, zone=2, record=3, list=5, back=5, sweep=1, wrong=2,
     ),
-    dict(at=6, clock=4, admit=20, denial=8, look=20, flush=12, flushed_type=4, list=1, back=6, sweep=2, wrong=1),
+    dict(at=6, clock=4, admit=20, denial=8, look=20, flush=12, flushed_type=4, list=1, back=6, sweep=4, wrong=1),
     dict(at=6, admit=4, ns=24, denial=3, servers=32, flush=4, stub=7, list=2, back=6),
     dict(at=2, admit=4, look=20, zone=12, record=24, stub=4, list=10, back=8, wrong=1),
 ]
@@ -195,7 +195,7 @@ def drawn_script(seed):
     draw = random.Random(seed)
     settings = {
         "journal": draw.choice([1, 2, 3, 5, 8, 64]),
-        "cells": draw.choice([20, 40, 100_000, 100_000]),
+        "cells": draw.choice([5, 12, 100_000, 100_000]),
         "port": draw.choice([53, 53, 5_302]),
     }
     hints = draw.sample(HINTS, draw.randint(0, 3))

@@ -1,7 +1,7 @@
 """What the lines of a script come to, by what they mean: each reply is worked out from the events before it.
 
-Nothing is kept but the list of events. For each line the marks, what stands, the tables and the cells are replayed from
-nothing.
+For each line the marks, what stands, the tables and the cells are replayed from nothing, over the list of events. Only the places
+of the cache are counted as the script goes, since no reply but `fault full` depends on them.
 """
 
 from dataclasses import dataclass
@@ -80,6 +80,10 @@ def is_alive(cell, moment):
     return cell is not None and moment < cell[1] + cell[0].ttl
 
 
+def outranks(cell, find, moment):
+    return is_alive(cell, moment) and cell[0].rank > find.rank
+
+
 def cell_of(entries, question):
     """The find that is held of a question, and the moment at which it came."""
     cell = None
@@ -88,7 +92,7 @@ def cell_of(entries, question):
         if entry.event.verb == "do":
             if covers(what, question):
                 cell = None
-        elif touches(what, question) and not (is_alive(cell, entry.moment) and cell[0].rank > what.rank):
+        elif touches(what, question) and not outranks(cell, what, entry.moment):
             cell = (what, entry.moment)
     return cell
 
@@ -97,6 +101,122 @@ def shown(entries, question, moment):
     """The find of a living cell, and the seconds left."""
     cell = cell_of(entries, question)
     return (cell[0], cell[1] + cell[0].ttl - moment) if is_alive(cell, moment) else None
+
+
+# ---- the places of the cache
+
+# What a version has of a type, if the denial of the whole name is meant.
+DENIAL = object()
+
+
+class CachedName:
+    """The denial of a name, and a column for each type: what is cached of it, by version."""
+
+    def __init__(self):
+        self.denial, self.upto = None, 0  # it reaches the versions up to this one
+        self.columns = {}
+
+    def has_place(self, kind):
+        """Whether a find of the type, or of the whole name, is cached in some version."""
+        if kind is None:
+            return self.denial is not None
+        return any(cell not in (None, DENIAL) for cell in self.columns.get(kind, ()))
+
+    def places(self):
+        return sum(self.has_place(kind) for kind in (None, *self.columns))
+
+    def cell(self, kind, version):
+        column = self.columns.get(kind, [DENIAL] * (self.upto + 1))
+        cell = column[version] if version < len(column) else None
+        return self.denial if cell is DENIAL else cell
+
+    def open(self, kind, size):
+        """The column of a type. A new one is as the denial has it, or empty."""
+        return self.columns.setdefault(kind, [None] * size if self.denial is None else [DENIAL] * (self.upto + 1))
+
+
+class Places:
+    """The places of a cache that keeps no history.
+
+    A place is a name and a type, or a name that is denied. It counts while some version has a find there. Version N is what is
+    cached if flush N is the last in force, and version 0 if none is. Each flush that can be undone or redone has its version.
+    Other versions go with a sweep.
+    """
+
+    def __init__(self):
+        self.names = {}
+        self.flushes = {}  # by ticket
+        self.newest = 0
+
+    def count(self):
+        return sum(name.places() for name in self.names.values())
+
+    def needs_one(self, find, moment):
+        """Whether a find needs a new place: none counts, and no version outranks it."""
+        name = self.names.get(find.owner, CachedName())
+        if name.has_place(find.kind):
+            return False
+        asked = [0] + [number for number, flush in self.flushes.items() if covers(flush, (find.owner, find.kind))]
+        return find.kind is None or any(not outranks(name.cell(find.kind, version), find, moment) for version in asked)
+
+    def admit(self, find, moment):
+        """Each version takes a find, unless what is cached there outranks it. Nothing outranks a denial of a name."""
+        name = self.names.setdefault(find.owner, CachedName())
+        if find.kind is None:
+            name.denial, name.upto, name.columns = (find, moment), self.newest, {}
+        elif name.has_place(find.kind) or self.needs_one(find, moment):
+            column = name.open(find.kind, self.newest + 1)
+            column += [None] * (self.newest + 1 - len(column))
+            new = (find, moment)
+            for version, cell in enumerate(column):
+                if not outranks(name.denial if cell is DENIAL else cell, find, moment):
+                    column[version] = new
+
+    def flush(self, number, flush):
+        """A flush that can be undone has a column for each of its types, if the name is denied."""
+        word, owner, *rest = flush
+        name = self.names.get(owner)
+        if word != "flush_zone" and name and name.denial:
+            for kind in rest or FLUSHED:
+                name.open(kind, 0)
+        self.flushes[number], self.newest = flush, number
+
+    def settle(self, number):
+        """A flush can no longer be undone: the versions before it are no more."""
+        flush = self.flushes.pop(number)
+        for owner, name in self.names.items():
+            for kind, column in name.columns.items():
+                if covers(flush, (owner, kind)):
+                    column[:number] = [column[number] if number < len(column) else None] * len(column[:number])
+            if flush[0] == "flush_zone" and covers(flush, (owner, None)) and name.upto < number:
+                name.denial = None
+
+    def sweep(self, moment):
+        """What is dead goes, and what no version has that belongs to a flush that can be undone or redone."""
+        for owner, name in self.names.items():
+            if not is_alive(name.denial, moment):
+                name.denial = None
+            for kind, column in name.columns.items():
+                asked = [0] + [number for number, flush in self.flushes.items() if covers(flush, (owner, kind))]
+                seen = [column[version] for version in asked if version < len(column)]
+                for version, cell in enumerate(column):
+                    is_seen = any(cell is other for other in seen)
+                    if cell is not DENIAL and not (is_seen and is_alive(cell, moment)):
+                        column[version] = None
+
+    def take(self, event, moment, ticket, bound, done, undone):
+        """An event that got no fault, with the ticket that it took, and the tickets that could be undone and redone before it."""
+        if event.verb == "admit":
+            self.admit(event.what, moment)
+        elif event.verb == "sweep":
+            self.sweep(moment)
+        elif ticket is not None:
+            if event.what[0].startswith("flush"):
+                self.flush(ticket, event.what)
+            for dropped in undone:
+                self.flushes.pop(dropped, None)
+            if len(done) == bound and done[0] in self.flushes:
+                self.settle(done[0])
 
 
 # ---- local zones, local data and stubs
@@ -302,7 +422,7 @@ def reply_text(settings, history, event):
         return ([f"error {why}"], None) if why else ([f"ok {tickets(history) + 1}"], tickets(history) + 1)
     find = event.what
     cell = cell_of(entries, (find.owner, find.kind)) if isinstance(find.body, tuple) else None
-    return ["outranked" if is_alive(cell, moment) and cell[0].rank > find.rank else "taken"], None
+    return ["outranked" if outranks(cell, find, moment) else "taken"], None
 
 
 class Model:
@@ -313,16 +433,18 @@ class Model:
         self.hints = [addr_in(hint) for hint in hints]
         self.moment = 0
         self.history = []
+        self.places = Places()
 
     def take(self, event):
         """A fault and nothing else, or the reply, and then the event is in the history."""
         if event.moment >= FIRST_BAD_MOMENT:
             return ["fault bad_moment"]
-        stored = sum(entry.event.verb == "admit" for entry in self.history)
-        if event.verb == "admit" and stored == self.cells:
-            return [f"fault full {stored}"]
+        moment = max(now(self.history), event.moment)
+        if event.verb == "admit" and self.places.count() == self.cells and self.places.needs_one(event.what, moment):
+            return [f"fault full {self.cells}"]
         told, ticket = reply_text(self, self.history, event)
-        self.history.append(Entry(event, max(now(self.history), event.moment), ticket))
+        self.places.take(event, moment, ticket, self.journal, *marks(self.journal, self.history)[:2])
+        self.history.append(Entry(event, moment, ticket))
         return told
 
     def obey(self, line):

@@ -1,7 +1,7 @@
-//! `resolver control`: lines for a service, and what it replies.
+//! The mode `control`: it sends lines to a service, and writes the replies.
 //!
-//! Each line goes over a connection of its own, and where that ends its reply ends. So a client that waits at a terminal
-//! keeps no other operator out, and need not know which replies have several lines.
+//! Each line goes over a connection of its own, and the reply ends with the connection. So a client that waits at a terminal
+//! keeps no other operator out, and it need not know which replies have several lines.
 
 ghost use Rattle.std.specs.Prelude.{◌≡◌, ◌||◌, nat_eq, codes};
 ghost use Rattle.std.specs.List.{starts_with};
@@ -15,23 +15,23 @@ use std::io::{BufRead, ErrorKind, Input, Read, Write};
 use std::net::{Net, Shutdown, TcpStream};
 use std::time::Duration;
 
-/// How long a service may take to accept a line and to reply, in seconds. It obeys one operator after another, and waits for
-/// an idle one for a minute.
+/// The time that a service has to accept a line and to reply, in seconds. It serves one operator at a time, and waits a
+/// minute for one that is idle.
 const PATIENCE_SECONDS: u64 = 120;
 
-/// Whether a line is told nothing: it is empty, or a comment.
+/// Whether a line gets no reply: it is empty, or a comment.
 fn is_silent(line: &[u8]) -> bool {
     line.is_empty() || line[0] == b'#' || line == b"\r".as_slice()
 }
 
-/// Whether a line of a reply says that something was not done.
+/// Whether a line of a reply says that a command was not obeyed.
 fn is_refusal(line: &[u8]) -> bool
     ensures { result ≡ (starts_with nat_eq line.now (codes "error ") || starts_with nat_eq line.now (codes "fault ")) }
 {
     line.starts_with(b"error ") || line.starts_with(b"fault ")
 }
 
-/// Sends a line with its end, and gives what comes until the service ends the connection.
+/// Sends a line with its line feed, and returns all that the service writes until it ends the connection.
 fn exchange(alloc: Global, mut stream: TcpStream, mut line: Vec<u8>) -> io::Result<Vec<u8>> {
     let patience = Some(Duration::from_secs(PATIENCE_SECONDS));
     stream.set_read_timeout(patience)?;
@@ -44,7 +44,7 @@ fn exchange(alloc: Global, mut stream: TcpStream, mut line: Vec<u8>) -> io::Resu
     Ok(reply)
 }
 
-/// The reply to a line.
+/// The reply to a line, over a connection of its own.
 fn reply_to<R: Net<Stream = TcpStream>>(
     rt: &R,
     alloc: Global,
@@ -58,7 +58,7 @@ fn reply_to<R: Net<Stream = TcpStream>>(
     };
     match exchange(alloc, stream, line) {
         Ok(reply) => {
-            // The service ended before it had replied.
+            // The service ended before it replied.
             if reply.is_empty() && !silent {
                 return Err(CliFault::failed_read());
             }
@@ -68,6 +68,7 @@ fn reply_to<R: Net<Stream = TcpStream>>(
     }
 }
 
+/// The fault of a connection that failed.
 fn fault_of(error: &io::Error) -> CliFault {
     if error.kind() == ErrorKind::OutOfMemory {
         CliFault::no_memory()
@@ -76,7 +77,7 @@ fn fault_of(error: &io::Error) -> CliFault {
     }
 }
 
-/// Sends a line, and writes its reply. Whether it was obeyed.
+/// Sends a line, and writes its reply. It returns whether the line was obeyed.
 fn send_line(rt: &HostRuntime, addr: &Addr, line: Vec<u8>) -> Result<bool, CliFault> {
     let reply = reply_to(rt, rt.alloc(), addr, line)?;
     if rt.stdout().write_all(reply.as_slice()).is_err() {
@@ -90,7 +91,7 @@ fn send_line(rt: &HostRuntime, addr: &Addr, line: Vec<u8>) -> Result<bool, CliFa
     )
 }
 
-/// Sends each line of standard input, and writes its reply. Whether each was obeyed.
+/// Sends each line of standard input, and writes its reply. It returns whether all of them were obeyed.
 fn send_input(rt: &HostRuntime, addr: &Addr) -> Result<bool, CliFault> {
     let mut obeyed = true;
     for line in rt.reader().split(rt.alloc(), b'\n') {
@@ -102,7 +103,8 @@ fn send_input(rt: &HostRuntime, addr: &Addr) -> Result<bool, CliFault> {
     Ok(obeyed)
 }
 
-/// Sends the line, or else each line of standard input, and writes the replies. Whether each was obeyed.
+/// Sends the line, or each line of standard input if there is none, and writes the replies. It returns whether all of them
+/// were obeyed.
 pub(crate) fn send(rt: &HostRuntime, addr: &Addr, line: Option<String>) -> Result<bool, CliFault> {
     match line {
         Some(line) => send_line(rt, addr, line.into_bytes()),

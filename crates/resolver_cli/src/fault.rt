@@ -1,4 +1,4 @@
-//! Why the program does not begin, or does not go on.
+//! The end of a run that failed: its exit status, and the line for standard error.
 
 ghost use Rattle.std.specs.Prelude.{◌≡◌, ◌++◌, ◌⊎◌, IfOk};
 ghost use Rattle.dns_text.specs.Addr.{addr_text};
@@ -11,17 +11,17 @@ use resolver_args::ArgsFault;
 use std::alloc::Global;
 use streams::Text;
 
-/// Why the program does not begin, or does not go on.
+/// A failure that ends the program.
 #[derive(Drop)]
 pub struct CliFault {
-    /// The program's exit status.
+    /// The exit status.
     pub status: u8,
-    /// What standard error gets.
+    /// The line for standard error.
     pub text: Text,
 }
 
 impl CliFault {
-    /// Memory is refused at the start.
+    /// Memory ran out at the start.
     pub fn no_memory() -> CliFault
         ensures { IsNoMemory result }
     {
@@ -31,7 +31,7 @@ impl CliFault {
         }
     }
 
-    /// The arguments are no text, an address is none, or a count is out of its range.
+    /// An argument is not UTF-8 or no address, or there are too few or too many hints or workers.
     pub fn bad_arguments() -> CliFault
         ensures { IsBadArguments result }
     {
@@ -41,7 +41,7 @@ impl CliFault {
         }
     }
 
-    /// Others than this machine could give commands.
+    /// Other machines could reach the control address.
     pub fn not_loopback() -> CliFault
         ensures { IsNotLoopback result }
     {
@@ -51,6 +51,7 @@ impl CliFault {
         }
     }
 
+    /// Standard input, or the reply of a service, cannot be read.
     pub fn failed_read() -> CliFault
         ensures { IsFailedRead result }
     {
@@ -60,6 +61,7 @@ impl CliFault {
         }
     }
 
+    /// Standard output cannot be written.
     pub fn failed_write() -> CliFault
         ensures { IsFailedWrite result }
     {
@@ -69,7 +71,7 @@ impl CliFault {
         }
     }
 
-    /// The clock or the system's randomness cannot be read.
+    /// The system denied its clock, its random numbers or its limit of descriptors, or no more callers of the book are counted.
     pub fn cannot_start() -> CliFault
         ensures { CannotStart result }
     {
@@ -79,14 +81,14 @@ impl CliFault {
         }
     }
 
-    /// Nothing can listen at this address.
+    /// The service cannot listen at this address.
     pub fn cannot_listen(alloc: Global, addr: &Addr) -> CliFault
         ensures { CannotListen addr.now result ⊎ IsNoMemory result }
     {
         at_addr(alloc, b"resolver: cannot listen on ", addr)
     }
 
-    /// Nothing listens at this address.
+    /// No service listens at this address.
     pub fn no_service(alloc: Global, addr: &Addr) -> CliFault
         ensures { HasNoService addr.now result ⊎ IsNoMemory result }
     {
@@ -110,7 +112,7 @@ impl From<ArgsFault> for CliFault {
     }
 }
 
-/// These words and an address on a line.
+/// A line of these words and an address.
 fn line_of(alloc: Global, words: &[u8], addr: &Addr) -> Result<Vec<u8>, NoMemory>
     ensures { IfOk result (λ line. line.items ≡ with_end (words.now ++ addr_text addr.now)) }
 {
@@ -120,7 +122,7 @@ fn line_of(alloc: Global, words: &[u8], addr: &Addr) -> Result<Vec<u8>, NoMemory
     Ok(line)
 }
 
-/// Status 1, with these words and an address.
+/// Status 1, and a line of these words and an address.
 fn at_addr(alloc: Global, words: &[u8], addr: &Addr) -> CliFault
     ensures { Ends result 1 (words.now ++ addr_text addr.now) ⊎ IsNoMemory result }
 {

@@ -1,20 +1,20 @@
-//! `resolver script` obeys the lines of standard input and writes a reply to each, `resolver serve` answers questions until an
-//! operator stops it, and `resolver control` sends a service an operator's lines.
+//! The program `resolver`: `script` obeys the lines of standard input and writes a reply to each, `serve` answers DNS queries
+//! until an operator stops it, and `control` sends an operator's lines to a service.
 #![tactic(auto)]
 
-// Why the program does not begin, or does not go on.
+// The end of a run that failed: exit status and message.
 mod fault;
-// The script over standard input.
+// The mode `script`: lines from standard input.
 mod script;
-// The client of a service's control socket.
+// The mode `control`: the client of a service's control socket.
 mod client;
-// The sockets of a service.
+// The listening sockets of a service.
 mod sockets;
-// One worker.
+// One worker, in a thread of its own.
 mod worker;
-// The control socket.
+// The control socket of a service.
 mod operators;
-// The service: workers over one shared book, and an operator's lines.
+// The mode `serve`: workers and operators over one shared book.
 mod service;
 
 ghost use Rattle.std.specs.Prelude.{◌≡◌, map, IfOk};
@@ -32,6 +32,7 @@ use std::io::{ErrorKind, Write};
 use std::process::ExitCode;
 use std::{env, io};
 
+/// The arguments as string slices.
 fn texts_of(alloc: Global, words: &[String]) -> Result<Vec<&str>, AllocError>
     ensures { IfOk result (λ texts. map (λ text. text.now) texts.items ≡ map (λ word. word.bytes.items) words.now) }
 {
@@ -42,6 +43,7 @@ fn texts_of(alloc: Global, words: &[String]) -> Result<Vec<&str>, AllocError>
     Ok(texts)
 }
 
+/// The mode that the arguments select.
 fn mode_of(alloc: Global, words: &[String]) -> Result<Mode, CliFault>
     ensures said { IfOk result (Says (map (λ word. word.bytes.items) words.now)) }
     ensures guarded { IfOk result IsGuarded }
@@ -52,10 +54,12 @@ fn mode_of(alloc: Global, words: &[String]) -> Result<Mode, CliFault>
     }
 }
 
+/// The arguments as owned strings. It fails if one is not UTF-8, or if memory runs out.
 fn words_of(rt: &HostRuntime) -> io::Result<Vec<String>> {
     Ok(env::args(rt)?.collect(rt.alloc())?)
 }
 
+/// The mode that the program's arguments select.
 fn arguments(rt: &HostRuntime) -> Result<Mode, CliFault>
     ensures fit { IfOk result (λ mode. HasNumbers mode × IsGuarded mode) }
 {
@@ -70,7 +74,7 @@ fn arguments(rt: &HostRuntime) -> Result<Mode, CliFault>
     }
 }
 
-/// Sends lines, and ends with status 1 where one was not obeyed.
+/// Sends lines to a service. The status is 1 if one of them was not obeyed.
 fn command(rt: &HostRuntime, addr: &Addr, line: Option<String>) -> ExitCode {
     match send(rt, addr, line) {
         Ok(true) => ExitCode::SUCCESS,
@@ -79,13 +83,13 @@ fn command(rt: &HostRuntime, addr: &Addr, line: Option<String>) -> ExitCode {
     }
 }
 
-/// Says why the program ends. Where that cannot be written, the status alone tells.
+/// Writes the message to standard error, and returns the status. If the write fails, only the status is left.
 fn exit_with(rt: &HostRuntime, fault: &CliFault) -> ExitCode {
     let _ = rt.stderr().write_all(fault.text.as_slice());
     ExitCode::from(fault.status)
 }
 
-/// With status 0, or as the fault says.
+/// Status 0, or the status and the message of the fault.
 fn end(rt: &HostRuntime, ended: Result<(), CliFault>) -> ExitCode {
     match ended {
         Ok(()) => ExitCode::SUCCESS,

@@ -1,8 +1,9 @@
-//! The control socket: one operator after another.
+//! The control socket, which serves one operator at a time.
 
 use crate::worker::Lent;
 use command_text::serve_control;
-use dns_sockets::MonotonicClock;
+use dns_sockets::{MonotonicClock, REST_SECONDS};
+use front_workers::DEVICE_FAULT;
 use log::{Log, warn};
 use shared_book::{CallLedger, Seat};
 use std::alloc::Global;
@@ -12,15 +13,12 @@ use std::sync::Wait;
 use std::time::Duration;
 use std::{io, thread};
 use streams::{CountedReader, CountedWriter, Ended};
-use undo_book::PlainBook;
+use undo_book::ShelfBook;
 
-/// How long an operator may say nothing, or read nothing, in seconds. Others wait meanwhile.
+/// How long an operator may send nothing, or read nothing, in seconds. The others wait meanwhile.
 const PATIENCE_SECONDS: u64 = 60;
 
-/// How long the socket rests where accepting failed, in seconds.
-const REST_SECONDS: u64 = 1;
-
-/// The next operator.
+/// The connection of the next operator, with its timeouts set.
 fn next_operator(listener: &TcpListener) -> io::Result<TcpStream> {
     let (stream, _) = listener.accept()?;
     let patience = Some(Duration::from_secs(PATIENCE_SECONDS));
@@ -30,10 +28,10 @@ fn next_operator(listener: &TcpListener) -> io::Result<TcpStream> {
     Ok(stream)
 }
 
-/// Obeys an operator's lines. Whether one was `stop`.
+/// Obeys an operator's lines. It returns whether one of them was `stop`.
 fn obey_operator<L: CallLedger, R: Wait + Clock>(
     alloc: Global,
-    desk: &mut Seat<'_, PlainBook, L, R>,
+    desk: &mut Seat<'_, ShelfBook, L, R>,
     clock: &mut MonotonicClock<'_, R>,
     stream: &TcpStream,
 ) -> bool {
@@ -45,12 +43,13 @@ fn obey_operator<L: CallLedger, R: Wait + Clock>(
     )
 }
 
-/// Obeys one operator after another, until `stop`. It outlives a want of descriptors: nothing else ends a service.
+/// Obeys one operator after another, until one sends `stop`. It goes on if accepting fails, for instance because no
+/// descriptors are left: nothing but `stop` ends a service in order.
 pub(crate) fn obey_operators<L: CallLedger, R: Wait + Clock + Log>(
     rt: &R,
     alloc: Global,
     lent: &Lent<'_, L>,
-    mut desk: Seat<'_, PlainBook, L, R>,
+    mut desk: Seat<'_, ShelfBook, L, R>,
 ) {
     let mut clock = MonotonicClock::new(rt, lent.terms.start);
     for _ in rt.forever() {
@@ -61,7 +60,7 @@ pub(crate) fn obey_operators<L: CallLedger, R: Wait + Clock + Log>(
                 }
             }
             Err(_) => {
-                warn!(rt; "resolver: device fault");
+                warn!(rt; "{DEVICE_FAULT}");
                 thread::sleep(rt, Duration::from_secs(REST_SECONDS));
             }
         }

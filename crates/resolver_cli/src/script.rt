@@ -1,4 +1,4 @@
-//! `resolver script`: standard input is obeyed.
+//! The mode `script`: it obeys the lines of standard input over a book of its own.
 
 ghost use Rattle.history.specs.Event.{AreSettings};
 
@@ -6,13 +6,16 @@ use crate::fault::CliFault;
 use command_text::run_script;
 use history::Settings;
 use streams::{CountedReader, CountedWriter, ScriptFault};
-use undo_book::PlainBook;
+use undo_book::ShelfBook;
 
-/// Obeys standard input.
+/// Obeys each line of standard input, and writes the replies to standard output.
 pub(crate) fn obey_input(rt: &HostRuntime, settings: Settings) -> Result<(), CliFault>
     requires { AreSettings settings }
 {
-    let mut book = PlainBook::new(rt.alloc(), settings).unwrap();
+    // The settings are in range, so only memory can be short.
+    let Ok(mut book) = ShelfBook::new(rt.alloc(), settings) else {
+        return Err(CliFault::no_memory());
+    };
     let mut reader = CountedReader::new(rt.stdin());
     let mut writer = CountedWriter::new(rt.stdout());
     match run_script(rt.alloc(), &mut book, &mut reader, &mut writer) {

@@ -1,4 +1,4 @@
-//! `resolver serve`: workers over one shared book, and an operator's lines.
+//! The mode `serve`: workers in threads of their own over one shared book, and operators at the control socket.
 
 ghost use Rattle.std.specs.Prelude.{◌≡◌, ◌+◌, ◌≤◌, []};
 ghost use Rattle.shared_book.specs.declared.kept.TheConstants.{MOST_RECORDED};
@@ -9,6 +9,7 @@ use crate::fault::CliFault;
 use crate::operators::obey_operators;
 use crate::sockets::{Bound, hold_descriptors, wake_all};
 use crate::worker::{Lent, OverTcp, OverUdp, Terms, run_tcp, run_udp, tcp_workers, udp_workers};
+use cell_store::NameSeed;
 use dns_sockets::{descriptor_limit, place_of};
 use flight_sockets::{Waker, most_exchanges};
 use history::Book;
@@ -25,21 +26,21 @@ use std::sync::atomic::{AtomicBool, Ordering};
 use std::thread;
 use std::thread::Threads;
 use std::time::Instant;
-use undo_book::PlainBook;
+use undo_book::ShelfBook;
 
-/// Into how many passes the first one can be split at most. Each new one takes half of its parts.
+/// The parts of the first pass. Each new pass takes half of what is left, so this bounds the number of passes.
 const PARTS: u64 = 1 << 32;
 
 /// The workers of a service, before they begin.
 #[derive(Drop)]
 struct Workers<'a, L: CallLedger, R: Clock + Log + Net<Stream = TcpStream>> {
     udp: Vec<OverUdp<'a, L, R>>,
-    /// What wakes each of those.
+    /// The waker of each UDP worker.
     wakers: Vec<Waker>,
     tcp: Vec<OverTcp<'a, L, R>>,
 }
 
-/// Tells that the service is there, and obeys operators until `stop`.
+/// Prints that the service is ready, and obeys operators until one sends `stop`.
 fn obey<L: CallLedger, R: Wait + Clock + Log + Print>(
     rt: &R,
     alloc: Global,
@@ -55,8 +56,8 @@ fn obey<L: CallLedger, R: Wait + Clock + Log + Print>(
     Ok(())
 }
 
-/// Runs each worker in a thread of its own, and obeys operators in this one. Once they are obeyed no more, each worker is
-/// woken, and the last one's end is waited for.
+/// Runs each worker in a thread of its own, and obeys operators in this one. After `stop` it wakes all workers, and waits until
+/// the last of them has ended.
 fn run<L: CallLedger + Send + Sync, R>(
     rt: &R,
     alloc: Global,
@@ -89,7 +90,7 @@ where
         let ended = if started {
             obey(rt, alloc, lent, pass)
         } else {
-            // As std has it, a thread is wanting where memory is.
+            // std reports a thread that cannot be started as memory that ran out.
             Err(CliFault::no_memory())
         };
         lent.stop.store(true, Ordering::SeqCst);
@@ -98,12 +99,12 @@ where
     })
 }
 
-/// Serves over a book that has taken no event, at these sockets.
+/// Serves at these sockets, over a book that has taken no event yet.
 fn serve_over<L: CallLedger + Send + Sync, R>(
     rt: &R,
     alloc: Global,
     blank: Blank,
-    book: PlainBook,
+    book: ShelfBook,
     record_limit: u64,
     terms: Terms,
     bound: Bound,
@@ -121,13 +122,12 @@ where
     requires parts { blank.parts ≡ L.parts }
     requires some_parts { 1 ≤ blank.parts }
     requires limit { record_limit ≡ L.limit }
-    requires some_recorded { 1 ≤ record_limit }
-    requires few_recorded { record_limit ≤ MOST_RECORDED }
-    requires settings { ⟦<PlainBook as Book>⟧.settings book ≡ L.settings }
+    requires recorded { (1 ≤ record_limit) × (record_limit ≤ MOST_RECORDED) }
+    requires settings { ⟦<ShelfBook as Book>⟧.settings book ≡ L.settings }
     requires few_workers { terms.udp + terms.tcp ≤ MOST_WORKERS }
-    requires fresh { ⟦<PlainBook as Book>⟧.stands_for book [] }
+    requires fresh { ⟦<ShelfBook as Book>⟧.stands_for book [] }
 {
-    let (shared, mut pass) = SharedBook::<PlainBook, L>::new(
+    let (shared, mut pass) = SharedBook::<ShelfBook, L>::new(
         alloc,
         blank,
         book,
@@ -153,7 +153,17 @@ where
     run(rt, alloc, &lent, workers, pass)
 }
 
-/// Serves until an operator stops it.
+/// A seed for the hashes of cached names, from the system's randomness. Strangers choose those names: whoever knew the seed
+/// could make them collide.
+fn drawn_seed<R: RandomSource>(rt: &R) -> Result<NameSeed, CliFault> {
+    let mut octets = [0; 16];
+    match rt.fill_bytes(&mut octets) {
+        Ok(()) => Ok(NameSeed::new(u128::from_le_bytes(octets))),
+        Err(_) => Err(CliFault::cannot_start()),
+    }
+}
+
+/// Serves until an operator sends `stop`.
 pub(crate) fn serve<R>(rt: &R, alloc: Global, service: Service) -> Result<(), CliFault>
 where
     R: Threads
@@ -185,7 +195,11 @@ where
     let exchanges = terms.exchanges.saturating_mul(usize::from(terms.udp));
     hold_descriptors(alloc, &bound.sockets.tcp, exchanges)?;
     let record_limit = service.record_limit;
-    let book = PlainBook::new(alloc, service.settings).unwrap();
+    let seed = drawn_seed(rt)?;
+    // The settings are in range, so only memory can be short.
+    let Ok(book) = ShelfBook::seeded(alloc, service.settings, seed) else {
+        return Err(CliFault::no_memory());
+    };
     let blank = Blank::new(PARTS);
     serve_over::<Brand, R>(rt, alloc, blank, book, record_limit, terms, bound)?;
     info!(rt; "resolver: stopped");

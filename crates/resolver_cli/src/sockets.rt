@@ -1,4 +1,4 @@
-//! The sockets of a service.
+//! The listening sockets of a service.
 
 ghost use Rattle.std.specs.Prelude.{◌≡◌, Ok, IfOk, vec_len};
 
@@ -11,15 +11,14 @@ use std::io;
 use std::io::ErrorKind;
 use std::net::{Net, SocketAddr, TcpListener, TcpStream};
 
-/// The sockets that the threads of a service share.
+/// The sockets that all threads of a service share.
 #[derive(Drop)]
 pub(crate) struct Sockets {
     pub tcp: TcpListener,
     pub control: TcpListener,
 }
 
-/// The sockets of a service: those that its threads share, one for datagrams for each worker that takes them, and what wakes
-/// each of these.
+/// All sockets of a service: the shared ones, and for each UDP worker a socket of its own, with the waker of its poll.
 #[derive(Drop)]
 pub(crate) struct Bound {
     pub sockets: Sockets,
@@ -27,7 +26,7 @@ pub(crate) struct Bound {
     pub wakers: Vec<Waker>,
 }
 
-/// What is bound at this address, or what tells that nothing is.
+/// The socket that was bound at this address, or the fault if it could not be bound.
 fn listening<S>(alloc: Global, addr: &Addr, socket: io::Result<S>) -> Result<S, CliFault>
     ensures { IfOk result (λ bound. socket ≡ Ok bound) }
 {
@@ -43,7 +42,7 @@ fn listening<S>(alloc: Global, addr: &Addr, socket: io::Result<S>) -> Result<S, 
 }
 
 impl Bound {
-    /// Binds UDP for so many workers, TCP and control, in this order.
+    /// Binds a UDP socket for each of `udp` workers, then the TCP socket, then the control socket.
     pub fn new<R: Net<Stream = TcpStream, Listener = TcpListener>>(
         rt: &R,
         alloc: Global,
@@ -65,9 +64,9 @@ impl Bound {
     }
 }
 
-/// Holds so many descriptors more for a moment, so that the system's table of them has grown before threads share it. Growing
-/// waits then until no thread can be reading the old one: milliseconds, in which a worker answers nobody. What cannot be
-/// held is left, as exchanges would find out.
+/// Opens this many descriptors for a moment, so that the kernel's table of descriptors grows before the threads share it.
+/// Later the kernel would wait until no thread can be reading the old table. That takes milliseconds, and a worker would
+/// answer nobody meanwhile. If the system grants fewer descriptors, that is no fault here: exchanges log it when they need one.
 pub(crate) fn hold_descriptors(
     alloc: Global,
     socket: &TcpListener,
@@ -85,8 +84,8 @@ pub(crate) fn hold_descriptors(
     Ok(())
 }
 
-/// Wakes each worker that waits, so that it sees the stop flag. One that cannot be woken so has a connection to accept, or
-/// looks at the flag by itself.
+/// Wakes each worker that waits, so that it sees the stop flag. A worker that this does not reach has a connection to accept,
+/// or looks at the flag by itself within half a second.
 pub(crate) fn wake_all<R: Net<Stream = TcpStream>>(
     rt: &R,
     wakers: &[Waker],

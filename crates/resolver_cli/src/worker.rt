@@ -1,4 +1,4 @@
-//! One worker, in a thread of its own.
+//! A worker of a service, in a thread of its own.
 
 ghost use Rattle.std.specs.Prelude.{◌≡◌, ◌+◌, ◌≤◌, vec_len};
 ghost use Rattle.resolver_args.specs.declared.mode.TheConstants.{MOST_WORKERS};
@@ -20,33 +20,37 @@ use std::rt::Clock;
 use std::sync::Wait;
 use std::sync::atomic::AtomicBool;
 use std::time::Instant;
-use undo_book::PlainBook;
+use undo_book::ShelfBook;
 
-/// What is fixed of a service, beside its book.
+/// The fixed settings of a service that do not belong to its book.
 #[derive(Clone, Copy)]
 pub(crate) struct Terms {
-    /// Where questions come in.
+    /// The address at which queries arrive.
     pub place: SocketAddr,
+    /// The number of UDP workers.
     pub udp: u8,
+    /// The number of TCP workers.
     pub tcp: u8,
+    /// The seed of the identifiers of queries, if the operator fixed one.
     pub seed: Option<u32>,
+    /// The port of name servers whose addresses are learnt.
     pub server_port: u16,
-    /// How many exchanges a worker over UDP may have under way.
+    /// The most exchanges that a UDP worker may have under way.
     pub exchanges: usize,
-    /// The moment from which every clock counts.
+    /// The instant from which every worker's clock counts.
     pub start: Instant,
 }
 
-/// What every thread is lent.
+/// The parts of a service that every thread borrows.
 #[derive(Drop)]
 pub(crate) struct Lent<'a, L: CallLedger> {
-    pub book: &'a SharedBook<PlainBook, L>,
+    pub book: &'a SharedBook<ShelfBook, L>,
     pub sockets: &'a Sockets,
     pub stop: &'a AtomicBool,
     pub terms: Terms,
 }
 
-/// What a worker owns that takes datagrams.
+/// The parts that a UDP worker owns.
 #[derive(Drop)]
 pub(crate) struct OverUdp<'a, L: CallLedger, R: Net<Stream = TcpStream> + Log + Clock> {
     pass: Pass<L>,
@@ -54,7 +58,7 @@ pub(crate) struct OverUdp<'a, L: CallLedger, R: Net<Stream = TcpStream> + Log + 
     worker: UdpWorker<'a, R>,
 }
 
-/// What a worker owns that takes connections.
+/// The parts that a TCP worker owns.
 #[derive(Drop)]
 pub(crate) struct OverTcp<'a, L: CallLedger, R: Net<Stream = TcpStream> + Clock> {
     pass: Pass<L>,
@@ -62,19 +66,20 @@ pub(crate) struct OverTcp<'a, L: CallLedger, R: Net<Stream = TcpStream> + Clock>
     exchange: SocketExchange<'a, R>,
 }
 
-/// The generator of a worker: by the seed and the worker's number, or else by the system's randomness.
+/// The generator of a worker's query identifiers. It is seeded with the fixed seed and the worker's number if there is a fixed
+/// seed, and with the system's randomness otherwise.
 fn generator<R: RandomSource>(rt: &R, seed: Option<u32>, number: u8) -> Result<StdRng, CliFault> {
     let made = match seed {
         Some(seed) => Ok(StdRng::seed_from_u64(u64::from(seed) + (u64::from(number) << 32))),
         None => rand::make_rng(rt),
     };
-    made.map_err(|_: io::Error| CliFault::failed_read())
+    made.map_err(|_: io::Error| CliFault::cannot_start())
 }
 
-/// A pass of its own, for a worker.
+/// A pass to the book for one worker.
 fn pass_of<L: CallLedger, R: Wait>(
     rt: &R,
-    book: &SharedBook<PlainBook, L>,
+    book: &SharedBook<ShelfBook, L>,
     pass: &mut Pass<L>,
 ) -> Result<Pass<L>, CliFault> {
     match book.split(rt, pass) {
@@ -83,11 +88,11 @@ fn pass_of<L: CallLedger, R: Wait>(
     }
 }
 
-/// A worker for each listener, the first of which has number 0.
+/// A UDP worker for each listener. They are numbered from 0.
 pub(crate) fn udp_workers<'a, L: CallLedger, R>(
     rt: &'a R,
     alloc: Global,
-    book: &SharedBook<PlainBook, L>,
+    book: &SharedBook<ShelfBook, L>,
     pass: &mut Pass<L>,
     terms: &Terms,
     listeners: Vec<UdpListener>,
@@ -114,11 +119,11 @@ where
     Ok(workers)
 }
 
-/// So many workers for connections, whose numbers follow those for datagrams.
+/// The TCP workers. Their numbers follow those of the UDP workers.
 pub(crate) fn tcp_workers<'a, L: CallLedger, R>(
     rt: &'a R,
     alloc: Global,
-    book: &SharedBook<PlainBook, L>,
+    book: &SharedBook<ShelfBook, L>,
     pass: &mut Pass<L>,
     terms: &Terms,
 ) -> Result<Vec<OverTcp<'a, L, R>>, CliFault>
@@ -145,7 +150,7 @@ where
     Ok(workers)
 }
 
-/// Answers datagrams until the service stops.
+/// Answers queries over UDP until the service stops.
 pub(crate) fn run_udp<L: CallLedger, R>(
     rt: &R,
     alloc: Global,
@@ -174,7 +179,7 @@ where
     );
 }
 
-/// Answers connections until the service stops.
+/// Answers queries over TCP until the service stops.
 pub(crate) fn run_tcp<L: CallLedger, R>(
     rt: &R,
     alloc: Global,

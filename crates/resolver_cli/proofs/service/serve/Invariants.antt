@@ -1,8 +1,7 @@
-use Rattle.undo_book.specs.PlainBook.{settings_in}
 use Rattle.resolver_cli.proofs.service.serve.Given as goal
 
 abbrev pub ghosts-serve_over-L-Ledger : goal.ghosts-serve_over-L-Ledger
 ghosts-serve_over-L-Ledger g a = record { name = a.blank.name; parts = a.blank.parts }
 
 abbrev pub ghosts-serve_over-L-CallLedger : goal.ghosts-serve_over-L-CallLedger
-ghosts-serve_over-L-CallLedger g a = record { limit = a.record_limit; settings = settings_in a.book }
+ghosts-serve_over-L-CallLedger g a = record { limit = a.record_limit; settings = a.book.book.settings }
