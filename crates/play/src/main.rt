@@ -6,6 +6,7 @@
 //! | `zones` | local zones and local data |
 //! | `stubs` | stubs |
 //! | `control` | a book, as an operator does over control; `control behind` a desk that is behind |
+//! | `script` | the book that keeps its history, as `resolver script` does its own: `play script ARGUMENTS` |
 //! | `resolve` | the resolution of questions, at name servers that the lines play |
 //! | `serve` | queries, streams and workers, at name servers that the lines play |
 //! | `flight` | many questions in flight, at clients, name servers and sockets that the lines play |
@@ -24,6 +25,7 @@ mod records; // a record, as it is written
 mod zones; // local zones and local data
 mod stubs; // stubs
 mod control; // lines of control
+mod script; // a script over the book that replays its history
 mod resolve; // one question at a time
 mod serve; // queries and streams
 mod in_flight; // many questions at once
@@ -32,6 +34,7 @@ use control::play_control;
 use in_flight::play_flight;
 use log::Log;
 use resolve::play_resolve;
+use script::play_script;
 use serve::play_serve;
 use std::env;
 use std::process::ExitCode;
@@ -51,17 +54,16 @@ fn arguments(rt: &HostRuntime) -> Result<Vec<String>, Stop> {
     }
 }
 
-/// Plays what a word says, and gives the status to end with.
-fn play<W: Wait + Log>(
-    rt: &HostRuntime,
-    waiting: &W,
-    word: &str,
-    words: &[String],
-) -> Result<u8, Stop> {
-    match word {
+/// Plays what the first argument says, and returns the status to end with.
+fn play<W: Wait + Log>(rt: &HostRuntime, waiting: &W, all: &[String]) -> Result<u8, Stop> {
+    let [_, word, words @ ..] = all else {
+        return Err(Stop::Device);
+    };
+    match word.as_str() {
         "zones" => play_zones(rt)?,
         "stubs" => play_stubs(rt)?,
         "control" => return play_control(rt, words),
+        "script" => play_script(rt, all)?,
         "resolve" => play_resolve(rt)?,
         "serve" => play_serve(rt, waiting)?,
         "flight" => play_flight(rt)?,
@@ -70,15 +72,12 @@ fn play<W: Wait + Log>(
     Ok(0)
 }
 
-fn status<W: Wait + Log>(rt: &HostRuntime, waiting: &W) -> Result<u8, Stop> {
-    match arguments(rt)?.as_slice() {
-        [_, word, words @ ..] => play(rt, waiting, word.as_str(), words),
-        _ => Err(Stop::Device),
-    }
-}
-
 fn main(rt: HostRuntime) -> ExitCode {
-    match status(&rt, &rt) {
+    let status = match arguments(&rt) {
+        Ok(words) => play(&rt, &rt, words.as_slice()),
+        Err(stop) => Err(stop),
+    };
+    match status {
         Ok(status) => ExitCode::from(status),
         Err(Stop::Device) => ExitCode::from(1),
         Err(Stop::NoMemory) => ExitCode::from(3),

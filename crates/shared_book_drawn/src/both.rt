@@ -9,9 +9,6 @@ use rand_pcg::Pcg32;
 use std::alloc::Global;
 use undo_book::{PlainBook, ShelfBook};
 
-/// How many events each pair of books is given.
-const EVENTS: u32 = 1_000;
-
 fn settings(alloc: Global, journal: usize) -> Settings {
     Settings {
         journal,
@@ -35,8 +32,8 @@ fn is_alike(plain: &mut PlainBook, shelf: &mut ShelfBook, event: Event) -> bool 
     }
 }
 
-/// How many events there are, and to how many of them both books reply the same.
-pub fn both(alloc: Global, seed: u64, journal: usize) -> Result<(u64, u64), Stop> {
+/// To how many of so many events both books reply the same.
+pub fn both(alloc: Global, seed: u64, journal: usize, events: u64) -> Result<u64, Stop> {
     let Ok(mut plain) = PlainBook::new(alloc, settings(alloc, journal)) else {
         return Err(Stop);
     };
@@ -45,13 +42,14 @@ pub fn both(alloc: Global, seed: u64, journal: usize) -> Result<(u64, u64), Stop
     };
     let mut rng = Pcg32::seed_from_u64(seed);
     let mut alike = 0u64;
-    for _ in 0..EVENTS {
-        let Ok(event) = event_or_denial(&mut rng, alloc) else {
+    for number in 0..events {
+        // The clock goes on, by a second in 20 events.
+        let Ok(event) = event_or_denial(&mut rng, alloc, number / 20) else {
             return Err(Stop);
         };
         if is_alike(&mut plain, &mut shelf, event) {
             alike = alike.wrapping_add(1);
         }
     }
-    Ok((u64::from(EVENTS), alike))
+    Ok(alike)
 }

@@ -35,7 +35,7 @@ fn one_call<L: CallLedger, R: Wait>(
     pass: &mut Pass<L>,
     rng: &mut Pcg32,
 ) -> Result<Receipt, Stop> {
-    let Ok(drawn) = event(rng, alloc) else {
+    let Ok(drawn) = event(rng, alloc, 0) else {
         return Err(Stop);
     };
     let Ok(shared) = Shared::new(alloc, drawn) else {

@@ -1,4 +1,4 @@
-//! Events by chance, about four names and a few moments.
+//! Events by chance, about eight names.
 
 ghost use Rattle.std.specs.Prelude.{◌<◌};
 
@@ -13,13 +13,17 @@ use ranked::{Find, Rank, SharedFind};
 use std::alloc::{AllocError, Global};
 use stub_table::Stub;
 
-const NAMES: [&[u8]; 4] = [b"a", b"b.a", b"c", b"d.c"];
+const NAMES: [&[u8]; 8] = [b"a", b"b.a", b"c", b"d.c", b"e", b"f.e", b"g.f.e", b"h.f.e"];
 
-const RECORDS: [&[u8]; 4] = [
+const RECORDS: [&[u8]; 8] = [
     b"a 60 A 192.0.2.1",
     b"b.a 60 A 192.0.2.2",
     b"c 60 A 192.0.2.3",
     b"d.c 60 A 192.0.2.4",
+    b"e 60 A 192.0.2.5",
+    b"f.e 60 A 192.0.2.6",
+    b"g.f.e 60 A 192.0.2.7",
+    b"h.f.e 60 A 192.0.2.8",
 ];
 
 const RANKS: [Rank; 4] = [
@@ -49,8 +53,14 @@ fn place(rng: &mut Pcg32) -> usize
     below(rng, 4) as usize
 }
 
+fn name_place(rng: &mut Pcg32) -> usize
+    ensures { result < 8 }
+{
+    below(rng, 8) as usize
+}
+
 fn name(rng: &mut Pcg32, alloc: Global) -> Result<Name, AllocError> {
-    match Name::from_text(alloc, NAMES[place(rng)]) {
+    match Name::from_text(alloc, NAMES[name_place(rng)]) {
         Ok(name) => Ok(name),
         Err(_) => Err(AllocError),
     }
@@ -64,7 +74,7 @@ fn question(rng: &mut Pcg32, alloc: Global) -> Result<Question, AllocError> {
 }
 
 fn find(rng: &mut Pcg32, alloc: Global) -> Result<SharedFind, AllocError> {
-    let Ok(record) = read_record(alloc, RECORDS[place(rng)]) else {
+    let Ok(record) = read_record(alloc, RECORDS[name_place(rng)]) else {
         return Err(AllocError);
     };
     let mut data = Vec::new(alloc);
@@ -124,7 +134,7 @@ fn set_zone(rng: &mut Pcg32, alloc: Global) -> Result<Command, AllocError> {
 }
 
 fn add_record(rng: &mut Pcg32, alloc: Global) -> Result<Command, AllocError> {
-    match read_record(alloc, RECORDS[place(rng)]) {
+    match read_record(alloc, RECORDS[name_place(rng)]) {
         Ok(record) => Ok(Command::AddRecord {
             record: Shared::new(alloc, record)?,
         }),
@@ -175,9 +185,9 @@ fn given(rng: &mut Pcg32, alloc: Global, moment: u64) -> Result<Event, AllocErro
     Ok(Event::Do { moment, command })
 }
 
-/// An event of any kind.
-pub fn event(rng: &mut Pcg32, alloc: Global) -> Result<Event, AllocError> {
-    let moment = u64::from(below(rng, 100));
+/// An event of any kind, within 100 seconds from a moment on.
+pub fn event(rng: &mut Pcg32, alloc: Global, from: u64) -> Result<Event, AllocError> {
+    let moment = from.saturating_add(u64::from(below(rng, 100)));
     match below(rng, 9) {
         0 => Ok(Event::Undo { moment }),
         1 => Ok(Event::Redo { moment }),
@@ -194,9 +204,9 @@ pub fn event(rng: &mut Pcg32, alloc: Global) -> Result<Event, AllocError> {
     }
 }
 
-/// An event of any kind, more often an admission, and at times that of a denial.
-pub fn event_or_denial(rng: &mut Pcg32, alloc: Global) -> Result<Event, AllocError> {
-    let moment = u64::from(below(rng, 100));
+/// An event of any kind, within 100 seconds from a moment on. It is more often an admission, and at times that of a denial.
+pub fn event_or_denial(rng: &mut Pcg32, alloc: Global, from: u64) -> Result<Event, AllocError> {
+    let moment = from.saturating_add(u64::from(below(rng, 100)));
     match below(rng, 12) {
         0 => Ok(Event::Admit {
             moment,
@@ -206,6 +216,6 @@ pub fn event_or_denial(rng: &mut Pcg32, alloc: Global) -> Result<Event, AllocErr
             moment,
             find: find(rng, alloc)?,
         }),
-        _ => event(rng, alloc),
+        _ => event(rng, alloc, from),
     }
 }

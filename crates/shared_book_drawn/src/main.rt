@@ -3,7 +3,8 @@
 //! replies are counted where they are those of the record. That is done with 40 books.
 //!
 //! Then 60 pairs of a book that replays and a book that keeps no history are given 1,000 drawn events each, with journals of
-//! 1, 3 and 64 commands, and the events to which both reply the same are counted.
+//! 1, 3 and 64 commands, and the events to which both reply the same are counted. The arguments `pairs N EVENTS` do that with N
+//! pairs for each journal and so many events, and with nothing else.
 //!
 //! With the argument `steps` one caller makes such calls of a book that lies under no lock, for tests/cli_memory.py.
 #![tactic(auto)]
@@ -87,18 +88,19 @@ fn books<R: Print + Threads + Wait + Sync>(rt: &R, alloc: Global) -> io::Result<
 /// How long the journals of the compared books are.
 const JOURNALS: [usize; 3] = [1, 3, 64];
 
-fn compared<R: Print>(rt: &R, alloc: Global) -> io::Result<()> {
-    let mut events = 0u64;
+/// Compares so many pairs of books for each length of a journal, over so many events each.
+fn compared<R: Print>(rt: &R, alloc: Global, pairs: u64, events: u64) -> io::Result<()> {
+    let mut given = 0u64;
     let mut same = 0u64;
     for journal in JOURNALS {
-        for seed in 0..20u64 {
-            if let Ok((given, alike)) = both(alloc, seed, journal) {
-                events = events.wrapping_add(given);
+        for seed in 0..pairs {
+            if let Ok(alike) = both(alloc, seed, journal, events) {
+                given = given.wrapping_add(events);
                 same = same.wrapping_add(alike);
             }
         }
     }
-    println!(rt; "events {}, both books replied alike {}", events, same)
+    println!(rt; "events {}, both books replied alike {}", given, same)
 }
 
 fn steps_as<R: Print>(rt: &R, alloc: Global) -> Result<(), Stop> {
@@ -112,9 +114,14 @@ fn main(rt: HostRuntime) -> anyhow::Result<()> {
     let words: Vec<String> = env::args(&rt)?.collect(rt.alloc())?;
     match words.as_slice() {
         [_, word] if word.as_str() == "steps" => Ok(steps_as(&rt, rt.alloc())?),
+        [_, word, pairs, events] if word.as_str() == "pairs" => {
+            let pairs: u64 = pairs.as_str().parse()?;
+            let events: u64 = events.as_str().parse()?;
+            Ok(compared(&rt, rt.alloc(), pairs, events)?)
+        }
         _ => {
             books(&rt, rt.alloc())?;
-            Ok(compared(&rt, rt.alloc())?)
+            Ok(compared(&rt, rt.alloc(), 20, 1_000)?)
         }
     }
 }

@@ -23,7 +23,7 @@ fn events(alloc: Global) -> Result<Vec<Shared<Event>>, Stop> {
     let mut rng = Pcg32::seed_from_u64(21);
     let mut events = Vec::new(alloc);
     for _ in 0..CALLS {
-        let Ok(drawn) = event(&mut rng, alloc) else {
+        let Ok(drawn) = event(&mut rng, alloc, 0) else {
             return Err(Stop);
         };
         let Ok(shared) = Shared::new(alloc, drawn) else {

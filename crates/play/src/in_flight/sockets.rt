@@ -10,7 +10,7 @@ use crate::said::Said;
 use dns_name::NoMemory;
 use dns_query::Over;
 use dns_text::{Addr, Octets, Shared};
-use flight::{Client, Counts, Heard, Line, Numbered, Outside, ReplyOctets, Unserved};
+use flight::{Client, Counts, InFlight, Listened, Numbered, Outside, ReplyOctets, Unserved};
 use std::alloc::Global;
 use std::mem;
 
@@ -32,7 +32,7 @@ pub struct Wire {
     query: Shared<Octets>,
 }
 
-impl Line for Wire {
+impl InFlight for Wire {
     ghost asked = { λ wire. query_to wire.server wire.over wire.query };
 
     ghost hears = { λ _ _. Unit {0} };
@@ -129,11 +129,11 @@ fn push_number(out: &mut Vec<u8>, number: u64) {
 }
 
 /// What listening gives if a line said this.
-fn heard_of(said: &Said, alloc: Global, query: &[u8]) -> Heard {
+fn heard_of(said: &Said, alloc: Global, query: &[u8]) -> Listened {
     match said.octets(alloc, query) {
-        Ok(Some(octets)) => Heard::Came(octets),
-        Ok(None) => Heard::Broken,
-        Err(_) => Heard::NoMemory,
+        Ok(Some(octets)) => Listened::Came(octets),
+        Ok(None) => Listened::Broken,
+        Err(_) => Listened::NoMemory,
     }
 }
 
@@ -178,9 +178,9 @@ impl<D: Numbered> Outside<D, Wire, LineClock, Peer> for Sockets {
         })
     }
 
-    fn hear(&mut self, line: &mut Wire) -> Heard {
+    fn hear(&mut self, line: &mut Wire) -> Listened {
         let heard = match mem::replace(&mut self.said, Said::Nothing) {
-            Said::Nothing => Heard::Nothing,
+            Said::Nothing => Listened::Nothing,
             said => heard_of(&said, self.alloc, line.query.get().as_slice()),
         };
         self.counts.listen(&heard);

@@ -3,7 +3,7 @@
 use crate::records::push_record;
 use dns_name::{Name, NoMemory};
 use dns_text::Data;
-use iterate::{Soa, Told};
+use iterate::{AnswerSet, Soa};
 use ranked::{Body, Find, Scope};
 use std::alloc::Global;
 
@@ -47,16 +47,16 @@ fn push_set(
 }
 
 /// Writes the records of a set of an answer.
-pub fn push_told(alloc: Global, told: &Told, out: &mut Vec<u8>) -> Result<(), NoMemory> {
+pub fn push_told(alloc: Global, told: &AnswerSet, out: &mut Vec<u8>) -> Result<(), NoMemory> {
     match told {
-        Told::Find { ttl, find } => push_find(alloc, find.find(), *ttl, out),
-        Told::Local(records) => {
+        AnswerSet::Find { ttl, find } => push_find(alloc, find.find(), *ttl, out),
+        AnswerSet::Local(records) => {
             for r in records.get().as_slice() {
                 push_listed(alloc, r.owner(), r.ttl().seconds(), r.kind(), r.body(), out)?;
             }
             Ok(())
         }
-        Told::Passing(set) => {
+        AnswerSet::Passing(set) => {
             let set = set.get();
             push_set(
                 alloc,
