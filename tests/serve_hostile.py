@@ -117,6 +117,15 @@ def check_servers(checks):
         checks.equal("behind liars: stopped", service.stop(), STOPPED)
 
 
+def check_servers_of_tcp_clients(checks):
+    """Questions that nobody asked over UDP before: what is cached would hide how the workers of TCP clients ask name servers."""
+    zone = {"lies-first.test. A": lies_first, "cut-drips.test. A": cut(drips)}
+    with NameServers({HOST: zone}) as servers, Service([f"{HOST}@{servers.port}"]) as service:
+        for question in zone:
+            name = question.split()[0]
+            checks.equal(f"{question}, first over tcp", service.ask(name, "A", "tcp").words(), MEANT["good"].format(name=name))
+
+
 def check_large(checks):
     """A response of 59 KiB, over TCP on both sides; to who asks over UDP it is cut."""
     does = cut(lambda asked: [asked.response(f"aa | {LONG}")])
@@ -295,6 +304,7 @@ def main():
     with Service(["192.0.2.1"]) as service, ThreadPoolExecutor(1) as pool:
         waiting = pool.submit(check_idle_operator, service, service.control().sock)
         checks.make(check_servers)
+        checks.make(check_servers_of_tcp_clients)
         checks.make(check_large)
         checks.make(check_dead_ports)
         checks.make(check_pipelined)
