@@ -2,7 +2,7 @@
 //! before and joined after. The book is closed with their receipts, and the record's events are given to a fresh book, whose
 //! replies are counted where they are those of the record. That is done with 40 books.
 //!
-//! Then 60 pairs of a book that replays and a book that keeps no history are given 1,000 drawn events each, with journals of
+//! Then 21 pairs of a book that replays and a book that keeps no history are given 10,000 drawn events each, with journals of
 //! 1, 3 and 64 commands, and the events to which both reply the same are counted. The arguments `pairs N EVENTS` do that with N
 //! pairs for each journal and so many events, and with nothing else.
 //!
@@ -121,7 +121,7 @@ fn main(rt: HostRuntime) -> anyhow::Result<()> {
         }
         _ => {
             books(&rt, rt.alloc())?;
-            Ok(compared(&rt, rt.alloc(), 20, 1_000)?)
+            Ok(compared(&rt, rt.alloc(), 7, 10_000)?)
         }
     }
 }
