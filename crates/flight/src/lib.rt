@@ -39,4 +39,4 @@ pub use line::InFlight;
 pub use numbered::Numbered;
 pub use outside::{Client, Listened, Outside, Unserved};
 pub use reply::ReplyOctets;
-pub use table::PATIENCE;
+pub use table::{PATIENCE, limits_law};

@@ -179,3 +179,8 @@ impl<D: Numbered, L: InFlight, C: Clock, K: Client> Table<D, L, C, K> {
         Some(PATIENCE.saturating_sub(now.saturating_sub(wait.since)))
     }
 }
+
+/// An exchange has two seconds.
+pub fn limits_law()
+    ensures { PATIENCE ≡ 2000 }
+{}

@@ -28,7 +28,7 @@ mod turns;
 // A worker that keeps many questions in flight.
 mod udp_worker;
 
-pub use limit::{MOST_EXCHANGES, SPARE_DESCRIPTORS, most_exchanges};
+pub use limit::{MOST_EXCHANGES, SPARE_DESCRIPTORS, limits_law, most_exchanges};
 pub use listener::{UdpListener, listen_each};
 pub use mio::Waker;
 pub use service_socket::ServiceSocket;

@@ -21,3 +21,9 @@ pub fn most_exchanges(descriptors: u64, workers: u8) -> usize
     let left = descriptors.saturating_sub(SPARE_DESCRIPTORS);
     (left / u64::from(workers)).min(MOST_EXCHANGES as u64) as usize
 }
+
+/// A worker has at most 512 exchanges under way, and 64 descriptors are left for everything else.
+pub fn limits_law()
+    ensures exchanges { MOST_EXCHANGES ≡ 512 }
+    ensures spare { SPARE_DESCRIPTORS ≡ 64 }
+{}

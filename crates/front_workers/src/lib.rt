@@ -46,6 +46,7 @@ pub use fault::StreamFault;
 pub use framing::{frame, size_of};
 pub use limits::{
     DATAGRAM_ROOM, MOST_DATAGRAM, MOST_FAILURES, MOST_MESSAGE, MOST_UDP_REPLY, PATIENCE_SECONDS,
+    limits_law,
 };
 pub use listener::Listener;
 pub use log_lines::{DEVICE_FAULT, WORKER_ENDED};

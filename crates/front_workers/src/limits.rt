@@ -1,5 +1,7 @@
 //! The limits of messages, of exchanges and of a worker's failures.
 
+ghost use Rattle.std.specs.Prelude.{◌≡◌};
+
 use dns_wire::MOST_OCTETS;
 
 /// The octets of the longest message: over TCP its length has two octets (RFC 1035, section 4.2.2).
@@ -19,3 +21,13 @@ pub const PATIENCE_SECONDS: u64 = 2;
 
 /// A worker ends after so many failures in a row.
 pub const MOST_FAILURES: u8 = 16;
+
+/// A message has at most 65,535 octets and a reply over UDP 512. A datagram of up to 4,096 is read whole. An exchange has
+/// two seconds, and a worker ends after 16 failures in a row.
+pub fn limits_law()
+    ensures message { MOST_MESSAGE ≡ 65535 }
+    ensures reply { MOST_UDP_REPLY ≡ 512 }
+    ensures datagram { MOST_DATAGRAM ≡ 4096 }
+    ensures patience { PATIENCE_SECONDS ≡ 2 }
+    ensures failures { MOST_FAILURES ≡ 16 }
+{}

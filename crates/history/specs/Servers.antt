@@ -1,5 +1,5 @@
 -- The servers to ask about a name, by the stubs and by what the cache shows of each question.
-use Rattle.std.specs.Prelude.{ℕ, ◌==◌, Bool, not, ◌||◌, nat_lt, Option, Some, None, List, [], ◌∷◌, ◌++◌, length, filter, unwrap_or, if◌then◌else◌}
+use Rattle.std.specs.Prelude.{◌≡◌, ℕ, ◌==◌, Bool, not, ◌||◌, nat_lt, Option, Some, None, List, [], ◌∷◌, ◌++◌, length, filter, unwrap_or, if◌then◌else◌}
 use Rattle.std.specs.List.{flat_map, list_any}
 use Rattle.std.specs.Option.{option_map, option_or}
 use Rattle.dns_name.specs.Labels.{Labels}
@@ -57,6 +57,10 @@ has_no_addr settings shown name = length (addrs_at settings shown name) == 0
 -- those of these servers whose address the cache has not
 abbrev pub without_addr : Settings → (Question → Option (Shown Find)) → List Labels → List Labels
 without_addr settings shown targets = filter (has_no_addr settings shown) targets
+
+-- A list of servers without an address got this server, if the cache has no address of it.
+abbrev pub AddsMissing : Settings → (Question → Option (Shown Find)) → Labels → List Labels → List Labels → Type 0
+AddsMissing settings shown target old new = new ≡ old ++ without_addr settings shown (target ∷ [])
 
 -- the servers of these names, for a zone
 abbrev pub servers_named : Settings → (Question → Option (Shown Find)) → Labels → List Labels → Servers

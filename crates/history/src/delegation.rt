@@ -4,7 +4,7 @@ ghost use Rattle.std.specs.Prelude.{◌≡◌, ◌++◌, ◌∷◌, [], IfOk, On
 ghost use Rattle.std.specs.List.{flat_map, list_any};
 ghost use Rattle.dns_name.specs.Below.{is_at_or_below};
 ghost use Rattle.ranked.specs.Body.{data_of};
-ghost use Rattle.history.specs.Servers.{addr_of, addrs_at, cached_servers, data_at, is_usable, servers_named, target_of, without_addr};
+ghost use Rattle.history.specs.Servers.{AddsMissing, addr_of, addrs_at, cached_servers, data_at, is_usable, servers_named, target_of, without_addr};
 
 use crate::event::Settings;
 use crate::servers::{Origin, Servers};
@@ -115,7 +115,7 @@ fn add_server<C: CellSource>(
     missing: &mut Vec<Name>,
 ) -> Result<(), NoMemory>
     ensures addrs { OnOk result (addrs.new.items ≡ addrs.old.items ++ addrs_at settings.now (C.shows_at cells.now moment) target.now) }
-    ensures missing { OnOk result (missing.new.items ≡ missing.old.items ++ without_addr settings.now (C.shows_at cells.now moment) (target.now ∷ [])) }
+    ensures missing { OnOk result (AddsMissing settings.now (C.shows_at cells.now moment) target.now missing.old.items missing.new.items) }
 {
     let own = addrs_at(alloc, settings, cells, moment, target)?;
     if own.is_empty() {

@@ -40,6 +40,7 @@ pub use laws::{
 };
 pub use limits::{
     MOMENT_END, MOST_CELLS, MOST_COMMANDS, MOST_EVENTS, MOST_HINTS, MakeFault, are_settings,
+    limits_law,
 };
 pub use made::Tables;
 pub use runs::{RunFault, run};

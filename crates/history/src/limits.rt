@@ -1,6 +1,6 @@
 //! The limits of moments, counts and settings.
 
-ghost use Rattle.std.specs.Prelude.{◌↔◌, IsTrue};
+ghost use Rattle.std.specs.Prelude.{◌↔◌, IsTrue, ◌≡◌};
 ghost use Rattle.history.specs.Event.{AreSettings};
 
 use crate::event::Settings;
@@ -41,3 +41,13 @@ pub fn are_settings(settings: &Settings) -> bool
     let has_hints = settings.hints.as_slice().len() <= MOST_HINTS;
     has_journal && has_cells && has_hints && settings.server_port >= 1
 }
+
+/// A moment is below 2^40 seconds, a book takes fewer than 2^62 events, and it can be made to undo 256 commands,
+/// to store 1,000,000 cells and to begin with 16 hints.
+pub fn limits_law()
+    ensures moment { MOMENT_END ≡ 1099511627776 }
+    ensures events { MOST_EVENTS ≡ 4611686018427387903 }
+    ensures commands { MOST_COMMANDS ≡ 256 }
+    ensures cells { MOST_CELLS ≡ 1000000 }
+    ensures hints { MOST_HINTS ≡ 16 }
+{}

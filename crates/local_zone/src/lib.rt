@@ -48,6 +48,6 @@ pub use local::{Local, LocalSet, ShownRecord};
 pub use record::LocalRecord;
 pub use saved::SavedTables;
 pub use seen::{SeenRecord, share_seen};
-pub use table::{MOST_RECORDS, MOST_ZONES, ZoneTable};
+pub use table::{MOST_RECORDS, MOST_ZONES, ZoneTable, limits_law};
 pub use zone::Zone;
 pub use zone_type::{ZoneType, read_zone_type};

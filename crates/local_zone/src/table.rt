@@ -201,3 +201,9 @@ impl ZoneTable {
         drop(saved);
     }
 }
+
+/// A table holds at most 4,096 zones and 65,536 records.
+pub fn limits_law()
+    ensures zones { MOST_ZONES ≡ 4096 }
+    ensures records { MOST_RECORDS ≡ 65536 }
+{}

@@ -20,4 +20,4 @@ pub use closest::closest_law;
 pub use fault::StubFault;
 pub use saved::SavedStubs;
 pub use stub::{MOST_ADDRS, Stub};
-pub use table::{MOST_STUBS, StubTable};
+pub use table::{MOST_STUBS, StubTable, limits_law};

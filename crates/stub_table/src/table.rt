@@ -6,7 +6,7 @@ ghost use Rattle.std.specs.Option.{option_map};
 use crate::fault::StubFault;
 use crate::reason::reason_of_stub;
 use crate::saved::SavedStubs;
-use crate::stub::Stub;
+use crate::stub::{MOST_ADDRS, Stub};
 use dns_name::{Name, NoMemory};
 use dns_text::Shared;
 use named_list::NamedList;
@@ -115,3 +115,9 @@ impl StubTable {
         drop(saved);
     }
 }
+
+/// A table holds at most 1,024 stubs, each with at most 8 addresses.
+pub fn limits_law()
+    ensures stubs { MOST_STUBS ≡ 1024 }
+    ensures addresses { MOST_ADDRS ≡ 8 }
+{}

@@ -9,16 +9,13 @@ ghost use Rattle.dns_wire.specs.Server.Replying.{fault_head, head_alone, cut_to}
 ghost use Rattle.dns_wire.specs.Write.Header.{header_octets};
 ghost use Rattle.dns_wire.specs.Write.Message.{octets_with};
 
-use crate::limits::HEADER_OCTETS;
+use crate::limits::{HEADER_OCTETS, UDP_OCTETS};
 use crate::message::Head;
 use crate::rcode::Rcode;
 use crate::read::header::head_in;
 use crate::reserved::Reserved;
 use crate::server::query::Query;
 use crate::write::header::header_of;
-
-/// The most octets of a message over UDP (RFC 1035, section 4.2.1).
-const UDP_OCTETS: usize = 512;
 
 /// An error reply: a header alone, with this RCODE and the identifier, the opcode and the RD bit of the query. None if
 /// fewer than 12 octets came. It takes no memory.
