@@ -216,7 +216,7 @@ length_slice [] (suc i) x = refl
 length_slice (e ∷ entries) zero x = refl
 length_slice (e ∷ entries) (suc i) x = ap suc (length_slice entries i x)
 
-count_swap : (entries : List (Labels × OwnerCells)) (i : ℕ) (d : Labels × OwnerCells) → i < length entries → count_entries (swap_remove entries i d) + count_of (get_or entries i d).1 ≡ count_entries entries
+pub count_swap : (entries : List (Labels × OwnerCells)) (i : ℕ) (d : Labels × OwnerCells) → i < length entries → count_entries (swap_remove entries i d) + count_of (get_or entries i d).1 ≡ count_entries entries
 count_swap entries i d low =
     let n = length entries - 1 in
     let set = slice_set entries i (get_or entries n d) in

@@ -12,4 +12,7 @@ mod SettleLaws
 mod CountLaws
 mod SweepLaws
 mod OwnerSweepLaws
+mod OwnLaws
+mod PlaceLaws
 mod StoreLaws
+mod HeldLaws

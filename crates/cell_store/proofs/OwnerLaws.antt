@@ -32,7 +32,7 @@ none_of [] kind none = refl
 none_of (x ∷ kinds) kind none =
     ap (λ b. cond b (Some x.column) (column_of kinds kind)) (none 0 x (omega arith)) ∙ none_of kinds kind (λ i d low. none (suc i) d (omega arith))
 
-head_not : (b : Bool) (column : Cells) (rest : Option Cells) → cond b (Some column) rest ≡ None → (b ≡ false) × (rest ≡ None)
+pub head_not : (b : Bool) (column : Cells) (rest : Option Cells) → cond b (Some column) rest ≡ None → (b ≡ false) × (rest ≡ None)
 head_not true column rest is = absurd (some_is_none column is)
 head_not false column rest is = (refl, is)
 

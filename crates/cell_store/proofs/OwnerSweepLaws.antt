@@ -1,10 +1,11 @@
 -- The cells of a name after a sweep.
 use Rattle.std.proofs.Common.{◌≡◌, ℕ, zero, suc, ◌-◌, ◌<◌, ◌≤◌, Bool, true, false, cond, Option, Some, None, List, [], ◌∷◌, length, get_or, map, slice_set, refl, sym, ap, ◌∙◌, subst, arith, inl, inr}
-use Rattle.std.specs.Prelude.{◌==◌, not, is_some, nat_lt}
-use Rattle.std.specs.List.{AllByRecursion}
+use Rattle.std.specs.Prelude.{◌==◌, not, is_some, nat_eq, nat_lt, IfSome}
+use Rattle.std.specs.List.{AllByRecursion, IsDistinct}
 use Rattle.std.specs.Option.{option_map_or}
 use Rattle.std.proofs.lemmas.Bool.{cases_Bool, eqb-true, eq-eqb, false≢true}
 use Rattle.ranked.specs.declared.find.Find.{Find}
+use Rattle.ranked.specs.declared.find.Scope.TheVariants.{Whole}
 use Rattle.ranked.specs.declared.cell.Admitted.{Admitted}
 use Rattle.ranked.specs.Find.{admission_of}
 use Rattle.ranked.specs.Cell.{is_alive}
@@ -14,7 +15,7 @@ use Rattle.cell_store.specs.declared.owner.WholeFind.{WholeFind}
 use Rattle.cell_store.specs.declared.owner.OwnerCells.{OwnerCells}
 use Rattle.cell_store.specs.Version.{own, whole}
 use Rattle.cell_store.specs.Column.{Cells, place_in, is_counted}
-use Rattle.cell_store.specs.Owner.{column_of, whole_cell, place_held, column_held, IsWholeUpTo, IsLeftWithin, IsUpTo, CanSettleColumn, IsPlaceOf}
+use Rattle.cell_store.specs.Owner.{column_of, whole_cell, place_held, column_held, IsWholeUpTo, IsLeftWithin, IsOwn, IsUpTo, CanSettleColumn, IsPlaceOf}
 use Rattle.cell_store.specs.Count.{one_if}
 use Rattle.cell_store.specs.Prune.{is_asked}
 use Rattle.cell_store.specs.Sweep.{alive_at, swept, is_dead, whole_swept, IsSeenAt}
@@ -65,6 +66,9 @@ swept_whole_upto t top old new whole_is kinds is = elim (cases_Bool (is_dead t o
         whole = subst (λ (o : Option WholeFind). IsWholeUpTo top o) (sym none) tt;
         kinds = subst (λ (l : List KindColumn). AllByRecursion (λ own. own.column.upto ≤ top) l) (sym kinds) is.kinds;
         left = subst (λ (o : Option WholeFind). AllByRecursion (λ own. IsLeftWithin o own.column) new.kinds.items) (sym none) (lefts_none new.kinds.items);
+        once = subst (λ (l : List KindColumn). IsDistinct nat_eq (map (λ (own : KindColumn). own.kind) l)) (sym kinds) is.once;
+        wide = subst (λ (o : Option WholeFind). IfSome o (λ w. w.find.scope ≡ Whole)) (sym none) tt;
+        own = subst (λ (l : List KindColumn). AllByRecursion (λ own. IsOwn own.kind own.column) l) (sym kinds) is.own;
       }
   | inr lives ↦
       let same : new.whole ≡ old.whole = whole_is ∙ ap (λ b. cond b None old.whole) lives in
@@ -73,6 +77,9 @@ swept_whole_upto t top old new whole_is kinds is = elim (cases_Bool (is_dead t o
         kinds = subst (λ (l : List KindColumn). AllByRecursion (λ own. own.column.upto ≤ top) l) (sym kinds) is.kinds;
         left = subst (λ (o : Option WholeFind). AllByRecursion (λ own. IsLeftWithin o own.column) new.kinds.items) (sym same)
             (subst (λ (l : List KindColumn). AllByRecursion (λ own. IsLeftWithin old.whole own.column) l) (sym kinds) is.left);
+        once = subst (λ (l : List KindColumn). IsDistinct nat_eq (map (λ (own : KindColumn). own.kind) l)) (sym kinds) is.once;
+        wide = subst (λ (o : Option WholeFind). IfSome o (λ w. w.find.scope ≡ Whole)) (sym same) is.wide;
+        own = subst (λ (l : List KindColumn). AllByRecursion (λ own. IsOwn own.kind own.column) l) (sym kinds) is.own;
       }
 ]
 

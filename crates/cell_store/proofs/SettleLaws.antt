@@ -1,19 +1,21 @@
 -- The cells of a name, once a flush is permanent.
 use Rattle.std.proofs.Common.{◌≡◌, ℕ, zero, suc, ◌+◌, ◌<◌, ◌≤◌, take, max, Bool, true, false, cond, Option, Some, None, List, [], ◌∷◌, ◌++◌, length, get_or, slice_set, refl, sym, ap, ◌∙◌, subst, arith, ◌⊎◌, inl, inr}
-use Rattle.std.specs.Prelude.{◌==◌, ◌||◌, nat_lt}
+use Rattle.std.specs.Prelude.{◌==◌, ◌||◌, nat_lt, IfSome}
 use Rattle.std.specs.List.{AllByRecursion, list_any}
 use Rattle.std.proofs.lemmas.Bool.{cases_Bool, eqb-true}
 use Rattle.std.proofs.lemmas.Bool.Decides.{nat_tests}
 use Rattle.ranked.specs.declared.find.Find.{Find}
+use Rattle.ranked.specs.declared.find.Scope.TheVariants.{Whole}
 use Rattle.ranked.specs.Find.{admission_of}
 use Rattle.cell_store.specs.declared.version.Place.{Place}
 use Rattle.cell_store.specs.declared.owner.KindColumn.{KindColumn}
 use Rattle.cell_store.specs.declared.owner.WholeFind.{WholeFind}
 use Rattle.cell_store.specs.declared.owner.OwnerCells.{OwnerCells}
 use Rattle.cell_store.specs.Column.{Cells, place_in}
-use Rattle.cell_store.specs.Owner.{column_of, whole_cell, whole_held, place_held, column_held, IsWholeIn, IsLeftWithin, IsWholeUpTo, IsUpTo, CanSettleColumn, IsSettled, IsPlaceOf, whole_settled}
+use Rattle.cell_store.specs.Owner.{column_of, whole_cell, whole_held, place_held, column_held, IsWholeIn, IsLeftWithin, IsOwn, IsWholeUpTo, IsUpTo, CanSettleColumn, IsSettled, IsPlaceOf, whole_settled}
 use Rattle.cell_store.specs.Walk.{IsEach}
-use Rattle.cell_store.proofs.OwnerLaws.{column_push, column_put, column_here, all_put, all_at}
+use Rattle.cell_store.proofs.OwnerLaws.{column_push, column_put, column_here}
+use Rattle.cell_store.proofs.OwnLaws.{once_each, own_each, upto_put, wide_settled}
 
 past_max : (upto number v : ℕ) → number ≤ upto → nat_lt upto v ≡ nat_lt upto (max number v)
 past_max upto number v low = split (nat_lt upto v) refl
@@ -124,6 +126,9 @@ settled_upto number top old new whole each upto = record {
   whole = subst (λ (o : Option WholeFind). IsWholeUpTo top o) (sym whole) (settled_whole_upto number top old.whole upto.whole);
   kinds = settled_uptos number top old.kinds.items new.kinds.items each upto.kinds;
   left = subst (λ (o : Option WholeFind). AllByRecursion (λ own. IsLeftWithin o own.column) new.kinds.items) (sym whole) (settled_lefts old.whole number old.kinds.items new.kinds.items each upto.left);
+  once = once_each number old.kinds.items new.kinds.items each upto.once;
+  wide = subst (λ (o : Option WholeFind). IfSome o (λ w. w.find.scope ≡ Whole)) (sym whole) (wide_settled number old.whole upto.wide);
+  own = own_each number old.kinds.items new.kinds.items each upto.own;
 }
 
 -- the column of one type alone
@@ -195,15 +200,9 @@ settled_settles number whole other olds news is each n k settles =
 
 -- the content of a column may change, if its references to the whole name were there before
 pub left_put : (top : ℕ) (old new : OwnerCells) (kind place : ℕ) (lent : KindColumn) (column : Cells) → new.whole ≡ old.whole → new.kinds.items ≡ slice_set old.kinds.items place (record { kind = lent.kind; column = column })
-    → place < length old.kinds.items → lent ≡ get_or old.kinds.items place lent → column.upto ≤ top → ((v : ℕ) → (place_in column v).left ≡ true → (place_in lent.column v).left ≡ true) → IsUpTo top old → IsUpTo top new
-left_put top old new kind place lent column whole put low read upto left is = record {
-  whole = subst (λ (o : Option WholeFind). IsWholeUpTo top o) (sym whole) is.whole;
-  kinds = subst (λ (l : List KindColumn). AllByRecursion (λ own. own.column.upto ≤ top) l) (sym put) (all_put (λ own. own.column.upto ≤ top) old.kinds.items place (record { kind = lent.kind; column = column }) is.kinds upto);
-  left = subst (λ (o : Option WholeFind). AllByRecursion (λ own. IsLeftWithin o own.column) new.kinds.items) (sym whole)
-      (subst (λ (l : List KindColumn). AllByRecursion (λ own. IsLeftWithin old.whole own.column) l) (sym put)
-      (all_put (λ own. IsLeftWithin old.whole own.column) old.kinds.items place (record { kind = lent.kind; column = column }) is.left
-      (λ v here. subst (λ (own : KindColumn). IsLeftWithin old.whole own.column) (sym read) (all_at (λ own. IsLeftWithin old.whole own.column) old.kinds.items place lent is.left low) v (left v here))));
-}
+    → place < length old.kinds.items → lent ≡ get_or old.kinds.items place lent → column.upto ≤ top → ((v : ℕ) → (place_in column v).left ≡ true → (place_in lent.column v).left ≡ true)
+    → (IsOwn lent.kind lent.column → IsOwn lent.kind column) → IsUpTo top old → IsUpTo top new
+left_put top old new kind place lent column whole put low read upto left own is = upto_put top old new place lent column whole put low read upto (λ was v here. was v (left v here)) own is
 
 -- ---- some types, one after the other
 

@@ -1,12 +1,15 @@
 -- The cells of all names, when those of one have changed.
-use Rattle.std.proofs.Common.{◌≡◌, ℕ, ◌≤◌, max, Bool, true, false, cond, Option, Some, None, List, [], ◌∷◌, refl, sym, ap, ◌∙◌, subst}
-use Rattle.std.specs.Prelude.{◌==◌, ◌&&◌, IfSome}
+use Rattle.std.proofs.Common.{◌≡◌, ℕ, ◌≤◌, max, Bool, true, false, cond, Option, Some, None, List, [], ◌∷◌, refl, sym, ap, ◌∙◌, subst, inl, inr}
+use Rattle.std.specs.Prelude.{◌==◌, ◌&&◌, ◌||◌, IfSome}
+use Rattle.std.specs.Option.{option_map_or}
+use Rattle.std.proofs.lemmas.Bool.{cases_Bool, false≢true}
 use Rattle.std.specs.List.{AllByRecursion, list_any}
 use Rattle.indexmap.specs.IndexMap.{IndexMap, get, Updates}
 use Rattle.dns_name.specs.Labels.{Labels}
 use Rattle.dns_name.specs.Order.{name_eq, name_eq_exact}
 use Rattle.dns_text.specs.declared.record.Question.{Question}
 use Rattle.ranked.specs.declared.find.Find.{Find}
+use Rattle.ranked.specs.declared.find.Scope.{Scope}
 use Rattle.ranked.specs.declared.cell.Admitted.{Admitted}
 use Rattle.ranked.specs.Find.{touches, has_kind}
 use Rattle.ranked.specs.Cell.{after_admission}
@@ -16,6 +19,8 @@ use Rattle.cell_store.specs.WalkLaws.{found_each}
 use Rattle.dns_name.specs.Below.{is_at_or_below}
 use Rattle.cell_store.specs.Owner.{cell_in, IsUpTo, CanSettle}
 use Rattle.cell_store.specs.Store.{cell_by_owner, cell_of, AreUpTo, CanSettleAt}
+use Rattle.cell_store.specs.Count.{has_pair, has_place, pair_eq, scope_eq, AddPair, KeepPairs, KeepsPlaces}
+use Rattle.cell_store.proofs.PlaceLaws.{or_right}
 
 module _ {S : Type 0} (old before after : IndexMap Labels OwnerCells S) (owner key : Labels) (new : OwnerCells) (known : before ≡ old) (one : key ≡ owner) (updates : Updates name_eq before after key (Some new)) where
   read : (q : Question) (v : ℕ) → cell_of after q v ≡ cell_by_owner (cond (name_eq owner q.owner) (Some new) (get name_eq old q.owner)) q.kind v
@@ -71,6 +76,38 @@ module _ {S : Type 0} (old before after : IndexMap Labels OwnerCells S) (owner k
       split true same = step (subst (λ (n : Labels). IfSome (get name_eq old n) P) (sym (name_eq_exact owner name same)) was)
       split false apart = was
 
+  placed : (pair : Labels × Scope) → has_pair after pair ≡ option_map_or (λ cells. has_place cells pair.1) (cond (name_eq owner pair.0) (Some new) (get name_eq old pair.0)) false
+  placed pair =
+      let h : Updates name_eq old after owner (Some new) =
+      subst (λ (m : IndexMap Labels OwnerCells S). Updates name_eq m after owner (Some new)) known (subst (λ (k : Labels). Updates name_eq before after k (Some new)) one updates) in
+      ap (λ (o : Option OwnerCells). option_map_or (λ cells. has_place cells pair.1) o false) (h.0 pair.0)
+
+  placed_other : (pair : Labels × Scope) → name_eq owner pair.0 ≡ false → has_pair after pair ≡ has_pair old pair
+  placed_other pair apart = placed pair ∙ ap (λ b. option_map_or (λ cells. has_place cells pair.1) (cond b (Some new) (get name_eq old pair.0)) false) apart
+
+  placed_here : (pair : Labels × Scope) → name_eq owner pair.0 ≡ true → has_pair after pair ≡ has_place new pair.1
+  placed_here pair same = placed pair ∙ ap (λ b. option_map_or (λ cells. has_place cells pair.1) (cond b (Some new) (get name_eq old pair.0)) false) same
+
+  -- no place counts that did not
+  pub pairs_kept : ((scope : Scope) → has_place new scope ≡ true → has_pair old (owner, scope) ≡ true) → KeepPairs old after
+  pairs_kept step pair has = elim (cases_Bool (name_eq owner pair.0)) [
+    | inl same ↦ ap (λ (n : Labels). has_pair old (n, pair.1)) (sym (name_eq_exact owner pair.0 same)) ∙ step pair.1 (sym (placed_here pair same) ∙ has)
+    | inr apart ↦ sym (placed_other pair apart) ∙ has
+  ]
+
+  -- no place counts that did not, but that of an admission
+  pub pairs_added : (added : Scope) → ((scope : Scope) → has_place new scope ≡ true → (scope_eq added scope || has_pair old (owner, scope)) ≡ true) → AddPair (owner, added) old after
+  pairs_added added step pair has = elim (cases_Bool (name_eq owner pair.0)) [
+    | inl same ↦
+        ap (λ b. (b && scope_eq added pair.1) || has_pair old pair) same
+        ∙ (ap (λ (n : Labels). scope_eq added pair.1 || has_pair old (n, pair.1)) (sym (name_eq_exact owner pair.0 same)) ∙ step pair.1 (sym (placed_here pair same) ∙ has))
+    | inr apart ↦ or_right (pair_eq (owner, added) pair) (has_pair old pair) (sym (placed_other pair apart) ∙ has)
+  ]
+
+-- all places are those that they were
+pub pairs_same : {S : Type 0} (added : Labels × Scope) (old new : IndexMap Labels OwnerCells S) → new ≡ old → AddPair added old new
+pairs_same added old new same pair has = or_right (pair_eq added pair) (has_pair old pair) (ap (λ (m : IndexMap Labels OwnerCells _). has_pair m pair) (sym same) ∙ has)
+
 -- the cells of a name by another that is equal to them
 pub by_held : (held : Option OwnerCells) (cells : OwnerCells) (b : Bool) (adm : Admitted Find) (k v : ℕ) → Some cells ≡ held
     → cond b (after_admission (cell_in cells k v) adm) (cell_in cells k v) ≡ cond b (after_admission (cell_by_owner held k v) adm) (cell_by_owner held k v)
@@ -88,6 +125,7 @@ pub record IsSettledBelow (zone : Labels) (number : ℕ) (name : Labels) (old ne
   pub cells : (top : ℕ) → IsUpTo top old → (k v : ℕ) → cell_in new k v ≡ cell_in old k (cond (is_at_or_below name zone) (max number v) v)
   pub upto : (top : ℕ) → IsUpTo top old → IsUpTo top new
   pub settles : (n k : ℕ) → CanSettle n k old → CanSettle n k new
+  pub places : KeepsPlaces old new
 
 module _ {S : Type 0} (zone : Labels) (number : ℕ) (old new : IndexMap Labels OwnerCells S) (each : IsEach (IsEntry (IsSettledBelow zone number)) old.entries new.entries) where
   found : (name : Labels) → IsFound (name_eq name) (IsSettledBelow zone number) (get name_eq old name) (get name_eq new name)
@@ -116,6 +154,16 @@ module _ {S : Type 0} (zone : Labels) (number : ℕ) (old new : IndexMap Labels 
   pub settles_below : (n k : ℕ) (name : Labels) → CanSettleAt n k name old → CanSettleAt n k name new
   settles_below n k name settles = below_each (CanSettle n k) name (λ o m is was. is.settles n k was) (get name_eq old name) (get name_eq new name) (found name) settles
 
+  below_places : (pair : Labels × Scope) (o n : Option OwnerCells) → IsFound (name_eq pair.0) (IsSettledBelow zone number) o n
+      → option_map_or (λ cells. has_place cells pair.1) n false ≡ true → option_map_or (λ cells. has_place cells pair.1) o false ≡ true
+  below_places pair None None is has = has
+  below_places pair None (Some n) is has = absurd is
+  below_places pair (Some o) None is has = absurd is
+  below_places pair (Some o) (Some n) is has = is.1.1.places pair.1 has
+
+  pub pairs_below : KeepPairs old new
+  pairs_below pair has = below_places pair (get name_eq old pair.0) (get name_eq new pair.0) (found pair.0) has
+
 -- a flush of types of a name that has no cells can become permanent
 pub settles_absent : {S : Type 0} (owners after : IndexMap Labels OwnerCells S) (owner : Labels) (kinds : List ℕ) → after ≡ owners → get name_eq owners owner ≡ None → AllByRecursion (λ kind. (n : ℕ) → CanSettleAt n kind owner after) kinds
 settles_absent owners after owner [] same absent = tt
@@ -143,3 +191,10 @@ module _ {S : Type 0} (old new : IndexMap Labels OwnerCells S) (owner : Labels) 
       split : (b : Bool) → IfSome (cond b None (get name_eq old name)) P
       split true = tt
       split false = was
+
+  pub forgot_pairs : KeepPairs old new
+  forgot_pairs pair has = split (name_eq owner pair.0) (sym (ap (λ (o : Option OwnerCells). option_map_or (λ cells. has_place cells pair.1) o false) (updates.0 pair.0)) ∙ has)
+    where
+      split : (b : Bool) → option_map_or (λ cells. has_place cells pair.1) (cond b None (get name_eq old pair.0)) false ≡ true → has_pair old pair ≡ true
+      split true is = absurd (false≢true is)
+      split false is = is

@@ -235,6 +235,24 @@ module _ (old new : Cells) (versions each merged news : List (Version ℕ)) (fin
           let swept_left : (swept t (place_at versions v)).left ≡ true = ap (λ (p : Place ℕ). p.left) (sym (swept_is v)) ∙ was in
           ap (λ b. (cond b nothing (place_at old.versions v)).left) at ∙ (ap (λ (p : Place Find). p.left) (sweep_old v) ∙ left_of t (place_at versions v) swept_left)
 
+  -- each version has what it had, swept, or nothing
+  pub sweep_less : (v : ℕ) → IsLess (place_in new v) (swept t (place_in old v))
+  sweep_less v = split (nat_lt old.upto v) refl
+    where
+      now : (b : Bool) → nat_lt old.upto v ≡ b → place_in new v ≡ cond b nothing (place_at new.versions v)
+      now b at = ap (λ c. cond c nothing (place_at new.versions v)) (ap (λ n. nat_lt n v) upto ∙ at)
+
+      split : (b : Bool) → nat_lt old.upto v ≡ b → IsLess (place_in new v) (swept t (place_in old v))
+      split true at = inr (now true at)
+      split false at = elim (less_fold numbers old.upto v each nothing nothing (inl refl)) [
+        | inl same ↦ inl
+            (now false at
+            ∙ (sweep_new v
+            ∙ (ap (place_of finds) (same ∙ swept_is v)
+            ∙ (swept_seen finds t (place_at versions v) ∙ (ap (swept t) (sym (sweep_old v)) ∙ sym (ap (λ b. swept t (cond b nothing (place_at old.versions v))) at))))))
+        | inr none ↦ inr (now false at ∙ (sweep_new v ∙ ap (place_of finds) none))
+      ]
+
 -- a column that has a find after a sweep had one before
 kept_find : {B : Type 0} (numbers : List ℕ) (upto : ℕ) (x : Version B) (xs : List (Version B)) → has_find (kept_entry numbers upto x xs) ≡ true → has_find x ≡ true
 kept_find numbers upto x xs is = split (is_seen numbers upto x xs) refl

@@ -1,5 +1,5 @@
 -- The places that count against the limit: a find of a whole name, and a column that has a find in some version.
-use Rattle.std.specs.Prelude.{◌≡◌, ℕ, ◌+◌, Bool, false, List, [], ◌∷◌, is_some, if◌then◌else◌}
+use Rattle.std.specs.Prelude.{◌≡◌, ◌⊎◌, ℕ, ◌+◌, ◌≤◌, ◌==◌, ◌&&◌, ◌||◌, Bool, true, false, List, [], ◌∷◌, None, is_some, if◌then◌else◌}
 use Rattle.std.specs.Option.{option_map_or}
 use Rattle.indexmap.specs.IndexMap.{IndexMap, get}
 use Rattle.dns_name.specs.Labels.{Labels}
@@ -10,7 +10,7 @@ use Rattle.ranked.specs.declared.find.Scope.TheVariants.{One, Whole}
 use Rattle.cell_store.specs.declared.owner.KindColumn.{KindColumn}
 use Rattle.cell_store.specs.declared.owner.OwnerCells.{OwnerCells}
 pub use Rattle.cell_store.specs.Column.{has_find, is_counted}
-use Rattle.cell_store.specs.Owner.{column_of}
+use Rattle.cell_store.specs.Owner.{cell_in, column_of}
 
 -- 1 if it is so, else 0
 abbrev pub one_if : Bool → ℕ
@@ -47,3 +47,44 @@ has_place_for owners find = option_map_or (λ cells. has_place cells find.scope)
 pub record HasSamePlaces (old new : OwnerCells) : Type 0 where
   pub count : count_of new ≡ count_of old
   pub places : (scope : Scope) → has_place new scope ≡ has_place old scope
+
+-- whether two scopes are the same
+abbrev pub scope_eq : Scope → Scope → Bool
+scope_eq (One kind) (One other) = kind == other
+scope_eq (One kind) Whole = false
+scope_eq Whole (One other) = false
+scope_eq Whole Whole = true
+
+-- The finds of one owner and scope share a place: their pair.
+abbrev pub pair_of : Find → Labels × Scope
+pair_of find = (find.owner, find.scope)
+
+-- whether two pairs are the same
+abbrev pub pair_eq : Labels × Scope → Labels × Scope → Bool
+pair_eq a b = name_eq a.0 b.0 && scope_eq a.1 b.1
+
+-- whether the place of a pair counts
+abbrev pub has_pair : {S : Type 0} → IndexMap Labels OwnerCells S → Labels × Scope → Bool
+has_pair owners pair = option_map_or (λ cells. has_place cells pair.1) (get name_eq owners pair.0) false
+
+-- Each place of a name that counts did so before.
+abbrev pub KeepsPlaces : OwnerCells → OwnerCells → Type 0
+KeepsPlaces old new = (scope : Scope) → has_place new scope ≡ true → has_place old scope ≡ true
+
+-- Each place of a name that counts did so before, or is that of an admission of this scope.
+abbrev pub AddsPlace : Scope → OwnerCells → OwnerCells → Type 0
+AddsPlace added old new = (scope : Scope) → has_place new scope ≡ true → (scope_eq added scope || has_place old scope) ≡ true
+
+-- Each place that counts did so before.
+abbrev pub KeepPairs : {S : Type 0} → IndexMap Labels OwnerCells S → IndexMap Labels OwnerCells S → Type 0
+KeepPairs old new = (pair : Labels × Scope) → has_pair new pair ≡ true → has_pair old pair ≡ true
+
+-- Each place that counts did so before, or is that of an admission of this pair.
+abbrev pub AddPair : {S : Type 0} → Labels × Scope → IndexMap Labels OwnerCells S → IndexMap Labels OwnerCells S → Type 0
+AddPair added old new = (pair : Labels × Scope) → has_pair new pair ≡ true → (pair_eq added pair || has_pair old pair) ≡ true
+
+-- Finds of a name were dropped: each cell is as before or empty, and no place counts that did not.
+pub record LosesFinds (old new : OwnerCells) : Type 0 where
+  pub count : count_of new ≤ count_of old
+  pub places : KeepsPlaces old new
+  pub cells : (kind v : ℕ) → (cell_in new kind v ≡ cell_in old kind v) ⊎ (cell_in new kind v ≡ None)

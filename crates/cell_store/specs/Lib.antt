@@ -11,4 +11,5 @@ pub mod WalkLaws
 pub mod Count
 pub mod Sweep
 pub mod StoredLaws
+pub mod HeldLaws
 pub mod Seed

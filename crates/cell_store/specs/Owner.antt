@@ -1,11 +1,12 @@
 -- The cells of one name: a find of the whole name, and columns by type.
-use Rattle.std.specs.Prelude.{◌≡◌, ℕ, ◌<◌, ◌≤◌, ◌==◌, max, Bool, true, false, List, [], ◌∷◌, Option, Some, None, length, nat_lt, slice_index_or, if◌then◌else◌}
-use Rattle.std.specs.List.{AllByRecursion}
+use Rattle.std.specs.Prelude.{◌≡◌, ℕ, ◌<◌, ◌≤◌, ◌==◌, max, Bool, true, false, List, [], ◌∷◌, Option, Some, None, IfSome, length, map, nat_eq, nat_lt, slice_index_or, if◌then◌else◌}
+use Rattle.std.specs.List.{AllByRecursion, IsDistinct}
 use Rattle.std.specs.Option.{option_map}
 use Rattle.std.specs.Borrow.{Bor}
 use Rattle.ranked.specs.declared.cell.Shown.{Shown}
 use Rattle.ranked.specs.Cell.{shown_map}
 use Rattle.ranked.specs.declared.find.Find.{Find}
+use Rattle.ranked.specs.declared.find.Scope.TheVariants.{One, Whole}
 use Rattle.ranked.specs.declared.cell.Admitted.{Admitted}
 use Rattle.ranked.specs.Cell.{after_admission}
 use Rattle.ranked.specs.Find.{admission_of}
@@ -57,11 +58,18 @@ IsWholeIn (Some whole) v = v ≤ whole.upto
 abbrev pub IsLeftWithin : Option WholeFind → Cells → Type 0
 IsLeftWithin whole cells = (v : ℕ) → (place_in cells v).left ≡ true → IsWholeIn whole v
 
--- No admission to a name has reached a version past this one, and columns refer to the find of the whole name only where it is.
+-- A column has finds of its own type only.
+abbrev pub IsOwn : ℕ → Cells → Type 0
+IsOwn kind cells = (v : ℕ) → IfSome (place_in cells v).cell.held (λ held. held.body.scope ≡ One kind)
+
+-- No admission to a name has reached a version past this one, and columns refer to the find of the whole name only where it is. Each type has one column. Each find is where its scope says.
 pub record IsUpTo (top : ℕ) (cells : OwnerCells) : Type 0 where
   pub whole : IsWholeUpTo top cells.whole
   pub kinds : AllByRecursion (λ own. own.column.upto ≤ top) cells.kinds.items
   pub left : AllByRecursion (λ own. IsLeftWithin cells.whole own.column) cells.kinds.items
+  pub once : IsDistinct nat_eq (map (λ own. own.kind) cells.kinds.items)
+  pub wide : IfSome cells.whole (λ whole. whole.find.scope ≡ Whole)
+  pub own : AllByRecursion (λ own. IsOwn own.kind own.column) cells.kinds.items
 
 -- It is the first place of a column of this type.
 pub record IsPlaceOf (kinds : List KindColumn) (kind place : ℕ) : Type 0 where

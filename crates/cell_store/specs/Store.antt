@@ -1,5 +1,5 @@
 -- The cells of all names.
-use Rattle.std.specs.Prelude.{◌≡◌, ◌<◌, ◌^◌, ℕ, Option, None, IfSome}
+use Rattle.std.specs.Prelude.{◌≡◌, ◌<◌, ◌≤◌, ◌^◌, ℕ, true, Option, Some, None, IfSome, slice_get}
 use Rattle.indexmap.specs.IndexMap.{IndexMap, get}
 use Rattle.std.specs.Option.{option_map_or}
 use Rattle.dns_name.specs.Labels.{Labels}
@@ -7,9 +7,10 @@ use Rattle.dns_name.specs.Order.{name_eq}
 use Rattle.dns_text.specs.declared.record.Question.{Question}
 use Rattle.ranked.specs.declared.find.Find.{Find}
 use Rattle.ranked.specs.declared.cell.Admitted.{Admitted}
+use Rattle.ranked.specs.Find.{touches}
 use Rattle.cell_store.specs.declared.owner.OwnerCells.{OwnerCells}
 use Rattle.cell_store.specs.Owner.{cell_in, IsUpTo, CanSettle}
-use Rattle.cell_store.specs.Count.{stored_in}
+use Rattle.cell_store.specs.Count.{count_of, stored_in}
 
 -- the content of a cell in a version, by the cells of its name
 abbrev pub cell_by_owner : Option OwnerCells → ℕ → ℕ → Option (Admitted Find)
@@ -27,6 +28,10 @@ AreUpTo top owners = (name : Labels) → IfSome (get name_eq owners name) (IsUpT
 abbrev pub CanSettleAt : {S : Type 0} → ℕ → ℕ → Labels → IndexMap Labels OwnerCells S → Type 0
 CanSettleAt number kind name owners = IfSome (get name_eq owners name) (CanSettle number kind)
 
+-- Each cell has only a find about its question.
+abbrev pub AreAbout : {S : Type 0} → IndexMap Labels OwnerCells S → Type 0
+AreAbout owners = (question : Question) (v : ℕ) → IfSome (cell_of owners question v) (λ held. touches held.body question ≡ true)
+
 -- Each cell of each name has the same content in every version.
 abbrev pub AreSameCells : {S : Type 0} → IndexMap Labels OwnerCells S → IndexMap Labels OwnerCells S → Type 0
 AreSameCells old new = (question : Question) (v : ℕ) → cell_of new question v ≡ cell_of old question v
@@ -38,6 +43,14 @@ KeepSettling old new = (number kind : ℕ) (name : Labels) → CanSettleAt numbe
 -- Admissions have reached no version past those that they had reached.
 abbrev pub KeepUpTo : {S : Type 0} → IndexMap Labels OwnerCells S → IndexMap Labels OwnerCells S → Type 0
 KeepUpTo old new = (top : ℕ) → AreUpTo top old → AreUpTo top new
+
+-- Each name that is left has the cells that it had.
+abbrev pub AreLeft : {S : Type 0} → IndexMap Labels OwnerCells S → IndexMap Labels OwnerCells S → Type 0
+AreLeft old new = (name : Labels) → IfSome (get name_eq new name) (λ cells. get name_eq old name ≡ Some cells)
+
+-- Each name from a place on has a place that counts.
+abbrev pub AreCountedFrom : {S : Type 0} → ℕ → IndexMap Labels OwnerCells S → Type 0
+AreCountedFrom place owners = (i : ℕ) → place ≤ i → IfSome (slice_get owners.entries i) (λ entry. 1 ≤ count_of entry.1)
 
 -- The counted places are as many as it says, and no admission has reached a version past `top`.
 pub record IsIndex {S : Type 0} (top stored : ℕ) (owners : IndexMap Labels OwnerCells S) : Type 0 where

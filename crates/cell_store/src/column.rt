@@ -5,7 +5,7 @@ ghost use Rattle.ranked.specs.Find.{admission_of};
 ghost use Rattle.ranked.specs.Rank.{level_of};
 ghost use Rattle.cell_store.specs.Version.{nothing, whole, after_find};
 ghost use Rattle.cell_store.specs.Column.{place_in, sight_at, sight_now};
-ghost use Rattle.cell_store.specs.Prune.{is_asked};
+ghost use Rattle.cell_store.specs.Prune.{is_asked, IsLess};
 ghost use Rattle.cell_store.specs.Sweep.{swept, IsSeenAt};
 ghost use Rattle.cell_store.specs.Count.{has_find, is_counted};
 
@@ -198,6 +198,7 @@ impl Column {
         ensures places { (v : ℕ) → is_asked numbers.now v ≡ true → place_in self.new v ≡ swept moment (place_in self.old v) }
         ensures left { (v : ℕ) → (place_in self.new v).left ≡ true → (place_in self.old v).left ≡ true }
         ensures upto { self.new.upto ≡ self.old.upto }
+        ensures less { (v : ℕ) → IsLess (place_in self.new v) (swept moment (place_in self.old v)) }
         ensures seen { is_counted self.new ≡ true → IsSeenAt numbers.now self.new }
         ensures counted { is_counted self.new ≡ true → is_counted self.old ≡ true }
     {

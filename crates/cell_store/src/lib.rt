@@ -28,5 +28,7 @@ mod store;
 pub use column::Column;
 pub use owner::{KindColumn, OwnerCells, WholeFind};
 pub use seed::NameSeed;
-pub use store::{Owners, admit, at, forget, has_place, open_kinds, settle_below, settle_kinds};
+pub use store::{
+    Owners, admit, at, drop_uncounted, forget, has_place, open_kinds, settle_below, settle_kinds,
+};
 pub use version::{Place, Sight, Version};

@@ -4,7 +4,7 @@ ghost use Rattle.std.specs.Prelude.{◌≡◌, ◌<◌, ◌≤◌, ◌==◌, ◌
 ghost use Rattle.std.specs.Prelude.{IfOk, IsOk, OnOk, OnErr, IfSome, IfNone, if◌then◌else◌};
 ghost use Rattle.std.specs.List.{AllByRecursion, list_any};
 ghost use Rattle.ranked.specs.declared.find.Scope.{Scope};
-ghost use Rattle.ranked.specs.declared.find.Scope.TheVariants.{One};
+ghost use Rattle.ranked.specs.declared.find.Scope.TheVariants.{One, Whole};
 ghost use Rattle.ranked.specs.Find.{admission_of, has_kind};
 ghost use Rattle.ranked.specs.Cell.{shown_at, turns_away};
 ghost use Rattle.cell_store.specs.Column.{place_in};
@@ -101,7 +101,7 @@ fn settle_each(kinds: &mut Vec<KindColumn>, number: u64)
 
 impl OwnerCells {
     ghost use Rattle.cell_store.specs.Owner.{cell_in, CanSettle, HasSameCells, IsUpTo, KeepsSettling, KeepsUpTo, whole_cell, whole_settled};
-    ghost use Rattle.cell_store.specs.Count.{count_of, has_place, HasSamePlaces};
+    ghost use Rattle.cell_store.specs.Count.{count_of, has_place, AddsPlace, HasSamePlaces, KeepsPlaces, LosesFinds};
 
     /// No cells.
     pub fn new(alloc: Global) -> OwnerCells
@@ -118,12 +118,14 @@ impl OwnerCells {
         }
     }
 
-    /// Caches a find of the whole name in each version, in place of all columns. It takes no memory.
-    pub fn admit_whole(&mut self, find: SharedFind, moment: u64, top: u64)
+    // Caches a find of the whole name in each version, in place of all columns. It takes no memory.
+    fn admit_whole(&mut self, find: SharedFind, moment: u64, top: u64)
+        requires scope { find.scope ≡ Whole }
         ensures cells { (kind v : ℕ) → v ≤ top → cell_in self.new kind v ≡ Some (admission_of find find moment) }
         ensures upto { IsUpTo top self.new }
         ensures settles { (n k : ℕ) → n ≤ top → CanSettle n k self.new }
         ensures count { count_of self.new ≡ 1 }
+        ensures places { AddsPlace Whole self.old self.new }
     {
         self.kinds.clear();
         self.whole = Some(WholeFind {
@@ -171,7 +173,7 @@ impl OwnerCells {
         ensures cells { HasSameCells self.old self.new }
         ensures upto { IsUpTo top self.new }
         ensures settles { KeepsSettling self.old self.new }
-        ensures count { count_of self.new ≡ count_of self.old }
+        ensures places { HasSamePlaces self.old self.new }
         ensures opened { OnOk result ((n : ℕ) → CanSettle n kind self.new) }
     {
         if self.whole.is_none() {
@@ -187,7 +189,7 @@ impl OwnerCells {
         ensures cells { HasSameCells self.old self.new }
         ensures upto { IsUpTo top self.new }
         ensures settles { KeepsSettling self.old self.new }
-        ensures count { count_of self.new ≡ count_of self.old }
+        ensures places { HasSamePlaces self.old self.new }
         ensures opened { OnOk result (AllByRecursion (λ kind. (n : ℕ) → CanSettle n kind self.new) kinds.now) }
     {
         for kind in kinds {
@@ -228,8 +230,9 @@ impl OwnerCells {
         }
     }
 
-    /// Caches a find of a type in each version, unless the content there is alive at the moment and of higher rank. On an error nothing changes.
-    pub fn admit_kind(
+    // Caches a find of a type in each version, unless the content there is alive at the moment and of higher rank.
+    // On an error nothing changes.
+    fn admit_kind(
         &mut self,
         find: SharedFind,
         kind: u16,
@@ -237,12 +240,14 @@ impl OwnerCells {
         top: u64,
     ) -> Result<(), NoMemory>
         requires upto { IsUpTo top self.old }
+        requires scope { find.scope ≡ One kind }
         ensures cells { OnOk result ((k v : ℕ) → v ≤ top →
             cell_in self.new k v ≡ after_touch (kind == k) (cell_in self.old k v) (admission_of find find moment)) }
-        ensures err { OnErr result (HasSameCells self.old self.new × (count_of self.new ≡ count_of self.old)) }
+        ensures err { OnErr result (HasSameCells self.old self.new × HasSamePlaces self.old self.new) }
         ensures upto { IsUpTo top self.new }
         ensures settles { KeepsSettling self.old self.new }
-        ensures count { count_of self.new ≤ count_of self.old + one_if (not (has_place self.old (One kind))) }
+        ensures count { (count_of self.new ≤ count_of self.old + one_if (not (has_place self.old (One kind))))
+            × AddsPlace (One kind) self.old self.new }
         ensures free { has_place self.old (One kind) ≡ true → IsOk result }
     {
         let place = self.place_for(kind, top)?;
@@ -251,15 +256,17 @@ impl OwnerCells {
         Ok(())
     }
 
-    /// Does the same for each type that the find is about.
+    /// Caches a find in each version, for each type that it is about, unless the content there is alive at the moment and of higher rank.
+    /// On an error nothing changes.
     pub fn admit(&mut self, find: SharedFind, moment: u64, top: u64) -> Result<(), NoMemory>
         requires upto { IsUpTo top self.old }
         ensures cells { OnOk result ((k v : ℕ) → v ≤ top →
             cell_in self.new k v ≡ after_touch (has_kind find.scope k) (cell_in self.old k v) (admission_of find find moment)) }
-        ensures err { OnErr result (HasSameCells self.old self.new × (count_of self.new ≡ count_of self.old)) }
+        ensures err { OnErr result (HasSameCells self.old self.new × HasSamePlaces self.old self.new) }
         ensures upto { IsUpTo top self.new }
         ensures settles { (n k : ℕ) → n ≤ top → CanSettle n k self.old → CanSettle n k self.new }
         ensures count { count_of self.new ≤ count_of self.old + one_if (not (has_place self.old find.scope)) }
+        ensures places { AddsPlace find.scope self.old self.new }
         ensures free { has_place self.old find.scope ≡ true → IsOk result }
     {
         match find.find().scope {
@@ -355,6 +362,7 @@ impl OwnerCells {
         ensures upto { KeepsUpTo self.old self.new }
         ensures settles { KeepsSettling self.old self.new }
         ensures count { count_of self.new ≤ count_of self.old }
+        ensures places { KeepsPlaces self.old self.new }
     {
         if let Some(place) = place_of(&self.kinds, kind) {
             self.kinds[place].column.settle(number);
@@ -369,6 +377,7 @@ impl OwnerCells {
         ensures upto { KeepsUpTo self.old self.new }
         ensures settles { KeepsSettling self.old self.new }
         ensures count { count_of self.new ≤ count_of self.old }
+        ensures places { KeepsPlaces self.old self.new }
     {
         for kind in kinds {
             self.settle_kind(*kind, number);
@@ -381,6 +390,7 @@ impl OwnerCells {
         ensures upto { KeepsUpTo self.old self.new }
         ensures settles { KeepsSettling self.old self.new }
         ensures count { count_of self.new ≤ count_of self.old }
+        ensures places { KeepsPlaces self.old self.new }
     {
         settle_each(&mut self.kinds, number);
         self.settle_whole(number);
@@ -393,6 +403,7 @@ impl OwnerCells {
         ensures upto { KeepsUpTo self.old self.new }
         ensures settles { KeepsSettling self.old self.new }
         ensures count { count_of self.new ≤ count_of self.old }
+        ensures places { KeepsPlaces self.old self.new }
     {
         if covered {
             self.settle_all(number);
@@ -420,7 +431,7 @@ impl OwnerCells {
         ensures settles { KeepsSettling self.old self.new }
         ensures kinds { self.new.kinds.items ≡ self.old.kinds.items }
         ensures whole { self.new.whole ≡ whole_swept moment self.old.whole }
-        ensures count { count_of self.new ≤ count_of self.old }
+        ensures lost { LosesFinds self.old self.new }
     {
         self.drop_dead(moment);
     }
@@ -446,7 +457,7 @@ impl OwnerCells {
         ensures whole { self.new.whole ≡ self.old.whole }
         ensures upto { KeepsUpTo self.old self.new }
         ensures settles { KeepsSettling self.old self.new }
-        ensures count { count_of self.new ≤ count_of self.old }
+        ensures lost { LosesFinds self.old self.new }
     {
         if let Some(place) = place_of(&self.kinds, kind) {
             self.kinds[place].column.sweep(numbers, moment);

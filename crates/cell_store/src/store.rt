@@ -9,8 +9,8 @@ ghost use Rattle.dns_text.specs.declared.record.Question.{Question};
 ghost use Rattle.ranked.specs.Find.{admission_of, touches};
 ghost use Rattle.ranked.specs.Cell.{shown_at};
 ghost use Rattle.cell_store.specs.Owner.{after_settle, after_touch, held_now};
-ghost use Rattle.cell_store.specs.Count.{has_place_for, one_if, stored_in};
-ghost use Rattle.cell_store.specs.Store.{cell_of, AreSameCells, AreUpTo, CanSettleAt, IsIndex, KeepSettling, KeepUpTo};
+ghost use Rattle.cell_store.specs.Count.{has_place_for, one_if, pair_of, stored_in, AddPair, KeepPairs};
+ghost use Rattle.cell_store.specs.Store.{cell_of, AreCountedFrom, AreLeft, AreSameCells, AreUpTo, CanSettleAt, IsIndex, KeepSettling, KeepUpTo};
 
 use crate::owner::OwnerCells;
 use crate::seed::NameSeed;
@@ -35,11 +35,12 @@ pub fn admit(
     requires index { IsIndex top stored.old owners.old }
     ensures cells { OnOk result ((q : Question) (v : ℕ) → v ≤ top →
         cell_of owners.new q v ≡ after_touch (touches find q) (cell_of owners.old q v) (admission_of find find moment)) }
-    ensures err { OnErr result (AreSameCells owners.old owners.new × (stored.new ≡ stored.old)) }
+    ensures err { OnErr result (AreSameCells owners.old owners.new × (stored.new ≡ stored.old) × KeepPairs owners.old owners.new) }
     ensures upto { AreUpTo top owners.new }
     ensures settles { (n k : ℕ) (name : Labels) → n ≤ top → CanSettleAt n k name owners.old → CanSettleAt n k name owners.new }
     ensures counted { stored.new ≡ stored_in owners.new }
-    ensures bound { stored.new ≤ stored.old + one_if (not (has_place_for owners.old find)) }
+    ensures bound { (stored.new ≤ stored.old + one_if (not (has_place_for owners.old find)))
+        × AddPair (pair_of find) owners.old owners.new }
     ensures free { has_place_for owners.old find ≡ true → IsOk result }
 {
     if let Some(cells) = owners.get_mut(&find.find().owner) {
@@ -86,6 +87,7 @@ pub fn open_kinds(
     ensures settles { KeepSettling owners.old owners.new }
     ensures opened { OnOk result (AllByRecursion (λ kind. (n : ℕ) → CanSettleAt n kind owner.now owners.new) kinds.now) }
     ensures counted { stored_in owners.new ≡ stored_in owners.old }
+    ensures pairs { KeepPairs owners.old owners.new }
 {
     if let Some(cells) = owners.get_mut(owner) {
         return cells.open_each(kinds, top);
@@ -104,6 +106,7 @@ pub fn settle_kinds(owners: &mut Owners, stored: &mut u64, owner: &Name, kinds: 
     ensures settles { KeepSettling owners.old owners.new }
     ensures counted { stored.new ≡ stored_in owners.new }
     ensures fewer { stored.new ≤ stored.old }
+    ensures pairs { KeepPairs owners.old owners.new }
 {
     if let Some(cells) = owners.get_mut(owner) {
         let others = *stored - cells.counted();
@@ -121,6 +124,7 @@ pub fn settle_below(owners: &mut Owners, stored: &mut u64, zone: &Name, number: 
     ensures settles { KeepSettling owners.old owners.new }
     ensures counted { stored.new ≡ stored_in owners.new }
     ensures fewer { stored.new ≤ stored.old }
+    ensures pairs { KeepPairs owners.old owners.new }
 {
     let mut place = 0;
     while place < owners.len() {
@@ -152,8 +156,37 @@ pub fn forget(owners: &mut Owners, stored: &mut u64, owner: &Name)
     ensures settles { KeepSettling owners.old owners.new }
     ensures counted { stored.new ≡ stored_in owners.new }
     ensures fewer { stored.new ≤ stored.old }
+    ensures pairs { KeepPairs owners.old owners.new }
 {
     if let Some(cells) = owners.swap_remove(owner) {
         *stored -= cells.counted();
+    }
+}
+
+// Removes the name at a place, if no place of it counts. The last name moves into the gap.
+fn drop_if_uncounted(owners: &mut Owners, place: usize)
+    ensures cells { AreSameCells owners.old owners.new }
+    ensures left { AreLeft owners.old owners.new }
+    ensures counted { stored_in owners.new ≡ stored_in owners.old }
+    ensures later { AreCountedFrom (place + 1) owners.old → AreCountedFrom place owners.new }
+{
+    match owners.get_index(place) {
+        Some((_, cells)) if cells.counted() == 0 => {}
+        _ => return,
+    }
+    owners.swap_remove_index(place);
+}
+
+/// Removes the names of which no place counts, and frees their memory. No cell changes. It takes no memory, and visits every name.
+pub fn drop_uncounted(owners: &mut Owners)
+    ensures cells { AreSameCells owners.old owners.new }
+    ensures left { AreLeft owners.old owners.new }
+    ensures counted { stored_in owners.new ≡ stored_in owners.old }
+    ensures each { AreCountedFrom 0 owners.new }
+{
+    let mut place = owners.len();
+    while place > 0 {
+        place -= 1;
+        drop_if_uncounted(owners, place);
     }
 }

@@ -222,7 +222,7 @@ kinds_greater top more (x ∷ kinds) le all = (omega (arith, all.0), kinds_great
 
 owner_greater : (top more : ℕ) (o : Option OwnerCells) → top ≤ more → IfSome o (IsUpTo top) → IfSome o (IsUpTo more)
 owner_greater top more None le is = tt
-owner_greater top more (Some cells) le is = record { whole = whole_greater top more cells.whole le is.whole; kinds = kinds_greater top more cells.kinds.items le is.kinds; left = is.left }
+owner_greater top more (Some cells) le is = record { whole = whole_greater top more cells.whole le is.whole; kinds = kinds_greater top more cells.kinds.items le is.kinds; left = is.left; once = is.once; wide = is.wide; own = is.own }
 
 pub upto_greater : {S : Type 0} (owners : IndexMap Labels OwnerCells S) (top more : ℕ) → top ≤ more → AreUpTo top owners → AreUpTo more owners
 upto_greater owners top more le is name = owner_greater top more (get name_eq owners name) le (is name)

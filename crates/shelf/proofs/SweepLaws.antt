@@ -10,14 +10,18 @@ use Rattle.indexmap.specs.IndexMap.{IndexMap, get}
 use Rattle.dns_name.specs.Labels.{Labels}
 use Rattle.dns_name.specs.Order.{name_eq, name_eq_exact}
 use Rattle.dns_text.specs.declared.record.Question.{Question}
+use Rattle.ranked.specs.declared.find.Find.{Find}
+use Rattle.ranked.specs.declared.find.Scope.{Scope}
 use Rattle.ranked.specs.declared.find.Scope.TheVariants.{One}
+use Rattle.ranked.specs.declared.cell.Admitted.{Admitted}
+use Rattle.ranked.specs.Find.{touches}
 use Rattle.cell_store.specs.declared.owner.KindColumn.{KindColumn}
 use Rattle.cell_store.specs.declared.owner.WholeFind.{WholeFind}
 use Rattle.cell_store.specs.declared.owner.OwnerCells.{OwnerCells}
 use Rattle.cell_store.specs.Column.{Cells, is_counted}
 use Rattle.cell_store.specs.Owner.{cell_in, column_of, column_held, IsUpTo, CanSettle}
-use Rattle.cell_store.specs.Store.{cell_of, cell_by_owner, AreUpTo, CanSettleAt}
-use Rattle.cell_store.specs.Count.{count_of, has_place}
+use Rattle.cell_store.specs.Store.{cell_of, cell_by_owner, AreAbout, AreLeft, AreSameCells, AreUpTo, CanSettleAt}
+use Rattle.cell_store.specs.Count.{has_pair, has_place, KeepPairs, LosesFinds}
 use Rattle.cell_store.specs.Prune.{is_asked}
 use Rattle.cell_store.specs.Sweep.{alive_at, is_dead, whole_swept}
 use Rattle.cell_store.specs.Walk.{IsEach, IsEntry, IsFound}
@@ -61,13 +65,23 @@ asked_version kept q v = ap (λ b. v == 0 || b) (any_numbers q v kept [])
 
 -- ---- type after type
 
+lost_twice : (old cur new : OwnerCells) → LosesFinds old cur → LosesFinds cur new → LosesFinds old new
+lost_twice old cur new first then = record {
+  count = omega (arith, first.count, then.count);
+  places = λ scope has. first.places scope (then.places scope has);
+  cells = λ k v. elim (then.cells k v) [
+    | inl same ↦ elim (first.cells k v) [ inl was ↦ inl (same ∙ was) | inr none ↦ inr (same ∙ none) ]
+    | inr none ↦ inr none
+  ];
+}
+
 pub record IsSweptTo (kept : List KeptFlush) (t : ℕ) (name : Labels) (place : ℕ) (old new : OwnerCells) : Type 0 where
   pub cells : (k v : ℕ) → is_version kept (record { owner = name; kind = k }) v ≡ true → alive_at t (cell_in new k v) ≡ alive_at t (cell_in old k v)
   pub alive : (i : ℕ) (d : KindColumn) → i < place → i < length new.kinds.items → has_place new (One (get_or new.kinds.items i d).kind) ≡ true → IsAlive kept name t new (get_or new.kinds.items i d).kind
   pub whole : new.whole ≡ whole_swept t old.whole
   pub upto : (top : ℕ) → IsUpTo top old → IsUpTo top new
   pub settles : (n k : ℕ) → CanSettle n k old → CanSettle n k new
-  pub count : count_of new ≤ count_of old
+  pub lost : LosesFinds old new
 
 kind_of : KindColumn → ℕ
 kind_of own = own.kind
@@ -93,15 +107,15 @@ pub swept_more : (kept : List KeptFlush) (t : ℕ) (name : Labels) (place : ℕ)
     → (has_place new (One kind) ≡ true → (v : ℕ) × ((is_asked numbers v ≡ true) × (is_some (alive_at t (cell_in new kind v)) ≡ true)))
     → ((k : ℕ) → (kind == k) ≡ false → column_of new.kinds.items k ≡ column_of cur.kinds.items k)
     → map (λ (own : KindColumn). own.kind) new.kinds.items ≡ map (λ (own : KindColumn). own.kind) cur.kinds.items → new.whole ≡ cur.whole
-    → ((top : ℕ) → IsUpTo top cur → IsUpTo top new) → ((n k : ℕ) → CanSettle n k cur → CanSettle n k new) → count_of new ≤ count_of cur
+    → ((top : ℕ) → IsUpTo top cur → IsUpTo top new) → ((n k : ℕ) → CanSettle n k cur → CanSettle n k new) → LosesFinds cur new
     → IsSweptTo kept t name (place + 1) old new
-swept_more kept t name place old cur new kind numbers is here asked cells seen others kinds whole upto told count = record {
+swept_more kept t name place old cur new kind numbers is here asked cells seen others kinds whole upto told lost = record {
   cells = λ k v there. cells k v (λ same. version k v same there) ∙ is.cells k v there;
   alive = λ i d low few has. one i d low few (get_or new.kinds.items i d).kind refl has;
   whole = whole ∙ is.whole;
   upto = λ top u. upto top (is.upto top u);
   settles = λ n k u. told n k (is.settles n k u);
-  count = omega (arith, count, is.count);
+  lost = lost_twice old cur new is.lost lost;
 }
   where
     version : (k v : ℕ) → (kind == k) ≡ true → is_version kept (record { owner = name; kind = k }) v ≡ true → is_asked numbers v ≡ true
@@ -145,7 +159,7 @@ swept_all kept t name place old new d is high = record {
   whole = is.whole;
   upto = is.upto;
   settles = is.settles;
-  count = is.count;
+  lost = is.lost;
 }
 
 not_dead : (t : ℕ) (whole : Option WholeFind) → is_dead t (whole_swept t whole) ≡ false
@@ -207,3 +221,48 @@ module _ {S : Type 0} (kept : List KeptFlush) (t : ℕ) (old new : IndexMap Labe
 
   pub swept_whole_alive : (name : Labels) → IfSome (get name_eq new name) (λ cells. is_dead t cells.whole ≡ false)
   swept_whole_alive name = whole_of name (get name_eq old name) (get name_eq new name) (found name)
+
+  lost_cells : (q : Question) (v : ℕ) (o n : Option OwnerCells) → IsFound (name_eq q.owner) (IsSwept kept t) o n → (cell_by_owner n q.kind v ≡ cell_by_owner o q.kind v) ⊎ (cell_by_owner n q.kind v ≡ None)
+  lost_cells q v None None is = inl refl
+  lost_cells q v None (Some n) is = absurd is
+  lost_cells q v (Some o) None is = absurd is
+  lost_cells q v (Some o) (Some n) is = is.1.1.lost.cells q.kind v
+
+  pub swept_about : AreAbout old → AreAbout new
+  swept_about about q v = elim (lost_cells q v (get name_eq old q.owner) (get name_eq new q.owner) (found q.owner)) [
+    | inl same ↦ subst (λ (h : Option (Admitted Find)). IfSome h (λ held. touches held.body q ≡ true)) (sym same) (about q v)
+    | inr none ↦ subst (λ (h : Option (Admitted Find)). IfSome h (λ held. touches held.body q ≡ true)) (sym none) tt
+  ]
+
+  lost_pairs : (pair : Labels × Scope) (o n : Option OwnerCells) → IsFound (name_eq pair.0) (IsSwept kept t) o n
+      → option_map_or (λ cells. has_place cells pair.1) n false ≡ true → option_map_or (λ cells. has_place cells pair.1) o false ≡ true
+  lost_pairs pair None None is has = has
+  lost_pairs pair None (Some n) is has = absurd is
+  lost_pairs pair (Some o) None is has = absurd is
+  lost_pairs pair (Some o) (Some n) is has = is.1.1.lost.places pair.1 has
+
+  pub swept_pairs : KeepPairs old new
+  swept_pairs pair has = lost_pairs pair (get name_eq old pair.0) (get name_eq new pair.0) (found pair.0) has
+
+-- ---- names are dropped
+
+-- what holds of the cells of a name holds of those that are left
+pub left_each : {S : Type 0} (old new : IndexMap Labels OwnerCells S) (P : OwnerCells → Type 0) → AreLeft old new → (name : Labels) → IfSome (get name_eq old name) P → IfSome (get name_eq new name) P
+left_each old new P left name was = split (get name_eq new name) (left name)
+  where
+    split : (o : Option OwnerCells) → IfSome o (λ cells. get name_eq old name ≡ Some cells) → IfSome o P
+    split None is = tt
+    split (Some cells) is = subst (λ (o : Option OwnerCells). IfSome o P) is was
+
+pub left_pairs : {S : Type 0} (old new : IndexMap Labels OwnerCells S) → AreLeft old new → KeepPairs old new
+left_pairs old new left pair has = split (get name_eq new pair.0) refl (left pair.0)
+  where
+    counted : Option OwnerCells → Bool
+    counted o = option_map_or (λ cells. has_place cells pair.1) o false
+
+    split : (o : Option OwnerCells) → get name_eq new pair.0 ≡ o → IfSome o (λ cells. get name_eq old pair.0 ≡ Some cells) → has_pair old pair ≡ true
+    split None at is = absurd (false≢true (sym (ap counted at) ∙ has))
+    split (Some cells) at is = ap counted (is ∙ sym at) ∙ has
+
+pub about_same : {S : Type 0} (old new : IndexMap Labels OwnerCells S) → AreSameCells old new → AreAbout old → AreAbout new
+about_same old new same about q v = subst (λ (h : Option (Admitted Find)). IfSome h (λ held. touches held.body q ≡ true)) (sym (same q v)) (about q v)

@@ -2,3 +2,4 @@ pub mod Kept
 pub mod Told
 pub mod Room
 pub mod Sweep
+pub mod Stored

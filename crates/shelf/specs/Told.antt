@@ -9,8 +9,8 @@ use Rattle.ranked.specs.Cell.{after_admission}
 use Rattle.ranked.specs.Find.{touches, admission_of}
 use Rattle.indexmap.specs.IndexMap.{IndexMap}
 use Rattle.cell_store.specs.declared.owner.OwnerCells.{OwnerCells}
-use Rattle.cell_store.specs.Store.{cell_of, AreUpTo, CanSettleAt}
-use Rattle.cell_store.specs.Count.{stored_in}
+use Rattle.cell_store.specs.Store.{cell_of, AreAbout, AreUpTo, CanSettleAt}
+use Rattle.cell_store.specs.Count.{pair_of, stored_in, AddPair, KeepPairs}
 use Rattle.cell_store.specs.Owner.{after_touch}
 use Rattle.ranked.specs.declared.flush.Flush.{Flush}
 use Rattle.ranked.specs.declared.flush.Reach.{Reach}
@@ -80,9 +80,10 @@ CanSettleFlush owners number flush = AllByRecursion (λ kind. CanSettleAt number
 abbrev pub CanSettleKept : {S : Type 0} → IndexMap Labels OwnerCells S → KeptFlush → Type 0
 CanSettleKept owners own = CanSettleFlush owners own.number own.flush
 
--- No admission has reached a version past the greatest number. Each kept flush can become permanent with no memory. The places that count are counted, and are at most the limit.
+-- No admission has reached a version past the greatest number, and each cell has only a find about its question. Each kept flush can become permanent with no memory. The places that count are counted, and are at most the limit.
 pub record IsShelf (shelf : Shelf) : Type 0 where
   pub upto : AreUpTo shelf.top shelf.owners
+  pub about : AreAbout shelf.owners
   pub numbers : AllByRecursion (λ own. own.number ≤ shelf.top) shelf.kept.items
   pub ascending : IsAscending shelf.kept.items
   pub settles : AllByRecursion (λ own. CanSettleFlush shelf.owners own.number own.flush) shelf.kept.items
@@ -112,28 +113,31 @@ without number (own ∷ later) = if own.number == number then later else own ∷
 abbrev pub IsShelfOf : Shelf → List Told → Type 0
 IsShelfOf shelf told = (question : Question) (version : ℕ) → is_version shelf.kept.items question version ≡ true → cell_of shelf.owners question version ≡ cell_by question (only version) told
 
--- A shelf replies to every question as another does, whatever choice of the kept flushes is in force.
+-- A shelf replies to every question as another does, whatever choice of the kept flushes is in force. Each place that counts did so before.
 pub record IsSame (old new : Shelf) : Type 0 where
   pub cells : (told : List Told) → IsShelfOf old told → IsShelfOf new told
   pub faces : (chosen : ℕ → Bool) (question : Question) → face_of new chosen question ≡ face_of old chosen question
   pub kept : new.kept.items ≡ old.kept.items
   pub top : new.top ≡ old.top
   pub stored : new.stored ≡ old.stored
+  pub pairs : KeepPairs old.owners new.owners
 
 -- The same flushes can be undone or redone, under the same limit.
 abbrev pub KeepsFlushes : Shelf → Shelf → Type 0
 KeepsFlushes old new = (new.kept.items ≡ old.kept.items) × (new.top ≡ old.top) × (new.limit ≡ old.limit)
 
--- A find was admitted: to the replay, and to each cell that it is about, whatever choice of the kept flushes is in force.
+-- A find was admitted: to the replay, and to each cell that it is about, whatever choice of the kept flushes is in force. Each place that counts did so before, or is that of the find.
 pub record HasAdmitted (find : Find) (moment : ℕ) (old new : Shelf) : Type 0 where
   pub cells : (told : List Told) → IsShelfOf old told → IsShelfOf new (told ++ admitted find moment ∷ [])
   pub faces : (chosen : ℕ → Bool) (question : Question) →
       face_of new chosen question ≡ after_touch (touches find question) (face_of old chosen question) (admission_of find find moment)
+  pub pairs : AddPair (pair_of find) old.owners new.owners
 
--- A flush was made and is kept under its number. If it is chosen, the cells that it covers are empty.
+-- A flush was made and is kept under its number. If it is chosen, the cells that it covers are empty. Each place that counts did so before.
 pub record HasFlushed (flush : Flush) (number : ℕ) (old new : Shelf) : Type 0 where
   pub cells : (told : List Told) → IsShelfOf old told → IsShelfOf new (told ++ flushed flush number ∷ [])
   pub kept : new.kept.items ≡ old.kept.items ++ record { flush = flush; number = number; shown = true } ∷ []
   pub faces : (chosen : ℕ → Bool) (question : Question) →
       face_of new chosen question ≡ (if chosen number && covers flush question then None else face_of old chosen question)
   pub top : new.top ≡ number
+  pub pairs : KeepPairs old.owners new.owners

@@ -9,9 +9,12 @@ mod fault;
 mod room;
 // The shelf: cells and flushes.
 mod shelf;
+// What the counted places are.
+mod laws;
 // The sweep of dead finds and unused versions.
 mod sweep;
 
 pub use fault::StoreFault;
+pub use laws::admitted_law;
 pub use room::Room;
 pub use shelf::{KeptFlush, Shelf};

@@ -1,31 +1,32 @@
 //! The shelf: cached cells, and the flushes that can be undone or redone.
 
 ghost use Rattle.std.specs.Prelude.{◌≡◌, ◌<◌, ◌≤◌, ◌+◌, ◌^◌, ◌∷◌, ◌&&◌, [], ℕ, Bool, List, None, true, false, not, map, vec_capacity};
-ghost use Rattle.std.specs.Prelude.{IfSome, IfErr, IsErr, IsOk, OnOk, OnErr, if◌then◌else◌};
+ghost use Rattle.std.specs.Prelude.{IfErr, IsOk, OnOk, OnErr, if◌then◌else◌};
 ghost use Rattle.std.specs.List.{AllByRecursion};
-ghost use Rattle.indexmap.specs.IndexMap.{get, hasher_of};
+ghost use Rattle.indexmap.specs.IndexMap.{hasher_of};
 ghost use Rattle.dns_name.specs.Labels.{Labels};
 ghost use Rattle.dns_name.specs.Order.{name_eq};
 ghost use Rattle.dns_text.specs.declared.record.Question.{Question};
-ghost use Rattle.ranked.specs.declared.find.Scope.TheVariants.{One};
 ghost use Rattle.ranked.specs.Cell.{shown_at, turns_away};
 ghost use Rattle.ranked.specs.Find.{admission_of};
 ghost use Rattle.ranked.specs.Flush.{covers, flushed_types};
-ghost use Rattle.cell_store.specs.Count.{has_place, has_place_for, one_if, stored_in};
+ghost use Rattle.cell_store.specs.Count.{has_place_for, one_if, stored_in, KeepPairs};
 ghost use Rattle.cell_store.specs.Owner.{after_settle, held_now};
 ghost use Rattle.cell_store.specs.Store.{cell_of, AreUpTo};
-ghost use Rattle.cell_store.specs.Sweep.{alive_at, is_dead};
+ghost use Rattle.cell_store.specs.Sweep.{alive_at};
 ghost use Rattle.shelf.specs.declared.shelf.KeptFlush.{KeptFlush};
 ghost use Rattle.shelf.specs.Kept.{with_shown, stands_first};
-ghost use Rattle.shelf.specs.Room.{fate_of, kind_fate, is_taken, is_wanted, needs_place, room_for, IsFault};
-ghost use Rattle.shelf.specs.Sweep.{IsAlive};
+ghost use Rattle.shelf.specs.Room.{fate_of, kind_fate, is_taken, is_wanted, room_for, IsFault};
+ghost use Rattle.shelf.specs.Sweep.{AreAlive};
 ghost use Rattle.shelf.specs.Told.{without, CanSettleFlush, CanSettleKept};
+ghost use Rattle.ranked.specs.declared.find.Scope.{Scope};
 
 use crate::fault::StoreFault;
 use crate::room::Room;
 use crate::sweep::sweep_all;
 use cell_store::{
-    NameSeed, Owners, admit, at, forget, has_place, open_kinds, settle_below, settle_kinds,
+    NameSeed, Owners, admit, at, drop_uncounted, forget, has_place, open_kinds, settle_below,
+    settle_kinds,
 };
 use dns_name::{Name, NoMemory};
 use dns_text::types;
@@ -82,6 +83,7 @@ fn set_shown(kept: &mut Vec<KeptFlush>, number: u64, shown: bool)
 
 impl Shelf {
     ghost use Rattle.shelf.specs.Told.{Told, HasAdmitted, HasFlushed, IsShelf, IsShelfOf, IsSame, KeepsFlushes, shown_version, shown_cell, replayed_cell, face_of};
+    ghost use Rattle.shelf.specs.Stored.{count_pairs, pairs_in, HasAdmittedEach, IsAliveInFace, IsAliveInReplay, IsByRoom};
 
     /// An empty cache of at most `limit` places, whose index hashes with the fixed seed. It is for scripts and tests.
     pub fn new(alloc: Global, limit: u64) -> Shelf
@@ -131,10 +133,20 @@ impl Shelf {
         version
     }
 
-    /// The number of counted places.
+    /// The number of counted places. It is at most the limit, and at most the number of different pairs among the admissions so far:
+    /// the pair of a find is its owner and its scope. It is at least the number of different pairs among the finds
+    /// that are alive at a moment, whatever choice of the kept flushes is in force.
     pub fn stored(&self) -> u64
-        ensures { result ≡ self.now.stored }
+        ensures value { result ≡ self.now.stored }
+        ensures limit { IsShelf self.now → result ≤ self.now.limit }
+        ensures most { IsShelf self.now → (told : List Told) → HasAdmittedEach told self.now → result ≤ count_pairs (pairs_in told) }
+        ensures least { IsShelf self.now → (t : ℕ) (pairs : List (Labels × Scope)) →
+            AllByRecursion (IsAliveInFace self.now t) pairs → count_pairs pairs ≤ result }
+        ensures replayed { IsShelf self.now → (told : List Told) → IsShelfOf self.now told → (t : ℕ) (pairs : List (Labels × Scope)) →
+            AllByRecursion (IsAliveInReplay self.now.kept.items told t) pairs → count_pairs pairs ≤ result }
     {
+        // `len` is called for its clause that the names differ, which the proof cites.
+        let _ = self.owners.len();
         self.stored
     }
 
@@ -214,13 +226,15 @@ impl Shelf {
 
     /// Caches a find in each version, unless the content there is alive at the moment and outranks it.
     /// The fault is `Full` only if the find needs a new place and the counted places are at the limit.
-    /// If its place is counted already, it takes no memory and is not refused.
+    /// If its place is counted already, it takes no memory and is not refused. Its place is counted if a find of the same owner and scope
+    /// is alive at the moment, whatever choice of the kept flushes is in force.
+    /// `Full` never comes before as many different pairs of owner and scope were admitted as the limit.
     pub fn admit(&mut self, find: SharedFind, moment: u64) -> Result<(), StoreFault>
         requires whole { IsShelf self.old }
         ensures whole { IsShelf self.new }
         ensures admitted { OnOk result (HasAdmitted find moment self.old self.new) }
         ensures full { IfErr result (λ fault. IsFault self.old find moment fault) }
-        ensures room { (self.old.stored ≡ self.old.limit) × (needs_place self.old find moment ≡ true) → IsErr result }
+        ensures room { IsByRoom self.old find moment result }
         ensures same { OnErr result (IsSame self.old self.new) }
         ensures flushes { KeepsFlushes self.old self.new }
         ensures stored { self.new.stored ≤ self.old.stored + 1 }
@@ -228,7 +242,7 @@ impl Shelf {
         match self.room_for(find.find(), moment) {
             Room::Unwanted => Ok(()),
             Room::Full => Err(StoreFault::Full {
-                stored: self.stored,
+                stored: self.stored(),
             }),
             Room::Free => self.hold(find, moment),
         }
@@ -274,6 +288,7 @@ impl Shelf {
         ensures limit { self.new.limit ≡ self.old.limit }
         ensures stored { self.new.stored ≡ self.old.stored }
         ensures whole { IsShelf self.old → IsShelf self.new }
+        ensures owners { self.new.owners ≡ self.old.owners }
     {
         set_shown(&mut self.kept, number, false);
     }
@@ -287,6 +302,7 @@ impl Shelf {
         ensures limit { self.new.limit ≡ self.old.limit }
         ensures stored { self.new.stored ≡ self.old.stored }
         ensures whole { IsShelf self.old → IsShelf self.new }
+        ensures owners { self.new.owners ≡ self.old.owners }
     {
         set_shown(&mut self.kept, number, true);
     }
@@ -313,18 +329,17 @@ impl Shelf {
         Ok(())
     }
 
-    /// Drops the finds that are dead at a moment, and the versions that no kept flush needs. It takes no memory.
+    /// Drops the finds that are dead at a moment, the versions that no kept flush needs, and the names of which nothing is left.
+    /// It takes no memory.
     pub fn sweep(&mut self, moment: u64)
         requires whole { IsShelf self.old }
         ensures whole { IsShelf self.new }
         ensures faces { (chosen : ℕ → Bool) (q : Question) →
             alive_at moment (face_of self.new chosen q) ≡ alive_at moment (face_of self.old chosen q) }
-        ensures alive { (name : Labels) → IfSome (get name_eq self.new.owners name)
-            (λ cells. (k : ℕ) → has_place cells (One k) ≡ true → IsAlive self.old.kept.items name moment cells k) }
-        ensures whole_alive { (name : Labels) →
-            IfSome (get name_eq self.new.owners name) (λ cells. is_dead moment cells.whole ≡ false) }
+        ensures alive { AreAlive self.old.kept.items moment self.new.owners }
         ensures flushes { KeepsFlushes self.old self.new }
         ensures stored { self.new.stored ≤ self.old.stored }
+        ensures pairs { KeepPairs self.old.owners self.new.owners }
     {
         sweep_all(
             &mut self.owners,
@@ -333,6 +348,7 @@ impl Shelf {
             &mut self.numbers,
             moment,
         );
+        drop_uncounted(&mut self.owners);
     }
 
     /// Removes a name, from every version. It takes no memory.
@@ -343,6 +359,7 @@ impl Shelf {
             face_of self.new chosen q ≡ (if name_eq owner.now q.owner then None else face_of self.old chosen q) }
         ensures flushes { KeepsFlushes self.old self.new }
         ensures stored { self.new.stored ≤ self.old.stored }
+        ensures pairs { KeepPairs self.old.owners self.new.owners }
     {
         forget(&mut self.owners, &mut self.stored, owner);
     }
@@ -357,6 +374,7 @@ impl Shelf {
         ensures top { self.new.top ≡ self.old.top }
         ensures limit { self.new.limit ≡ self.old.limit }
         ensures stored { self.new.stored ≤ self.old.stored }
+        ensures pairs { KeepPairs self.old.owners self.new.owners }
     {
         if stands_first(&self.kept, number) {
             self.settle_oldest();
@@ -377,6 +395,7 @@ impl Shelf {
         ensures top { self.new.top ≡ self.old.top }
         ensures limit { self.new.limit ≡ self.old.limit }
         ensures stored { self.new.stored ≤ self.old.stored }
+        ensures pairs { KeepPairs self.old.owners self.new.owners }
     {
         if self.kept.is_empty() {
             return;
@@ -394,6 +413,7 @@ impl Shelf {
         ensures top { self.new.top ≡ self.old.top }
         ensures limit { self.new.limit ≡ self.old.limit }
         ensures stored { self.new.stored ≡ self.old.stored }
+        ensures owners { self.new.owners ≡ self.old.owners }
     {
         remove_number(&mut self.kept, number);
     }
@@ -447,6 +467,7 @@ fn open_flush(owners: &mut Owners, flush: &Flush, top: u64) -> Result<(), NoMemo
         AllByRecursion (CanSettleKept owners.old) kept → AllByRecursion (CanSettleKept owners.new) kept }
     ensures opened { OnOk result ((n : ℕ) → CanSettleFlush owners.new n flush.now) }
     ensures counted { stored_in owners.new ≡ stored_in owners.old }
+    ensures pairs { KeepPairs owners.old owners.new }
 {
     match flush.reach {
         Reach::OneType(kind) => open_kinds(owners, &flush.name, &[kind], top),
@@ -466,6 +487,7 @@ fn settle_flush(owners: &mut Owners, stored: &mut u64, flush: &Flush, number: u6
         AllByRecursion (CanSettleKept owners.old) kept → AllByRecursion (CanSettleKept owners.new) kept }
     ensures counted { stored.new ≡ stored_in owners.new }
     ensures fewer { stored.new ≤ stored.old }
+    ensures pairs { KeepPairs owners.old owners.new }
 {
     match flush.reach {
         Reach::OneType(kind) => settle_kinds(owners, stored, &flush.name, &[kind], number),

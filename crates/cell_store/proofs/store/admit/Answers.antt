@@ -3,10 +3,11 @@ use Rattle.std.specs.Prelude.{IfSome}
 use Rattle.std.proofs.Common.{◌≡◌, Option, Some, None, refl, ap, sym, subst, ◌∙◌, rules, arith}
 use Rattle.indexmap.specs.IndexMap.{IndexMap, get, insert_entry}
 use Rattle.std.specs.Map.{set_value}
-use Rattle.std.specs.Prelude.{not, false}
+use Rattle.std.specs.Prelude.{not, false, ◌||◌}
+use Rattle.ranked.specs.declared.find.Scope.{Scope}
 use Rattle.std.specs.Option.{option_map_or}
 use Rattle.dns_name.specs.Labels.{Labels}
-use Rattle.cell_store.specs.Count.{count_entries, one_if, has_place, has_place_for}
+use Rattle.cell_store.specs.Count.{count_entries, one_if, has_place, has_place_for, scope_eq}
 use Rattle.cell_store.proofs.CountLaws.{count_set, count_found, count_insert}
 use Rattle.std.proofs.lemmas.Grind.{common_steps}
 use Rattle.std.proofs.lemmas.Result.{on_ok_weaker, on_err_weaker}
@@ -15,7 +16,7 @@ use Rattle.ranked.specs.declared.find.Find.{Find}
 use Rattle.ranked.specs.Find.{admission_of, has_kind}
 use Rattle.cell_store.specs.declared.owner.OwnerCells.{OwnerCells}
 use Rattle.cell_store.specs.Store.{cell_by_owner}
-use Rattle.cell_store.proofs.StoreLaws.{cells_admitted, cells_kept, each_updated, by_held, by_none}
+use Rattle.cell_store.proofs.StoreLaws.{cells_admitted, cells_kept, each_updated, by_held, by_none, pairs_added, pairs_kept}
 use Rattle.cell_store.proofs.store.admit.Goals as goal
 
 pub returns-in-Some-clause-cells : goal.returns-in-Some-clause-cells
@@ -42,7 +43,9 @@ returns-in-Some-clause-err c =
     (λ was. (
       cells_kept owners owners (c.get_mut.follows.lender new) find.owner c.find-2.result.now.owner new refl (ap (λ (f : Find). f.owner) c.find-2.ensures) updates
           (λ k v. was.0 k v ∙ ap (λ (o : Option OwnerCells). cell_by_owner o k v) held),
-      omega (arith, found, was.1, c.requires.index.counted, c.counted.ensures, c.counted-in-Some.ensures),
+      omega (arith, found, was.1.count, c.requires.index.counted, c.counted.ensures, c.counted-in-Some.ensures),
+      pairs_kept owners owners (c.get_mut.follows.lender new) find.owner c.find-2.result.now.owner new refl (ap (λ (f : Find). f.owner) c.find-2.ensures) updates
+          (λ scope has. ap (λ (o : Option OwnerCells). option_map_or (λ cells. has_place cells scope) o false) (sym held) ∙ (sym (was.1.places scope) ∙ has)),
     ))
     c.admit-result.ensures.err
 
@@ -97,10 +100,28 @@ pub returns-in-Some-clause-bound : goal.returns-in-Some-clause-bound
 returns-in-Some-clause-bound c =
     let owners = c.args.owners.now in
     let find = c.args.find in
+    let new = c.admit-result.new.self in
+    let updates = (c.get_mut.follows.holds new).3 (search rules) in
     let held : get name_eq owners find.owner ≡ Some c.in-Some.cells.now = grind (arith, common_steps) in
     let found = count_found (name_eq find.owner) owners.entries c.in-Some.cells.now held in
-    let has : one_if (not (has_place_for owners find)) ≡ one_if (not (has_place c.in-Some.cells.now find.scope)) = ap (λ (o : Option OwnerCells). one_if (not (option_map_or (λ cells. has_place cells find.scope) o false))) held in
-    omega (arith, found, has, c.requires.index.counted, c.admit-result.ensures.count, c.counted.ensures, c.counted-in-Some.ensures)
+    let has : one_if (not (has_place_for owners find)) ≡ one_if (not (has_place c.in-Some.cells.now find.scope)) = ap (λ (o : Option OwnerCells). one_if (not (option_map_or (λ cells. has_place cells find.scope) o false))) held in (
+      omega (arith, found, has, c.requires.index.counted, c.admit-result.ensures.count, c.counted.ensures, c.counted-in-Some.ensures),
+      pairs_added owners owners (c.get_mut.follows.lender new) find.owner c.find-2.result.now.owner new refl (ap (λ (f : Find). f.owner) c.find-2.ensures) updates find.scope
+          (λ scope had. ap (λ (o : Option OwnerCells). scope_eq find.scope scope || option_map_or (λ cells. has_place cells scope) o false) held ∙ c.admit-result.ensures.places scope had),
+    )
+
+pub returns-clause-bound : goal.returns-clause-bound
+returns-clause-bound c =
+    let owners = c.args.owners.now in
+    let find = c.args.find in
+    let absent : get name_eq owners find.owner ≡ None = grind (arith, common_steps) in
+    let none : (scope : Scope) → option_map_or (λ cells. has_place cells scope) (get name_eq owners find.owner) false ≡ has_place c.new-cells.result scope =
+    λ scope. ap (λ (o : Option OwnerCells). option_map_or (λ cells. has_place cells scope) o false) absent ∙ sym (c.new-cells.ensures.places scope) in
+    let has : one_if (not (has_place_for owners find)) ≡ one_if (not (has_place c.new-cells.result find.scope)) = ap (λ b. one_if (not b)) (none find.scope) in (
+      omega (arith, has, c.new-cells.ensures.count, c.admit.ensures.count, c.counted-counted.ensures),
+      pairs_added owners c.get_mut.follows.lender-at-none c.insert.new.self find.owner c.in_ok-owner.owner c.admit.new.self c.get_mut.follows.holds-at-none (c.in_ok-owner.ensures ∙ ap (λ (f : Find). f.owner) c.find-3.ensures) c.in_ok-insert.ensures.updates find.scope
+          (λ scope had. ap (λ b. scope_eq find.scope scope || b) (none scope) ∙ c.admit.ensures.places scope had),
+    )
 
 pub returns-clause-counted : goal.returns-clause-counted
 returns-clause-counted c =

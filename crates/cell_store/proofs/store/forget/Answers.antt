@@ -5,7 +5,7 @@ use Rattle.dns_name.specs.Order.{name_eq}
 use Rattle.cell_store.specs.Owner.{IsUpTo, CanSettle}
 use Rattle.cell_store.specs.Count.{count_entries}
 use Rattle.cell_store.proofs.CountLaws.{count_removed}
-use Rattle.cell_store.proofs.StoreLaws.{forgot_cells, forgot_each}
+use Rattle.cell_store.proofs.StoreLaws.{forgot_cells, forgot_each, forgot_pairs}
 use Rattle.cell_store.proofs.store.forget.Goals as goal
 
 pub overflow_sub-stored : goal.overflow_sub-stored
@@ -37,3 +37,9 @@ returns-in-Some-clause-counted c =
     let held : get name_eq c.args.owners.now c.args.owner.now ≡ Some c.in-Some.cells = grind (arith, common_steps) in
     let gone = count_removed (name_eq c.args.owner.now) c.args.owners.now.entries c.in-Some.cells held in
     omega (arith, gone, ap count_entries c.swap_remove.ensures.entries, c.requires.counted, c.counted.ensures)
+
+pub returns-in-Some-clause-pairs : goal.returns-in-Some-clause-pairs
+returns-in-Some-clause-pairs c = forgot_pairs c.args.owners.now c.swap_remove.new.self c.args.owner.now c.swap_remove.ensures.updates
+
+pub returns-in_default-clause-pairs : goal.returns-in_default-clause-pairs
+returns-in_default-clause-pairs c = forgot_pairs c.args.owners.now c.swap_remove.new.self c.args.owner.now c.swap_remove.ensures.updates

@@ -1,10 +1,12 @@
-use Rattle.std.proofs.Common.{◌≡◌, Some, None, ap, arith}
+use Rattle.std.proofs.Common.{◌≡◌, ◌∙◌, Option, Some, None, ap, false, arith, refl, rules, sym}
+use Rattle.std.specs.Option.{option_map_or}
+use Rattle.cell_store.specs.declared.owner.OwnerCells.{OwnerCells}
 use Rattle.indexmap.specs.IndexMap.{get}
 use Rattle.std.proofs.lemmas.Grind.{common_steps}
 use Rattle.dns_name.specs.Order.{name_eq}
-use Rattle.cell_store.specs.Count.{count_entries}
+use Rattle.cell_store.specs.Count.{count_entries, has_place}
 use Rattle.cell_store.proofs.CountLaws.{count_set}
-use Rattle.cell_store.proofs.StoreLaws.{settles_absent}
+use Rattle.cell_store.proofs.StoreLaws.{pairs_kept, settles_absent}
 use Rattle.cell_store.proofs.store.open_kinds.Goals as goal
 
 pub returns-in-Some-clause-counted : goal.returns-in-Some-clause-counted
@@ -14,10 +16,20 @@ returns-in-Some-clause-counted c =
     let held : get name_eq owners c.args.owner.now ≡ Some c.in-Some.cells.now = grind (arith, common_steps) in
     let set = count_set (name_eq c.args.owner.now) owners.entries c.in-Some.cells.now new held in
     let put = ap count_entries (c.get_mut.follows.holds new).0 in
-    omega (arith, set, put, c.open_each.ensures.count)
+    omega (arith, set, put, c.open_each.ensures.places.count)
 
 pub returns-clause-opened : goal.returns-clause-opened
 returns-clause-opened c =
     let owners = c.args.owners.now in
     let absent : get name_eq owners c.args.owner.now ≡ None = grind (arith, common_steps) in
     settles_absent owners c.get_mut.follows.lender-at-none c.args.owner.now c.args.kinds.now c.get_mut.follows.holds-at-none absent
+
+pub returns-in-Some-clause-pairs : goal.returns-in-Some-clause-pairs
+returns-in-Some-clause-pairs c =
+    let owners = c.args.owners.now in
+    let owner = c.args.owner.now in
+    let new = c.open_each.new.self in
+    let updates = (c.get_mut.follows.holds new).3 (search rules) in
+    let held : Some c.in-Some.cells.now ≡ get name_eq owners owner = grind (arith, common_steps) in
+    pairs_kept owners owners (c.get_mut.follows.lender new) owner owner new refl refl updates
+    (λ scope has. ap (λ (o : Option OwnerCells). option_map_or (λ cells. has_place cells scope) o false) (sym held) ∙ (sym (c.open_each.ensures.places.places scope) ∙ has))

@@ -1,4 +1,4 @@
-use Rattle.std.proofs.Common.{◌≡◌, max, cond, Option, Some, refl, sym, ap, ◌∙◌, subst, rules, arith}
+use Rattle.std.proofs.Common.{◌≡◌, false, max, cond, Option, Some, refl, sym, ap, ◌∙◌, subst, rules, arith}
 use Rattle.std.specs.Prelude.{◌==◌, IfSome}
 use Rattle.std.specs.List.{list_any}
 use Rattle.indexmap.specs.IndexMap.{get}
@@ -7,9 +7,10 @@ use Rattle.dns_name.specs.Order.{name_eq}
 use Rattle.cell_store.specs.declared.owner.OwnerCells.{OwnerCells}
 use Rattle.cell_store.specs.Owner.{IsUpTo}
 use Rattle.cell_store.specs.Store.{cell_by_owner}
-use Rattle.cell_store.specs.Count.{count_entries}
+use Rattle.std.specs.Option.{option_map_or}
+use Rattle.cell_store.specs.Count.{count_entries, has_place}
 use Rattle.cell_store.proofs.CountLaws.{count_set, count_found}
-use Rattle.cell_store.proofs.StoreLaws.{cells_settled, each_updated, settles_there}
+use Rattle.cell_store.proofs.StoreLaws.{cells_settled, each_updated, pairs_kept, settles_there}
 use Rattle.cell_store.proofs.store.settle_kinds.Goals as goal
 
 pub returns-in-Some-clause-cells : goal.returns-in-Some-clause-cells
@@ -59,3 +60,13 @@ pub settle_kinds-requires : goal.settle_kinds-requires
 settle_kinds-requires c =
     let held : get name_eq c.args.owners.now c.args.owner.now ≡ Some c.in-Some.cells.now = grind (arith, common_steps) in
     record { settles = settles_there c.args.owners.now c.args.owner.now c.in-Some.cells.now c.args.number c.args.kinds.now held c.requires.settles }
+
+pub returns-in-Some-clause-pairs : goal.returns-in-Some-clause-pairs
+returns-in-Some-clause-pairs c =
+    let owners = c.args.owners.now in
+    let owner = c.args.owner.now in
+    let new = c.settle_kinds.new.self in
+    let updates = (c.get_mut.follows.holds new).3 (search rules) in
+    let held : Some c.in-Some.cells.now ≡ get name_eq owners owner = grind (arith, common_steps) in
+    pairs_kept owners owners (c.get_mut.follows.lender new) owner owner new refl refl updates
+    (λ scope has. ap (λ (o : Option OwnerCells). option_map_or (λ cells. has_place cells scope) o false) (sym held) ∙ c.settle_kinds.ensures.places scope has)

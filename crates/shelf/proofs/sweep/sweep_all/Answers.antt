@@ -17,7 +17,7 @@ loop-place-preserved c =
       entry_more (IsSwept c.args.kept.now c.args.moment) c.loop-place.place c.args.owners.now.entries c.loop-place.owners.entries c.pair_mut-cells.result.0.now c.pair_mut-cells.result.1.now c.sweep_name.new.cells
           c.loop-place.invariant.0 c.pair_mut-cells.ensures.value c.sweep_name.ensures.swept,
       omega (arith, set, found, c.loop-place.invariant.1, c.counted-in-loop-place.ensures, c.counted.ensures),
-      omega (arith, found, c.loop-place.invariant.1, c.loop-place.invariant.2, c.sweep_name.ensures.swept.count, c.counted-in-loop-place.ensures, c.counted.ensures),
+      omega (arith, found, c.loop-place.invariant.1, c.loop-place.invariant.2, c.sweep_name.ensures.swept.lost.count, c.counted-in-loop-place.ensures, c.counted.ensures),
       c.sweep_name.ensures.capacity ∙ c.loop-place.invariant.3,
     )
 

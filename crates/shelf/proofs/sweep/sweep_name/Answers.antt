@@ -10,7 +10,7 @@ loop-place-preserved c =
     let place = c.loop-place.place in (
       swept_more c.args.kept.now c.args.moment c.args.name.now place c.args.cells.now c.loop-place.cells c.sweep_kind.new.self c.index.result.now.kind c.deref.result.now c.loop-place.invariant.0
           (λ d. ap (λ (own : KindColumn). own.kind) (c.index.ensures ∙ get_or_default kinds place c.index.result.now d (omega arith)))
-          (c.deref.ensures.value ∙ c.collect.ensures.items) c.sweep_kind.ensures.cells c.sweep_kind.ensures.seen c.sweep_kind.ensures.others c.sweep_kind.ensures.kinds c.sweep_kind.ensures.whole c.sweep_kind.ensures.upto c.sweep_kind.ensures.settles c.sweep_kind.ensures.count,
+          (c.deref.ensures.value ∙ c.collect.ensures.items) c.sweep_kind.ensures.cells c.sweep_kind.ensures.seen c.sweep_kind.ensures.others c.sweep_kind.ensures.kinds c.sweep_kind.ensures.whole c.sweep_kind.ensures.upto c.sweep_kind.ensures.settles c.sweep_kind.ensures.lost,
       c.collect.ensures.capacity ∙ c.loop-place.invariant.1,
     )
 

@@ -6,14 +6,14 @@ use Rattle.cell_store.specs.Version.{place_at, IsFromStart}
 use Rattle.cell_store.specs.Few.{AreRanked}
 use Rattle.cell_store.specs.Slots.{IsWithin}
 use Rattle.cell_store.specs.Column.{Cells, place_in, cells_of, has_find, is_counted}
-use Rattle.cell_store.specs.Prune.{is_asked, pruned}
+use Rattle.cell_store.specs.Prune.{is_asked, pruned, IsLess}
 use Rattle.cell_store.specs.Sweep.{swept, version_swept}
 use Rattle.cell_store.proofs.ColumnLaws.{same_length}
 use Rattle.cell_store.proofs.ForgetLaws.{seen_starts, starts_seen}
 use Rattle.cell_store.proofs.CountLaws.{counted_seen}
 use Rattle.cell_store.proofs.EntryLaws.{ranked_swept, ranked_pruned, short}
 use Rattle.cell_store.proofs.PruneLaws.{pruned_within, pruned_starts}
-use Rattle.cell_store.proofs.SweepLaws.{swept_within, swept_starts, swept_place, sweep_place, sweep_seen, sweep_left, pruned_finds, swept_finds}
+use Rattle.cell_store.proofs.SweepLaws.{swept_within, swept_starts, swept_place, sweep_place, sweep_seen, sweep_left, sweep_less, pruned_finds, swept_finds}
 use Rattle.cell_store.proofs.column.Column.sweep.Goals as goal
 
 pub release-requires : goal.release-requires
@@ -38,6 +38,15 @@ returns-clause-left c =
     let new = cells_of c.release.new.versions c.release.new.finds c.self.inside.upto in
     subst (λ (was : Cells). (v : ℕ) → (place_in new v).left ≡ true → (place_in was v).left ≡ true) c.self.view_is
     (sweep_left old new c.self.inside.versions.items c.merge.new.versions.items c.merge-2.new.versions.items c.release.new.versions.items c.self.inside.finds.items c.release.new.finds.items c.args.numbers.now c.args.moment refl refl refl
+    (λ v. c.merge.ensures.places v ∙ (ap (λ (l : List (Version ℕ)). place_at l v) c.sweep_each.ensures.each ∙ swept_place c.args.moment v c.self.inside.versions.items))
+    (λ v. c.merge-2.ensures.places v ∙ ap (λ (l : List (Version ℕ)). place_at l v) c.prune.ensures.each) c.release.ensures.same)
+
+pub returns-clause-less : goal.returns-clause-less
+returns-clause-less c =
+    let old = cells_of c.self.inside.versions c.self.inside.finds c.self.inside.upto in
+    let new = cells_of c.release.new.versions c.release.new.finds c.self.inside.upto in
+    subst (λ (was : Cells). (v : ℕ) → IsLess (place_in new v) (swept c.args.moment (place_in was v))) c.self.view_is
+    (sweep_less old new c.self.inside.versions.items c.merge.new.versions.items c.merge-2.new.versions.items c.release.new.versions.items c.self.inside.finds.items c.release.new.finds.items c.args.numbers.now c.args.moment refl refl refl
     (λ v. c.merge.ensures.places v ∙ (ap (λ (l : List (Version ℕ)). place_at l v) c.sweep_each.ensures.each ∙ swept_place c.args.moment v c.self.inside.versions.items))
     (λ v. c.merge-2.ensures.places v ∙ ap (λ (l : List (Version ℕ)). place_at l v) c.prune.ensures.each) c.release.ensures.same)
 

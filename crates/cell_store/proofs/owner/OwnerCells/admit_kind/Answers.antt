@@ -1,4 +1,4 @@
-use Rattle.std.proofs.Common.{◌≤◌, refl, ap, sym, ◌∙◌, subst, arith}
+use Rattle.std.proofs.Common.{◌≡◌, ◌≤◌, true, refl, ap, sym, ◌∙◌, subst, arith}
 use Rattle.std.specs.Prelude.{◌==◌}
 use Rattle.ranked.specs.declared.find.Find.{Find}
 use Rattle.ranked.specs.Find.{admission_of}
@@ -6,10 +6,12 @@ use Rattle.ranked.specs.Cell.{turns_away}
 use Rattle.cell_store.specs.declared.owner.KindColumn.{KindColumn}
 use Rattle.cell_store.specs.Owner.{whole_cell}
 use Rattle.cell_store.proofs.SettleLaws.{settles_put}
-use Rattle.cell_store.specs.Count.{one_if}
+use Rattle.cell_store.specs.Count.{has_place, one_if}
 use Rattle.std.specs.Prelude.{not}
-use Rattle.ranked.specs.declared.find.Scope.TheVariants.{One}
+use Rattle.ranked.specs.declared.find.Scope.TheVariants.{One, Whole}
 use Rattle.cell_store.proofs.CountLaws.{count_admitted}
+use Rattle.cell_store.proofs.OwnLaws.{own_admitted, upto_put}
+use Rattle.cell_store.proofs.PlaceLaws.{added_none, added_put, by_scope}
 use Rattle.cell_store.proofs.OwnerLaws.{admitted_cell, all_at, either_cell, outranked_low}
 use Rattle.cell_store.proofs.owner.OwnerCells.admit_kind.Goals as goal
 
@@ -37,4 +39,24 @@ pub returns-clause-count : goal.returns-clause-count
 returns-clause-count c =
     let more = count_admitted c.place_for.new.self.kinds.items c.args.kind c.in_ok-place.place c.index_mut.result.now c.hold.new.self c.in_ok-place.ensures.place c.index_mut.ensures.value in
     let same = ap (λ b. one_if (not b)) (c.place_for.ensures.places.places (One c.args.kind)) in
-    omega (arith, more, same, c.place_for.ensures.places.count)
+    let mid = c.place_for.new.self in
+    let all : has_place mid Whole ≡ true → has_place c.args.self.now Whole ≡ true = λ has. sym (c.place_for.ensures.places.places Whole) ∙ has in (
+      omega (arith, more, same, c.place_for.ensures.places.count),
+      by_scope _
+          (added_put mid.whole mid.kinds.items _ c.args.kind c.in_ok-place.place c.index_mut.result.now c.hold.new.self refl c.in_ok-place.ensures.place c.index_mut.ensures.value
+          (λ k. has_place c.args.self.now (One k)) (λ k. c.place_for.ensures.places.places (One k)))
+          all,
+    )
+
+pub returns-clause-upto : goal.returns-clause-upto
+returns-clause-upto c =
+    let place = c.in_ok-place.ensures.place in
+    let lent = c.index_mut.result.now in
+    let kind : lent.kind ≡ c.args.kind = ap (λ (own : KindColumn). own.kind) c.index_mut.ensures.value ∙ place.here lent in
+    upto_put c.args.top c.place_for.new.self _ c.in_ok-place.place lent c.hold.new.self refl refl place.low c.index_mut.ensures.value (omega (arith, c.hold.ensures.upto))
+    (λ was v here. was v (c.hold.ensures.left v here))
+    (own_admitted lent.kind c.args.top lent.column c.hold.new.self (admission_of c.args.find c.args.find c.args.moment) c.turns_away-outranked.result (c.requires.scope ∙ ap (λ n. One n) (sym kind)) c.hold.ensures.places c.hold.ensures.upto)
+    c.place_for.ensures.upto
+
+pub returns-in_err-place-clause-count : goal.returns-in_err-place-clause-count
+returns-in_err-place-clause-count c = (omega (arith, c.place_for.ensures.places.count), added_none (One c.args.kind) c.args.self.now c.place_for.new.self c.place_for.ensures.places.places)

@@ -10,5 +10,8 @@ loop-kind-preserved c = (
   (λ n k settles. c.open.ensures.settles n k (c.loop-kind.invariant.2 n k settles)),
   all_more (λ kind. (n : ℕ) → CanSettle n kind c.loop-kind.self) (λ kind. (n : ℕ) → CanSettle n kind c.open.new.self) c.args.kinds.now c.loop-kind.kind-index 0 c.loop-kind-test.true
       (λ kind settles n. c.open.ensures.settles n kind (settles n)) c.loop-kind.invariant.3 c.in_ok-open.ensures.opened,
-  c.open.ensures.count ∙ c.loop-kind.invariant.4,
+  record {
+    count = c.open.ensures.places.count ∙ c.loop-kind.invariant.4.count;
+    places = λ scope. c.open.ensures.places.places scope ∙ c.loop-kind.invariant.4.places scope;
+  },
 )

@@ -9,6 +9,7 @@ use Rattle.std.specs.Option.{option_map_or}
 use Rattle.ranked.specs.declared.find.Scope.TheVariants.{One, Whole}
 use Rattle.ranked.specs.declared.find.Scope.{Scope}
 use Rattle.cell_store.proofs.CountLaws.{count_push, place_push}
+use Rattle.cell_store.proofs.OwnLaws.{upto_push}
 use Rattle.cell_store.proofs.OwnerLaws.{held_push, push_place}
 use Rattle.cell_store.proofs.owner.OwnerCells.open_kind.Goals as goal
 
@@ -33,6 +34,11 @@ returns-clause-settles c = λ n k settles.
     let items = c.push_reserved.ensures.items ∙ ap (λ (l : List KindColumn). l ++ record { kind = c.args.kind; column = c.in_ok-column.column } ∷ []) c.reserve_exact.ensures.items in
     subst (λ (l : List KindColumn). CanSettleColumn n c.args.self.now.whole (column_of l k)) (sym items)
     (settles_push c.args.self.now.whole c.args.self.now.kinds.items c.args.kind c.in_ok-column.column c.requires.fresh n k settles)
+
+pub returns-clause-upto : goal.returns-clause-upto
+returns-clause-upto c =
+    let items = c.push_reserved.ensures.items ∙ ap (λ (l : List KindColumn). l ++ record { kind = c.args.kind; column = c.in_ok-column.column } ∷ []) c.reserve_exact.ensures.items in
+    upto_push c.args.top c.args.self.now _ c.args.kind c.in_ok-column.column refl items c.requires.fresh c.in_ok-column.ensures.upto c.in_ok-column.ensures.left c.in_ok-column.ensures.counted c.requires.upto
 
 pub returns-clause-places : goal.returns-clause-places
 returns-clause-places c = record {

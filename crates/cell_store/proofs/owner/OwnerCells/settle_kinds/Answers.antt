@@ -21,4 +21,5 @@ loop-kind-preserved c =
       (λ top is. c.settle_kind.ensures.upto top (c.loop-kind.invariant.1 top is)),
       (λ m k settles. c.settle_kind.ensures.settles m k (c.loop-kind.invariant.2 m k settles)),
       omega (arith, c.settle_kind.ensures.count, c.loop-kind.invariant.3),
+      (λ scope has. c.loop-kind.invariant.4 scope (c.settle_kind.ensures.places scope has)),
     )

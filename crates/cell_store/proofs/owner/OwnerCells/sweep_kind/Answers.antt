@@ -1,8 +1,10 @@
-use Rattle.std.proofs.Common.{◌≤◌, List, refl, subst, sym, arith}
+use Rattle.std.proofs.Common.{◌≤◌, List, refl, subst, sym, arith, inl}
 use Rattle.cell_store.specs.declared.owner.KindColumn.{KindColumn}
 use Rattle.cell_store.specs.Owner.{IsPlaceOf}
 use Rattle.cell_store.proofs.OwnerLaws.{all_at}
 use Rattle.cell_store.proofs.CountLaws.{count_lost}
+use Rattle.cell_store.proofs.OwnLaws.{own_swept}
+use Rattle.cell_store.proofs.PlaceLaws.{kept_put, less_put, lost_from}
 use Rattle.cell_store.proofs.SettleLaws.{settles_put, left_put}
 use Rattle.cell_store.proofs.OwnerSweepLaws.{swept_kind_cell, swept_kind_others, swept_kind_seen, same_kinds}
 use Rattle.cell_store.proofs.owner.OwnerCells.sweep_kind.Goals as goal
@@ -36,7 +38,8 @@ returns-in-Some-clause-upto c = λ top upto.
     let self = c.args.self.now in
     let is = subst (λ (l : List KindColumn). IsPlaceOf l c.args.kind c.in-Some.place) c.deref.ensures.value c.in-Some.ensures.some in
     let low = subst (λ (own : KindColumn). own.column.upto ≤ top) (sym c.index_mut.ensures.value) (all_at (λ own. own.column.upto ≤ top) self.kinds.items c.in-Some.place c.index_mut.result.now upto.kinds is.low) in
-    left_put top self _ c.args.kind c.in-Some.place c.index_mut.result.now c.sweep.new.self refl refl is.low c.index_mut.ensures.value (omega (arith, c.sweep.ensures.upto, low)) c.sweep.ensures.left upto
+    left_put top self _ c.args.kind c.in-Some.place c.index_mut.result.now c.sweep.new.self refl refl is.low c.index_mut.ensures.value (omega (arith, c.sweep.ensures.upto, low)) c.sweep.ensures.left
+    (own_swept c.index_mut.result.now.kind c.args.moment c.index_mut.result.now.column c.sweep.new.self c.sweep.ensures.less) upto
 
 pub returns-in-Some-clause-settles : goal.returns-in-Some-clause-settles
 returns-in-Some-clause-settles c = λ n k settles.
@@ -44,8 +47,13 @@ returns-in-Some-clause-settles c = λ n k settles.
     let is = subst (λ (l : List KindColumn). IsPlaceOf l c.args.kind c.in-Some.place) c.deref.ensures.value c.in-Some.ensures.some in
     settles_put self.whole self.kinds.items c.args.kind c.in-Some.place c.index_mut.result.now c.sweep.new.self is c.index_mut.ensures.value n k settles
 
-pub returns-in-Some-clause-count : goal.returns-in-Some-clause-count
-returns-in-Some-clause-count c =
+pub returns-in-Some-clause-lost : goal.returns-in-Some-clause-lost
+returns-in-Some-clause-lost c =
     let self = c.args.self.now in
     let is = subst (λ (l : List KindColumn). IsPlaceOf l c.args.kind c.in-Some.place) c.deref.ensures.value c.in-Some.ensures.some in
-    omega (arith, count_lost self.kinds.items c.in-Some.place c.index_mut.result.now c.sweep.new.self is.low c.index_mut.ensures.value c.sweep.ensures.counted)
+    lost_from self _ (omega (arith, count_lost self.kinds.items c.in-Some.place c.index_mut.result.now c.sweep.new.self is.low c.index_mut.ensures.value c.sweep.ensures.counted))
+    (kept_put self.whole self.kinds.items _ c.args.kind c.in-Some.place c.index_mut.result.now c.sweep.new.self refl is c.index_mut.ensures.value c.sweep.ensures.counted) (λ has. has)
+    (less_put self.whole self.kinds.items _ c.args.kind c.in-Some.place c.index_mut.result.now c.sweep.new.self refl is c.index_mut.ensures.value c.args.moment c.sweep.ensures.less)
+
+pub returns-in_default-clause-lost : goal.returns-in_default-clause-lost
+returns-in_default-clause-lost c = record { count = omega arith; places = λ scope has. has; cells = λ k v. inl refl }

@@ -1,4 +1,4 @@
-use Rattle.std.proofs.Common.{Option, cond, sym, ap, ◌∙◌}
+use Rattle.std.proofs.Common.{refl, arith, Option, cond, sym, ap, ◌∙◌}
 use Rattle.ranked.specs.declared.find.Find.{Find}
 use Rattle.ranked.specs.declared.cell.Admitted.{Admitted}
 use Rattle.ranked.specs.Find.{touches, admission_of}
@@ -7,7 +7,8 @@ use Rattle.shelf.specs.Told.{only, chosen_version}
 use Rattle.shelf.specs.Told.Told.{admitted}
 use Rattle.shelf.proofs.ShelfLaws.{told_more}
 use Rattle.shelf.specs.Room.{room_for}
-use Rattle.shelf.proofs.RoomLaws.{unwanted_cell, chosen_is_version, room_unwanted, room_free, fault_of}
+use Rattle.shelf.proofs.RoomLaws.{unwanted_cell, chosen_is_version, room_full, room_unwanted, room_free, fault_of, not_both, not_needed}
+use Rattle.shelf.proofs.ByRoomLaws.{by_room_free, by_room_full, by_room_ok, same_pairs}
 use Rattle.shelf.proofs.shelf.Shelf.admit.Goals as goal
 
 pub hold-requires : goal.hold-requires
@@ -25,7 +26,28 @@ returns-in-Unwanted-clause-admitted c =
           ∙ sym (told_more question (only version) told (admitted c.args.find c.args.moment)));
       faces = λ chosen q.
           unwanted_cell self c.args.find c.args.moment unwanted q (chosen_version self.kept.items q chosen) (chosen_is_version self.kept.items q chosen);
+      pairs = same_pairs self c.args.find;
     }
 
 pub returns-in-Free-clause-full : goal.returns-in-Free-clause-full
 returns-in-Free-clause-full c = fault_of c.args.self.now c.args.find c.args.moment c.hold.result c.hold.ensures.fault.0 c.hold.ensures.fault.1
+
+pub returns-in-Unwanted-clause-room : goal.returns-in-Unwanted-clause-room
+returns-in-Unwanted-clause-room c = by_room_ok c.args.self.now c.args.find c.args.moment _ _ refl (λ same needs. not_needed c.args.self.now c.args.find c.args.moment (c.in-Unwanted.ensures ∙ ap (λ (f : Find). room_for c.args.self.now f c.args.moment) c.find-2.ensures) same needs)
+
+pub returns-in-Full-clause-full : goal.returns-in-Full-clause-full
+returns-in-Full-clause-full c =
+    let full = room_full c.args.self.now c.args.find c.args.moment (c.in-Full.ensures ∙ ap (λ (f : Find). room_for c.args.self.now f c.args.moment) c.find-2.ensures) in
+    (c.stored.ensures.value, full.0, full.1)
+
+pub returns-in-Full-clause-room : goal.returns-in-Full-clause-room
+returns-in-Full-clause-room c =
+    let full = room_full c.args.self.now c.args.find c.args.moment (c.in-Full.ensures ∙ ap (λ (f : Find). room_for c.args.self.now f c.args.moment) c.find-2.ensures) in
+    by_room_full c.args.self.now c.requires.whole c.args.find c.args.moment _ _ refl full
+    (λ told each. omega (arith, full.0, c.stored.ensures.value, c.stored.ensures.most c.requires.whole told each))
+
+pub returns-in-Free-clause-room : goal.returns-in-Free-clause-room
+returns-in-Free-clause-room c =
+    by_room_free c.args.self.now c.requires.whole c.args.find c.args.moment c.hold.result
+    (λ same needs. not_both c.args.self.now c.args.find c.args.moment (c.in-Free.ensures ∙ ap (λ (f : Find). room_for c.args.self.now f c.args.moment) c.find-2.ensures) same needs)
+    c.hold.ensures.fault.0 c.hold.ensures.fault.1

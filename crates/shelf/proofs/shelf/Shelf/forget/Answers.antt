@@ -1,5 +1,7 @@
 use Rattle.std.proofs.Common.{arith}
 use Rattle.shelf.specs.Told.{chosen_version}
+use Rattle.dns_name.specs.Order.{name_eq}
+use Rattle.shelf.proofs.AboutLaws.{about_forgot}
 use Rattle.shelf.proofs.FaceLaws.{settles_each}
 use Rattle.shelf.proofs.shelf.Shelf.forget.Goals as goal
 
@@ -15,6 +17,7 @@ returns-clause-whole c =
     let whole = c.requires.whole in
     record {
       upto = c.forget.ensures.upto self.top whole.upto;
+      about = about_forgot self.owners c.forget.new.owners (λ q. name_eq c.args.owner.now q.owner) c.forget.ensures.cells whole.about;
       numbers = whole.numbers;
       ascending = whole.ascending;
       settles = settles_each self.owners c.forget.new.owners self.kept.items c.forget.ensures.settles whole.settles;

@@ -2,6 +2,7 @@ use Rattle.std.proofs.Common.{◌≤◌, List, length, true, refl, sym, ap, ◌�
 use Rattle.std.specs.List.{AllByRecursion}
 use Rattle.shelf.specs.declared.shelf.KeptFlush.{KeptFlush}
 use Rattle.shelf.specs.Told.{is_version, IsAscending, CanSettleFlush}
+use Rattle.shelf.proofs.AboutLaws.{about_same}
 use Rattle.shelf.proofs.ShelfLaws.{flush_told}
 use Rattle.shelf.proofs.FaceLaws.{flush_face, all_more, ascending_more, upto_greater}
 use Rattle.shelf.proofs.shelf.Shelf.open_flush.Goals as goal
@@ -20,6 +21,7 @@ returns-clause-flushed c =
       kept = c.in_ok-push.ensures.items;
       faces = flush_face self.owners c.open_flush.new.owners self.kept.items c.push.new.self.items self.top (record { flush = c.args.flush; number = c.args.number; shown = true }) c.requires.whole.upto c.requires.newest c.open_flush.ensures.cells c.in_ok-push.ensures.items;
       top = refl;
+      pairs = c.open_flush.ensures.pairs;
     }
 
 pub returns-clause-whole : goal.returns-clause-whole
@@ -29,6 +31,7 @@ returns-clause-whole c =
     let owners = c.open_flush.new.owners in
     record {
       upto = upto_greater owners self.top c.args.number (omega (arith, c.requires.newest)) c.open_flush.ensures.upto;
+      about = about_same self.owners owners c.open_flush.ensures.cells c.requires.whole.about;
       numbers = subst (λ (l : List KeptFlush). AllByRecursion (λ k. k.number ≤ c.args.number) l) (sym c.in_ok-push.ensures.items)
           (all_more (λ k. k.number ≤ self.top) (λ k. k.number ≤ c.args.number) self.kept.items own (λ k low. omega (arith, low, c.requires.newest)) c.requires.whole.numbers (omega arith));
       ascending = subst (λ (l : List KeptFlush). IsAscending l) (sym c.in_ok-push.ensures.items) (ascending_more self.top self.kept.items own c.requires.whole.numbers c.requires.newest c.requires.whole.ascending);
@@ -48,6 +51,7 @@ returns-in_err-push-clause-whole c =
     let items = c.in_err-push.ensures.items in
     record {
       upto = c.open_flush.ensures.upto;
+      about = about_same self.owners owners c.open_flush.ensures.cells whole.about;
       numbers = subst (λ (l : List KeptFlush). AllByRecursion (λ k. k.number ≤ self.top) l) (sym items) whole.numbers;
       ascending = subst (λ (l : List KeptFlush). IsAscending l) (sym items) whole.ascending;
       settles = subst (λ (l : List KeptFlush). AllByRecursion (λ k. CanSettleFlush owners k.number k.flush) l) (sym items) (c.open_flush.ensures.settles self.kept.items whole.settles);

@@ -4,6 +4,7 @@ use Rattle.dns_text.specs.declared.record.Question.{Question}
 use Rattle.shelf.specs.Kept.{stands_first}
 use Rattle.shelf.specs.Told.{face_of}
 use Rattle.shelf.proofs.KeptLaws.{oldest_kept, oldest_same}
+use Rattle.shelf.proofs.ByRoomLaws.{owners_pairs}
 use Rattle.shelf.proofs.shelf.Shelf.settle.Goals as goal
 
 pub returns-then-stands_first-clause-faces : goal.returns-then-stands_first-clause-faces
@@ -23,3 +24,6 @@ pub returns-clause-faces : goal.returns-clause-faces
 returns-clause-faces c =
     let first : stands_first c.args.number c.args.self.now.kept.items ≡ false = grind (arith, common_steps) in
     λ chosen there. c.settle_cleared.ensures.faces chosen (there ∙ first)
+
+pub returns-clause-pairs : goal.returns-clause-pairs
+returns-clause-pairs c = owners_pairs c.args.self.now.owners c.settle_cleared.new.self.owners c.settle_cleared.ensures.owners

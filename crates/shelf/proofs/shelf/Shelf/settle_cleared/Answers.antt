@@ -16,6 +16,7 @@ returns-clause-whole c = λ is.
     let kept = c.args.self.now.kept.items in
     record {
       upto = is.upto;
+      about = is.about;
       numbers = subst (λ (l : List KeptFlush). AllByRecursion (λ own. own.number ≤ c.args.self.now.top) l) (sym c.remove_number.ensures) (all_without (λ own. own.number ≤ c.args.self.now.top) c.args.number kept is.numbers);
       ascending = subst (λ (l : List KeptFlush). IsAscending l) (sym c.remove_number.ensures) (ascending_without c.args.number kept is.ascending);
       settles = subst (λ (l : List KeptFlush). AllByRecursion (λ own. CanSettleFlush c.args.self.now.owners own.number own.flush) l) (sym c.remove_number.ensures)

@@ -1,5 +1,8 @@
 use Rattle.std.proofs.Common.{◌≤◌, arith}
+use Rattle.ranked.specs.Flush.{covers}
+use Rattle.cell_store.specs.Owner.{after_settle}
 use Rattle.shelf.specs.Told.{CanSettleFlush}
+use Rattle.shelf.proofs.AboutLaws.{about_moved}
 use Rattle.shelf.proofs.FaceLaws.{removed_face, removed_kept, all_removed, ascending_removed, all_first}
 use Rattle.shelf.proofs.shelf.Shelf.settle_oldest.Goals as goal
 
@@ -22,6 +25,7 @@ returns-clause-whole c =
     let self = c.args.self.now in
     record {
       upto = c.settle_flush.ensures.upto self.top c.requires.whole.upto;
+      about = about_moved self.owners c.settle_flush.new.owners (λ q v. after_settle (covers c.remove-own.result.flush q) c.remove-own.result.number v) (c.settle_flush.ensures.cells self.top c.requires.whole.upto) c.requires.whole.about;
       numbers = all_removed (λ own. own.number ≤ self.top) self.kept.items c.remove-own.new.self.items c.remove-own.ensures.items c.requires.whole.numbers;
       ascending = ascending_removed self.kept.items c.remove-own.new.self.items c.remove-own.ensures.items c.requires.whole.ascending;
       settles = c.settle_flush.ensures.settles c.remove-own.new.self.items

@@ -22,6 +22,7 @@ returns-clause-whole c = λ is.
     let kept = c.args.self.now.kept.items in
     record {
       upto = is.upto;
+      about = is.about;
       numbers = subst (λ (l : List KeptFlush). AllByRecursion (λ own. own.number ≤ c.args.self.now.top) l) (sym c.set_shown.ensures) (same_numbers c.args.number true kept c.args.self.now.top is.numbers);
       ascending = subst (λ (l : List KeptFlush). IsAscending l) (sym c.set_shown.ensures) (same_ascending c.args.number true kept is.ascending);
       settles = subst (λ (l : List KeptFlush). AllByRecursion (λ own. CanSettleFlush c.args.self.now.owners own.number own.flush) l) (sym c.set_shown.ensures)

@@ -1,0 +1,56 @@
+-- How much a shelf stores: at most the different pairs of its admissions, and at least those of the finds that are alive in some version.
+use Rattle.std.specs.Prelude.{◌≡◌, ◌≤◌, ℕ, Bool, true, List, [], ◌∷◌, Some, Result, IsErr, IsOk, IsErrOf}
+use Rattle.std.specs.Set.{distinct_count, is_member}
+use Rattle.dns_name.specs.Labels.{Labels}
+use Rattle.dns_text.specs.declared.record.Question.{Question}
+use Rattle.ranked.specs.declared.find.Find.{Find}
+use Rattle.ranked.specs.declared.find.Scope.{Scope}
+use Rattle.ranked.specs.declared.cell.Admitted.{Admitted}
+use Rattle.cell_store.specs.Count.{has_pair, pair_eq, pair_of}
+use Rattle.cell_store.specs.Sweep.{alive_at}
+use Rattle.shelf.specs.declared.shelf.KeptFlush.{KeptFlush}
+use Rattle.shelf.specs.declared.shelf.Shelf.{Shelf}
+use Rattle.shelf.specs.declared.fault.StoreFault.{StoreFault}
+use Rattle.shelf.specs.declared.fault.StoreFault.TheVariants.{Full}
+use Rattle.shelf.specs.Room.{needs_place}
+use Rattle.shelf.specs.Told.{Told, cell_by, face_of, is_version, only, IsShelfOf}
+use Rattle.shelf.specs.Told.Told.{admitted, flushed}
+
+-- the pairs of the admissions, in order: of each find its owner and scope
+abbrev pub pairs_in : List Told → List (Labels × Scope)
+pairs_in [] = []
+pairs_in (admitted find moment ∷ told) = pair_of find ∷ pairs_in told
+pairs_in (flushed flush number ∷ told) = pairs_in told
+
+-- the number of different pairs
+abbrev pub count_pairs : List (Labels × Scope) → ℕ
+count_pairs pairs = distinct_count pair_eq pairs
+
+-- Each place that counts is that of an admission.
+abbrev pub HasAdmittedEach : List Told → Shelf → Type 0
+HasAdmittedEach told shelf = (pair : Labels × Scope) → has_pair shelf.owners pair ≡ true → is_member pair_eq (pairs_in told) pair ≡ true
+
+-- A find of this pair is alive at a moment in the cell of a question, if only the chosen ones of the kept flushes are in force.
+pub record IsAliveInFace (shelf : Shelf) (t : ℕ) (pair : Labels × Scope) : Type 0 where
+  pub chosen : ℕ → Bool
+  pub question : Question
+  pub held : Admitted Find
+  pub alive : alive_at t (face_of shelf chosen question) ≡ Some held
+  pub same : pair_of held.body ≡ pair
+
+-- A find of this pair is alive at a moment in a version of the cell of a question, by a replay.
+pub record IsAliveInReplay (kept : List KeptFlush) (told : List Told) (t : ℕ) (pair : Labels × Scope) : Type 0 where
+  pub question : Question
+  pub version : ℕ
+  pub there : is_version kept question version ≡ true
+  pub held : Admitted Find
+  pub alive : alive_at t (cell_by question (only version) told) ≡ Some held
+  pub same : pair_of held.body ≡ pair
+
+-- What the room decides of an admission. A find whose pair has a counted place is cached, as is one whose pair a find has that is alive in some version. It is full only once as many different pairs as the limit were admitted.
+pub record IsByRoom {T : Type 0} (old : Shelf) (find : Find) (moment : ℕ) (result : Result T StoreFault) : Type 0 where
+  pub full : (old.stored ≡ old.limit) × (needs_place old find moment ≡ true) → IsErr result
+  pub counted : has_pair old.owners (pair_of find) ≡ true → IsOk result
+  pub alive : IsAliveInFace old moment (pair_of find) → IsOk result
+  pub replayed : (told : List Told) → IsShelfOf old told → IsAliveInReplay old.kept.items told moment (pair_of find) → IsOk result
+  pub many : (told : List Told) → HasAdmittedEach told old → (n : ℕ) → IsErrOf result (Full n) → old.limit ≤ count_pairs (pairs_in told)

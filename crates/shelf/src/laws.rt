@@ -1,0 +1,22 @@
+//! What the counted places are, by the admissions so far.
+
+ghost use Rattle.std.specs.Prelude.{◌≡◌, ◌++◌, ◌∷◌, [], ℕ, List};
+ghost use Rattle.ranked.specs.declared.find.Find.{Find};
+ghost use Rattle.ranked.specs.declared.flush.Flush.{Flush};
+ghost use Rattle.cell_store.specs.Count.{KeepPairs};
+ghost use Rattle.shelf.specs.declared.shelf.Shelf.{Shelf};
+ghost use Rattle.shelf.specs.Stored.{HasAdmittedEach};
+ghost use Rattle.shelf.specs.Told.{Told, HasAdmitted, HasFlushed, IsShelf};
+ghost use Rattle.shelf.specs.Told.Told.{admitted, flushed};
+
+/// A law: each counted place is that of an admission. It holds of a cache that stores nothing, and each call keeps it.
+/// `Shelf::stored` and `Shelf::admit` say what follows from it.
+pub fn admitted_law()
+    ensures none { (shelf : Shelf) → IsShelf shelf → shelf.stored ≡ 0 → HasAdmittedEach [] shelf }
+    ensures kept { (told : List Told) (old new : Shelf) →
+        KeepPairs old.owners new.owners → HasAdmittedEach told old → HasAdmittedEach told new }
+    ensures admitted { (told : List Told) (find : Find) (moment : ℕ) (old new : Shelf) →
+        HasAdmitted find moment old new → HasAdmittedEach told old → HasAdmittedEach (told ++ admitted find moment ∷ []) new }
+    ensures flushed { (told : List Told) (flush : Flush) (number : ℕ) (old new : Shelf) →
+        HasFlushed flush number old new → HasAdmittedEach told old → HasAdmittedEach (told ++ flushed flush number ∷ []) new }
+{}
