@@ -28,7 +28,7 @@ use Rattle.shelf.specs.Kept.{with_shown, stands_first}
 use Rattle.ranked.specs.Flush.{covers}
 use Rattle.shelf.specs.Told.{IsShelfOf, is_version, later_shown, later_chosen, chosen_version, IsAscending, without}
 use Rattle.store.specs.declared.world.SavedFlush.{SavedFlush}
-use Rattle.store.specs.World.{Shelved, shelved, cell_at, cell_by, mark_of, mark, KeepsFlushes, face_by, shown_face, fault_told}
+use Rattle.store.specs.World.{Shelved, shelved, cell_at, cell_by, mark_of, mark, KeepsFlushes, face_by, shown_face, fault_told, empty_cells}
 
 -- ---- lists
 
@@ -368,5 +368,5 @@ empty_cell : (shelf : Shelf) (kept : List KeptFlush) (chosen : ℕ → Bool) (q 
 empty_cell shelf [] chosen q e cells = cells 0 refl
 empty_cell shelf (own ∷ later) chosen q e cells = absurd cc
 
-pub empty_faces : (shelf : Shelf) → shelf.kept.items ≡ [] → IsShelfOf shelf [] → (chosen : ℕ → Bool) → IsSame (face_by (shelved shelf) [] chosen) (record { tables = tt; cell = λ q. None })
+pub empty_faces : (shelf : Shelf) → shelf.kept.items ≡ [] → IsShelfOf shelf [] → (chosen : ℕ → Bool) → IsSame (face_by (shelved shelf) [] chosen) empty_cells
 empty_faces shelf kept is chosen = record { tables = refl; cell = λ q. empty_cell shelf shelf.kept.items chosen q kept (is q) }

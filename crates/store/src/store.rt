@@ -45,18 +45,14 @@ pub struct Store {
 }
 
 impl Store {
-    ghost use Rattle.std.specs.Prelude.{◌≡◌, ◌≤◌, ◌^◌, ℕ, Bool, []};
-    ghost use Rattle.change_law.specs.Face.{IsSame};
+    ghost use Rattle.std.specs.Prelude.{◌≤◌, ◌^◌};
+    ghost use Rattle.world_book.specs.Book.{IsUntouched};
     ghost use Rattle.world_book.specs.Deeds.{empty_face};
 
     /// Empty tables and an empty cache that may store so many cells. The cache's index hashes with this seed.
     pub fn new(alloc: Global, limit: u64, seed: NameSeed) -> Store
         requires { limit ≤ 2 ^ 32 }
-        ensures keeps { ⟦<Store as World>⟧.keeps result [] }
-        ensures empty { (chosen : ℕ → Bool) → IsSame (⟦<Store as World>⟧.face result [] chosen) empty_face }
-        ensures newest { ⟦<Store as World>⟧.newest result ≡ 0 }
-        ensures stored { ⟦<Store as World>⟧.stored result ≡ 0 }
-        ensures limit { ⟦<Store as World>⟧.limit result ≡ limit }
+        ensures { IsUntouched ⟦<Store as World>⟧ empty_face limit result }
     {
         Store {
             tables: TableWorld::new(alloc),

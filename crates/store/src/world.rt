@@ -1,6 +1,6 @@
 //! The cache as a world, and flushes as its changes.
 
-ghost use Rattle.std.specs.Prelude.{◌≡◌, ℕ, None, Some, IfOk};
+ghost use Rattle.std.specs.Prelude.{◌≡◌, None, Some, IfOk};
 ghost use Rattle.shelf.specs.declared.fault.StoreFault.{StoreFault};
 ghost use Rattle.store.specs.World.{fault_told};
 
@@ -57,22 +57,16 @@ fn fault_told(fault: StoreFault) -> WorldFault
 }
 
 impl ShelfWorld {
-    ghost use Rattle.std.specs.Prelude.{◌≤◌, ◌^◌, Bool, List, []};
-    ghost use Rattle.change_law.specs.Face.{IsSame};
+    ghost use Rattle.std.specs.Prelude.{◌≤◌, ◌^◌};
     ghost use Rattle.ranked.specs.Cell.{shown_at};
     ghost use Rattle.cell_store.specs.Owner.{held_now};
-    ghost use Rattle.change_law.specs.declared.kept.KeptChange.{KeptChange};
-    ghost use Rattle.store.specs.declared.world.SavedFlush.{SavedFlush};
-    ghost use Rattle.store.specs.World.{IsForgottenIn};
+    ghost use Rattle.store.specs.World.{empty_cells, HoldsNothingOf};
+    ghost use Rattle.world_book.specs.Book.{IsUntouched};
 
     /// An empty cache that may store so many cells. It keeps no flushes, and its index hashes with the fixed seed.
     pub fn new(alloc: Global, limit: u64) -> ShelfWorld
         requires { limit ≤ 2 ^ 32 }
-        ensures keeps { ⟦<ShelfWorld as World>⟧.keeps result [] }
-        ensures empty { (chosen : ℕ → Bool) → IsSame (⟦<ShelfWorld as World>⟧.face result [] chosen) (record { tables = tt; cell = λ q. None }) }
-        ensures newest { ⟦<ShelfWorld as World>⟧.newest result ≡ 0 }
-        ensures stored { ⟦<ShelfWorld as World>⟧.stored result ≡ 0 }
-        ensures limit { ⟦<ShelfWorld as World>⟧.limit result ≡ limit }
+        ensures { IsUntouched ⟦<ShelfWorld as World>⟧ empty_cells limit result }
     {
         ShelfWorld::seeded(alloc, limit, NameSeed::fixed())
     }
@@ -80,11 +74,7 @@ impl ShelfWorld {
     /// The same, but its index hashes with a seed that the program drew, since strangers choose the names.
     pub fn seeded(alloc: Global, limit: u64, seed: NameSeed) -> ShelfWorld
         requires { limit ≤ 2 ^ 32 }
-        ensures keeps { ⟦<ShelfWorld as World>⟧.keeps result [] }
-        ensures empty { (chosen : ℕ → Bool) → IsSame (⟦<ShelfWorld as World>⟧.face result [] chosen) (record { tables = tt; cell = λ q. None }) }
-        ensures newest { ⟦<ShelfWorld as World>⟧.newest result ≡ 0 }
-        ensures stored { ⟦<ShelfWorld as World>⟧.stored result ≡ 0 }
-        ensures limit { ⟦<ShelfWorld as World>⟧.limit result ≡ limit }
+        ensures { IsUntouched ⟦<ShelfWorld as World>⟧ empty_cells limit result }
     {
         ShelfWorld {
             shelf: Shelf::seeded(alloc, limit, seed),
@@ -93,21 +83,23 @@ impl ShelfWorld {
 
     /// What is shown of a question at a moment. It takes no memory.
     pub fn show(&self, owner: &Name, kind: u16, moment: u64) -> Option<Held<'_>>
-        ensures { held_now result ≡ shown_at ((⟦<ShelfWorld as World>⟧.shown self.now).cell (record { owner = owner.now; kind = kind })) moment }
+        ensures { held_now result
+            ≡ shown_at ((⟦<ShelfWorld as World>⟧.shown self.now).cell (record { owner = owner.now; kind = kind })) moment }
     {
         self.shelf.show(owner, kind, moment)
     }
 
-    /// How many places count.
+    /// How many places count. They are never more than the limit.
     pub fn stored(&self) -> u64
-        ensures { result ≡ ⟦<ShelfWorld as World>⟧.stored self.now }
+        ensures stored { result ≡ ⟦<ShelfWorld as World>⟧.stored self.now }
+        ensures within { ⟦<ShelfWorld as World>⟧.stored self.now ≤ ⟦<ShelfWorld as World>⟧.limit self.now }
     {
         self.shelf.stored()
     }
 
     /// Forgets a name: nothing of it is held, whatever choice of the kept flushes stands. It takes no memory.
     pub fn forget(&mut self, owner: &Name)
-        ensures row { (kept : List (KeptChange SavedFlush)) → ⟦<ShelfWorld as World>⟧.keeps self.old kept → IsForgottenIn owner.now self.old kept self.new }
+        ensures row { HoldsNothingOf owner.now self.old self.new }
         ensures newest { ⟦<ShelfWorld as World>⟧.newest self.new ≤ ⟦<ShelfWorld as World>⟧.newest self.old }
         ensures stored { ⟦<ShelfWorld as World>⟧.stored self.new ≤ ⟦<ShelfWorld as World>⟧.stored self.old }
     {

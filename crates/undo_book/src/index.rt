@@ -1,8 +1,8 @@
 //! Where in a log the entries stand that can change what is held.
 
-ghost use Rattle.std.specs.Prelude.{◌≡◌, ◌<◌, ◌++◌, [], option_map, vec_len, vec_capacity};
+ghost use Rattle.std.specs.Prelude.{◌≡◌, ◌<◌, ◌++◌, [], vec_len, vec_capacity};
 ghost use Rattle.std.specs.List.{cons_option};
-ghost use Rattle.undo_book.specs.Plain.{admitted_now};
+ghost use Rattle.undo_book.specs.Plain.{content_of, question_of};
 ghost use Rattle.undo_book.specs.Index.{concerns, index_of_entry, tag_of, cell_after_indexed};
 
 use crate::log::Logged;
@@ -63,7 +63,7 @@ impl Indexed {
         cell: Cell<&'a SharedFind>,
     ) -> Cell<&'a SharedFind>
         requires { tag ≡ tag_of owner.now }
-        ensures { option_map admitted_now result.held ≡ cell_after_indexed (record { owner = owner.now; kind = kind }) log.now (option_map admitted_now cell.entry.held) self.now }
+        ensures { content_of result.held ≡ cell_after_indexed (question_of owner.now kind) log.now (content_of cell.entry.held) self.now }
     {
         if !self.concerns(tag) {
             return cell;

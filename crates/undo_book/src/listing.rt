@@ -2,8 +2,8 @@
 
 ghost use Rattle.std.specs.Prelude.{◌≡◌, ◌++◌, [], IfOk, OnOk};
 ghost use Rattle.std.specs.List.{cons_option};
-ghost use Rattle.history.specs.Journal.{commands_of, held_as, held_with, journalled_of};
-ghost use Rattle.undo_book.specs.Plain.{marks_in};
+ghost use Rattle.history.specs.Journal.{commands_of, held_as, held_with};
+ghost use Rattle.undo_book.specs.Plain.{marks_in, held_of};
 ghost use Rattle.undo_book.specs.PlainPast.{past_in};
 
 use crate::marks::PlainMarks;
@@ -29,7 +29,7 @@ fn add_command(
     entry: &Entry,
     commands: &mut Vec<Journalled>,
 ) -> Result<(), NoMemory>
-    ensures { OnOk result (commands.new.items ≡ commands.old.items ++ cons_option (journalled_of (marks_in marks.now) entry.now.event entry.now.ticket) []) }
+    ensures { OnOk result (commands.new.items ≡ commands.old.items ++ cons_option (held_of marks.now entry.now) []) }
 {
     match journalled(marks, entry)? {
         Some(command) => Ok(commands.push(command)?),
@@ -39,7 +39,7 @@ fn add_command(
 
 /// What the journal holds of an entry.
 fn journalled(marks: &PlainMarks, entry: &Entry) -> Result<Option<Journalled>, NoMemory>
-    ensures { IfOk result (λ o. o ≡ journalled_of (marks_in marks.now) entry.now.event entry.now.ticket) }
+    ensures { IfOk result (λ o. o ≡ held_of marks.now entry.now) }
 {
     match &entry.event {
         Event::Do { command, .. } => match entry.ticket {

@@ -1,11 +1,11 @@
 //! The history of a plain book: its log and its marks.
 
-ghost use Rattle.std.specs.Prelude.{◌≡◌, ℕ, ◌+◌, ◌<◌, ◌≤◌, ◌^◌, [], length, option_map, OnOk, vec_len, vec_capacity, if◌then◌else◌};
+ghost use Rattle.std.specs.Prelude.{◌≡◌, ℕ, ◌+◌, ◌<◌, ◌≤◌, ◌^◌, [], length, OnOk, if◌then◌else◌};
 ghost use Rattle.history.specs.Counts.{admissions_in};
 ghost use Rattle.history.specs.Event.{is_admission, AreSettings};
 ghost use Rattle.history.specs.Tickets.{InOne};
 ghost use Rattle.undo_book.specs.Index.{index_from};
-ghost use Rattle.undo_book.specs.Plain.{marks_in, marks_by, entries_in, AreFlagged, AreFlagged-prop, HasRoom, admitted_now};
+ghost use Rattle.undo_book.specs.Plain.{marks_in, marks_by, entries_in, AreFlagged, AreFlagged-prop, HasRoom, content_of, question_of};
 
 use crate::index::{Indexed, add_to_index, tag};
 use crate::log::{Logged, set_flags};
@@ -37,7 +37,7 @@ impl PlainPast {
     ghost use Rattle.history.specs.History.{nothing, followed_by};
     ghost use Rattle.history.specs.Cells.{cell_of};
     ghost use Rattle.history.specs.Reply.{reply_of, reply_to_admission};
-    ghost use Rattle.undo_book.specs.PlainPast.{past_in};
+    ghost use Rattle.undo_book.specs.PlainPast.{past_in, IsReady};
 
     /// The history of no events. It takes no memory.
     pub fn new(alloc: Global, settings: Settings) -> PlainPast
@@ -61,9 +61,7 @@ impl PlainPast {
         ensures log { self.new.log.items ≡ self.old.log.items }
         ensures admissions { self.new.admissions ≡ self.old.admissions }
         ensures settings { self.new.settings ≡ self.old.settings }
-        ensures room { OnOk result (HasRoom self.new.marks) }
-        ensures log_room { OnOk result (vec_len self.new.log < vec_capacity self.new.log) }
-        ensures index_room { OnOk result (vec_len self.new.index < vec_capacity self.new.index) }
+        ensures ready { OnOk result (IsReady self.new) }
     {
         self.marks.make_room()?;
         self.log.reserve(1)?;
@@ -73,7 +71,7 @@ impl PlainPast {
 
     /// The cell of a question, by a replay from nothing.
     fn cell<'a>(&'a self, owner: &Name, kind: u16) -> Cell<&'a SharedFind>
-        ensures { option_map admitted_now result.held ≡ cell_of (past_in self.now) (record { owner = owner.now; kind = kind }) }
+        ensures { content_of result.held ≡ cell_of (past_in self.now) (question_of owner.now kind) }
     {
         let tag = tag(owner);
         let mut cell = Cell::empty();
@@ -102,9 +100,7 @@ impl PlainPast {
     /// Adds an event to the history, with its reply.
     pub fn add(&mut self, event: Event, reply: &Reply)
         requires reply { reply.now ≡ reply_of self.old.settings (past_in self.old) event }
-        requires room { HasRoom self.old.marks }
-        requires log_room { vec_len self.old.log < vec_capacity self.old.log }
-        requires index_room { vec_len self.old.index < vec_capacity self.old.index }
+        requires ready { IsReady self.old }
         requires few { length self.old.log.items < 2 ^ 62 }
         ensures past { past_in self.new ≡ followed_by self.old.settings.journal (past_in self.old) event }
         ensures settings { self.new.settings ≡ self.old.settings }

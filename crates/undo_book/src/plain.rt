@@ -1,7 +1,7 @@
 //! The book that keeps its history and replays it.
 
-ghost use Rattle.std.specs.Prelude.{◌≡◌, ◌↔◌, ℕ, [], length, IsTrue, IfOk, OnOk, OnErr, IsOk, IsErrOf};
-ghost use Rattle.history.specs.Event.{is_admission, AreSettings};
+ghost use Rattle.std.specs.Prelude.{◌≡◌, ◌↔◌, ℕ, [], IfOk, OnOk, OnErr, IsOk, IsErrOf};
+ghost use Rattle.history.specs.Event.{AreSettings};
 ghost use Rattle.history.specs.History.{tables_of};
 ghost use Rattle.undo_book.specs.PlainPast.{past_in};
 
@@ -29,8 +29,7 @@ pub struct PlainBook {
 
 impl PlainBook {
     ghost use Rattle.history.specs.History.{followed_by};
-    ghost use Rattle.history.specs.Reply.{reply_of};
-    ghost use Rattle.history.specs.Answers.{IsTimely, AnswersBy};
+    ghost use Rattle.undo_book.specs.PlainPast.{AnswersAfter, IsFullAtTheLimit};
 
     /// A book of no events. It takes no memory.
     pub fn new(alloc: Global, settings: Settings) -> Result<PlainBook, MakeFault>
@@ -51,14 +50,13 @@ impl PlainBook {
 
     /// Takes an event. What can fail comes before anything changes.
     fn take_event(&mut self, event: Event) -> Result<Reply, StepFault>
-        ensures answers { AnswersBy self.old.past.settings (length self.old.past.log.items) self.old.past.admissions (reply_of self.old.past.settings (past_in self.old.past) event) event result }
+        ensures answers { AnswersAfter self.old.past event result }
         ensures taken { OnOk result (past_in self.new.past ≡ followed_by self.old.past.settings.journal (past_in self.old.past) event) }
         ensures unchanged { OnErr result (past_in self.new.past ≡ past_in self.old.past) }
         ensures settings { self.new.past.settings ≡ self.old.past.settings }
         ensures full { (n : ℕ) → IsErrOf result (StepFault.Full n) → self.old.past.admissions ≡ n }
         ensures same_store { OnErr result (self.new.past.admissions ≡ self.old.past.admissions) }
-        ensures full_at_the_limit { IsTimely (length self.old.past.log.items) event → IsTrue (is_admission event) → self.old.past.admissions ≡ self.old.past.settings.cells
-            → IsErrOf result (StepFault.Full self.old.past.settings.cells) }
+        ensures full_at_the_limit { IsFullAtTheLimit self.old.past event result }
     {
         if event.moment() >= MOMENT_END {
             return Err(StepFault::BadMoment);
@@ -94,7 +92,8 @@ impl Book for PlainBook {
 
     ghost has_journal = { λ book history is. book.past.in_range.some_commands };
 
-    ghost stores_few = { λ book history is. stores_admissions (settings_in book).journal (past_in book.past) history (stored_in book) book.past.counted is };
+    ghost stores_few = { λ book history is.
+        stores_admissions (settings_in book).journal (past_in book.past) history (stored_in book) book.past.counted is };
 
     ghost one_count = { λ book h k is also. same_count (settings_in book).journal (past_in book.past) h k is also };
 

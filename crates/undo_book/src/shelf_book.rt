@@ -50,7 +50,8 @@ impl ShelfBook {
 }
 
 impl Book for ShelfBook {
-    ghost use Rattle.std.proofs.Common.{sym, ◌∙◌};
+    ghost use Rattle.std.proofs.Common.{◌≡◌, ◌≤◌, List, sym, ◌∙◌};
+    ghost use Rattle.history.specs.declared.event.Event.{Event};
 
     ghost stands_for = { λ book history. ⟦<WorldBook<StoreChange> as Book>⟧.stands_for book.book history };
 
@@ -93,7 +94,11 @@ impl Book for ShelfBook {
         Ok(servers)
     }
 
-    fn stored(&self) -> usize {
+    fn stored(&self) -> usize
+        ensures stored { result ≡ ⟦<WorldBook<StoreChange> as Book>⟧.stored self.now.book }
+        ensures within { (h : List Event) → ⟦<WorldBook<StoreChange> as Book>⟧.stands_for self.now.book h →
+            result ≤ (⟦<WorldBook<StoreChange> as Book>⟧.settings self.now.book).cells }
+    {
         self.book.stored()
     }
 }

@@ -10,6 +10,7 @@ use Rattle.dns_name.specs.ListLaws.{all-append, all-take, all-drop, all_weaker, 
 use Rattle.dns_text.specs.declared.record.Question.{Question}
 use Rattle.ranked.specs.declared.find.Find.{Find}
 use Rattle.change_law.specs.declared.kept.KeptChange.{KeptChange}
+use Rattle.change_law.specs.declared.world.World.{Ghosts}
 use Rattle.change_law.specs.Choice.{IsChoice, IsPresent}
 use Rattle.change_law.specs.Effect.{effect}
 use Rattle.change_law.specs.Face.{Face, IsSame, IsSameAt, face_with}
@@ -91,12 +92,12 @@ now_given told before after past now marks e c one tickets kept g =
 
 -- ---- what an undo and a redo reach
 
-module _ {W S : Type 0} (has_cells : Bool) (table : S → Option ℕ) (told : S → Command) (keeps : W → List (KeptChange S) → Type 0) (face : W → List (KeptChange S) → (ℕ → Bool) → Face Tables) where
+module _ {W S : Type 0} (by : Ghosts W Tables S Command) where
   abbrev Tied : W → Changes S → ℕ → Past → Type 0
-  Tied world changes bound past = IsTied has_cells table told keeps face world changes bound past
+  Tied world changes bound past = IsTied by world changes bound past
 
   abbrev StandsAt : W → Changes S → ℕ → List (Deed Tables) → (ℕ → Bool) → Type 0
-  StandsAt world changes now deeds struck = Stands has_cells table keeps face empty_face world changes now deeds struck
+  StandsAt world changes now deeds struck = Stands by.has_cells by.table by.keeps by.face empty_face world changes now deeds struck
 
   pub undo_reaches : (w : W) (before after : Changes S) (bound : ℕ) (past : Past) (ticket : Option ℕ) → Tied w before bound past → IsUndo before ticket after → last_of past.marks.done ≡ ticket
   undo_reaches w before after bound past None tied is = ap last_of (sym tied.done ∙ is.0)
@@ -117,14 +118,14 @@ module _ {W S : Type 0} (has_cells : Bool) (table : S → Option ℕ) (told : S 
     done = st.done;
     undone = st.undone;
     later = st.later;
-    faces = λ chosen choice fair. same_at_later now moment (face w changes.kept chosen) (face_by has_cells chosen empty_face deeds) less (st.faces chosen choice fair);
+    faces = λ chosen choice fair. same_at_later now moment (by.face w changes.kept chosen) (face_by by.has_cells chosen empty_face deeds) less (st.faces chosen choice fair);
   }
 
   -- an entry that does nothing, and marks that may have moved
   moved : (w w' : W) (before after : Changes S) (bound now : ℕ) (past : Past) (marks : Marks) (e : Entry) →
       deed_of e.event e.moment e.ticket ≡ None → given_of e.event e.ticket ≡ None →
       StandsAt w' after now (deeds_of past.log) (is_struck marks) → done_of after ≡ marks.done → undone_of after ≡ reverse marks.undone →
-      after.tickets ≡ before.tickets → after.limit ≡ before.limit → marks.tickets ≡ past.marks.tickets → told_of told after.kept ≡ told_of told before.kept →
+      after.tickets ≡ before.tickets → after.limit ≡ before.limit → marks.tickets ≡ past.marks.tickets → told_of by.told after.kept ≡ told_of by.told before.kept →
       Tied w before bound past → Tied w' after bound (record { now = now; marks = marks; log = past.log ++ e ∷ [] })
   moved w w' before after bound now past marks e no_deed no_command st done undone tickets limit same_tickets same tied = record {
     cells = tied.cells;
@@ -133,19 +134,19 @@ module _ {W S : Type 0} (has_cells : Bool) (table : S → Option ℕ) (told : S 
     undone = undone;
     tickets = tickets ∙ tied.tickets ∙ sym same_tickets;
     limit = limit ∙ tied.limit;
-    given = still_given told before after past now marks e no_command same_tickets same tied.given;
+    given = still_given by.told before after past now marks e no_command same_tickets same tied.given;
   }
 
   -- ---- undo
 
   undone_now : (w w' : W) (before after : Changes S) (bound now : ℕ) (past : Past) (e : Entry) (ticket : Option ℕ) → past.now ≤ now →
       deed_of e.event e.moment e.ticket ≡ None → given_of e.event e.ticket ≡ None →
-      IsUndo before ticket after → IsRowAfter table keeps face same_face any w before.kept w' after.kept →
-      ((chosen : ℕ → Bool) → IsChoice table after.kept chosen → IsChoice table before.kept chosen) → told_of told after.kept ≡ told_of told before.kept →
+      IsUndo before ticket after → IsRowAfter by.table by.keeps by.face same_face any w before.kept w' after.kept →
+      ((chosen : ℕ → Bool) → IsChoice by.table after.kept chosen → IsChoice by.table before.kept chosen) → told_of by.told after.kept ≡ told_of by.told before.kept →
       Tied w before bound past → Tied w' after bound (record { now = now; marks = option_map_or (strike past.marks) ticket past.marks; log = past.log ++ e ∷ [] })
   undone_now w w' before after bound now past e None less no_deed no_command is row choices same tied =
       moved w w' before after bound now past past.marks e no_deed no_command
-      (later w' after past.now now (deeds_of past.log) (is_struck past.marks) less (stands_undo has_cells table keeps face empty_face w w' before after past.now (deeds_of past.log) (is_struck past.marks) None is row choices tied.stands))
+      (later w' after past.now now (deeds_of past.log) (is_struck past.marks) less (stands_undo by.has_cells by.table by.keeps by.face empty_face w w' before after past.now (deeds_of past.log) (is_struck past.marks) None is row choices tied.stands))
       (ap done_of is.1 ∙ tied.done) (ap undone_of is.1 ∙ tied.undone) (ap (λ (x : Changes S). x.tickets) is.1) (ap (λ (x : Changes S). x.limit) is.1) refl same tied
   undone_now w w' before after bound now past e (Some t) less no_deed no_command is row choices same tied =
       let D = done_of after in
@@ -157,14 +158,14 @@ module _ {W S : Type 0} (has_cells : Bool) (table : S → Option ℕ) (told : S 
       moved w w' before after bound now past (strike past.marks t) e no_deed no_command
       (later w' after past.now now (deeds_of past.log) (is_struck (strike past.marks t)) less
       (subst (λ (struck : ℕ → Bool). StandsAt w' after past.now (deeds_of past.log) struck) (sym (struck_after_strike past.marks t))
-      (stands_undo has_cells table keeps face empty_face w w' before after past.now (deeds_of past.log) (is_struck past.marks) (Some t) is row choices tied.stands)))
+      (stands_undo by.has_cells by.table by.keeps by.face empty_face w w' before after past.now (deeds_of past.log) (is_struck past.marks) (Some t) is row choices tied.stands)))
       (sym (ap (λ (l : List ℕ). without t l) done ∙ without_last t D below))
       (is.1 ∙ ap (λ (l : List ℕ). t ∷ l) tied.undone ∙ sym (turned_push past.marks.undone t))
       is.2 is.3 refl same tied
 
   pub tied_undo : (w w' : W) (before after : Changes S) (bound moment : ℕ) (past : Past) (ticket : Option ℕ) →
-      IsUndo before ticket after → IsRowAfter table keeps face same_face any w before.kept w' after.kept →
-      ((chosen : ℕ → Bool) → IsChoice table after.kept chosen → IsChoice table before.kept chosen) → told_of told after.kept ≡ told_of told before.kept →
+      IsUndo before ticket after → IsRowAfter by.table by.keeps by.face same_face any w before.kept w' after.kept →
+      ((chosen : ℕ → Bool) → IsChoice by.table after.kept chosen → IsChoice by.table before.kept chosen) → told_of by.told after.kept ≡ told_of by.told before.kept →
       Tied w before bound past → Tied w' after bound (followed_by bound past (Undo moment))
   tied_undo w w' before after bound moment past ticket is row choices same tied =
       let now = max past.now moment in
@@ -177,12 +178,12 @@ module _ {W S : Type 0} (has_cells : Bool) (table : S → Option ℕ) (told : S 
 
   redone_now : (w w' : W) (before after : Changes S) (bound now : ℕ) (past : Past) (e : Entry) (ticket : Option ℕ) → past.now ≤ now →
       deed_of e.event e.moment e.ticket ≡ None → given_of e.event e.ticket ≡ None →
-      IsRedo before ticket after → IsRowAfter table keeps face same_face any w before.kept w' after.kept →
-      ((chosen : ℕ → Bool) → IsChoice table after.kept chosen → IsChoice table before.kept chosen) → told_of told after.kept ≡ told_of told before.kept →
+      IsRedo before ticket after → IsRowAfter by.table by.keeps by.face same_face any w before.kept w' after.kept →
+      ((chosen : ℕ → Bool) → IsChoice by.table after.kept chosen → IsChoice by.table before.kept chosen) → told_of by.told after.kept ≡ told_of by.told before.kept →
       Tied w before bound past → Tied w' after bound (record { now = now; marks = option_map_or (restore past.marks) ticket past.marks; log = past.log ++ e ∷ [] })
   redone_now w w' before after bound now past e None less no_deed no_command is row choices same tied =
       moved w w' before after bound now past past.marks e no_deed no_command
-      (later w' after past.now now (deeds_of past.log) (is_struck past.marks) less (stands_redo has_cells table keeps face empty_face w w' before after past.now (deeds_of past.log) (is_struck past.marks) None is row choices tied.stands))
+      (later w' after past.now now (deeds_of past.log) (is_struck past.marks) less (stands_redo by.has_cells by.table by.keeps by.face empty_face w w' before after past.now (deeds_of past.log) (is_struck past.marks) None is row choices tied.stands))
       (ap done_of is.1 ∙ tied.done) (ap undone_of is.1 ∙ tied.undone) (ap (λ (x : Changes S). x.tickets) is.1) (ap (λ (x : Changes S). x.limit) is.1) refl same tied
   redone_now w w' before after bound now past e (Some t) less no_deed no_command is row choices same tied =
       let D = done_of before in
@@ -195,7 +196,7 @@ module _ {W S : Type 0} (has_cells : Bool) (table : S → Option ℕ) (told : S 
       moved w w' before after bound now past (restore past.marks t) e no_deed no_command
       (later w' after past.now now (deeds_of past.log) (is_struck (restore past.marks t)) less
       (subst (λ (struck : ℕ → Bool). StandsAt w' after past.now (deeds_of past.log) struck) (sym (struck_after_restore past.marks t))
-      (stands_redo has_cells table keeps face empty_face w w' before after past.now (deeds_of past.log) (is_struck past.marks) (Some t) is row choices tied.stands)))
+      (stands_redo by.has_cells by.table by.keeps by.face empty_face w w' before after past.now (deeds_of past.log) (is_struck past.marks) (Some t) is row choices tied.stands)))
       (is.0 ∙ sym (in_place_last t D below) ∙ ap (λ (l : List ℕ). in_place t l) tied.done)
       (sym (ap (λ (l : List ℕ). reverse (without t l)) undone ∙ ap reverse (without_least t U above) ∙ reverse-reverse U))
       is.2 is.3 refl same tied
@@ -205,8 +206,8 @@ module _ {W S : Type 0} (has_cells : Bool) (table : S → Option ℕ) (told : S 
       behind (d ∷ D) t U h = behind D t U h.1
 
   pub tied_redo : (w w' : W) (before after : Changes S) (bound moment : ℕ) (past : Past) (ticket : Option ℕ) →
-      IsRedo before ticket after → IsRowAfter table keeps face same_face any w before.kept w' after.kept →
-      ((chosen : ℕ → Bool) → IsChoice table after.kept chosen → IsChoice table before.kept chosen) → told_of told after.kept ≡ told_of told before.kept →
+      IsRedo before ticket after → IsRowAfter by.table by.keeps by.face same_face any w before.kept w' after.kept →
+      ((chosen : ℕ → Bool) → IsChoice by.table after.kept chosen → IsChoice by.table before.kept chosen) → told_of by.told after.kept ≡ told_of by.told before.kept →
       Tied w before bound past → Tied w' after bound (followed_by bound past (Redo moment))
   tied_redo w w' before after bound moment past ticket is row choices same tied =
       let now = max past.now moment in
@@ -218,10 +219,10 @@ module _ {W S : Type 0} (has_cells : Bool) (table : S → Option ℕ) (told : S 
   -- ---- what changes no command
 
   -- after a fault
-  pub tied_still : (w w' : W) (before after : Changes S) (bound : ℕ) (past : Past) → IsSameRow table keeps face w w' → after ≡ before → Tied w before bound past → Tied w' after bound past
+  pub tied_still : (w w' : W) (before after : Changes S) (bound : ℕ) (past : Past) → IsSameRow by.table by.keeps by.face w w' → after ≡ before → Tied w before bound past → Tied w' after bound past
   tied_still w w' before after bound past row same tied =
-      let here = subst (λ (x : Changes S). IsRowAfter table keeps face same_face any w before.kept w' x.kept) (sym same) (row before.kept tied.stands.kept) in
-      let stands = stands_still has_cells table keeps face empty_face w w' before after past.now (deeds_of past.log) (is_struck past.marks) same here tied.stands in
+      let here = subst (λ (x : Changes S). IsRowAfter by.table by.keeps by.face same_face any w before.kept w' x.kept) (sym same) (row before.kept tied.stands.kept) in
+      let stands = stands_still by.has_cells by.table by.keeps by.face empty_face w w' before after past.now (deeds_of past.log) (is_struck past.marks) same here tied.stands in
       record {
         cells = tied.cells;
         stands = stands;
@@ -229,7 +230,7 @@ module _ {W S : Type 0} (has_cells : Bool) (table : S → Option ℕ) (told : S 
         undone = ap undone_of same ∙ tied.undone;
         tickets = ap (λ (x : Changes S). x.tickets) same ∙ tied.tickets;
         limit = ap (λ (x : Changes S). x.limit) same ∙ tied.limit;
-        given = subst (λ (x : Changes S). AreGiven told x past) (sym same) tied.given;
+        given = subst (λ (x : Changes S). AreGiven by.told x past) (sym same) tied.given;
       }
 
   quiet : (w : W) (changes : Changes S) (bound now : ℕ) (past : Past) (e : Entry) → past.now ≤ now → deed_of e.event e.moment e.ticket ≡ None → given_of e.event e.ticket ≡ None →
@@ -243,16 +244,16 @@ module _ {W S : Type 0} (has_cells : Bool) (table : S → Option ℕ) (told : S 
       let now = max past.now moment in
       quiet w changes bound now past (record { event = Look moment ask; moment = now; ticket = None }) (omega arith) refl refl tied
 
-  pub tied_swept : (w w' : W) (changes : Changes S) (bound moment : ℕ) (past : Past) → IsRowFrom table keeps face (max past.now moment) (λ f. f) w changes.kept w' →
+  pub tied_swept : (w w' : W) (changes : Changes S) (bound moment : ℕ) (past : Past) → IsRowFrom by.table by.keeps by.face (max past.now moment) (λ f. f) w changes.kept w' →
       Tied w changes bound past → Tied w' changes bound (followed_by bound past (Sweep moment))
   tied_swept w w' changes bound moment past row tied =
       let now = max past.now moment in
       moved w w' changes changes bound now past past.marks (record { event = Sweep moment; moment = now; ticket = None }) refl refl
-      (stands_swept has_cells table keeps face empty_face w w' changes past.now now (deeds_of past.log) (is_struck past.marks) (omega arith) row tied.stands)
+      (stands_swept by.has_cells by.table by.keeps by.face empty_face w w' changes past.now now (deeds_of past.log) (is_struck past.marks) (omega arith) row tied.stands)
       tied.done tied.undone refl refl refl refl tied
 
   pub tied_came : (w w' : W) (changes : Changes S) (bound moment : ℕ) (find : Find) (past : Past) →
-      IsRowFrom table keeps face (max past.now moment) (face_with has_cells find (max past.now moment)) w changes.kept w' →
+      IsRowFrom by.table by.keeps by.face (max past.now moment) (face_with by.has_cells find (max past.now moment)) w changes.kept w' →
       Tied w changes bound past → Tied w' changes bound (followed_by bound past (Admit moment find))
   tied_came w w' changes bound moment find past row tied =
       let now = max past.now moment in
@@ -260,30 +261,30 @@ module _ {W S : Type 0} (has_cells : Bool) (table : S → Option ℕ) (told : S 
       record {
         cells = tied.cells;
         stands = subst (λ (deeds : List (Deed Tables)). StandsAt w' changes now deeds (is_struck past.marks)) (sym (deeds_more past.log e (Some (Came find now)) refl))
-            (stands_admitted has_cells table keeps face empty_face w w' changes past.now now (deeds_of past.log) (is_struck past.marks) find (omega arith) row tied.stands);
+            (stands_admitted by.has_cells by.table by.keeps by.face empty_face w w' changes past.now now (deeds_of past.log) (is_struck past.marks) find (omega arith) row tied.stands);
         done = tied.done;
         undone = tied.undone;
         tickets = tied.tickets;
         limit = tied.limit;
-        given = still_given told changes changes past now past.marks e refl refl refl tied.given;
+        given = still_given by.told changes changes past now past.marks e refl refl refl tied.given;
       }
 
   -- the same, at the moment to which the clock comes
-  pub tied_swept_at : (w w' : W) (changes : Changes S) (bound moment clock : ℕ) (past : Past) → clock ≡ max past.now moment → IsRowFrom table keeps face clock (λ f. f) w changes.kept w' →
+  pub tied_swept_at : (w w' : W) (changes : Changes S) (bound moment clock : ℕ) (past : Past) → clock ≡ max past.now moment → IsRowFrom by.table by.keeps by.face clock (λ f. f) w changes.kept w' →
       Tied w changes bound past → Tied w' changes bound (followed_by bound past (Sweep moment))
   tied_swept_at w w' changes bound moment clock past is row tied =
-      tied_swept w w' changes bound moment past (subst (λ (m : ℕ). IsRowFrom table keeps face m (λ f. f) w changes.kept w') is row) tied
+      tied_swept w w' changes bound moment past (subst (λ (m : ℕ). IsRowFrom by.table by.keeps by.face m (λ f. f) w changes.kept w') is row) tied
 
   pub tied_came_at : (w w' : W) (changes : Changes S) (bound moment clock : ℕ) (find : Find) (past : Past) → clock ≡ max past.now moment →
-      IsRowFrom table keeps face clock (face_with has_cells find clock) w changes.kept w' →
+      IsRowFrom by.table by.keeps by.face clock (face_with by.has_cells find clock) w changes.kept w' →
       Tied w changes bound past → Tied w' changes bound (followed_by bound past (Admit moment find))
   tied_came_at w w' changes bound moment clock find past is row tied =
-      tied_came w w' changes bound moment find past (subst (λ (m : ℕ). IsRowFrom table keeps face m (face_with has_cells find m) w changes.kept w') is row) tied
+      tied_came w w' changes bound moment find past (subst (λ (m : ℕ). IsRowFrom by.table by.keeps by.face m (face_with by.has_cells find m) w changes.kept w') is row) tied
 
   -- ---- a command
 
   pub tied_refused : (w w' : W) (before after : Changes S) (bound moment : ℕ) (command : Command) (past : Past) (reason : Reason) → reason_of past command ≡ Some reason →
-      IsSameRow table keeps face w w' → after ≡ before → Tied w before bound past → Tied w' after bound (followed_by bound past (Do moment command))
+      IsSameRow by.table by.keeps by.face w w' → after ≡ before → Tied w before bound past → Tied w' after bound (followed_by bound past (Do moment command))
   tied_refused w w' before after bound moment command past reason refused row same tied =
       let now = max past.now moment in
       subst (λ (o : Option Reason). Tied w' after bound (record {
@@ -296,9 +297,9 @@ module _ {W S : Type 0} (has_cells : Bool) (table : S → Option ℕ) (told : S 
   made_now : (w w' : W) (before after : Changes S) (bound now moment : ℕ) (command : Command) (past : Past) (ticket : ℕ) (tables : Tables → Tables) (empties : Question → Bool) (said : Command) →
       past.now ≤ now → ((t : Tables) → tables t ≡ after_command_on command t) → ((q : Question) → empties q ≡ covers command q) → said ≡ command →
       AreChanges before → IsChange before ticket after →
-      IsRowAfter table keeps face (where_chosen ticket (effect tables empties)) (IsPresent (settled_by before)) w before.kept w' after.kept →
-      ((chosen : ℕ → Bool) → IsPresent (settled_by before) chosen → IsChoice table after.kept chosen → IsChoice table before.kept chosen) →
-      told_of told after.kept ≡ newest before.limit (take before.done (told_of told before.kept) ++ (ticket, said) ∷ []) →
+      IsRowAfter by.table by.keeps by.face (where_chosen ticket (effect tables empties)) (IsPresent (settled_by before)) w before.kept w' after.kept →
+      ((chosen : ℕ → Bool) → IsPresent (settled_by before) chosen → IsChoice by.table after.kept chosen → IsChoice by.table before.kept chosen) →
+      told_of by.told after.kept ≡ newest before.limit (take before.done (told_of by.told before.kept) ++ (ticket, said) ∷ []) →
       Tied w before bound past → Tied w' after bound (record {
         now = now;
         marks = after_command bound past.marks;
@@ -311,7 +312,7 @@ module _ {W S : Type 0} (has_cells : Bool) (table : S → Option ℕ) (told : S 
       let tick : ticket ≡ n = is.next ∙ ap (λ (m : ℕ). m + 1) tied.tickets in
       let deed : Made ticket tables empties ≡ Made n (after_command_on command) (covers command) = λ i. Made (tick i) (fun_ext same_tables i) (fun_ext same_cells i) in
       let made = later w' after past.now now (deeds_of past.log ++ Made ticket tables empties ∷ []) struck less
-      (stands_made has_cells table keeps face empty_face w w' before after past.now (deeds_of past.log) struck ticket tables empties are is row choices tied.stands) in
+      (stands_made by.has_cells by.table by.keeps by.face empty_face w w' before after past.now (deeds_of past.log) struck ticket tables empties are is row choices tied.stands) in
       record {
         cells = tied.cells;
         stands = subst (λ (deeds : List (Deed Tables)). StandsAt w' after now deeds struck) (sym (deeds_more past.log e (Some (Made n (after_command_on command) (covers command))) refl))
@@ -320,16 +321,16 @@ module _ {W S : Type 0} (has_cells : Bool) (table : S → Option ℕ) (told : S 
         undone = is.undone;
         tickets = is.tickets ∙ tick;
         limit = is.limit ∙ tied.limit;
-        given = now_given told before after past now (after_command bound past.marks) e command refl refl
-            (kept ∙ (λ i. newest before.limit (take before.done (told_of told before.kept) ++ (tick i, same_said i) ∷ []))) tied.given;
+        given = now_given by.told before after past now (after_command bound past.marks) e command refl refl
+            (kept ∙ (λ i. newest before.limit (take before.done (told_of by.told before.kept) ++ (tick i, same_said i) ∷ []))) tied.given;
       }
 
   pub tied_made : (w w' : W) (before after : Changes S) (bound moment : ℕ) (command : Command) (past : Past) (ticket : ℕ) (tables : Tables → Tables) (empties : Question → Bool) (said : Command) →
       ((t : Tables) → tables t ≡ after_command_on command t) → ((q : Question) → empties q ≡ covers command q) → said ≡ command → reason_of past command ≡ None →
       AreChanges before → IsChange before ticket after →
-      IsRowAfter table keeps face (where_chosen ticket (effect tables empties)) (IsPresent (settled_by before)) w before.kept w' after.kept →
-      ((chosen : ℕ → Bool) → IsPresent (settled_by before) chosen → IsChoice table after.kept chosen → IsChoice table before.kept chosen) →
-      told_of told after.kept ≡ newest before.limit (take before.done (told_of told before.kept) ++ (ticket, said) ∷ []) →
+      IsRowAfter by.table by.keeps by.face (where_chosen ticket (effect tables empties)) (IsPresent (settled_by before)) w before.kept w' after.kept →
+      ((chosen : ℕ → Bool) → IsPresent (settled_by before) chosen → IsChoice by.table after.kept chosen → IsChoice by.table before.kept chosen) →
+      told_of by.told after.kept ≡ newest before.limit (take before.done (told_of by.told before.kept) ++ (ticket, said) ∷ []) →
       Tied w before bound past → Tied w' after bound (followed_by bound past (Do moment command))
   tied_made w w' before after bound moment command past ticket tables empties said same_tables same_cells same_said accepted are is row choices kept tied =
       let now = max past.now moment in
@@ -342,10 +343,10 @@ module _ {W S : Type 0} (has_cells : Bool) (table : S → Option ℕ) (told : S 
 
   -- ---- what is shown
 
-  pub tied_shows : (shown : W → Face Tables) → ((w : W) (kept : List (KeptChange S)) (chosen : ℕ → Bool) → keeps w kept → IsPresent kept chosen → IsSame (face w kept chosen) (shown w)) →
-      (w : W) (changes : Changes S) (bound : ℕ) (past : Past) → AreChanges changes → Tied w changes bound past → IsSameAt past.now (shown w) (face_of (is_unstruck past.marks) past.log)
-  tied_shows shown shows w changes bound past are tied =
-      same_at_then (stands_shown has_cells table keeps face empty_face shown shows w changes past.now (deeds_of past.log) (is_struck past.marks) are tied.stands)
-      (same_at past.now (face_by has_cells (is_unstruck past.marks) empty_face (deeds_of past.log)) (face_of (is_unstruck past.marks) past.log)
+  pub tied_shows : ((w : W) (kept : List (KeptChange S)) (chosen : ℕ → Bool) → by.keeps w kept → IsPresent kept chosen → IsSame (by.face w kept chosen) (by.shown w)) →
+      (w : W) (changes : Changes S) (bound : ℕ) (past : Past) → AreChanges changes → Tied w changes bound past → IsSameAt past.now (by.shown w) (face_of (is_unstruck past.marks) past.log)
+  tied_shows shows w changes bound past are tied =
+      same_at_then (stands_shown by.has_cells by.table by.keeps by.face empty_face by.shown shows w changes past.now (deeds_of past.log) (is_struck past.marks) are tied.stands)
+      (same_at past.now (face_by by.has_cells (is_unstruck past.marks) empty_face (deeds_of past.log)) (face_of (is_unstruck past.marks) past.log)
       (subst (λ (b : Bool). IsSame (face_by b (is_unstruck past.marks) empty_face (deeds_of past.log)) (face_of (is_unstruck past.marks) past.log)) (sym tied.cells)
       (deeds_show (is_unstruck past.marks) past.log)))

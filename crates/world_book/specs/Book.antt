@@ -1,8 +1,8 @@
 -- What a book keeps, and for which histories it stands.
-use Rattle.std.specs.Prelude.{◌≡◌, ◌≤◌, ◌<◌, ◌^◌, ℕ, Bool, Option, List, length, count_by, refl}
+use Rattle.std.specs.Prelude.{◌≡◌, ◌≤◌, ℕ, Bool, List, [], length, count_by, refl}
 use Rattle.std.specs.Coded.{Coded, code_by, coded×, coded_ℕ}
-use Rattle.change_law.specs.declared.kept.KeptChange.{KeptChange}
-use Rattle.change_law.specs.Face.{Face}
+use Rattle.change_law.specs.declared.world.World.{Ghosts}
+use Rattle.change_law.specs.Face.{Face, IsSame}
 use Rattle.undo_journal.specs.Journal.{Changes}
 use Rattle.history.specs.declared.event.Command.{Command}
 use Rattle.history.specs.declared.event.Event.{Event}
@@ -30,17 +30,24 @@ book_code {W} {S} w c s =
     (λ _. refl)
 
 -- No more tickets were given out than events were taken.
-pub record IsWell {W S : Type 0} (newest : W → ℕ) (keeps : W → List (KeptChange S) → Type 0) (book : BookState W S) : Type 0 where
-  pub sound : IsSound newest keeps book.world book.changes
+pub record IsWell {W T S D : Type 0} (by : Ghosts W T S D) (book : BookState W S) : Type 0 where
+  pub sound : IsSound by book.world book.changes
   pub tickets : book.changes.tickets ≤ book.count
   pub count : book.count ≤ MOST_EVENTS
 
 -- The book is what the history comes to.
-pub record IsBookOf {W S : Type 0} (has_cells : Bool) (table : S → Option ℕ) (told : S → Command) (keeps : W → List (KeptChange S) → Type 0) (face : W → List (KeptChange S) → (ℕ → Bool) → Face Tables)
-    (stored limit : W → ℕ) (book : BookState W S) (history : List Event) : Type 0 where
-  pub tied : IsTied has_cells table told keeps face book.world book.changes book.settings.journal (past_of book.settings.journal history)
+pub record IsBookOf {W S : Type 0} (by : Ghosts W Tables S Command) (book : BookState W S) (history : List Event) : Type 0 where
+  pub tied : IsTied by book.world book.changes book.settings.journal (past_of book.settings.journal history)
   pub moment : book.moment ≡ (past_of book.settings.journal history).now
   pub count : book.count ≡ length history
-  pub few : stored book.world ≤ count_by is_admission history
-  pub most : limit book.world ≡ book.settings.cells
+  pub few : by.stored book.world ≤ count_by is_admission history
+  pub most : by.limit book.world ≡ book.settings.cells
   pub some_commands : 1 ≤ book.settings.journal
+
+-- Nothing has happened to a world: it keeps no change, by each choice it shows this face, it knows no ticket, and it stores no cell. It may store so many.
+pub record IsUntouched {W T S D : Type 0} (by : Ghosts W T S D) (shown : Face T) (most : ℕ) (world : W) : Type 0 where
+  pub keeps : by.keeps world []
+  pub faces : (chosen : ℕ → Bool) → IsSame (by.face world [] chosen) shown
+  pub newest : by.newest world ≡ 0
+  pub stored : by.stored world ≡ 0
+  pub limit : by.limit world ≡ most

@@ -1,6 +1,6 @@
 -- What a step does to a world under its journal.
-use Rattle.std.specs.Prelude.{◌≡◌, ◌≤◌, ◌-◌, ℕ, Bool, false, Option, Some, IfSome, IsTrue, List, slice_get}
-use Rattle.change_law.specs.declared.kept.KeptChange.{KeptChange}
+use Rattle.std.specs.Prelude.{◌≡◌, ◌≤◌, ◌+◌, ◌-◌, ℕ, Bool, false, IfSome, IsTrue, slice_get}
+use Rattle.change_law.specs.declared.world.World.{Ghosts}
 use Rattle.ranked.specs.declared.cell.Fate.{Fate}
 use Rattle.ranked.specs.declared.cell.Fate.TheVariants as fate
 use Rattle.undo_journal.specs.Journal.{Changes}
@@ -15,9 +15,16 @@ use Rattle.history.specs.declared.event.Reply.TheVariants.{Taken, Outranked}
 use Rattle.history.specs.Event.{is_admission}
 
 -- The world keeps what the journal has, and knows of no later ticket.
-pub record IsSound {W S : Type 0} (newest : W → ℕ) (keeps : W → List (KeptChange S) → Type 0) (world : W) (changes : Changes S) : Type 0 where
-  pub kept : keeps world changes.kept
-  pub latest : newest world ≤ changes.tickets
+pub record IsSound {W T S D : Type 0} (by : Ghosts W T S D) (world : W) (changes : Changes S) : Type 0 where
+  pub kept : by.keeps world changes.kept
+  pub latest : by.newest world ≤ changes.tickets
+
+-- After a step the world is sound under its journal. At most one more ticket was given out, and at most so many more cells are stored. The limit of cells is the same.
+pub record IsSoundAfter {W T S D : Type 0} (by : Ghosts W T S D) (more : ℕ) (world : W) (changes : Changes S) (world' : W) (changes' : Changes S) : Type 0 where
+  pub sound : IsSound by world' changes'
+  pub tickets : changes'.tickets ≤ changes.tickets + 1
+  pub stored : by.stored world' ≤ by.stored world + more
+  pub limit : by.limit world' ≡ by.limit world
 
 -- the numbers by which changes tell the reasons
 abbrev pub code_of : Reason → ℕ
@@ -30,11 +37,11 @@ abbrev pub reply_of_fate : Fate → Reply
 reply_of_fate fate.Taken = Taken
 reply_of_fate fate.Outranked = Outranked
 
--- a fault of a step that was counted: memory was refused, or no cell is left for an admission
-abbrev pub IsFaultOf : ℕ → ℕ → Event → StepFault → Type 0
-IsFaultOf stored limit event NoMemory = Unit {0}
-IsFaultOf stored limit event (Full n) = IsTrue (is_admission event) × (stored ≡ n) × (limit ≡ n)
-IsFaultOf stored limit event _ = ⊥
+-- A step found no memory, or it was an admission to a world that stores as many cells as it may.
+abbrev pub IsFaultOf : {W T S D : Type 0} → Ghosts W T S D → W → Event → StepFault → Type 0
+IsFaultOf by world event NoMemory = Unit {0}
+IsFaultOf by world event (Full n) = IsTrue (is_admission event) × (by.stored world ≡ n) × (by.limit world ≡ n)
+IsFaultOf by world event _ = ⊥
 
 -- An event that wants no memory: a sweep, and an undo or a redo whose change wants none.
 abbrev pub IsFree : {S : Type 0} → (S → Bool) → Changes S → Event → Type 0

@@ -1,14 +1,18 @@
 -- What ties a world under its journal to a past.
-use Rattle.std.specs.Prelude.{◌≡◌, ℕ, ◌≤◌, Bool, true, Option, List, reverse}
+use Rattle.std.specs.Prelude.{◌≡◌, ℕ, ◌≤◌, max, true, reverse}
 use Rattle.std.specs.List.{AllByRecursion, Contains}
-use Rattle.change_law.specs.declared.kept.KeptChange.{KeptChange}
-use Rattle.change_law.specs.Face.{Face}
+use Rattle.change_law.specs.declared.world.World.{Ghosts}
 use Rattle.undo_journal.specs.Journal.{Changes, done_of, undone_of, told_of}
 use Rattle.course.specs.Course.{AreAscending, Stands}
 use Rattle.history.specs.declared.event.Command.{Command}
+use Rattle.history.specs.declared.event.Event.{Event}
+use Rattle.history.specs.declared.event.Reply.{Reply}
+use Rattle.history.specs.declared.event.Settings.{Settings}
 use Rattle.history.specs.declared.made.Tables.{Tables}
+use Rattle.history.specs.Event.{moment_of}
 use Rattle.history.specs.Marks.{is_struck}
-use Rattle.history.specs.History.{Past}
+use Rattle.history.specs.History.{Past, followed_by}
+use Rattle.history.specs.Reply.{reply_of}
 use Rattle.world_book.specs.Deeds.{deeds_of, given_in, given_tickets, empty_face}
 
 -- The kept changes are commands of the past, each with its ticket.
@@ -18,12 +22,27 @@ pub record AreGiven {S : Type 0} (told : S → Command) (changes : Changes S) (p
   pub kept : AllByRecursion (λ given. Contains (given_in past.log) given) (told_of told changes.kept)
 
 -- A world under its journal is what a past comes to: its deeds, what can be undone and redone, the tickets and the commands.
-pub record IsTied {W S : Type 0} (has_cells : Bool) (table : S → Option ℕ) (told : S → Command) (keeps : W → List (KeptChange S) → Type 0) (face : W → List (KeptChange S) → (ℕ → Bool) → Face Tables)
-    (world : W) (changes : Changes S) (bound : ℕ) (past : Past) : Type 0 where
-  pub cells : has_cells ≡ true
-  pub stands : Stands has_cells table keeps face empty_face world changes past.now (deeds_of past.log) (is_struck past.marks)
+pub record IsTied {W S : Type 0} (by : Ghosts W Tables S Command) (world : W) (changes : Changes S) (bound : ℕ) (past : Past) : Type 0 where
+  pub cells : by.has_cells ≡ true
+  pub stands : Stands by.has_cells by.table by.keeps by.face empty_face world changes past.now (deeds_of past.log) (is_struck past.marks)
   pub done : done_of changes ≡ past.marks.done
   pub undone : undone_of changes ≡ reverse past.marks.undone  -- what was undone last is the first that a redo reaches
   pub tickets : changes.tickets ≡ past.marks.tickets
   pub limit : changes.limit ≡ bound
-  pub given : AreGiven told changes past
+  pub given : AreGiven by.told changes past
+
+-- The reply is what the history says, whichever the world and its journal come to. The clock is at the later of its last moment and the event's.
+abbrev pub IsReplyTo : {W S : Type 0} → Ghosts W Tables S Command → Settings → ℕ → Event → W → Changes S → Reply → Type 0
+IsReplyTo by settings clock event world changes reply =
+    (bound : ℕ) (past : Past) → clock ≡ max past.now (moment_of event) → IsTied by world changes bound past → reply ≡ reply_of settings past event
+
+-- Whatever history the world and its journal came to, they now come to it with the event. The clock is at the later of its last moment and the event's.
+abbrev pub TakesIn : {W S : Type 0} → Ghosts W Tables S Command → ℕ → Event → W → Changes S → W → Changes S → Type 0
+TakesIn by clock event world changes world' changes' =
+    (bound : ℕ) (past : Past) → clock ≡ max past.now (moment_of event) → IsTied by world changes bound past → IsTied by world' changes' bound (followed_by bound past event)
+
+-- A fault took nothing in: the world and its journal come to the same histories, no ticket was given out, and as many cells are stored.
+pub record TakesNothingIn {W S : Type 0} (by : Ghosts W Tables S Command) (world : W) (changes : Changes S) (world' : W) (changes' : Changes S) : Type 0 where
+  pub tied : (bound : ℕ) (past : Past) → IsTied by world changes bound past → IsTied by world' changes' bound past
+  pub tickets : changes'.tickets ≡ changes.tickets
+  pub stored : by.stored world' ≡ by.stored world

@@ -1,8 +1,8 @@
 //! A book of a world under a journal of its changes. It keeps no history.
 
-ghost use Rattle.std.specs.Prelude.{◌≡◌, ◌≤◌, ℕ, Bool, [], IfOk};
-ghost use Rattle.change_law.specs.Face.{IsSame};
+ghost use Rattle.std.specs.Prelude.{◌≡◌, [], IfOk};
 ghost use Rattle.history.specs.Event.{AreSettings};
+ghost use Rattle.world_book.specs.Book.{IsUntouched};
 ghost use Rattle.world_book.specs.Deeds.{empty_face};
 
 use crate::obey::obey;
@@ -38,18 +38,15 @@ impl<C: BookChange> Model for WorldBook<C> {
 
     ghost view = { λ b. record { world = b.world; changes = b.journal; settings = b.settings; moment = b.moment; count = b.count } };
 
-    ghost invariant = { λ b. IsWell C.World.newest C.World.keeps (record { world = b.world; changes = b.journal; settings = b.settings; moment = b.moment; count = b.count }) };
+    ghost invariant = { λ b. IsWell C.World.World
+        (record { world = b.world; changes = b.journal; settings = b.settings; moment = b.moment; count = b.count }) };
 }
 
 impl<C: BookChange> WorldBook<C> {
     /// A book of no events, over a world to which nothing has happened.
     pub fn new(alloc: Global, settings: Settings, world: C::World) -> Result<WorldBook<C>, NoMemory>
         requires settings { AreSettings settings }
-        requires keeps { C.World.keeps world [] }
-        requires empty { (chosen : ℕ → Bool) → IsSame (C.World.face world [] chosen) empty_face }
-        requires newest { C.World.newest world ≡ 0 }
-        requires stored { C.World.stored world ≡ 0 }
-        requires limit { C.World.limit world ≡ settings.cells }
+        requires untouched { IsUntouched C.World.World empty_face settings.cells world }
         ensures empty { IfOk result (λ b. ⟦<WorldBook<C> as Book>⟧.stands_for b []) }
         ensures settings { IfOk result (λ b. ⟦<WorldBook<C> as Book>⟧.settings b ≡ settings) }
     {
@@ -66,10 +63,11 @@ impl<C: BookChange> WorldBook<C> {
 }
 
 impl<C: BookChange> Book for WorldBook<C> {
-    ghost use Rattle.std.proofs.Common.{sym, ◌∙◌};
+    ghost use Rattle.std.proofs.Common.{◌≡◌, ◌≤◌, List, sym, ◌∙◌};
+    ghost use Rattle.history.specs.declared.event.Event.{Event};
     ghost use Rattle.world_book.specs.Book.{IsBookOf};
 
-    ghost stands_for = { IsBookOf C.World.has_cells C.World.table C.World.told C.World.keeps C.World.face C.World.stored C.World.limit };
+    ghost stands_for = { IsBookOf C.World.World };
 
     ghost settings = { λ book. book.settings };
 
@@ -150,7 +148,10 @@ impl<C: BookChange> Book for WorldBook<C> {
         Ok(found)
     }
 
-    fn stored(&self) -> usize {
+    fn stored(&self) -> usize
+        ensures stored { result ≡ C.World.stored self.now.world }
+        ensures within { (h : List Event) → IsBookOf C.World.World self.now h → result ≤ self.now.settings.cells }
+    {
         self.world.stored()
     }
 }

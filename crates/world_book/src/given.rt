@@ -1,12 +1,11 @@
 //! What a command does to a world under its journal.
 
-ghost use Rattle.std.specs.Prelude.{◌≡◌, ◌+◌, ◌≤◌, ◌<◌, ◌^◌, ℕ, IfOk, OnOk, OnErr};
+ghost use Rattle.std.specs.Prelude.{◌≡◌, ◌<◌, ◌^◌, ℕ, IfOk, OnOk, OnErr};
 ghost use Rattle.history.specs.declared.event.Event.TheVariants.{Do};
 ghost use Rattle.history.specs.declared.event.Reason.{Reason};
-ghost use Rattle.history.specs.History.{Past, followed_by, reason_of};
-ghost use Rattle.history.specs.Reply.{reply_to_command};
-ghost use Rattle.world_book.specs.Step.{IsSound, code_of};
-ghost use Rattle.world_book.specs.Tied.{IsTied};
+ghost use Rattle.history.specs.declared.event.Settings.{Settings};
+ghost use Rattle.world_book.specs.Step.{IsSound, IsSoundAfter, code_of};
+ghost use Rattle.world_book.specs.Tied.{IsReplyTo, TakesIn, TakesNothingIn};
 
 use crate::world::BookChange;
 use change_law::ChangeFault;
@@ -21,22 +20,14 @@ pub(crate) fn give<C: BookChange>(
     world: &mut C::World,
     command: Command,
 ) -> Result<Reply, NoMemory>
-    requires sound { IsSound C.World.newest C.World.keeps world.old journal.old }
+    requires sound { IsSound C.World.World world.old journal.old }
     requires few { journal.old.tickets < 2 ^ 62 }
-    ensures told { IfOk result (λ reply. (bound : ℕ) (past : Past) →
-        IsTied C.World.has_cells C.World.table C.World.told C.World.keeps C.World.face world.old journal.old bound past → reply ≡ reply_to_command past.marks (reason_of past command)) }
-    ensures tied { OnOk result ((bound moment : ℕ) (past : Past) →
-        IsTied C.World.has_cells C.World.table C.World.told C.World.keeps C.World.face world.old journal.old bound past →
-        IsTied C.World.has_cells C.World.table C.World.told C.World.keeps C.World.face world.new journal.new bound (followed_by bound past (Do moment command))) }
-    ensures same { OnErr result ((bound : ℕ) (past : Past) →
-        IsTied C.World.has_cells C.World.table C.World.told C.World.keeps C.World.face world.old journal.old bound past →
-        IsTied C.World.has_cells C.World.table C.World.told C.World.keeps C.World.face world.new journal.new bound past) }
-    ensures sound { IsSound C.World.newest C.World.keeps world.new journal.new }
-    ensures tickets { journal.new.tickets ≤ journal.old.tickets + 1 }
-    ensures same_tickets { OnErr result (journal.new.tickets ≡ journal.old.tickets) }
-    ensures stored { C.World.stored world.new ≤ C.World.stored world.old }
-    ensures same_store { OnErr result (C.World.stored world.new ≡ C.World.stored world.old) }
-    ensures limit { C.World.limit world.new ≡ C.World.limit world.old }
+    ensures told { IfOk result (λ reply. (settings : Settings) (clock moment : ℕ) →
+        IsReplyTo C.World.World settings clock (Do moment command) world.old journal.old reply) }
+    ensures tied { OnOk result ((clock moment : ℕ) →
+        TakesIn C.World.World clock (Do moment command) world.old journal.old world.new journal.new) }
+    ensures same { OnErr result (TakesNothingIn C.World.World world.old journal.old world.new journal.new) }
+    ensures sound { IsSoundAfter C.World.World 0 world.old journal.old world.new journal.new }
 {
     let _undone = journal.undone();
     let change = C::of(command)?;

@@ -3,7 +3,6 @@
 ghost use Rattle.std.specs.Prelude.{◌≡◌, max, ℕ, IfOk};
 ghost use Rattle.history.specs.History.{Past};
 ghost use Rattle.history.specs.Reply.{seen_of};
-ghost use Rattle.world_book.specs.Step.{IsSound};
 ghost use Rattle.world_book.specs.Tied.{IsTied};
 
 use crate::commands::commands;
@@ -26,7 +25,7 @@ pub(crate) fn seen<C: BookChange>(
     clock: u64,
 ) -> Result<Seen, NoMemory>
     ensures { IfOk result (λ s. (bound moment : ℕ) (past : Past) → clock ≡ max past.now moment →
-        IsTied C.World.has_cells C.World.table C.World.told C.World.keeps C.World.face world.now journal.now bound past → s ≡ seen_of settings.now past ask.now moment) }
+        IsTied C.World.World world.now journal.now bound past → s ≡ seen_of settings.now past ask.now moment) }
 {
     let _undone = journal.undone();
     let tables = world.tables();

@@ -1,6 +1,6 @@
 //! What a book asks of a world and of its changes.
 
-ghost use Rattle.std.specs.Prelude.{◌≡◌, ℕ, true, IfOk};
+ghost use Rattle.std.specs.Prelude.{◌≡◌, ◌≤◌, ℕ, true, IfOk};
 ghost use Rattle.std.specs.Option.{option_map};
 ghost use Rattle.dns_text.specs.declared.record.Question.{Question};
 ghost use Rattle.ranked.specs.Cell.{shown_at};
@@ -19,9 +19,10 @@ pub trait BookWorld: World<Tables = Tables, Told = Command> + CellSource {
     fn tables(&self) -> &Tables
         ensures { result.now ≡ (Self.shown self.now).tables };
 
-    /// How many cells are stored.
+    /// How many cells are stored. They are never more than the limit.
     fn stored(&self) -> usize
-        ensures { result ≡ Self.stored self.now };
+        ensures stored { result ≡ Self.stored self.now }
+        ensures within { Self.stored self.now ≤ Self.limit self.now };
 
     /// The command of a change that is kept.
     fn command(saved: &Self::Saved) -> &Command
@@ -31,7 +32,8 @@ pub trait BookWorld: World<Tables = Tables, Told = Command> + CellSource {
     ghost with_cells: { Self.has_cells ≡ true };
 
     /// It shows what the cells of its face do.
-    ghost as_shown: { (world : Self) (moment : ℕ) (q : Question) → Self.shows_at world moment q ≡ shown_at ((Self.shown world).cell q) moment };
+    ghost as_shown: { (world : Self) (moment : ℕ) (q : Question) →
+        Self.shows_at world moment q ≡ shown_at ((Self.shown world).cell q) moment };
 }
 
 /// A change that a command makes.

@@ -1,4 +1,4 @@
-use Rattle.std.proofs.Common.{◌≡◌, ◌++◌, List, ◌∙◌, sym, ap}
+use Rattle.std.proofs.Common.{◌++◌, List, ◌∙◌, sym, ap}
 use Rattle.history.specs.declared.event.Journalled.{Journalled}
 use Rattle.world_book.specs.Held.{held_in}
 use Rattle.world_book.proofs.HeldLaws.{held_next}

@@ -1,4 +1,4 @@
-use Rattle.std.proofs.Common.{◌≡◌, ◌∙◌, sym, ap, ℕ}
+use Rattle.std.proofs.Common.{◌∙◌, sym, ap}
 use Rattle.history.specs.declared.event.Ask.{Ask}
 use Rattle.history.specs.declared.event.Seen.TheVariants.{Zones, Records, Stubs, Commands, Servers}
 use Rattle.history.specs.declared.made.Tables.{Tables}
@@ -11,8 +11,7 @@ use Rattle.world_book.proofs.seen.seen.Goals as goal
 
 pub returns-in_ok-seen-in-Answer : goal.returns-in_ok-seen-in-Answer
 returns-in_ok-seen-in-Answer g c = λ bound moment past is tied.
-    let same = tied_shows g.C.World.World.has_cells g.C.World.World.table g.C.World.World.told g.C.World.World.keeps g.C.World.World.face
-    g.C.World.World.shown g.met.C.World.World.shows c.args.world.now c.args.journal.now bound past c.undone-undone.ensures.sound tied in
+    let same = tied_shows g.C.World.World g.met.C.World.World.shows c.args.world.now c.args.journal.now bound past c.undone-undone.ensures.sound tied in
     c.in_ok-seen-in-Answer.ensures ∙ c.sight.ensures
     ∙ answer_tells c.args.settings.now past (g.C.World.World.shown c.args.world.now) c.tables-tables.result.now moment c.args.clock (g.C.World.CellSource.shows_at c.args.world.now c.args.clock) c.in-Answer.question
     c.tables-tables.ensures (g.met.C.World.BookWorld.as_shown c.args.world.now c.args.clock) is same
@@ -20,22 +19,19 @@ returns-in_ok-seen-in-Answer g c = λ bound moment past is tied.
 
 pub returns-in_ok-share_zones-in-Zones : goal.returns-in_ok-share_zones-in-Zones
 returns-in_ok-share_zones-in-Zones g c = λ bound moment past is tied.
-    let same = tied_shows g.C.World.World.has_cells g.C.World.World.table g.C.World.World.told g.C.World.World.keeps g.C.World.World.face
-    g.C.World.World.shown g.met.C.World.World.shows c.args.world.now c.args.journal.now bound past c.undone-undone.ensures.sound tied in
+    let same = tied_shows g.C.World.World g.met.C.World.World.shows c.args.world.now c.args.journal.now bound past c.undone-undone.ensures.sound tied in
     ap Zones (c.new.ensures ∙ c.in_ok-share_zones-in-Zones.ensures ∙ c.zones.ensures ∙ ap (λ (t : Tables). t.local.zones) (c.tables-tables.ensures ∙ same.tables))
     ∙ sym (ap (λ (a : Ask). seen_of c.args.settings.now past a moment) c.in-Zones.is)
 
 pub returns-in_ok-share_records-in-Records : goal.returns-in_ok-share_records-in-Records
 returns-in_ok-share_records-in-Records g c = λ bound moment past is tied.
-    let same = tied_shows g.C.World.World.has_cells g.C.World.World.table g.C.World.World.told g.C.World.World.keeps g.C.World.World.face
-    g.C.World.World.shown g.met.C.World.World.shows c.args.world.now c.args.journal.now bound past c.undone-undone.ensures.sound tied in
+    let same = tied_shows g.C.World.World g.met.C.World.World.shows c.args.world.now c.args.journal.now bound past c.undone-undone.ensures.sound tied in
     ap Records (c.new-in-Records.ensures ∙ c.in_ok-share_records-in-Records.ensures ∙ c.records.ensures ∙ ap (λ (t : Tables). t.local.records) (c.tables-tables.ensures ∙ same.tables))
     ∙ sym (ap (λ (a : Ask). seen_of c.args.settings.now past a moment) c.in-Records.is)
 
 pub returns-in_ok-share_stubs-in-Stubs : goal.returns-in_ok-share_stubs-in-Stubs
 returns-in_ok-share_stubs-in-Stubs g c = λ bound moment past is tied.
-    let same = tied_shows g.C.World.World.has_cells g.C.World.World.table g.C.World.World.told g.C.World.World.keeps g.C.World.World.face
-    g.C.World.World.shown g.met.C.World.World.shows c.args.world.now c.args.journal.now bound past c.undone-undone.ensures.sound tied in
+    let same = tied_shows g.C.World.World g.met.C.World.World.shows c.args.world.now c.args.journal.now bound past c.undone-undone.ensures.sound tied in
     ap Stubs (c.new-in-Stubs.ensures ∙ c.in_ok-share_stubs-in-Stubs.ensures ∙ c.stubs.ensures.value ∙ ap (λ (t : Tables). t.stubs) (c.tables-tables.ensures ∙ same.tables))
     ∙ sym (ap (λ (a : Ask). seen_of c.args.settings.now past a moment) c.in-Stubs.is)
 
@@ -47,8 +43,7 @@ returns-in_ok-commands-in-Commands g c = λ bound moment past is tied.
 
 pub returns-in_ok-new-in-Servers : goal.returns-in_ok-new-in-Servers
 returns-in_ok-new-in-Servers g c = λ bound moment past is tied.
-    let same = tied_shows g.C.World.World.has_cells g.C.World.World.table g.C.World.World.told g.C.World.World.keeps g.C.World.World.face
-    g.C.World.World.shown g.met.C.World.World.shows c.args.world.now c.args.journal.now bound past c.undone-undone.ensures.sound tied in
+    let same = tied_shows g.C.World.World g.met.C.World.World.shows c.args.world.now c.args.journal.now bound past c.undone-undone.ensures.sound tied in
     let shown = g.C.World.CellSource.shows_at c.args.world.now c.args.clock in
     ap Servers (c.in_ok-new-in-Servers.ensures ∙ c.in_ok-found-in-Servers.ensures
     ∙ ap (λ (t : Tables). servers_by c.args.settings.now t.stubs shown c.in-Servers.name) c.tables-tables.ensures

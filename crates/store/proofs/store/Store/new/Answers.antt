@@ -1,4 +1,10 @@
 use Rattle.store.proofs.store.Store.new.Goals as goal
 
-pub returns-clause-empty : goal.returns-clause-empty
-returns-clause-empty c = λ chosen. record { tables = (c.new.ensures.empty chosen).tables; cell = (c.seeded.ensures.empty chosen).cell }
+pub returns : goal.returns
+returns c = record {
+  keeps = (c.new.ensures.keeps, c.seeded.ensures.keeps);
+  faces = λ chosen. record { tables = (c.new.ensures.empty chosen).tables; cell = (c.seeded.ensures.faces chosen).cell };
+  newest = c.seeded.ensures.newest;
+  stored = c.seeded.ensures.stored;
+  limit = c.seeded.ensures.limit;
+}

@@ -9,7 +9,7 @@ use Rattle.world_book.proofs.book.WorldBookBook.servers.Goals as goal
 pub returns : goal.returns
 returns g c = let j = c.self.inside in rw (← c.self.view_is) (λ h so.
     let past = past_of j.settings.journal h in
-    let same = tied_shows g.C.World.World.has_cells g.C.World.World.table g.C.World.World.told g.C.World.World.keeps g.C.World.World.face g.C.World.World.shown g.met.C.World.World.shows j.world j.journal j.settings.journal past c.undone-undone.ensures.sound so.tied in
+    let same = tied_shows g.C.World.World g.met.C.World.World.shows j.world j.journal j.settings.journal past c.undone-undone.ensures.sound so.tied in
     let is : c.max-clock.result ≡ max past.now c.args.moment = c.max-clock.ensures ∙ ap (λ (m : ℕ). max m c.args.moment) so.moment in
     let shown = g.C.World.CellSource.shows_at j.world c.max-clock.result in
     c.in_ok-found.ensures
