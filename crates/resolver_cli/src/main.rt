@@ -14,6 +14,8 @@ mod sockets;
 mod worker;
 // The control socket of a service.
 mod operators;
+// Sweeps of a service's cache.
+mod sweeper;
 // The mode `serve`: workers and operators over one shared book.
 mod service;
 

@@ -1,4 +1,4 @@
-//! The mode `serve`: workers in threads of their own over one shared book, and operators at the control socket.
+//! The mode `serve`: workers and a sweeper in threads of their own over one shared book, and operators at the control socket.
 
 ghost use Rattle.std.specs.Prelude.{◌≡◌, ◌+◌, ◌≤◌, []};
 ghost use Rattle.shared_book.specs.declared.kept.TheConstants.{MOST_RECORDED};
@@ -8,7 +8,10 @@ ghost use Rattle.resolver_args.specs.Mode.{IsService};
 use crate::fault::CliFault;
 use crate::operators::obey_operators;
 use crate::sockets::{Bound, hold_descriptors, wake_all};
-use crate::worker::{Lent, OverTcp, OverUdp, Terms, run_tcp, run_udp, tcp_workers, udp_workers};
+use crate::sweeper::sweep_often;
+use crate::worker::{
+    Lent, OverTcp, OverUdp, Terms, pass_of, run_tcp, run_udp, tcp_workers, udp_workers,
+};
 use cell_store::NameSeed;
 use dns_sockets::{descriptor_limit, place_of};
 use flight_sockets::{Waker, most_exchanges};
@@ -34,6 +37,8 @@ const PARTS: u64 = 1 << 32;
 /// The workers of a service, before they begin.
 #[derive(Drop)]
 struct Workers<'a, L: CallLedger, R: Clock + Log + Net<Stream = TcpStream>> {
+    /// The sweeper's place at the book.
+    sweeper: Pass<L>,
     udp: Vec<OverUdp<'a, L, R>>,
     /// The waker of each UDP worker.
     wakers: Vec<Waker>,
@@ -56,7 +61,7 @@ fn obey<L: CallLedger, R: Wait + Clock + Log + Print>(
     Ok(())
 }
 
-/// Runs each worker in a thread of its own, and obeys operators in this one. After `stop` it wakes all workers, and waits until
+/// Runs the sweeper and each worker in a thread of its own, and obeys operators in this one. After `stop` it wakes all workers, and waits until
 /// the last of them has ended.
 fn run<L: CallLedger + Send + Sync, R>(
     rt: &R,
@@ -74,9 +79,16 @@ where
         + Sync
         + Net<Stream = TcpStream, Listener = TcpListener>,
 {
-    let Workers { udp, wakers, tcp } = workers;
+    let Workers {
+        sweeper,
+        udp,
+        wakers,
+        tcp,
+    } = workers;
     thread::scope(thread::scope_env(), rt, |scope| {
-        let mut started = true;
+        let mut started = scope
+            .spawn(move || sweep_often(rt, alloc, lent, sweeper))
+            .is_ok();
         for worker in udp {
             started &= scope
                 .spawn(move || run_udp(rt, alloc, lent, worker))
@@ -139,6 +151,7 @@ where
         wakers,
     } = bound;
     let workers = Workers {
+        sweeper: pass_of(rt, &shared, &mut pass)?,
         udp: udp_workers(rt, alloc, &shared, &mut pass, &terms, listeners)?,
         wakers,
         tcp: tcp_workers(rt, alloc, &shared, &mut pass, &terms)?,

@@ -76,8 +76,8 @@ fn generator<R: RandomSource>(rt: &R, seed: Option<u32>, number: u8) -> Result<S
     made.map_err(|_: io::Error| CliFault::cannot_start())
 }
 
-/// A pass to the book for one worker.
-fn pass_of<L: CallLedger, R: Wait>(
+/// A pass to the book for one thread.
+pub(crate) fn pass_of<L: CallLedger, R: Wait>(
     rt: &R,
     book: &SharedBook<ShelfBook, L>,
     pass: &mut Pass<L>,

@@ -1,0 +1,54 @@
+//! Sweeps: the service drops what is dead from its cache, so that memory follows what is alive.
+
+use crate::worker::Lent;
+use command_text::Clock;
+use dns_sockets::MonotonicClock;
+use history::{Desk, Event};
+use shared_book::{CallLedger, Pass, Seat};
+use std::alloc::Global;
+use std::sync::Wait;
+use std::sync::atomic::Ordering;
+use std::thread;
+use std::time::Duration;
+
+/// How long the sweeper sleeps before it looks at the stop flag again, in milliseconds: `stop` waits for that at most.
+const GLANCE_MILLISECONDS: u64 = 50;
+
+/// The least time between two sweeps, in milliseconds. A TTL counts whole seconds, so more sweeps would drop no more.
+const LEAST_MILLISECONDS: u64 = 1_000;
+
+/// A sweep holds the lock while it visits each name. So the next one waits for so many times as long as the last one took:
+/// sweeps take at most one part in 200 of the time, however full the cache is.
+const RESTS: u64 = 199;
+
+/// Sweeps now and then, until the service stops. Each sweep is an event of the history, as an operator's `sweep` is.
+pub(crate) fn sweep_often<L: CallLedger, R: Wait + std::rt::Clock>(
+    rt: &R,
+    alloc: Global,
+    lent: &Lent<'_, L>,
+    pass: Pass<L>,
+) {
+    let mut desk = Seat::new(rt, alloc, lent.book, pass);
+    let mut clock = MonotonicClock::new(rt, lent.terms.start);
+    let mut due = LEAST_MILLISECONDS;
+    for _ in rt.forever() {
+        if lent.stop.load(Ordering::SeqCst) {
+            return;
+        }
+        thread::sleep(rt, Duration::from_millis(GLANCE_MILLISECONDS));
+        let began = clock.millis();
+        if began >= due {
+            let moment = clock.now();
+            // A sweep takes no memory. The only fault is that too many events were taken, and then nothing is cached either.
+            let _ = desk.call(Event::Sweep { moment });
+            due = next_due(began, clock.millis());
+        }
+    }
+}
+
+/// The moment of the next sweep, in milliseconds, if the last one began and ended then.
+fn next_due(began: u64, ended: u64) -> u64 {
+    let took = ended.saturating_sub(began);
+    let rest = took.saturating_mul(RESTS).max(LEAST_MILLISECONDS);
+    ended.saturating_add(rest)
+}
