@@ -235,9 +235,22 @@ def put(items, new):
     return items + (new,)
 
 
+class Types:
+    """The types of the zones of a list by name, made once for the list that was asked last."""
+
+    zones, types = (), {}
+
+    @classmethod
+    def of(cls, zones):
+        if cls.zones is not zones:
+            cls.zones, cls.types = zones, dict(zones)
+        return cls.types
+
+
 def closest(zones, name):
     """The longest zone at or above a name."""
-    return max((zone for zone in zones if is_at_or_below(name, zone[0])), key=lambda zone: len(zone[0]), default=None)
+    types = Types.of(zones)
+    return next(((name[at:], types[name[at:]]) for at in range(len(name) + 1) if name[at:] in types), None)
 
 
 def lies_in(zones, owner, name):
@@ -280,10 +293,9 @@ def tables_of(entries):
     return tables
 
 
-def reason(tables, command):
-    """Why a command is refused: the first reason that there is."""
+def reason(tables, command, then):
+    """Why a command is refused, after which the tables would be these: the first reason that there is."""
     word, *rest = command
-    then = after(tables, command)
     if word == "local_data":
         owner, kind = rest[:2]
         zone = closest(tables.zones, owner)
@@ -384,6 +396,17 @@ def commands_text(settings, history):
     return [f"{ticket} {told[ticket]} {command_text(given[ticket])}" for ticket in sorted(told)]
 
 
+def list_text(tables, word):
+    """What a list of the tables says, line by line."""
+    if word == "list_local_zones":
+        lines = [f"{name_text(name)} {kind}" for name, kind in tables.zones]
+    elif word == "list_local_data":
+        lines = [f"{name_text(o)} {ttl} {type_text(k)} {data}" for o, k, ttl, data in tables.records]
+    else:
+        lines = [" ".join([name_text(name), *addrs]) for name, addrs in tables.stubs]
+    return lines + ["end"]
+
+
 def seen_text(settings, history, entries, ask, moment):
     """What a look sees, line by line."""
     word, *rest = ask
@@ -397,13 +420,9 @@ def seen_text(settings, history, entries, ask, moment):
     if word == "servers":
         zone, source, addrs, missing = servers(settings, entries, rest[0], moment)
         return [" ".join(["servers", name_text(zone), source, *addrs, *(["|", *missing] if missing else [])])]
-    lists = {
-        "list_local_zones": [f"{name_text(name)} {kind}" for name, kind in tables.zones],
-        "list_local_data": [f"{name_text(o)} {ttl} {type_text(k)} {data}" for o, k, ttl, data in tables.records],
-        "list_stubs": [" ".join([name_text(name), *addrs]) for name, addrs in tables.stubs],
-        "list_commands": commands_text(settings, history) if word == "list_commands" else [],
-    }
-    return lists[word] + ["end"]
+    if word == "list_commands":
+        return commands_text(settings, history) + ["end"]
+    return list_text(tables, word)
 
 
 def reply_text(settings, history, event):
@@ -418,7 +437,8 @@ def reply_text(settings, history, event):
     if event.verb == "look":
         return seen_text(settings, history, entries, event.what, moment), None
     if event.verb == "do":
-        why = reason(tables_of(entries), event.what)
+        tables = tables_of(entries)
+        why = reason(tables, event.what, after(tables, event.what))
         return ([f"error {why}"], None) if why else ([f"ok {tickets(history) + 1}"], tickets(history) + 1)
     find = event.what
     cell = cell_of(entries, (find.owner, find.kind)) if isinstance(find.body, tuple) else None

@@ -22,7 +22,7 @@ What a line says, by its first word:
 | `*` | | | a line that is given so many times | |
 | else | a call and its arguments, parted by commas | a line for the program | a line for the program | a line for the program |
 
-In `rows` a call and what it gives are a row.
+In `rows` a call and what it gives are a row. In `tables` a row has lines and `:` alone.
 """
 
 import os

@@ -5,6 +5,7 @@
 //! |---|---|
 //! | `zones` | local zones and local data |
 //! | `stubs` | stubs |
+//! | `journal` | changes of both that can be undone and redone: `play journal N` keeps N of them |
 //! | `control` | a book, as an operator does over control; `control behind` a desk that is behind |
 //! | `script` | the book that keeps its history, as `resolver script` does its own: `play script ARGUMENTS` |
 //! | `resolve` | the resolution of questions, at name servers that the lines play |
@@ -24,6 +25,7 @@ mod said; // what a line says that comes of one
 mod records; // a record, as it is written
 mod zones; // local zones and local data
 mod stubs; // stubs
+mod in_journal; // changes of both that can be undone
 mod control; // lines of control
 mod script; // a script over the book that replays its history
 mod resolve; // one question at a time
@@ -32,6 +34,7 @@ mod in_flight; // many questions at once
 
 use control::play_control;
 use in_flight::play_flight;
+use in_journal::play_journal;
 use log::Log;
 use resolve::play_resolve;
 use script::play_script;
@@ -62,6 +65,7 @@ fn play<W: Wait + Log>(rt: &HostRuntime, waiting: &W, all: &[String]) -> Result<
     match word.as_str() {
         "zones" => play_zones(rt)?,
         "stubs" => play_stubs(rt)?,
+        "journal" => play_journal(rt, words)?,
         "control" => return play_control(rt, words),
         "script" => play_script(rt, all)?,
         "resolve" => play_resolve(rt)?,

@@ -1,0 +1,110 @@
+//! A line is obeyed.
+
+use crate::in_journal::undoable::Undoable;
+use crate::stop::Stop;
+use change_law::ChangeFault;
+use command_text::{Channel, Line, Request, read_line, reply_text};
+use dns_name::NoMemory;
+use dns_text::{Items, Question};
+use history::{
+    Ask, Command, Look, Reason, Reply, Seen, Tables, share_records, share_stubs, share_zones,
+};
+use local_zone::Local;
+use std::alloc::Global;
+use streams::Text;
+use table_changes::TableChange;
+
+/// The reason that a change tells by this number.
+fn reason_coded(code: u8) -> Reason {
+    match code {
+        1 => Reason::BelowRedirect,
+        2 => Reason::DataBelow,
+        3 => Reason::CnameClash,
+        _ => Reason::TooMany,
+    }
+}
+
+fn make(tables: &mut Undoable<TableChange>, command: &Command) -> Result<Reply, Stop> {
+    let Some(change) = TableChange::of(command)? else {
+        return Err(Stop::Device);
+    };
+    match tables.make(change) {
+        Ok(ticket) => Ok(Reply::Done { ticket }),
+        Err(ChangeFault::Refused(code)) => Ok(Reply::Refused(reason_coded(code))),
+        Err(ChangeFault::NoMemory) => Err(Stop::NoMemory),
+    }
+}
+
+fn undo(tables: &mut Undoable<TableChange>) -> Result<Reply, Stop> {
+    match tables.undo()? {
+        Some(ticket) => Ok(Reply::Undone { ticket }),
+        None => Ok(Reply::NothingToUndo),
+    }
+}
+
+fn redo(tables: &mut Undoable<TableChange>) -> Result<Reply, Stop> {
+    match tables.redo()? {
+        Some(ticket) => Ok(Reply::Redone { ticket }),
+        None => Ok(Reply::NothingToRedo),
+    }
+}
+
+fn answer(alloc: Global, tables: &Tables, question: &Question) -> Result<Seen, NoMemory> {
+    match tables.local.answer(question) {
+        Local::Pass => Ok(Seen::Unknown),
+        answer => Look::Local(answer).to_seen(alloc),
+    }
+}
+
+fn zones(alloc: Global, tables: &Tables) -> Result<Seen, NoMemory> {
+    Ok(Seen::Zones(Items::new(share_zones(alloc, tables.local.zones())?)))
+}
+
+fn records(alloc: Global, tables: &Tables) -> Result<Seen, NoMemory> {
+    Ok(Seen::Records(Items::new(share_records(alloc, tables.local.records())?)))
+}
+
+fn stubs(alloc: Global, tables: &Tables) -> Result<Seen, NoMemory> {
+    Ok(Seen::Stubs(Items::new(share_stubs(alloc, tables.stubs.stubs())?)))
+}
+
+/// What is seen of what is asked. The tables alone say nothing of servers, nor of the commands that were given.
+fn seen(alloc: Global, tables: &Tables, ask: &Ask) -> Result<Seen, Stop> {
+    match ask {
+        Ask::Answer(question) => Ok(answer(alloc, tables, question)?),
+        Ask::Zones => Ok(zones(alloc, tables)?),
+        Ask::Records => Ok(records(alloc, tables)?),
+        Ask::Stubs => Ok(stubs(alloc, tables)?),
+        Ask::Commands | Ask::Servers(_) => Err(Stop::Device),
+    }
+}
+
+fn reply(
+    alloc: Global,
+    tables: &mut Undoable<TableChange>,
+    request: &Request,
+) -> Result<Reply, Stop> {
+    match request {
+        Request::Do(command) => make(tables, command),
+        Request::Undo => undo(tables),
+        Request::Redo => redo(tables),
+        Request::Look(ask) => Ok(Reply::Seen(seen(alloc, tables.world().tables(), ask)?)),
+        Request::Sweep => Err(Stop::Device),
+    }
+}
+
+/// Does what a line says, and returns the reply.
+pub fn obey_journal(
+    alloc: Global,
+    tables: &mut Undoable<TableChange>,
+    line: &[u8],
+) -> Result<Text, Stop> {
+    match read_line(alloc, Channel::Script, line) {
+        Ok(Line::Request(request)) => {
+            let reply = reply(alloc, tables, &request)?;
+            Ok(reply_text(alloc, &reply)?)
+        }
+        Ok(Line::Silent) => Ok(Text::Fixed(b"")),
+        _ => Err(Stop::Device),
+    }
+}

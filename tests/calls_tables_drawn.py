@@ -1,0 +1,219 @@
+"""100,000 drawn changes of local zones and stubs, undos and redos, through `play journal`, come to what lists in Python come to.
+
+A run keeps, for each change that can be undone or redone, the tables before and after it: `lib/model.py` says what a change
+makes of a table, and why one is refused. Most runs have few entries, which change often. Some begin with 5,000 of them.
+"""
+
+import random
+from collections import Counter
+from concurrent.futures import ThreadPoolExecutor
+from functools import lru_cache
+
+from lib.checks import Checks
+from lib.drawing import ADDRESSES, FORMS
+from lib.model import Tables, after, list_text, local, reason
+from lib.programs import PLAY, run
+from lib.reading import ZONE_TYPES, said_by
+
+CHANGES, SEED = 100_000, 20_261_125
+SMALL, LARGE = 1_000, 500  # changes of a run
+LIMITS = [1, 2, 3, 8, 64]
+LISTS = ("list_local_zones", "list_local_data", "list_stubs")
+
+# How many zones, records and stubs a large run begins with.
+SIZES = [(4_096, 20, 884), (20, 4_960, 20), (20, 3_956, 1_024), (4_000, 20, 980)]
+
+# How often each kind of change is drawn; `back` is some undos and some redos.
+WEIGHTS = dict(
+    local_zone=14, local_zone_remove=7, local_data=26, local_data_remove=5, stub_add=10, stub_remove=5, back=20, undo=1, redo=2,
+)
+
+KINDS = """
+ok, undone, redone, error nothing_to_undo, error nothing_to_redo
+error below_redirect, error data_below, error cname_clash, error too_many
+unknown, local data, local nodata, local noname, local refuse, local drop
+""".strip().replace("\n", ", ").split(", ")
+
+
+@lru_cache(10_000)
+def said(line):
+    """The event of a line."""
+    return said_by(line, 0)
+
+
+class Lists:
+    """The tables, and the changes that can be undone or redone: each with its ticket and the tables before and after it."""
+
+    def __init__(self, limit):
+        self.limit, self.tickets = limit, 0
+        self.tables = Tables()
+        self.done, self.undone = [], []
+
+    def do(self, command):
+        then = after(self.tables, command)
+        why = reason(self.tables, command, then)
+        if why:
+            return f"error {why}"
+        self.tickets += 1
+        self.done = (self.done + [(self.tickets, self.tables, then)])[-self.limit :]
+        self.undone = []
+        self.tables = then
+        return f"ok {self.tickets}"
+
+    def undo(self):
+        if not self.done:
+            return "error nothing_to_undo"
+        self.undone.append(self.done.pop())
+        ticket, self.tables, _ = self.undone[-1]
+        return f"undone {ticket}"
+
+    def redo(self):
+        if not self.undone:
+            return "error nothing_to_redo"
+        self.done.append(self.undone.pop())
+        ticket, _, self.tables = self.done[-1]
+        return f"redone {ticket}"
+
+    def reply(self, line):
+        """The lines of the reply to a line."""
+        if line in LISTS:
+            return list_text(self.tables, line)
+        event = said(line)
+        if event.verb == "look":
+            answer = local(self.tables, event.what[1:])
+            return [f"local {answer}" if answer else "unknown"]
+        return [self.do(event.what) if event.verb == "do" else getattr(self, event.verb)()]
+
+
+# ---- lines
+
+class Drawer:
+    """Draws lines about names of up to three labels."""
+
+    def __init__(self, draw, names):
+        self.draw, self.names = draw, names
+
+    def name(self):
+        return self.draw.choice(self.names)
+
+    def zone_type(self):
+        return self.draw.choice(ZONE_TYPES[:6] * 3 + ["redirect"] * 3 + ZONE_TYPES[6:])
+
+    def record(self):
+        kind = self.draw.choice(["A"] * 5 + ["AAAA", "TXT", "MX", "CNAME"])
+        return f"{self.draw.choice([0, 60, 60, 300])} {kind} {FORMS[kind](self.draw)}"
+
+    def change(self):
+        verb = self.draw.choices(list(WEIGHTS), list(WEIGHTS.values()))[0]
+        if verb in ("undo", "redo"):
+            return [verb]
+        if verb == "back":
+            undos = self.draw.choice([1, 1, 1, 2, 3, 5])
+            return ["undo"] * undos + ["redo"] * self.draw.choice([0, undos, self.draw.randint(0, undos)])
+        words = {"local_zone": self.zone_type, "local_data": self.record, "stub_add": self.addresses}
+        return [" ".join([verb, self.name(), *([words[verb]()] if verb in words else [])])]
+
+    def addresses(self):
+        return " ".join(self.draw.choices(ADDRESSES, k=self.draw.choice([1, 1, 1, 2, 8, 9])))
+
+    def look(self):
+        return f"look {self.name()} {self.draw.choice(['A', 'A', 'TXT', 'CNAME'])}"
+
+    def lines(self, changes, each):
+        """So many changes, with a look behind some, and all lists behind one in `each`."""
+        left = changes
+        while left:
+            for line in self.change()[:left]:
+                left -= 1
+                yield line
+                if self.draw.random() < 0.4:
+                    yield self.look()
+                if self.draw.randrange(each) == 0 or not left:
+                    yield from LISTS
+
+
+def few_names():
+    tops = ["test.", "other."]
+    below = [f"{label}.{name}" for name in tops for label in "ab"]
+    return [".", *tops, *below, *(f"{label}.{name}" for name in below for label in "ab")]
+
+
+def many_names(draw, zones, records, stubs):
+    """Some of the names that such tables have, and some that are new."""
+    there = [f"z{place}." for place in range(max(zones, stubs))] + [f"n{place}.z{place % zones}." for place in range(records)]
+    return draw.sample(there, 200) + [f"new{place}.z{place}." for place in range(20)] + [f"new{place}." for place in range(40)]
+
+
+def filling(zones, records, stubs):
+    """Lines that make so many of each, and no zone for a record but its own."""
+    yield from (f"local_zone z{place}. static" for place in range(zones))
+    yield from (f"local_data n{place}.z{place % zones}. 60 A 192.0.2.{place % 4 + 1}" for place in range(records))
+    yield from (f"stub_add z{place}. 127.0.0.1" for place in range(stubs))
+
+
+def filled(lists, lines):
+    """The replies to lines that fill empty tables. Only the last of them can be undone, so for the others no journal is kept."""
+    events = [said_by(line, 0).what for line in lines]
+    others = events[: -lists.limit]
+    lists.tickets = len(others)
+    lists.tables = Tables(
+        tuple(tuple(rest) for verb, *rest in others if verb == "local_zone"),
+        tuple(tuple(rest) for verb, *rest in others if verb == "local_data"),
+        tuple(tuple(rest) for verb, *rest in others if verb == "stub_add"),
+    )
+    return [f"ok {place + 1}" for place in range(len(others))] + [lists.do(event) for event in events[-lists.limit :]]
+
+
+# ---- runs
+
+def kind_of(line, reply):
+    words = reply[0].split(" ")
+    if line in LISTS:
+        return None
+    if words[0] == "local":
+        return f"local {words[1] if len(words) == 2 else 'data'}"
+    return reply[0] if words[0] in ("error", "unknown") else words[0]
+
+
+def octets(lines):
+    return "".join(line + "\n" for line in lines).encode()
+
+
+def drawn_run(seed, size, counts):
+    """The limit of a journal, lines and the replies to them: about few names, or behind so many zones, records and stubs."""
+    draw = random.Random(seed)
+    lists = Lists(draw.choice(LIMITS))
+    lines, wanted = [], []
+    names, changes, each = few_names(), SMALL, 16
+    if size:
+        lines += filling(*size)
+        wanted += filled(lists, lines)
+        names, changes, each = many_names(draw, *size), LARGE, 60
+    for line in Drawer(draw, names).lines(changes, each):
+        reply = lists.reply(line)
+        lines.append(line)
+        wanted += reply
+        counts.update([kind_of(line, reply)])
+    return lists.limit, octets(lines), octets(wanted)
+
+
+def main():
+    checks, counts = Checks(), Counter()
+    sizes = SIZES + [None] * ((CHANGES - LARGE * len(SIZES)) // SMALL)
+    with ThreadPoolExecutor(2) as pool:
+        runs = []
+        for place, size in enumerate(sizes):
+            limit, lines, wanted = drawn_run(SEED + place, size, counts)
+            about = f"run {SEED + place}, {size or 'few names'}, a journal of {limit}"
+            runs.append((about, wanted, pool.submit(run, [PLAY, "journal", str(limit)], lines)))
+        for about, wanted, going in runs:
+            done = going.result()
+            checks.equal(about, done.out, wanted)
+            checks.equal(f"{about}: its end", (done.status, done.err), (0, b""))
+    for kind in KINDS:
+        checks.check(f"the reply {kind!r}", None if counts[kind] else "was never drawn")
+    checks.equal("replies of other kinds", sorted(kind for kind in counts if kind not in (None, *KINDS)), [])
+    checks.end()
+
+
+main()
