@@ -111,7 +111,7 @@ fn changed(case: Case, mut receipts: Vec<Receipt>) -> Result<Vec<Receipt>, Fail>
 }
 
 /// What closing tells, how many entries there are, and what it tells when it is asked again with nothing.
-type Told = (Option<CloseFault>, usize, Option<CloseFault>);
+pub type Told = (Option<CloseFault>, usize, Option<CloseFault>);
 
 fn asked_again<L: CallLedger>(
     alloc: Global,
@@ -124,7 +124,7 @@ fn asked_again<L: CallLedger>(
     }
 }
 
-fn told<L: CallLedger>(
+pub fn told<L: CallLedger>(
     alloc: Global,
     closed: Result<Kept<PlainBook, L>, NotClosed<PlainBook, L>>,
 ) -> Told {

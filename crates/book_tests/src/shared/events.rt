@@ -1,9 +1,9 @@
-//! What the callers hand in. Each event gives the moment 0.
+//! What the callers hand in. Each event but one gives the moment 0.
 
 use dns_name::Name;
 use dns_text::types::A;
 use dns_text::{Items, Question, Shared, read_record};
-use history::{Ask, Command, Event};
+use history::{Ask, Command, Event, MOMENT_END};
 use local_zone::ZoneType;
 use ranked::{Find, Rank, SharedFind};
 use std::alloc::Global;
@@ -41,6 +41,11 @@ fn set_zone(alloc: Global) -> Result<Shared<Event>, Fail> {
     let kind = ZoneType::Static;
     let command = Command::SetZone { name, kind };
     share(alloc, Event::Do { moment: 0, command })
+}
+
+/// An undo at a moment that no book takes.
+pub fn too_late(alloc: Global) -> Result<Shared<Event>, Fail> {
+    share(alloc, Event::Undo { moment: MOMENT_END })
 }
 
 /// The first caller sets a zone and takes it back, and looks after each.
