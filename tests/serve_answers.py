@@ -287,6 +287,24 @@ def check_full(checks):
             checks.equal(f"full: asked {count}", servers.count("a.test. A"), 2 * count)
 
 
+def is_cached(servers, service, name):
+    """Whether a question is answered without a name server."""
+    before = servers.count(f"{name} A")
+    service.ask(name)
+    return servers.count(f"{name} A") == before
+
+
+def check_swept(checks):
+    """The service sweeps by itself: once what fills the cache is dead, new names are cached, and no operator gave a line."""
+    short, long = ["one.", "two."], ["three.", "four."]
+    says = {f"{name} A": f"aa | answer {name} {ttl} A 192.0.2.7" for names, ttl in ((short, 1), (long, 3600)) for name in names}
+    with NameServers({ROOT: says}) as servers, serving(servers, "--cells", "2") as service:
+        for name in short:
+            service.ask(name)
+        for name in long:
+            checks.equal(f"swept: {name} is cached", until(lambda name=name: is_cached(servers, service, name)), True)
+
+
 def check_undone(checks, over):
     """A block that is set and undone while it serves, and a flush: as though neither had been."""
     with NameServers(WORKED) as servers, serving(servers) as service:
@@ -399,14 +417,14 @@ def check_nothing_left(checks):
     """Behind a load the service has as many threads and descriptors as before it."""
     with NameServers(WORKED | {TEST: WORKED[TEST] | {"*": "aa rcode 3 | authority test. 60 SOA ns. host. 1 2 3 4 60"}}) as servers:
         with serving(servers, "--udp", "2", "--tcp", "3") as service:
-            until(lambda: service.threads() == 6)
+            until(lambda: service.threads() == 7)
             before = (service.threads(), service.idle_descriptors())
             load = Load(service, servers)
             until(lambda: load.answered > 200)
             load.end()
             is_as_before = until(lambda: (service.threads(), service.descriptors()) == before)
             checks.check("nothing is left behind a load", None if is_as_before else f"{before} became {(service.threads(), service.descriptors())}")
-            checks.equal("threads: one for each worker, and the operator's", before[0], 6)
+            checks.equal("threads: one for each worker, the sweeper's and the operator's", before[0], 7)
             checks.equal("nothing is left: stopped", service.stop(), STOPPED)
 
 
@@ -435,6 +453,7 @@ def main():
     checks.make(check_journal)
     checks.make(check_given_again)
     checks.make(check_full)
+    checks.make(check_swept)
     checks.make(check_row_of_calls)
     checks.make(check_nothing_left)
     checks.make(check_stop_under_load)

@@ -1,15 +1,17 @@
-"""`resolver serve` against servers and clients that lie, keep silent, go slowly or go away, and where descriptors are wanting."""
+"""`resolver serve` against servers and clients that lie, keep silent, go slowly or go away, and where descriptors are wanting or calls
+of sockets are disturbed."""
 
+import select
 import socket
 import threading
 import time
 from concurrent.futures import ThreadPoolExecutor
 
 from lib.checks import Checks
-from lib.messages import number
-from lib.nameserver import NameServers, Piece, framed
+from lib.messages import number, question_of
+from lib.nameserver import Asked, NameServers, Piece, framed, receive
 from lib.replies import reply_in
-from lib.service import STOPPED, Service, query, until
+from lib.service import STOPPED, Service, disturbed, query, until
 
 HOST = "127.0.0.1"
 GOOD = "aa | answer {name} 60 A 192.0.2.1"
@@ -126,15 +128,71 @@ def check_servers_of_tcp_clients(checks):
             checks.equal(f"{question}, first over tcp", service.ask(name, "A", "tcp").words(), MEANT["good"].format(name=name))
 
 
-def check_large(checks):
+def check_large(checks, settings):
     """A response of 59 KiB, over TCP on both sides; to who asks over UDP it is cut."""
-    does = cut(lambda asked: [asked.response(f"aa | {LONG}")])
-    with NameServers({HOST: {"big.test. TXT": does}}) as servers, Service([f"{HOST}@{servers.port}"]) as service:
-        checks.equal("59 KiB over UDP", service.ask("big.test.", "TXT").words(), "tc")
+    does, sockets = cut(lambda asked: [asked.response(f"aa | {LONG}")]), disturbed(**settings)
+    with NameServers({HOST: {"big.test. TXT": does}}) as servers, Service([f"{HOST}@{servers.port}"], environment=sockets) as service:
+        checks.equal(f"59 KiB over UDP, {settings}", service.ask("big.test.", "TXT").words(), "tc")
         reply = service.ask("big.test.", "TXT", "tcp")
         wanted = [f'"{place:03}{"x" * 250}"' for place in range(230)]
-        checks.equal("59 KiB over TCP", [record.data for record in reply.records], wanted)
-        checks.equal("59 KiB: asked once", len(servers.asked), 2)
+        checks.equal(f"59 KiB over TCP, {settings}", [record.data for record in reply.records], wanted)
+        checks.equal(f"59 KiB: asked once, {settings}", len(servers.asked), 2)
+
+
+# What the calls of a service's sockets meet.
+DISTURBED = [{"SIGNALS": 1}, {"PIECE": 1}, {"SIGNALS": 1, "PIECE": 1}]
+
+
+def check_disturbed(checks, over, settings):
+    """Calls of sockets that a signal ends, and those that move one octet, are made again: each server is asked once, each
+    client gets its reply, and no fault is logged."""
+    how = f"over {over}, {settings}"
+    zone = {question: SERVED[question][0] for question in ("good.test. A", "lies-first.test. A", "cut.test. A", "cut-drips.test. A")}
+    with NameServers({HOST: zone}) as servers, Service([f"{HOST}@{servers.port}"], environment=disturbed(**settings)) as service:
+        for question in zone:
+            wanted = MEANT["good"].format(name=question.split()[0])
+            told = [service.ask(*question.split(), over).words() for _ in range(2)]
+            checks.equal(f"{question} {how}", told, [wanted, wanted])
+            counts = servers.count(question, "udp"), servers.count(question, "tcp")
+            checks.equal(f"{question} {how}: asked", counts, (1, int(question.startswith("cut"))))
+        checks.equal(f"{how}: stopped", service.stop(), STOPPED)
+        wanted = [did for did, setting in (("interrupted", "SIGNALS"), ("cut", "PIECE")) if setting in settings]
+        checks.equal(f"{how}: what was done", [did for did, count in service.disturbances().items() if count], wanted)
+        checks.equal(f"{how}: faults", service.log().count(b"fault"), 0)
+
+
+class Early(NameServers):
+    """Servers that answer over TCP once a query's length and identifier have come, and send octets behind that until the rest comes."""
+
+    FRONT = 4
+
+    def __init__(self, question):
+        self.whole = []
+        self.early = question
+        super().__init__({HOST: {question: cut(None)}})
+
+    def _follow(self, connection, address):
+        try:
+            with connection:
+                front = receive(connection, self.FRONT)
+                connection.sendall(framed(good(Asked(self, address, "tcp", front[2:], self.early))))
+                while not select.select([connection], [], [], 0.05)[0] and not self.closing.is_set():
+                    connection.sendall(b"\0")
+                rest = receive(connection, 2 + int.from_bytes(front[:2], "big") - self.FRONT)
+                self.whole.append(question_of(front[2:] + rest) if rest else "the connection ended")
+        except Exception as fault:  # whatever it is, the query has not left
+            self.whole.append(fault)
+
+
+def check_early(checks):
+    """A reply that comes before its query has left whole is read when the query has."""
+    question = "early.test. A"
+    with Early(question) as servers, Service([f"{HOST}@{servers.port}"], environment=disturbed(HOLD=Early.FRONT)) as service:
+        checks.equal("an early reply", service.ask(*question.split()).words(), MEANT["good"].format(name="early.test."))
+        checks.equal("an early reply: stopped", service.stop(), STOPPED)
+        checks.equal("an early reply: held", service.disturbances().get("held", 0) > 0, True)
+        checks.equal("an early reply: faults", service.log().count(b"fault"), 0)
+        checks.equal("an early reply: the query has left", until(lambda: servers.whole) and servers.whole, [question])
 
 
 def check_dead_ports(checks):
@@ -148,26 +206,26 @@ def check_dead_ports(checks):
             checks.equal("two dead ports", service.ask("good.test.").words(), "rcode 2")
 
 
-def check_pipelined(checks):
+def check_pipelined(checks, settings):
     """300 queries in one write, five of them not held: 300 replies in order."""
-    zone = {"*": lambda asked: [good(asked)]}
-    with NameServers({HOST: zone}) as servers, Service([f"{HOST}@{servers.port}"]) as service:
+    zone, sockets = {"*": lambda asked: [good(asked)]}, disturbed(**settings)
+    with NameServers({HOST: zone}) as servers, Service([f"{HOST}@{servers.port}"], environment=sockets) as service:
         service.obey("local_data held.test. 60 A 192.0.2.1")
         names = [f"asked{place}.test." if place % 60 == 0 else "held.test." for place in range(300)]
         with service.client("tcp") as client:
             client.sock.sendall(b"".join(framed(query(name, "A", place)) for place, name in enumerate(names)))
             replies = [reply_in(client.octets()) for _ in names]
-        checks.equal("300 queries: identifiers", [reply.id for reply in replies], list(range(300)))
-        checks.equal("300 queries: questions", [reply.question for reply in replies], [f"{name} A" for name in names])
-        checks.equal("300 queries: addresses", {record.data for reply in replies for record in reply.records}, {"192.0.2.1"})
+        checks.equal(f"300 queries: identifiers, {settings}", [reply.id for reply in replies], list(range(300)))
+        checks.equal(f"300 queries: questions, {settings}", [reply.question for reply in replies], [f"{name} A" for name in names])
+        checks.equal(f"300 queries: addresses, {settings}", {record.data for reply in replies for record in reply.records}, {"192.0.2.1"})
         with service.client("tcp") as client:
             for octet in framed(query("held.test.", "A", 9)):
                 client.sock.sendall(bytes([octet]))
-            checks.equal("octet by octet", reply_in(client.octets()).words(), "aa | answer held.test. A 192.0.2.1")
+            checks.equal(f"octet by octet, {settings}", reply_in(client.octets()).words(), "aa | answer held.test. A 192.0.2.1")
             client.sock.sendall(framed(query("held.test.", "A", 9)) + framed(query("held.test.", "A", 10))[:9])
             client.sock.shutdown(socket.SHUT_WR)
-            checks.equal("a message, and the front of one", (client.octets() or b"")[:2], number(9))
-            checks.equal("a message, and the front of one: the end", client.ended(), True)
+            checks.equal(f"a message, and the front of one, {settings}", (client.octets() or b"")[:2], number(9))
+            checks.equal(f"a message, and the front of one: the end, {settings}", client.ended(), True)
 
 
 def never_reads(client):
@@ -268,7 +326,7 @@ def check_descriptors(checks):
     """Where no descriptor is to be had questions fail and connections wait; with descriptors again all goes on."""
     with NameServers({HOST: {"*": lambda asked: [good(asked)]}}) as servers, Service([f"{HOST}@{servers.port}"]) as service:
         service.obey("local_data held.test. 60 A 192.0.2.1")
-        until(lambda: service.threads() == 3)
+        until(lambda: service.threads() == 4)
         service.idle_descriptors()
         service.limit(service.first_free())
         replies = {service.ask(f"asked{place}.test.").words() for place in range(40)}
@@ -305,9 +363,15 @@ def main():
         waiting = pool.submit(check_idle_operator, service, service.control().sock)
         checks.make(check_servers)
         checks.make(check_servers_of_tcp_clients)
-        checks.make(check_large)
+        for over in ("udp", "tcp"):
+            for settings in DISTURBED:
+                checks.make(check_disturbed, over, settings)
+        checks.make(check_early)
+        checks.make(check_large, {})
+        checks.make(check_large, {"SIGNALS": 1, "PIECE": 10_000})
         checks.make(check_dead_ports)
-        checks.make(check_pipelined)
+        checks.make(check_pipelined, {})
+        checks.make(check_pipelined, {"SIGNALS": 1, "PIECE": 100})
         checks.make(check_slow_clients)
         checks.make(check_gone_clients)
         checks.make(check_no_port)

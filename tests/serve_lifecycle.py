@@ -299,7 +299,7 @@ def outlive_want():
     """A worker that cannot accept for eighteen seconds, while nobody connects: the faults in the log, whether it ended, and what it answers then."""
     with Service(["192.0.2.1"]) as service:
         service.obey("local_data held.test. 60 A 192.0.2.1")
-        until(lambda: service.threads() == 3)
+        until(lambda: service.threads() == 4)
         service.idle_descriptors()
         service.limit(service.first_free())
         # A worker that waits has the descriptor of its next connection; the one behind it wants one.

@@ -2,6 +2,7 @@
 
 import os
 import random
+import re
 import resource
 import select
 import socket
@@ -11,7 +12,7 @@ import time
 
 from lib.messages import number, question_octets
 from lib.nameserver import PATIENCE, bound_at, framed, receive, PORTS
-from lib.programs import RESOLVER
+from lib.programs import RESOLVER, library
 from lib.replies import reply_in
 
 HOST = "127.0.0.1"
@@ -33,6 +34,11 @@ def query(name, kind, identifier=None):
     """A query in octets, with RD."""
     identifier = random.randrange(0x10000) if identifier is None else identifier
     return number(identifier) + number(0x0100) + number(1) + bytes(6) + question_octets(name, kind)
+
+
+def disturbed(**settings):
+    """The environment in which calls of sockets do less than a service asks; tests/lib/sockets.c says how."""
+    return {"LD_PRELOAD": library("sockets"), "TELL": "2", **{name: str(value) for name, value in settings.items()}}
 
 
 class Client:
@@ -200,6 +206,10 @@ class Service:
         """What standard error got so far."""
         size = os.fstat(self.errors.fileno()).st_size
         return os.pread(self.errors.fileno(), size, 0)
+
+    def disturbances(self):
+        """How often calls of a service that was `disturbed` did less, by what they did, once it has ended."""
+        return {did.decode(): int(count) for did, count in re.findall(rb"(interrupted|cut|held) (\d+)", self.log())}
 
     def logged(self, words, count=1):
         """Waits until so many lines of standard error have the words; whether they came."""
