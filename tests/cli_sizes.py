@@ -1,10 +1,11 @@
 """Scripts above every size that a program may have in mind. Each reply is worked out here, by what the lines mean."""
 
 import subprocess
+import tempfile
 import time
 
 from lib.checks import Checks
-from lib.programs import RESOLVER, run
+from lib.programs import RESOLVER, run, run_measured
 from lib.made_rows import name_text
 
 
@@ -178,6 +179,28 @@ def records_taken_back():
     yield "list_local_data", "\n".join(records[:-1] + ["end"])
 
 
+def names_swept():
+    """100 times 1,000 new names, each alive for a second, in a cache of 1,000."""
+    for second in range(100):
+        yield f"at {second}", "ok"
+        yield "sweep", "swept"
+        for place in range(1_000):
+            yield f"admit 4 n{place}.s{second}.test. 1 A {address(place)}", "taken"
+
+
+def check_memory(checks, rows, most, *arguments):
+    """A script of these lines gets these replies, and the program never has more than so many KiB."""
+    lines, replies = zip(*rows())
+    with tempfile.TemporaryFile() as asked, tempfile.TemporaryFile() as told:
+        asked.write("".join(line + "\n" for line in lines).encode())
+        asked.seek(0)
+        status, peak = run_measured([RESOLVER, "script", *arguments], asked, told)
+        told.seek(0)
+        checks.equal(rows.__name__, told.read().decode(), "".join(reply + "\n" for reply in replies))
+    checks.equal(f"{rows.__name__}, its end", status, 0)
+    checks.check(f"{rows.__name__}, memory", None if peak <= most else f"{peak} KiB, of {most}")
+
+
 def check(checks, rows, *arguments):
     """A script of these lines gets these replies."""
     lines, replies = zip(*rows())
@@ -206,6 +229,7 @@ def main():
     check(checks, full_stubs)
     check(checks, full_records)
     check(checks, records_taken_back)
+    check_memory(checks, names_swept, 32_768, "--cells", "1000")
     checks.end()
 
 

@@ -4,6 +4,7 @@ import os
 import pty
 import resource
 import subprocess
+import sys
 import tempfile
 import tty
 from dataclasses import dataclass
@@ -62,6 +63,24 @@ def run(command, text=b"", preload=None, **settings):
         with os.fdopen(reading, "rb") as pipe:
             told = pipe.read().decode().splitlines()
     return Run(done.returncode, done.stdout, done.stderr, told)
+
+
+# Runs a command and tells the most memory that it had, in KiB. A process counts what its parent had when it was started, so a small
+# one starts it.
+MEASURE_PEAK = """
+import os, sys
+process = os.posix_spawn(sys.argv[1], sys.argv[1:], os.environ)
+_, status, used = os.wait4(process, 0)
+print(used.ru_maxrss, file=sys.stderr)
+sys.exit(os.waitstatus_to_exitcode(status))
+"""
+
+
+def run_measured(command, asked, told):
+    """Runs a command from one file to another. How it ended, and the most memory that it had, in KiB."""
+    small = [sys.executable, "-S", "-c", MEASURE_PEAK]
+    done = subprocess.run(small + command, stdin=asked, stdout=told, stderr=subprocess.PIPE, timeout=PATIENCE)
+    return done.returncode, int(done.stderr.split()[-1])
 
 
 def run_to_most(command, text, most):
