@@ -1,8 +1,8 @@
 #!/usr/bin/env python3
-"""Draws docs/crates.svg, the graph of the crates that the program stands on, from crates.txt.
+"""Draws docs/crates.svg, the graph of the crates of the program, from crates.txt.
 
-A crate stands one row above the highest crate that it uses. An arrow leads to a crate that is used; what follows from two
-arrows has none of its own. `docs/graph.py` writes the picture, `docs/graph.py --check` fails if it is not up to date.
+A crate is one row above the highest crate that it uses. An arrow leads to each crate that it uses, unless other arrows lead
+there already. No arrow passes under a crate. `docs/graph.py` writes the picture, `docs/graph.py --check` fails if it is not up to date.
 """
 
 import os
@@ -13,7 +13,9 @@ PICTURE = os.path.join(TOP, "docs/crates.svg")
 PROGRAM = "resolver_cli"
 
 WIDE, HIGH = 118, 26
-ACROSS, DOWN = 138, 58
+ACROSS, DOWN = 138, 62
+# The width that an arrow takes in a row that it passes.
+GAP = 22
 MARGIN = 16
 
 
@@ -30,7 +32,7 @@ def crates():
 
 
 def below(uses, top):
-    """A crate, and all that it stands on."""
+    """A crate, and all crates below it."""
     found, waiting = set(), [top]
     while waiting:
         name = waiting.pop()
@@ -62,47 +64,77 @@ def arrows(uses):
                 yield name, used
 
 
-def straightened(table, pairs):
-    """The rows with crates moved towards those that they use, so that few arrows cross."""
-    across = {name: place - (len(row) - 1) / 2 for row in table for place, name in enumerate(row)}
-    for row in table[1:]:
-        wish = {}
-        for name in row:
-            used = [across[other] for user, other in pairs if user == name]
-            wish[name] = sum(used) / len(used)
-        row.sort(key=lambda name: wish[name])
-        for place, name in enumerate(row):
-            across[name] = place - (len(row) - 1) / 2
-    return table
+def routed(table, pairs):
+    """The rows with a gap for each arrow that passes them, and the arrows as chains of crates and gaps, one row after another."""
+    row = {name: at for at, names in enumerate(table) for name in names}
+    table, chains = [list(names) for names in table], []
+    for name, used in pairs:
+        gaps = [(used, name, at) for at in range(row[name] - 1, row[used], -1)]
+        for gap in gaps:
+            table[gap[2]].append(gap)
+        chains.append([name, *gaps, used])
+    return table, chains
+
+
+def width_of(thing):
+    return GAP if isinstance(thing, tuple) else ACROSS
+
+
+def spread(names):
+    """How far each thing of a row is from the middle of the row."""
+    left, found = -sum(map(width_of, names)) / 2, {}
+    for name in names:
+        found[name] = left + width_of(name) / 2
+        left += width_of(name)
+    return found
+
+
+def straightened(table, chains):
+    """The rows, each sorted by what its things are joined to, from below and then from above, so that few arrows cross."""
+    joined = {}
+    for chain in chains:
+        for upper, lower in zip(chain, chain[1:]):
+            joined.setdefault(upper, []).append(lower)
+            joined.setdefault(lower, []).append(upper)
+    across = {name: x for names in table for name, x in spread(names).items()}
+    for _ in range(12):
+        for names in (*table, *reversed(table)):
+            wish = {name: sum(across[other] for other in joined[name]) / len(joined[name]) for name in names}
+            names.sort(key=wish.get)
+            across.update(spread(names))
+    return table, across
 
 
 def drawn(uses):
     """The picture as text."""
-    pairs = list(arrows(uses))
-    table = straightened(rows(uses), pairs)
-    most = max(len(row) for row in table)
-    width, height = 2 * MARGIN + most * ACROSS, 2 * MARGIN + len(table) * DOWN - (DOWN - HIGH)
+    table, chains = routed(rows(uses), list(arrows(uses)))
+    table, across = straightened(table, chains)
+    width = 2 * MARGIN + max(sum(map(width_of, names)) for names in table)
+    height = 2 * MARGIN + len(table) * DOWN - (DOWN - HIGH)
     middle = {}
-    for at, row in enumerate(table):
-        for place, name in enumerate(row):
-            middle[name] = (width / 2 + (place - (len(row) - 1) / 2) * ACROSS, height - MARGIN - HIGH / 2 - at * DOWN)
+    for at, names in enumerate(table):
+        for name in names:
+            middle[name] = (width / 2 + across[name], height - MARGIN - HIGH / 2 - at * DOWN)
+    boxes = [(name, *middle[name]) for name in uses]
     lines = [
         f'<svg xmlns="http://www.w3.org/2000/svg" viewBox="0 0 {width:g} {height:g}" font-family="monospace" font-size="12">',
-        "<title>The crates that the resolver stands on: each uses those that its lines lead down to</title>",
+        "<title>The crates of the resolver: each uses those to which its lines lead down</title>",
         f'<rect width="{width:g}" height="{height:g}" fill="#fff"/>',
         '<g fill="none" stroke="#888">',
     ]
-    for name, used in pairs:
-        (x, y), (to_x, to_y) = middle[name], middle[used]
-        y, to_y = y + HIGH / 2, to_y - HIGH / 2
-        bend = (to_y - y) / 2
-        # An arrow over several rows goes round what stands between.
-        aside = 0 if to_y - y < DOWN else ACROSS / 2 * (1 if to_x >= width / 2 else -1)
-        lines.append(f'<path d="M{x:g} {y:g}C{x + aside:g} {y + bend:g} {to_x + aside:g} {to_y - bend:g} {to_x:g} {to_y:g}"/>')
+    for chain in chains:
+        x, y = middle[chain[0]]
+        path = f"M{x:g} {y + HIGH / 2:g}"
+        for thing in chain[1:]:
+            to_x, to_y = middle[thing]
+            bend = y + DOWN / 2
+            path += f"C{x:g} {bend:g} {to_x:g} {bend:g} {to_x:g} {to_y - HIGH / 2:g}V{to_y + HIGH / 2:g}"
+            x, y = to_x, to_y
+        lines.append(f'<path d="{path[: path.rindex("V")]}"/>')
     lines.append('</g><g fill="#eef4fb" stroke="#36c">')
-    lines += [f'<rect x="{x - WIDE / 2:g}" y="{y - HIGH / 2:g}" width="{WIDE}" height="{HIGH}" rx="4"/>' for x, y in middle.values()]
+    lines += [f'<rect x="{x - WIDE / 2:g}" y="{y - HIGH / 2:g}" width="{WIDE}" height="{HIGH}" rx="4"/>' for _, x, y in boxes]
     lines.append('</g><g text-anchor="middle" fill="#123">')
-    lines += [f'<text x="{x:g}" y="{y + 4:g}">{name}</text>' for name, (x, y) in middle.items()]
+    lines += [f'<text x="{x:g}" y="{y + 4:g}">{name}</text>' for name, x, y in boxes]
     return "\n".join([*lines, "</g></svg>", ""])
 
 

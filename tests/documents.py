@@ -1,6 +1,6 @@
-"""The documents: README fits a screen and a half; each link leads somewhere; each name of docs/PROMISE.md exists; the picture of
-the promise is true of its example; what scripts make is up to date; docs/OPERATING.md has each line that help lists, and its
-examples are answered as it says."""
+"""The documents: README fits a screen and a half; each link leads somewhere; each name of the code in docs/ exists; the picture of
+the promise is true of its example; what scripts make is up to date; docs/OPERATING.md has each line that help lists, and the
+program replies to its examples as it says."""
 
 import os
 import re
@@ -50,29 +50,58 @@ def check_links(checks):
             checks.check(f"{path}: the link {target}", fault)
 
 
-def sources(ending):
-    """All text of the files of this ending in src/ and specs/."""
-    for base, folders, names in os.walk(os.path.join(TOP, "crates")):
+def sources(folder):
+    """The text of each file of src/ and specs/ below a folder, with the name of the file."""
+    for base, folders, names in os.walk(os.path.join(TOP, folder)):
         folders[:] = [name for name in folders if name not in ("out", "proofs", "must-fail")]
-        yield from (read(os.path.join(base, name)).decode() for name in names if name.endswith(ending))
+        yield from ((name, read(os.path.join(base, name)).decode()) for name in names if name.endswith((".rt", ".antt")))
 
 
-def defined():
-    """The names of all crates, of what their code declares, and of the definitions in their specs/."""
-    names = set(re.findall(r"^\w+", text_of("crates.txt"), re.MULTILINE))
-    for text in sources(".rt"):
-        names |= set(re.findall(r"\b(?:fn|struct|enum|trait|type|const|mod) (\w+)", text))
-        names |= set(re.findall(r"^    ([A-Z]\w*)\b", text, re.MULTILINE))
-    for text in sources(".antt"):
-        names |= set(re.findall(r"\bpub (?:record |data )?(\w+)", text))
+def defined(folder="crates"):
+    """The names that code declares in its files below a folder, and those of definitions in specs/."""
+    names = set()
+    for name, text in sources(folder):
+        if name.endswith(".rt"):
+            names |= set(re.findall(r"\b(?:fn|struct|enum|trait|type|const|mod) (\w+)", text))
+            names |= set(re.findall(r"^    ([A-Z]\w*)\b", text, re.MULTILINE))
+        else:
+            names |= set(re.findall(r"\bpub (?:record |data )?(\w+)", text))
     return names
 
 
+def methods():
+    """Each pair of a type or trait and a function that some file declares in its `impl` or in the trait itself."""
+    found = set()
+    for name, text in sources("crates"):
+        for head, body in re.findall(r"^((?:impl|pub trait|pub\(crate\) trait)\b[^{]*)\{(.*?)^\}", text, re.DOTALL | re.MULTILINE):
+            functions = re.findall(r"\bfn (\w+)", body)
+            found |= {(owner, function) for owner in re.findall(r"\b[A-Z]\w*", head) for function in functions}
+    return found
+
+
+# Words in code type of docs/MEANINGS.md that are no names of ours.
+OTHER_WORDS = {"TYPE", "c00c", "clap", "no_memory", "reply_lost"}
+
+
 def check_names(checks):
-    """Each name of docs/PROMISE.md is one of a crate, or a line, or a fault that a line may get."""
-    known = defined() | {line.split()[0] for line in listed()} | {"no_memory", "reply_lost"}
-    for name in sorted(set(re.findall(r"`((?:\w+::)*\w+)`", text_of("docs/PROMISE.md")))):
-        checks.equal(f"docs/PROMISE.md: what is missing of {name}", [part for part in name.split("::") if part not in known], [])
+    """Each name of docs/PROMISE.md and docs/MEANINGS.md is one of a crate, of a file of specs/, or of a line."""
+    crates = set(re.findall(r"^\w+", text_of("crates.txt"), re.MULTILINE))
+    known = defined() | crates | {line.split()[0] for line in listed()} | OTHER_WORDS
+    files = {name.removesuffix(".antt") for name, _ in sources("crates")} | {"Read", "Write", "Server"}
+    of_types = methods()
+    for path, names in (("docs/PROMISE.md", known), ("docs/MEANINGS.md", known | files)):
+        for name in sorted(set(re.findall(r"`((?:\w+::)*\w+)`", text_of(path)))):
+            parts = name.split("::")
+            missing = [part for part in parts if part not in names]
+            if not missing and len(parts) == 2 and tuple(parts) not in of_types:
+                missing = [f"{parts[1]} of {parts[0]}"]
+            checks.equal(f"{path}: what is missing of {name}", missing, [])
+    for row in re.findall(r"^\| .*\|$", text_of("docs/PROMISE.md"), re.MULTILINE):
+        for names, crate in re.findall(r"((?:`[\w:]+`,? )+)(?:in )?`(\w+)`", row):
+            if crate in crates:
+                there = defined(f"crates/{crate}")
+                parts = [name.split("::")[-1] for name in re.findall(r"`([\w:]+)`", names)]
+                checks.equal(f"docs/PROMISE.md: what {crate} has not", [part for part in parts if part not in there], [])
 
 
 def check_crates(checks):
@@ -85,13 +114,20 @@ def check_crates(checks):
 
 
 def check_picture(checks):
-    """Each line and each reply of the picture of the promise is one of its example."""
-    picture = text_of("docs/promise.svg")
+    """Each line, reply and second of the picture of the promise is one of its example. Without the flush, which is struck through,
+    and its undo, the last lookup of the example gets the same reply."""
+    picture, script = text_of("docs/promise.svg"), text_of("examples/wrong_zone.script").splitlines()
     for kind, file in (("line", "script"), ("reply", "out")):
         there = text_of(f"examples/wrong_zone.{file}").splitlines()
         for text in re.findall(rf'<text class="{kind}"[^>]*>([^<]*)</text>', picture):
             front = text.removesuffix(" ..")
             checks.check(f"docs/promise.svg: {text}", None if any(line.startswith(front) for line in there) else "the example has none")
+    seconds = [line.removeprefix("at ") for line in script if line.startswith("at ")]
+    checks.equal("docs/promise.svg: its seconds", re.findall(r">(\d+) s<", picture), ["0", *seconds])
+    gone = {*re.findall(r"line-through[^>]*>([^<]*)<", picture), "undo", "list_commands"}
+    done = run([RESOLVER, "script"], "".join(line + "\n" for line in script if line not in gone).encode())
+    last = [line for line in text_of("examples/wrong_zone.out").splitlines() if line.startswith("found ")][-1]
+    checks.equal("docs/promise.svg: a replay without the flush", done.out.decode().splitlines()[-1:], [last])
 
 
 def check_made(checks):
@@ -126,7 +162,7 @@ def check_control(checks, lines, replies):
 
 
 def check_operating(checks):
-    """docs/OPERATING.md has each line, and its examples are answered so."""
+    """docs/OPERATING.md has each line, and the program replies to its examples as it says."""
     text = read(OPERATING).decode()
     headed = re.findall(r"^### `(.*)`$", text, re.MULTILINE)
     checks.equal("the lines of OPERATING.md", sorted(headed), sorted(listed()))
