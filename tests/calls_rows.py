@@ -1,4 +1,4 @@
-"""Each row gives what it says: calls of the crates dns_name, dns_text and dns_wire."""
+"""Calls of dns_name, dns_text, dns_wire, neg_rule, harvest and dns_query: each row has a call, and what it must return."""
 
 import os
 
@@ -9,7 +9,7 @@ from lib.rows import ROWS, read_rows
 
 
 def compare(checks, name, rows):
-    """Makes the calls of rows, and compares what each gives."""
+    """Makes the calls of rows, and compares their results."""
     rows = list(rows)
     done = run([CALLS], b"".join(line + b"\n" for line, _ in rows))
     told = done.out.split(b"\n")[:-1]

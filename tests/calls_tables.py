@@ -1,11 +1,11 @@
-"""Changes of local zones and of stubs come to what was worked out by hand: each alone with its way back, and under a journal.
+"""Changes of local zones and of stubs, each with its way back, and under a journal. The results were worked out by hand.
 
 A row of tests/tables:
 
     == what the row is about
     journal 2                  how many changes the journal keeps, if not 64
     local_zone a. deny         a line for the program
-    : ok 1                     what it is told
+    : ok 1                     the reply to it
 """
 
 import os
@@ -19,7 +19,7 @@ MOST_ZONES, MOST_STUBS = 4_096, 1_024
 
 
 def play_journal(checks, about, limit, lines, wanted):
-    """Lines under a journal that keeps so many changes get these replies."""
+    """Checks the replies to lines under a journal of a given length."""
     done = run([PLAY, "journal", str(limit)], "".join(line + "\n" for line in lines).encode())
     checks.equal(f"journal: {about}", done.out, "".join(line + "\n" for line in wanted).encode())
     checks.equal(f"journal: {about}: its end", (done.status, done.err), (0, b""))
@@ -33,7 +33,7 @@ def check_rows(checks):
 
 
 def check_full(checks, about, most, line):
-    """One change more than there may be entries is refused. The last one is undone, and then another fits."""
+    """One entry more than the limit is refused. If the last one is undone, another fits."""
     lines = [line.format(place) for place in range(most + 1)] + ["undo", line.format(most), line.format(most + 1)]
     wanted = [f"ok {place + 1}" for place in range(most)] + ["error too_many", f"undone {most}", f"ok {most + 1}", "error too_many"]
     play_journal(checks, about, 64, lines, wanted)

@@ -1,7 +1,7 @@
-"""100,000 drawn changes of local zones and stubs, undos and redos, through `play journal`, come to what lists in Python come to.
+"""100,000 random changes of local zones and stubs, undos and redos, through `play journal`, compared with plain lists in Python.
 
-A run keeps, for each change that can be undone or redone, the tables before and after it: `lib/model.py` says what a change
-makes of a table, and why one is refused. Most runs have few entries, which change often. Some begin with 5,000 of them.
+A run keeps, for each change that can be undone or redone, the tables before and after it: `lib/model.py` computes
+the tables after a change, and the reason to refuse one. Most runs have few entries, which change often. Some begin with 5,000 of them.
 """
 
 import random
@@ -120,7 +120,7 @@ class Drawer:
         return f"look {self.name()} {self.draw.choice(['A', 'A', 'TXT', 'CNAME'])}"
 
     def lines(self, changes, each):
-        """So many changes, with a look behind some, and all lists behind one in `each`."""
+        """A number of changes, with lookups after some of them, and all lists after one in `each`."""
         left = changes
         while left:
             for line in self.change()[:left]:
@@ -139,20 +139,20 @@ def few_names():
 
 
 def many_names(draw, zones, records, stubs):
-    """Some of the names that such tables have, and some that are new."""
+    """Names of which the tables have some, and some that are new."""
     there = [f"z{place}." for place in range(max(zones, stubs))] + [f"n{place}.z{place % zones}." for place in range(records)]
     return draw.sample(there, 200) + [f"new{place}.z{place}." for place in range(20)] + [f"new{place}." for place in range(40)]
 
 
 def filling(zones, records, stubs):
-    """Lines that make so many of each, and no zone for a record but its own."""
+    """Lines that fill the tables with a number of each, so that each record has a zone of its own."""
     yield from (f"local_zone z{place}. static" for place in range(zones))
     yield from (f"local_data n{place}.z{place % zones}. 60 A 192.0.2.{place % 4 + 1}" for place in range(records))
     yield from (f"stub_add z{place}. 127.0.0.1" for place in range(stubs))
 
 
 def filled(lists, lines):
-    """The replies to lines that fill empty tables. Only the last of them can be undone, so for the others no journal is kept."""
+    """The replies to lines that fill empty tables. Only the last can be undone, so the model keeps no journal for the others."""
     events = [said_by(line, 0).what for line in lines]
     others = events[: -lists.limit]
     lists.tickets = len(others)
@@ -180,7 +180,7 @@ def octets(lines):
 
 
 def drawn_run(seed, size, counts):
-    """The limit of a journal, lines and the replies to them: about few names, or behind so many zones, records and stubs."""
+    """The limit of a journal, lines and their replies: about few names, or after many zones, records and stubs were made."""
     draw = random.Random(seed)
     lists = Lists(draw.choice(LIMITS))
     lines, wanted = [], []

@@ -1,4 +1,4 @@
-"""Drawn scripts of all lines are answered as the model says, which replays the events before each line from nothing."""
+"""Random scripts of all lines, compared with a model that replays the events before each line from nothing."""
 
 from collections import Counter
 
@@ -30,13 +30,13 @@ def settled(model):
 
 
 def has_made_zone(model):
-    """Whether the last event made a zone."""
+    """Whether the last event added a zone."""
     before = standing(model.journal, model.history[:-1])
     return len(tables_of(settled(model)).zones) > len(tables_of(before).zones)
 
 
 def kinds_of_nothing(model, line):
-    """What a look that gets nothing passes over."""
+    """The reasons why a lookup gets nothing."""
     _, owner, kind = words_of(line)
     question = name_in(owner), type_in(kind)
     if shown(settled(model), question, now(model.history)):
@@ -56,7 +56,7 @@ def kinds_of_servers(model, words):
 
 
 def kinds_of(model, line, told):
-    """The kinds of a reply, told by the model after it."""
+    """The kinds of a reply, by the model after it."""
     verb, words = line.split(" ")[0], told[0].split(" ")
     if told[-1] == "end":
         yield f"{verb} of {'some' if told[1:] else 'none'}"

@@ -1,4 +1,4 @@
-"""With which status the program ends, and what it then says: arguments, help, faults of reading and writing."""
+"""Exit statuses and messages of the program: arguments, help, failed reads and writes."""
 
 import os
 import re
@@ -11,7 +11,7 @@ RANKS = os.path.join(TOP, "examples/ranks.script")
 
 
 def check_arguments(checks):
-    """Numbers at the ends of their ranges and outside them; a fault is told in its first line, by the option's name."""
+    """Numbers at the ends of their ranges and outside them. The first line of an error names the option."""
     for arguments, word in [
         (["--journal", "0"], b"journal"),
         (["--journal", "257"], b"journal"),
@@ -31,7 +31,7 @@ def check_arguments(checks):
 
 
 def check_hints(checks):
-    """Up to 16 addresses of root servers, before and behind options."""
+    """Up to 16 addresses of root servers, before and after options."""
     hints = [f"198.51.100.{place}" for place in range(17)]
     told = "".join(f" {hint}@53" for hint in hints[:16])
     for name, arguments in (("16 hints", hints[:16]), ("hints round an option", [*hints[:3], "--journal", "1", *hints[3:16]])):
@@ -43,7 +43,7 @@ def check_hints(checks):
 
 
 def check_help(checks):
-    """The whole text of help and of faults of the mode, on standard error, with status 2."""
+    """The whole text of help, and of errors in the mode, on standard error and with status 2."""
     for arguments, file in [
         (["--help"], "resolver.txt"),
         (["help"], "resolver.txt"),
@@ -63,14 +63,14 @@ def check_help(checks):
 
 
 def check_version(checks):
-    """The version, as help is: on standard error, with status 2. It is the newest of CHANGELOG.md."""
+    """The version, on standard error and with status 2 as help is. It is the newest one of CHANGELOG.md."""
     newest = re.search(r"^## (\S+)", read(os.path.join(TOP, "CHANGELOG.md")).decode(), re.MULTILINE)[1]
     done = run([RESOLVER, "--version"])
     checks.equal("the version", (done.status, done.out, done.err), (2, b"", f"resolver {newest}\n".encode()))
 
 
 def check_faults(checks):
-    """A device that takes no octet, and an input that cannot be read."""
+    """A full device, and an input that cannot be read."""
     with open(RANKS, "rb") as text, open("/dev/full", "wb") as full:
         done = subprocess.run([RESOLVER, "script"], stdin=text, stdout=full, stderr=subprocess.PIPE, timeout=PATIENCE)
     checks.equal("a device that is full", (done.returncode, done.stderr), (1, b"resolver: write failed\n"))

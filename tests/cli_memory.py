@@ -1,4 +1,4 @@
-"""Every growth of memory is refused in turn: want of memory is told, only where memory was refused, and does no harm."""
+"""Each allocation is refused in turn: the program reports want of memory only if an allocation was refused, and it does no harm."""
 
 import os
 import re
@@ -8,7 +8,7 @@ from lib.made_rows import every_octet
 from lib.programs import BOOKS, CALLS, PLAY, RESOLVER, TABLES, read, run, scripts
 from lib.rows import ROWS, call, read_rows
 
-# More growths than this have no run and no call here.
+# No run and no call here makes more allocations than this.
 MOST = 100_000
 
 
@@ -16,7 +16,7 @@ def refusals(done):
     return done.told.count("refused")
 
 
-# ---- scripts: one growth of the run is refused
+# ---- scripts: one allocation of the run is refused
 
 NO_MEMORY = {b"error no_memory", b"fault no_memory"}
 LOST = b"fault reply_lost"
@@ -30,13 +30,13 @@ def replied_lines(text):
     return [line for line in lines if line.rstrip(b"\r") and not line.startswith(b"#")]
 
 
-# A list is told on a line each, up to this one.
+# A list has one line for each item, up to this line.
 LISTS = (b"list_local_zones", b"list_local_data", b"list_stubs", b"list_commands")
 LIST_END = b"end"
 
 
 def replies_to(lines, told):
-    """The reply to each line, or `None` where that is not so many replies: a list is one reply, and any other is one line."""
+    """The reply to each line, or `None` if their number is wrong. A list is one reply, and any other reply is one line."""
     replies = []
     rest = told.split(b"\n")[:-1]
     for line in lines:
@@ -51,10 +51,10 @@ def replies_to(lines, told):
 
 
 def fault_of_script(command, lines, done, start):
-    """What is wrong with a run of a script in which a growth was refused.
+    """What is wrong with a run of a script in which an allocation was refused.
 
-    Memory was refused at the start: no reply, and the status and the words that say so. Or the script ran to its end, and is
-    answered as though the lines that found no memory had not been given, while those whose reply was lost stand.
+    Either it was refused at the start: then there is no reply, and the status and the message say so. Or the script ran to its
+    end. Then lines that got no memory had no effect, and lines whose reply was lost took effect.
     """
     if not done.out and (done.status, done.err) == start:
         return None
@@ -105,10 +105,10 @@ def check_script(checks, name, command, text, start):
     checks.check(f"{name}, growths refused", None if nth > 1 else "none was")
 
 
-# ---- rows: a growth of each call is refused in one run
+# ---- rows: one allocation of each call is refused in one run
 
 def check_rows(checks, name, rows):
-    """The longest call goes first and is not compared: the line's buffer has its size before growths are refused."""
+    """The longest call goes first and is not compared, so that the line's buffer has its size before allocations are refused."""
     longest = max((line for line, _ in rows), key=len)
     text = b"".join(line + b"\n" for line in [longest] + [line for line, _ in rows])
     for nth in range(1, MOST):
@@ -131,7 +131,7 @@ def check_rows(checks, name, rows):
 
 
 def check_start_of_rows(checks):
-    """Where the first line cannot be held, the program ends with a failure."""
+    """If there is no memory for the first line, the program ends with a failure."""
     done = run([CALLS], call("name", b"a") + b"\n", preload="refuse", REFUSE_NTH=1)
     checks.equal("the first growth of the calls", (refusals(done), done.status, done.out), (1, 1, b""))
 
@@ -139,7 +139,7 @@ def check_start_of_rows(checks):
 # ---- changes of local zones and of stubs, each with its way back
 
 def table_runs(word, lines):
-    """What may be written where one growth is refused: all, or all without one line, which finds no memory or is not read."""
+    """The outputs that are allowed if one allocation is refused: all lines, or all but one that got no memory or was not read."""
     def written(some):
         return run([PLAY, word], b"".join(line + b"\n" for line in some)).out
 
@@ -152,7 +152,7 @@ def table_runs(word, lines):
 
 
 def check_table(checks, word):
-    """A refused growth leaves the lists as they were, or ends the program behind a whole line."""
+    """A refused allocation leaves the lists as they were, or ends the program after a whole line."""
     text = read(TABLES[word][0])
     lines = [line for line in text.splitlines() if not line.startswith((b"fill", b"#"))]
     text = b"".join(line + b"\n" for line in lines)
@@ -169,7 +169,7 @@ def check_table(checks, word):
 
 # ---- calls of a book, each recorded
 
-# Every kind of event, of command and of what is asked has to occur in the record, where an event stands behind its moment.
+# Every kind of event, of command and of lookup has to occur in the call log, in which an event follows its moment.
 KINDS = """
 admit undo redo sweep
 flush_type flush flush_zone local_zone local_data stub_add local_zone_remove local_data_remove stub_remove
@@ -181,9 +181,9 @@ WANT = b"out of memory"
 
 
 def fault_of_steps(whole, done):
-    """What is wrong with a run in which a growth was refused.
+    """What is wrong with a run in which an allocation was refused.
 
-    The program ended before its first call. Or one call found no memory and left what there was, and all else is as though
+    Either the program ended before its first call. Or one call got no memory and changed nothing, and all other replies are as if
     it had not been made.
     """
     if done.status == 1 and not done.out:
@@ -202,7 +202,7 @@ def fault_of_steps(whole, done):
 
 
 def check_steps(checks):
-    """A call that finds no memory leaves the record, the totals and the pass as they were, and is made again."""
+    """A call that gets no memory leaves the call log, the totals and the pass as they were, and is made again."""
     whole = run([BOOKS, "steps"]).out
     for kind in KINDS:
         checks.check(f"the kind {kind}", None if re.search(rb" at \d+ %s\b" % kind.encode(), whole) else "was never drawn")
@@ -216,11 +216,11 @@ def check_steps(checks):
     checks.check("recorded calls that find no memory", None if wants > 60 else f"are {wants}")
 
 
-# ---- messages that are drawn
+# ---- random messages
 
 def check_drawn(checks):
-    """The first growths: the first line cannot be held, and the program ends with a failure; or the call finds no memory, and tells
-    nothing else."""
+    """The first allocations: either there is no memory for the first line, and the program ends with a failure; or the call reports
+    want of memory and nothing else."""
     ended = 0
     for nth in range(1, 401):
         done = run([CALLS], b"drawn\n", preload="refuse", REFUSE_NTH=nth)
@@ -230,10 +230,10 @@ def check_drawn(checks):
     checks.check("growths before the first call", None if ended < 9 else f"{ended} ended the program")
 
 
-# ---- how much is asked for
+# ---- how much memory is requested
 
 def check_counts(checks):
-    """A header that counts 65,535 of each, and has none, takes no memory for them."""
+    """A header that counts 65,535 records of each section, and has none, takes no memory for them."""
     header = bytes.fromhex("12340100ffffffffffffffff")
     one_question = bytes.fromhex("123401000001ffffffffffff0000010001")
     first = call("decode", bytes(40))

@@ -1,11 +1,11 @@
-"""Each worked script is answered as the file beside it says, over both books: the program's, and the one that replays its history."""
+"""Each script of examples/ and tests/scripts gets the replies of its `.out` file, with the program's book and with PlainBook."""
 
 from lib.checks import Checks
 from lib.programs import PLAY, RESOLVER, run, scripts
 
 
 def books_of(name):
-    """Both books, but for a script about room: the book that replays its history counts each admission as a cell."""
+    """Both books; only the program's for a script about room in the cache, since PlainBook counts each admission as a cell."""
     about_room = "/room_" in name
     return (("", RESOLVER),) if about_room else (("", RESOLVER), (" by replay", PLAY))
 

@@ -1,4 +1,4 @@
-"""Scripts above every size that a program may have in mind. Each reply is worked out here, by what the lines mean."""
+"""Scripts that exceed every size for which a program might be made. The replies are computed here from the meaning of the lines."""
 
 import subprocess
 import tempfile
@@ -14,7 +14,7 @@ def address(place):
 
 
 def flushes_undone():
-    """300 sets are emptied. Of these commands the newest 256 can be undone, the newest first, and then redone."""
+    """300 flushes. The newest 256 of them are undone, the newest first, and then redone."""
     for place in range(300):
         yield f"admit 4 n{place}.test. 60 A {address(place)}", "taken"
     for place in range(300):
@@ -34,7 +34,7 @@ def flushes_undone():
 
 
 def admissions():
-    """4,200 sets of as many names, of 30 of which the types are emptied and come back."""
+    """4,200 sets of as many names. Flushes of 30 of them are undone."""
     for place in range(4_200):
         yield f"admit 3 n{place}.test. 60 A {address(place)}", "taken"
     for place in range(0, 4_200, 140):
@@ -49,7 +49,7 @@ def admissions():
 
 
 def admissions_of_one_name():
-    """4,200 sets of one name, each in the place of the one before."""
+    """4,200 sets of one name, each of which replaces the one before."""
     for place in range(4_200):
         yield f"admit 4 a.test. 60 A {address(place)}", "taken"
     yield "look a.test. A", f"found 4 60 a.test. A {address(4_199)}"
@@ -60,7 +60,7 @@ def admissions_of_one_name():
 
 
 def many_strings():
-    """A TXT of 40 strings, and one of so many octets as a line has room for."""
+    """A TXT of 40 strings, and one of as many octets as a line has room for."""
     short = [f"s{place}" for place in range(40)]
     long = [chr(97 + place % 26) * 23 for place in range(38)]
     for name, strings in (("a.", short), ("b.", long)):
@@ -70,7 +70,7 @@ def many_strings():
 
 
 def many_data():
-    """Sets of 40 data, of which one repeats and is kept once."""
+    """Sets of 40 data, of which one occurs twice and is kept once."""
     addresses = [address(place) for place in range(40)]
     yield "admit 4 a. 60 A " + " | ".join(addresses), "taken"
     yield "look a. A", "found 4 60 a. A " + " | ".join(addresses)
@@ -82,7 +82,7 @@ def many_data():
 
 
 def escaped_names():
-    """Names of 255 octets, each of them escaped: 1,004 octets of text, in lines that have room for 1,024."""
+    """Names of 255 octets, all escaped: 1,004 octets of text, in lines that may have 1,024."""
     octets = [*range(128, 256), *range(33), *range(127, 216)]
     name = name_text(octets[at : at + 63] for at in range(0, 250, 63))
     yield f"look {name} A", "unknown"
@@ -96,7 +96,7 @@ def escaped_names():
 
 
 def flushed_and_undone_again():
-    """4,000 times one name is emptied, restored and looked at."""
+    """One name is flushed, restored and looked up, 4,000 times."""
     yield "admit 4 a.test. 60 A 192.0.2.1", "taken"
     for ticket in range(1, 4_001):
         yield "flush_type a.test. A", f"ok {ticket}"
@@ -105,7 +105,7 @@ def flushed_and_undone_again():
 
 
 def full_zones():
-    """4,096 zones and no more: neither one that is set nor one that a record would make. The last is taken back and put back."""
+    """4,096 zones and no more, neither by a command nor with a record. The last one is undone and redone."""
     zones = [f"z{place}. static" for place in range(4_096)]
     for place, zone in enumerate(zones):
         yield f"local_zone {zone}", f"ok {place + 1}"
@@ -127,7 +127,7 @@ def full_zones():
 
 
 def full_stubs():
-    """1,024 stubs and no more. One that is there takes its new addresses; the last is taken back, and another comes."""
+    """1,024 stubs and no more. One that exists gets new addresses. The last one is undone, and then another fits."""
     stubs = [f"s{place}. 127.0.0.1@53" for place in range(1_024)]
     for place in range(1_024):
         yield f"stub_add s{place}. 127.0.0.1", f"ok {place + 1}"
@@ -149,7 +149,7 @@ def full_stubs():
 
 
 def full_records():
-    """65,536 records and no more, removed with their zone and taken back. One that is there already is no more."""
+    """65,536 records and no more. They are removed with their zone, and that is undone. A record that exists already needs no room."""
     yield "local_zone z. static", "ok 1"
     for place in range(65_536):
         yield f"local_data n{place}.z. 60 A {address(place)}", f"ok {place + 2}"
@@ -163,7 +163,7 @@ def full_records():
 
 
 def records_taken_back():
-    """4,096 records, of which many are removed with their zone and come back, each in its place."""
+    """4,096 records. Many are removed with their zone, and an undo restores each in its place."""
     yield "local_zone z. static", "ok 1"
     yield "local_zone y. static", "ok 2"
     for place in range(4_096):
@@ -189,7 +189,7 @@ def names_swept():
 
 
 def check_memory(checks, rows, most, *arguments):
-    """A script of these lines gets these replies, and the program never has more than so many KiB."""
+    """Checks the replies to a script, and that the program never has more than a number of KiB."""
     lines, replies = zip(*rows())
     with tempfile.TemporaryFile() as asked, tempfile.TemporaryFile() as told:
         asked.write("".join(line + "\n" for line in lines).encode())
@@ -202,7 +202,7 @@ def check_memory(checks, rows, most, *arguments):
 
 
 def check(checks, rows, *arguments):
-    """A script of these lines gets these replies."""
+    """Checks the replies to a script."""
     lines, replies = zip(*rows())
     text = "".join(line + "\n" for line in lines).encode()
     wanted = "".join(reply + "\n" for reply in replies).encode()

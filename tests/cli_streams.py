@@ -1,4 +1,4 @@
-"""Lines and replies as they come and go: promptly, in few reads, and in spite of signals and of pieces of one octet."""
+"""Input and output: replies are prompt and reads are few, and signals and pieces of one octet change nothing."""
 
 import os
 import select
@@ -8,7 +8,7 @@ import tempfile
 from lib.checks import Checks
 from lib.programs import RESOLVER, run, run_to_hangup, run_to_most, scripts
 
-# So many seconds a reply may take; it takes far less.
+# The seconds that a reply may take; it takes far less.
 SECONDS = 20
 
 FIND = b"admit 4 a.test. 60 A 192.0.2.1\n"
@@ -16,7 +16,7 @@ LOOK = b"look a.test. A\n"
 FOUND = b"found 4 60 a.test. A 192.0.2.1\n"
 
 
-# The replies that are awaited one by one: what is written, and what then comes back.
+# Lines whose replies are awaited one by one: what is written, and the replies.
 DIALOGUE = [
     (FIND, b"taken\n"),
     (LOOK, FOUND),
@@ -29,7 +29,7 @@ DIALOGUE = [
 
 
 def reply_of(resolver):
-    """What comes back, up to the end of a line; a front of it where nothing more comes."""
+    """The output up to the end of a line, or less if no more comes."""
     reply = b""
     while not reply.endswith(b"\n"):
         ready, _, _ = select.select([resolver.stdout], [], [], SECONDS)
@@ -41,7 +41,7 @@ def reply_of(resolver):
 
 
 def check_prompt(checks):
-    """Each reply comes before the next line is written, and a last line with no end is answered at the end."""
+    """Each reply comes before the next line is written. A last line without its end gets a reply at the end."""
     resolver = subprocess.Popen([RESOLVER, "script"], stdin=subprocess.PIPE, stdout=subprocess.PIPE, bufsize=0, env={})
     try:
         for text, wanted in DIALOGUE:
@@ -81,7 +81,7 @@ def check_reads(checks):
 
 
 def check_interrupted(checks):
-    """Each worked script is answered the same where signals interrupt, and one octet moves at a time."""
+    """Each script gets the same replies if signals interrupt calls, and if each call moves one octet."""
     for name, arguments, text, wanted in scripts():
         done = run([RESOLVER, "script"] + arguments, text, preload="interrupt", INTERRUPT=1)
         checks.equal(f"{name}, interrupted", done.out, wanted)
@@ -91,9 +91,9 @@ def check_interrupted(checks):
 
 
 def check_refused_write(checks):
-    """A file that may have so many octets and no more gets that front of the replies, and the program says what failed.
+    """A file that has room for the beginning of the replies gets just that, and the program reports the failed write.
 
-    So where the third octet of the second reply is the last that is written.
+    One such file ends after the third octet of the second reply.
     """
     text = FIND + LOOK + b"flush a.test.\nlist_commands\n"
     replies = b"taken\n" + FOUND + b"ok 1\n1 done flush a.test.\nend\n"
@@ -103,7 +103,7 @@ def check_refused_write(checks):
 
 
 def check_failed_read(checks):
-    """A terminal that hangs up: the whole lines that came are obeyed and told, and of a begun one nothing."""
+    """A terminal that hangs up: whole lines were obeyed and got their replies; a line that had only begun was ignored."""
     for text, wanted in ((b"", b""), (b"at 1\nloo", b"ok\n"), (b"at 1\nundo\n", b"ok\nerror nothing_to_undo\n")):
         told = run_to_hangup([RESOLVER, "script"], text)
         checks.equal(f"{text!r} and a failed read", told, (wanted, b"resolver: read failed\n", 1))

@@ -1,6 +1,6 @@
-"""How often memory is asked for: no more than these many times for each call, counted by a library in front of malloc.
+"""The number of allocations of each call, counted by a library in front of malloc, is at most that given here.
 
-A run of twice the calls less one of the calls takes off what starting up asks for.
+The count of a run is subtracted from that of a run with twice the calls, so that starting up does not count.
 """
 
 from lib.checks import Checks
@@ -8,20 +8,20 @@ from lib.programs import MEASURE, run
 
 COUNT = 1000
 
-# A query of a short question, from octets in to octets out: the list of steps, and the reply. Of local data besides: the records
-# that the look tells, and the set that the task makes of them, its records and what shares them.
+# A query with a short question, from its octets to the octets of the reply: the list of steps, and the reply. For local data also
+# the records that the lookup returns, and the set that the task makes of them, its records and their shared block.
 MOST_OF_A_QUERY = {"held": 2, "local": 5, "refused": 2}
 
-# A task, from its beginning to its answer: the list of steps; of local data besides the records that the look tells, and the set
-# that the task makes of them, its records and what shares them.
+# A task, from its beginning to its answer: the list of steps. For local data also the records that the lookup returns, and the set
+# that the task makes of them, its records and their shared block.
 MOST_OF_A_TASK = {"held": 1, "local": 4, "refused": 1}
 
-# The look of such a task alone.
+# The lookup of such a task alone.
 MOST_OF_A_LOOK = {"held_look": 0, "local_look": 1, "refused_look": 0}
 
 
 def counted(word, call, count):
-    """How often a run asks for memory; None where the program did otherwise than it should."""
+    """The allocations of a run, or None if the program did not do what it should."""
     done = run([MEASURE, word, call, str(count)], preload="count")
     name, _, answered = done.out.decode().strip().partition(" ")
     if done.status or name != call or not answered.isdigit() or int(answered) < count:
@@ -30,7 +30,7 @@ def counted(word, call, count):
 
 
 def of_a_call(word, call):
-    """How often one call asks for memory."""
+    """The allocations of one call."""
     once, twice = counted(word, call, COUNT), counted(word, call, 2 * COUNT)
     return None if once is None or twice is None else (twice - once) / COUNT
 

@@ -1,4 +1,4 @@
-"""What lines of control are told, and how they end: at a book, and at a desk that is behind."""
+"""The replies to lines of control, and their end: with a book, and with a desk that returns the fault `behind`."""
 
 from lib.checks import Checks
 from lib.programs import PLAY, run, run_to_hangup, run_to_most
@@ -8,7 +8,7 @@ CONTROL = [PLAY, "control"]
 # How the program ends.
 END, READ_FAILED, WRITE_FAILED, STOP = 0, 1, 2, 4
 
-# What is given to control at a book, what is told, and how it ends.
+# Input of control with a book, its output, and how it ends.
 AT_A_BOOK = [
     (b"", b"", END),
     (b"# a comment\n\n\r\n", b"", END),
@@ -20,12 +20,12 @@ AT_A_BOOK = [
     (b" stop\t\nundo\n", b"ok stopping\n", STOP),
     (b"local_zone a. static\nstop\nundo\nlist_local_zones\n", b"ok 1\nok stopping\n", STOP),
     (b"stop x\nstop stop\nstopp\nSTOP\n", b"error bad_data\nerror bad_data\nerror unknown\nerror unknown\n", END),
-    # The lines of scripts are none here, whatever stands behind their words.
+    # Lines for scripts alone are unknown here, whatever follows their first word.
     (b"at\nat x\nat 5 5\nat 5\n", b"error unknown\n" * 4, END),
     (b"admit\nadmit 9 a..b 0 NOPE\nadmit 4 a. 60 A 192.0.2.1\n", b"error unknown\n" * 3, END),
     (b"nodata\nnodata a. 60 A . . . 1 1 1 1 1\nnodata x..\n", b"error unknown\n" * 3, END),
     (b"noname\nnoname a. 60 . . . 1 1 1 1 1\nnoname x..\n", b"error unknown\n" * 3, END),
-    # Every other line is.
+    # Every other line is known.
     (b"look a. A\nservers a.\nsweep\n", b"unknown\nservers . hints\nswept\n", END),
     (b"flush a.\nflush_type a. A\nflush_zone a.\n", b"ok 1\nok 2\nok 3\n", END),
     (b"local_zone a. deny\nlocal_data a. A 192.0.2.1\nlook a. A\n", b"ok 1\nok 2\nlocal 3600 a. A 192.0.2.1\n", END),
@@ -36,8 +36,8 @@ AT_A_BOOK = [
     (b"x" * 1_025 + b"\n" + b"#" * 1_025 + b"\nundo\n", b"error too_long\nerror nothing_to_undo\n", END),
 ]
 
-# The same at a desk that is behind, at as many calls as its moment says. The clock begins at 7, and a reading of it is a second
-# later than the one before: it is read once for a line that is handed in, and for no other.
+# The same with a desk that returns `behind`, with the moment as the number. The clock begins at 7, and each reading is a second
+# later. It is read once for each line that becomes an event, and for no other.
 BEHIND = [
     (b"sweep\n# a comment\n\nundo\n", b"fault behind 7\nfault behind 8\n", END),
     (b"frob\nundo x\nat 3\nlook a..b A\nundo\nstop x\nredo\n", b"error unknown\nerror bad_data\nerror unknown\nerror bad_name\nfault behind 7\nerror bad_data\nfault behind 8\n", END),
@@ -57,20 +57,20 @@ TOLD = b"ok 1\na. deny\nend\nok stopping\n"
 
 
 def check_pieces(checks):
-    """Signals interrupt, and one octet moves at a time."""
+    """Signals interrupt calls, and each call moves one octet."""
     done = run(CONTROL, TEXT, preload="interrupt", INTERRUPT=1)
     checks.equal("interrupted", (done.out, done.status), (TOLD, STOP))
 
 
 def check_failed_write(checks):
-    """A file that may have fewer octets than are told gets that front of them. Nothing behind the last line is obeyed."""
+    """A file with room for the beginning of the output gets just that. No line after that of the last reply is obeyed."""
     for most in range(len(TOLD)):
         told = run_to_most(CONTROL, TEXT, most)
         checks.equal(f"a file of at most {most} octets", told, (TOLD[:most], b"", WRITE_FAILED))
 
 
 def check_failed_read(checks):
-    """A terminal that hangs up: the whole lines that came are obeyed and told, and of a begun one nothing."""
+    """A terminal that hangs up: whole lines were obeyed and got their replies; a line that had only begun was ignored."""
     for text, wanted, status in (
         (b"", b"", READ_FAILED),
         (b"flush a.\nsto", b"ok 1\n", READ_FAILED),

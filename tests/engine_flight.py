@@ -1,16 +1,15 @@
-"""Questions in flight are answered as rows say: `play flight` drives them, and the rows play clients, name servers and
-the sockets.
+"""Questions in flight, through `play flight`: rows play clients, name servers and sockets, and have the replies.
 
 A row of tests/flight begins with a root server at 127.0.0.1@5301:
 
     == what the row is about
     admit 4 a.test. 60 A 192.0.2.1     lines that the program obeys
-    : taken                            what a line is told
+    : taken                            the reply to a line
     client 1 a.test. A                 a query comes from client 1, or `octets 1 00..`
-    > 0 127.0.0.1@5301 udp a.test. A   the exchange that has to begin, behind its key
-    look 0 aa | answer ..              a response comes under the key (tests/lib/messages.py), or `nothing`, `broken`, `no_memory`
+    > 0 127.0.0.1@5301 udp a.test. A   the exchange that has to begin, after its key
+    look 0 aa | answer ..              a response for that key (tests/lib/messages.py), or `nothing`, `broken`, `no_memory`
     = 1 - | answer a.test. A 192.0.2.1 the reply to client 1 (tests/lib/replies.py)
-    ! 1 too_many                       it is told that the server failed, for this reason
+    ! 1 too_many                       it gets SERVFAIL, for this reason
     - 1                                it gets no reply
 """
 
@@ -37,7 +36,7 @@ def query(client, question):
 
 
 def given(lines):
-    """What the program is given in a row."""
+    """The input of the program for a row."""
     told, asked = [HINTS], {}
     for line in lines:
         mark, _, rest = line.partition(" ")
@@ -60,7 +59,7 @@ def given(lines):
 
 
 def words_of(line):
-    """What a line of the program tells, in the words of a row."""
+    """A line of the program's output, in the words of a row."""
     word, _, rest = line.partition(" ")
     if word == "open":
         key, _, rest = rest.partition(" ")
@@ -77,7 +76,7 @@ def words_of(line):
 
 
 def told_in(out):
-    """What a run tells, in the words of a row, without the ends of lines."""
+    """The output of a run, in the words of a row and without the ends of lines."""
     return [words_of(line) for line in out.decode().splitlines() if line not in (".", "ok")]
 
 
@@ -97,7 +96,7 @@ END = [line for turn in range(70) for line in (f"now {10 ** 6 + 2000 * turn}", "
 
 
 def fault_of_refusal(lines, told, status):
-    """What is wrong with a run in which a growth was refused: each client that came is settled once, unless the program ends."""
+    """What is wrong with a run in which an allocation was refused. Each client has to be settled once, unless the program ends."""
     clients = {line.split()[1] for line in lines if line.startswith("client ")}
     often = settled(told)
     if any(count > 1 for count in often.values()):
@@ -108,7 +107,7 @@ def fault_of_refusal(lines, told, status):
 
 
 def refuse_each(checks, about, lines):
-    """Runs a row with each growth refused in turn."""
+    """Runs a row with each allocation refused in turn."""
     lines = [*given(lines), *END]
     for nth in range(1, MOST):
         done = talk(lines, preload="refuse", REFUSE_NTH=nth)
@@ -119,7 +118,7 @@ def refuse_each(checks, about, lines):
     checks.check(f"{about}: each growth is refused", f"more than {MOST}")
 
 
-# ---- a drawn run
+# ---- a random run
 
 DRAWN = 4_000
 LIMIT = 20
@@ -153,7 +152,7 @@ def address(question):
 
 
 def drawn_response(some, question):
-    """What comes for a question: mostly its answer."""
+    """What a name server sends for a question: mostly its answer."""
     draw = some.random()
     owner = question.split()[0]
     if draw < 0.1:
@@ -166,7 +165,7 @@ def drawn_response(some, question):
 
 
 class Drawn:
-    """A drawn run: who asked what, which exchange is under way under which key, and how often each client was settled."""
+    """A random run: who asked what, which exchange is under way under which key, and how often each client was settled."""
 
     def __init__(self, checks):
         self.checks, self.some, self.talker = checks, random.Random(7), Talker()
@@ -186,7 +185,7 @@ class Drawn:
                 self.checks.check("a drawn reply", self.fault(int(rest[0]), bytes.fromhex(rest[1])))
 
     def fault(self, client, octets):
-        """What is wrong with a reply: it is one to the client's query, and tells its answer or that the server failed."""
+        """What is wrong with a reply. It has to be one to the client's query, with its answer or SERVFAIL."""
         question = self.asked[client]
         reply = reply_in(octets) if len(octets) > 12 else None
         if octets[:2] != query(client, question)[:2] or (reply and reply.question != question):

@@ -1,4 +1,4 @@
-"""Queries and streams are served as rows say: `play serve` serves them, and the rows play its name servers. Workers serve what comes to them.
+"""Queries and streams, through `play serve`: rows play the name servers, and have the replies. Then workers that serve several.
 
 A row of tests/engines:
 
@@ -6,10 +6,10 @@ A row of tests/engines:
     == what the row is about
     hints 127.0.0.1@5301                     lines that the program obeys; 255*x is so many letters x
     local_data a.test. 30 A 192.0.2.5
-    : ok 1                                   what a line is told
-    * 80 local_data a.test. 60 TXT y#        so many lines, # being 1, 2 and so on
+    : ok 1                                   the reply to a line
+    * 80 local_data a.test. 60 TXT y#        80 such lines, with 1, 2 and so on for #
     udp QUERY                                octets that come as a query, or `tcp QUERY`
-    > 127.0.0.1@5301 udp a.test. A           the query that has to go out, and what comes of it (tests/lib/rows.py)
+    > 127.0.0.1@5301 udp a.test. A           the query that has to be sent, and its outcome (tests/lib/rows.py)
     < aa | answer a.test. 60 A 192.0.2.9
     = 1234 8180 ..                           the reply; `none`, or `no_memory`
     stream 00, 18 QUERY                      pieces of a stream; `each` octet is one
@@ -39,7 +39,7 @@ def spelled_rows(path):
 
 
 def spelled(line, names):
-    """A line in which octets stand as digits, and repeated letters as they are."""
+    """A line with its octets as digits, and repeated letters written out."""
     mark, _, rest = line.partition(" ")
     if mark in ("udp", "tcp"):
         return f"{mark} {digits(octets(rest, names))}"
@@ -63,7 +63,7 @@ def pieces(text, names):
 
 
 def given(lines, before=()):
-    """What the program is given in a row; these lines stand before each query and stream."""
+    """The input of the program for a row. The lines `before` are put before each query and stream."""
     told, asked, served = [], "", None
     for line in [*lines, ""]:
         mark, _, rest = line.partition(" ")
@@ -87,13 +87,13 @@ def given(lines, before=()):
 
 
 def reply_words(line):
-    """What a line of the program says of a reply, in the words of a row."""
+    """The reply in a line of the program's output, in the words of a row."""
     word, _, rest = line.partition(" ")
     return rest if word in ("reply", "wrote") else line
 
 
 def difference(lines, told):
-    """What the program told otherwise than a row says, or None."""
+    """The first difference between the program's output and a row, or None."""
     told = list(told)
     for line in lines:
         mark, _, rest = line.partition(" ")
@@ -122,12 +122,12 @@ def talk(lines, **settings):
 
 
 def is_failure(reply, whole):
-    """Whether a reply tells that the server failed, and repeats the identifier of another."""
+    """Whether a reply is SERVFAIL, and has the identifier of another."""
     return reply[:4] == whole[:4] and len(reply) >= 24 and int(reply[4:8], 16) & 0x800F == 0x8002
 
 
 def frames(written):
-    """The messages of a stream, each behind its length, and what is left of one that is not whole."""
+    """The messages of a stream, each of which follows its length, and the beginning of one that is not whole."""
     found = []
     while len(written) >= 4 and len(written) >= 4 + 2 * int(written[:4], 16):
         end = 4 + 2 * int(written[:4], 16)
@@ -137,12 +137,12 @@ def frames(written):
 
 
 def are_served(found, whole):
-    """Whether messages are those of another run from the first on, or tell that the server failed."""
+    """Whether messages are the first ones of another run, or SERVFAIL."""
     return len(found) <= len(whole) and all(one == other or is_failure(one, other) for one, other in zip(found, whole))
 
 
 def fault_of_asking(told, whole):
-    """What is wrong with what is told where a query to a name server fails: another may be asked, or the question fails."""
+    """What is wrong with the output if a query to a name server fails: another may be asked, or the question fails."""
     found, wanted = ([line for line in lines if not line.startswith("send ")] for lines in (told, whole))
     if len(found) != len(wanted):
         return f"{found}, and else {wanted}"
@@ -175,7 +175,7 @@ def written(told):
 
 
 def split_streams(lines):
-    """The lines of a row, cut behind each of its streams."""
+    """The lines of a row, split after each of its streams."""
     found = [[]]
     for line in lines:
         found[-1].append(line)
@@ -185,7 +185,7 @@ def split_streams(lines):
 
 
 def all_found(lines):
-    """A row in which a name server that finds no memory fails instead, so that a run that lacks nothing goes to its end."""
+    """A row in which each name server without memory fails instead, so that a run without a fault goes to its end."""
     return ["< failed" if line == "< no_memory" else line for line in lines]
 
 
@@ -213,7 +213,7 @@ MOST_FAILURES = 16
 
 
 def check_workers(checks):
-    """Failures in a row end a worker, one less and a success do not, and no memory at its port or its listener is passed over."""
+    """Sixteen failures in a row end a worker. Fifteen and a success do not, and want of memory at a port or listener is no failure."""
     book = ["hints", "local_data a.test. 30 A 192.0.2.5"]
     asked = octets("1234 0100 0001 0000 0000 0000 01'a' 04'test' 00 0001 0001", {})
     for over in ("udp", "tcp"):
@@ -241,7 +241,7 @@ def check_workers(checks):
 # ---- identifiers
 
 def pcg_words(seed, stream):
-    """The words of PCG32 (its XSH RR form) from a seed and a stream, by its definition."""
+    """The words of PCG32 (XSH RR) for a seed and a stream, by its definition."""
     most, more = 2**64 - 1, 2 * stream + 1
     state = ((seed + more) * 6364136223846793005 + more) & most
     while True:
@@ -265,14 +265,14 @@ def check_identifiers(checks):
 
 MOST = 5_000
 LINE_WANTS = ("error no_memory", "fault no_memory", "fault reply_lost")
-UNREFUSED = ("more octets than any message has",)  # it takes too many growths
+UNREFUSED = ("more octets than any message has",)  # it makes too many allocations
 
 
 def fault_of_refusal(told, whole, status):
-    """What is wrong with a run in which a growth was refused, by what it told and what a run tells that lacks nothing.
+    """What is wrong with the output of a run in which an allocation was refused, compared with that of a run without a fault.
 
-    A query finds no memory, or its question fails, since the book found none; a stream ends so. An admission that the book
-    did not take is missed later. A line of a script tells that it finds none. What comes behind it may differ.
+    A query or a stream ends for want of memory, or a question fails because the book had none. Data that the book did not take
+    is missing later. A line of a script reports want of memory. The output after that may differ.
     """
     at = next((n for n, pair in enumerate(zip(told, whole)) if pair[0] != pair[1]), min(len(told), len(whole)))
     if at == len(told):
@@ -293,13 +293,13 @@ def fault_of_refusal(told, whole, status):
 
 
 def whole_lines(out):
-    """The lines of a run in which a growth was refused. The program writes a query for whose line it finds no memory as far as it
-    came, and without an end: that front is left out."""
+    """The lines of a run in which an allocation was refused. If there is no memory for the line of a query, the program writes the
+    beginning of the line without its end. That is left out."""
     return [re.sub(r"^send .*?(?=no_memory$|wrote )", "", line) for line in out.splitlines()]
 
 
 def refuse_each(checks, about, lines):
-    """Runs a row with each growth refused in turn."""
+    """Runs a row with each allocation refused in turn."""
     text = given(all_found(lines))
     whole = talk(text).out.decode().splitlines()
     for nth in range(1, MOST):
@@ -311,14 +311,14 @@ def refuse_each(checks, about, lines):
     checks.check(f"{about}: each growth is refused", f"more than {MOST}")
 
 
-# ---- drawn octets
+# ---- random octets
 
 DRAWN = 100_000
 AT_ONCE = 1_000
 
 
 def draw(some):
-    """Drawn octets: any, or a query of which a few octets are others, are left out or are added."""
+    """Random octets: any, or a query in which a few octets are changed, left out or added."""
     if some.random() < 0.5:
         return some.randbytes(some.randrange(601))
     name = b"".join(bytes([len(label)]) + label for label in some.choices((b"a", b"b", b"test", b"bank"), k=some.randrange(4)))
@@ -333,13 +333,13 @@ BOOK = ("hints", "admit 4 a.test. 60 A 192.0.2.1", "local_zone bank. refuse", "l
 
 
 def kind_of(line):
-    """What a line says of a reply: none, or its RCODE."""
+    """The RCODE of the reply in a line, or none."""
     word, _, rest = line.partition(" ")
     return f"rcode {int(rest[4:8], 16) & 15}" if word == "reply" else line
 
 
 def fault_of_drawn(asked, line):
-    """What is wrong with the reply to octets: it is a reply, and repeats their identifier; it fits a datagram."""
+    """What is wrong with the reply to octets. It has to be a reply with their identifier, and to fit a datagram."""
     word, _, rest = line.partition(" ")
     if line == "none":
         return None

@@ -1,18 +1,18 @@
-"""Questions are resolved as rows say: `play resolve` asks, and the rows play its name servers.
+"""The resolution of questions, through `play resolve`: rows play the name servers, and have the queries and the answer.
 
 A row of tests/resolution:
 
     == what the row is about
     hints 127.0.0.1@5301                     lines that the program obeys
     ask a.test. A
-    > 127.0.0.1@5301 udp a.test. A           the query that has to come, and what comes of it (tests/lib/rows.py)
+    > 127.0.0.1@5301 udp a.test. A           the query that has to be sent, and its outcome (tests/lib/rows.py)
     < aa | answer a.test. 60 A 192.0.2.9
     = answer 0 - | a.test. 60 A 192.0.2.9    the answer
     look a.test. A
-    : found 4 60 a.test. A 192.0.2.9         what a line is told
+    : found 4 60 a.test. A 192.0.2.9         the reply to a line
 
-What a task asks the book before a query or an answer is told in no row, save where a line `? TEXT` says that a line begins
-so, or `! TEXT` that none does.
+A row need not have what a task asks the book. A line `? TEXT` before a query or an answer says that the task asked what begins
+with TEXT, `! TEXT` that it did not.
 """
 
 import os
@@ -27,7 +27,7 @@ BOOK_LINES = ("look ", "servers ", "admit ", "told ")
 
 
 def given(lines):
-    """What the program is given in a row."""
+    """The input of the program for a row."""
     asked = ""
     for line in lines:
         mark, _, rest = line.partition(" ")
@@ -40,7 +40,7 @@ def given(lines):
 
 
 def difference(lines, told):
-    """What the program told otherwise than a row says, or None."""
+    """The first difference between the program's output and a row, or None."""
     told, asked, identifier = list(told), [], None
     for line in lines:
         mark, _, rest = line.partition(" ")
@@ -69,7 +69,7 @@ def difference(lines, told):
 
 # ---- memory
 
-# Rows of which each growth is refused in turn.
+# Rows that run with each allocation refused in turn.
 REFUSED = (
     "a referral, an alias inside the response, and what the book holds then",
     "a nested question",
@@ -80,15 +80,15 @@ REFUSED = (
 )
 MOST = 10_000
 
-# What a line of a script is told where it finds no memory, or its text none.
+# The replies to a line of a script if there is no memory for it, or for its reply.
 LINE_WANTS = ("error no_memory", "fault no_memory", "fault reply_lost")
 
 
 def fault_of_refusal(told, whole, status):
-    """What is wrong with a run in which a growth was refused, by what it told and what a run tells that lacks nothing.
+    """What is wrong with the output of a run in which an allocation was refused, compared with that of a run without a fault.
 
-    Where the task finds no memory the program ends. Where the book finds none the look's question fails, and an admission
-    is passed over. A line of a script tells it, and what comes behind it may differ.
+    If the task gets no memory, the program ends. If the book gets none, a lookup fails its question, and an admission is ignored.
+    A line of a script reports it, and the output after it may differ.
     """
     at = next((n for n, pair in enumerate(zip(told, whole)) if pair[0] != pair[1]), min(len(told), len(whole)))
     if at == len(told):
@@ -105,7 +105,7 @@ def fault_of_refusal(told, whole, status):
 
 
 def refuse_each(checks, about, lines):
-    """Runs a row with each growth refused in turn."""
+    """Runs a row with each allocation refused in turn."""
     text = "\n".join([*given(lines), ""]).encode()
     whole = run([PLAY, "resolve"], text).out.decode().splitlines()
     for nth in range(1, MOST):

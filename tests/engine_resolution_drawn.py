@@ -1,8 +1,8 @@
-"""Drawn responses: 20,000 of them, most to the question that was asked, some of them no messages any more, and some with
-another identifier, opcode or question, or queries themselves.
+"""20,000 random responses. Most are to the question that was asked. Some are no messages, have another identifier, opcode or
+question, or are queries themselves.
 
-No task sends more than 64 queries, admits a find of an owner outside the zone that is asked, asks a server that nothing
-named, or answers with a record that no response and no look gave. Of what does not fit the query nothing is admitted.
+No task sends more than 64 queries, admits a find whose owner is outside the zone asked, asks a server that nothing named, or
+answers with a record that neither a response nor a lookup gave. Nothing is admitted of a response that does not fit its query.
 """
 
 import random
@@ -23,13 +23,13 @@ UNFIT = ("identifier", "opcode", "query", "question")
 
 @dataclass
 class Line:
-    """What comes of a query."""
+    """The outcome of a query."""
 
     text: str
-    # The records in it, each with its section and the flags, where they are as they were drawn.
+    # The records in it, each with its section and the flags, if the response was left as it was drawn.
     records: list = field(default_factory=list)
     is_exact: bool = True
-    # In what it does not fit the query, and the question in it where that is another one.
+    # In what it does not fit the query, and its question if that is another one.
     unfit: str = ""
     question: str = ""
 
@@ -39,7 +39,7 @@ class Line:
 
 
 class Drawing:
-    """Tasks and what comes of their queries, by one seed."""
+    """Tasks and the outcomes of their queries, from one seed."""
 
     def __init__(self, seed):
         self.random = random.Random(seed)
@@ -79,7 +79,7 @@ class Drawing:
         return f"{self.random.choice(NAMES[:4])} {self.random.choice(TYPES)}"
 
     def task(self):
-        """A question, and what comes of its queries."""
+        """A question, and the outcomes of its queries."""
         return self.question(), [self.line() for _ in range(66)]
 
     def line(self):
@@ -113,20 +113,20 @@ def is_in_zone(name):
 
 
 def parts(line):
-    """The records of a line of the program, each behind a bar: owner, type and data."""
+    """The records of a line of the program, each after a bar: owner, type and data."""
     for part in line.split(" | ")[1:]:
         owner, _, kind, data = part.removesuffix(" soa").split(" ", 3)
         yield owner, kind, data
 
 
 def shown(line):
-    """The records that a look shows: `found RANK LEFT OWNER TYPE DATA`, with bars between the data."""
+    """The records that a lookup shows: `found RANK LEFT OWNER TYPE DATA`, with bars between the data."""
     owner, kind, data = line.split(" ", 5)[3:]
     return [(owner, kind, datum) for datum in data.split(" | ")]
 
 
 def believable(asked, records):
-    """Of the records of a response those that may be told: neither truncated nor an error, in the zone, and not additional."""
+    """The records of a response that an answer may have: neither truncated nor an error, in the zone, and not additional."""
     for section, flags, (owner, _, kind, data) in records:
         owner = asked if owner == ASKED else owner
         if section < 2 and not flags & 0x0200 and flags & 15 in (0, 3) and is_in_zone(owner):
@@ -134,17 +134,17 @@ def believable(asked, records):
 
 
 class Watched:
-    """What is known so far of a task, by what it was told."""
+    """What a task has learnt so far from its inputs."""
 
     def __init__(self, lines):
         self.lines = lines
-        # In what each response that was taken did not fit its query.
+        # In what each response that the task took did not fit its query.
         self.taken = []
         self.known, self.addresses = set(), set(STUBS)
         self.is_exact, self.is_struck = True, False
 
     def sends(self, line):
-        """What is wrong with a query; then what comes of it is known."""
+        """What is wrong with a query. Afterwards its outcome is known."""
         fault = None
         if line.split()[1].partition("@")[0] not in self.addresses and self.is_exact:
             fault = f"{line} goes to a server that nothing named"
@@ -159,7 +159,7 @@ class Watched:
         return fault
 
     def looked(self, line):
-        """Knows what a look shows."""
+        """Notes what a lookup shows."""
         if line.startswith("told found"):
             found = shown(line.removeprefix("told "))
             self.known |= set(found)
@@ -195,7 +195,7 @@ def fault_of(question, lines, told):
 
 
 def tasks_in(out):
-    """What the program told of each task."""
+    """The program's output for each task."""
     found = []
     for line in out.decode().splitlines():
         if line.startswith("look ") and (not found or found[-1][-1].startswith(("answer", "silent"))):

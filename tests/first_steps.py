@@ -1,5 +1,5 @@
-"""What a newcomer meets: ./resolver, built or not, and ./build, each with a toolchain that these tests play; and the story of
-README.md, told by a service whose name servers go away."""
+"""The first steps of a newcomer: ./resolver, built or not, and ./build, with a toolchain that the test plays; and the story of
+README.md, played by a service whose name servers go away."""
 
 import os
 import re
@@ -17,7 +17,7 @@ RANKS = os.path.join(TOP, "examples/ranks.script")
 PROGRAM = "crates/resolver_cli/out/resolver_cli"
 TOOLS = "bash awk cat cp dirname find git grep kill ls mkdir mktemp mv python3 rm sed sleep tail tar touch"
 
-# It plays `rt`: it tries a program as the kit does, proves two crates, and builds.
+# A script in place of `rt`: it runs a program as `rt try` does, says that it proved two crates, and builds.
 PLAYED = """
 case "$1 $2" in
     "try --seconds")
@@ -37,7 +37,7 @@ esac
 
 
 class Place:
-    """A copy of ./resolver and ./build over three crates, with a folder of tools."""
+    """A copy of ./resolver and ./build with three crates and a folder of tools."""
 
     def __init__(self, folder):
         self.folder, self.tools = folder, os.path.join(folder, "tools")
@@ -61,7 +61,7 @@ class Place:
         return path
 
     def play(self, remark="proved", status=0):
-        """A command rt, whose proof ends with a remark and a status."""
+        """Makes the command `rt`, whose proof ends with a remark and a status."""
         text = PLAYED.replace("RESOLVER", RESOLVER).replace("REMARK", remark).replace("STATUS", str(status))
         os.chmod(self.write("tools/rt", f"#!{os.path.join(self.tools, 'bash')}\n{text}"), 0o755)
 
@@ -73,13 +73,13 @@ class Place:
 
 
 def lacks(text, *words):
-    """What is wrong if a text has not all of these words."""
+    """What is wrong if a text lacks one of these words."""
     missing = [word for word in words if word not in text]
     return f"{text!r} does not say {missing}" if missing else None
 
 
 def check_starter(checks):
-    """./resolver hands on arguments, input, replies and status; it runs the source unproved if no current program is built."""
+    """./resolver passes on arguments, input, replies and status. It runs the source unproved if no current program is built."""
     ranks = read(RANKS[: -len("script")] + "out")
     with tempfile.TemporaryDirectory() as folder:
         place = Place(folder)
@@ -104,7 +104,7 @@ def check_starter(checks):
 
 
 def check_build(checks):
-    """./build hands on the crates of the program alone, without must-fail edits, and shows why a proof failed."""
+    """./build proves only the crates of the program, without must-fail edits, and shows why a proof failed."""
     with tempfile.TemporaryDirectory() as folder:
         place = Place(folder)
         place.play("NOT PROVED", 1)
@@ -116,7 +116,7 @@ def check_build(checks):
 
 
 def check_unproved_service(checks):
-    """./resolver says itself that an unproved service is up."""
+    """./resolver reports itself that an unproved service is up."""
     with tempfile.TemporaryDirectory() as folder, Service(["192.0.2.1"]) as free:
         port, control = free.port, free.control_port
         free.stop()
@@ -136,7 +136,7 @@ def check_unproved_service(checks):
         checks.check("an unproved service", lacks(told, f"it answers at 127.0.0.1@{port}".encode(), b"77 s"))
 
 
-# The servers of the story: the root's, which refers to that of `example`.
+# The name servers of the story: that of the root, which refers to that of `example`.
 WORLD = {
     "127.0.0.1": {"*": "| authority example. 3600 NS ns.example. | additional ns.example. 3600 A 127.0.0.2"},
     "127.0.0.2": {"www.shop.example. A": "aa | answer www.shop.example. 300 A 192.0.2.80"},
@@ -166,7 +166,7 @@ def without_ttl(words):
 
 
 def check_story(checks):
-    """README's story: the name servers go away before the flush, and the answer is back behind the undo."""
+    """README's story: the name servers go away before the flush, and the answer is back after the undo."""
     steps, left = list(story()), []
     with NameServers(WORLD) as servers, Service([f"127.0.0.1@{servers.port}"], "--server-port", str(servers.port)) as service:
         began = time.monotonic()

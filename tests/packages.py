@@ -1,4 +1,4 @@
-"""What is in packaging/: the manual page, and the command lines of the systemd unit and of the container's image."""
+"""The files of packaging/: the manual page, and the command lines of the systemd unit and of the image."""
 
 import json
 import os
@@ -21,7 +21,7 @@ def packaged(name):
 
 
 def check_manual(checks):
-    """It is laid out without a warning, and has each option and each line that help lists."""
+    """`man` shows it without a warning, and it has each option and each line that help lists."""
     if not shutil.which("man"):
         return checks.skip("the manual page", "man is not installed")
     page = os.path.join(FOLDER, "resolver.8")
@@ -39,7 +39,7 @@ def check_manual(checks):
 
 
 def check_unit(checks):
-    """systemd takes it, where the program stands at another place."""
+    """systemd accepts it, with the path of the built program in it."""
     if not shutil.which("systemd-analyze"):
         return checks.skip("the systemd unit", "systemd-analyze is not installed")
     with tempfile.TemporaryDirectory() as folder:
@@ -51,7 +51,7 @@ def check_unit(checks):
 
 
 def check_commands(checks, name, starting, stopping):
-    """A command line that starts the service, and one that stops it: at ports that are free here."""
+    """Runs the command line that starts the service and the one that stops it, at free ports."""
     ports = {":53": free_port(), ":8953": free_port()}
 
     def here(words):

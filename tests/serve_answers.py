@@ -1,5 +1,5 @@
-"""`resolver serve` as a whole: questions that it resolves, what local zones answer, lines of control, undo while it serves,
-workers that overlap, and how it stops."""
+"""The answers of `resolver serve`: questions that it resolves, local zones, lines of control, undo while it serves, workers that
+overlap, and `stop`."""
 
 import re
 import threading
@@ -12,7 +12,7 @@ from lib.replies import reply_in
 from lib.service import STOPPED, Service, query, until
 
 ROOT, TEST = "127.0.0.1", "127.0.0.2"
-# What the root says of every name at or below test.
+# The root's response for every name at or below test.
 REFERRAL = f"| authority test. 100 NS ns.test. | additional ns.test. 100 A {TEST}"
 WORKED = {
     ROOT: {"*": REFERRAL, "www.bank. A": REFUSED},
@@ -27,19 +27,19 @@ def serving(servers, *options):
 
 
 def without_left(text):
-    """What a look is told, without the seconds left."""
+    """The reply to a lookup, without the seconds left."""
     return re.sub(r"^(found \d|nodata|noname) \d+", r"\1", text)
 
 
 def times_fault(reply, most, since):
-    """What is wrong with the times to live of a reply to what came at a moment with so many seconds, or later."""
+    """What is wrong with the TTLs of a reply whose data came with a TTL at a moment, or later."""
     least = most - int(time.monotonic() - since) - 1
     wrong = [record for record in reply.records if not least <= record.ttl <= most]
     return f"{wrong} are not within {least} and {most} seconds" if wrong else None
 
 
 def check_resolved(checks, over):
-    """A referral, an alias in the response, and data that is not the server's to give."""
+    """A referral, an alias in the response, and data outside the server's zone."""
     with NameServers(WORKED) as servers, serving(servers) as service:
         began = time.monotonic()
         for time_asked in ("first", "again"):
@@ -57,15 +57,15 @@ def check_resolved(checks, over):
 
 
 def check_log(checks, name, log, may_fault=False):
-    """The log of a service: its start, its end, and nothing between but faults of devices where clients came and went."""
+    """The log of a service: its start and its end, and between them only device faults, if clients came and went."""
     first, *between, last = log.splitlines()
     are_faults = all(may_fault and b"resolver: device fault" in line for line in between)
     is_right = b"resolver: started" in first and b"resolver: stopped" in last and are_faults
     checks.check(f"{name}: the log", None if is_right else repr(log))
 
 
-# Each zone has data at its name and at a.b below it; a redirect zone takes the first alone. What is asked: whether the reply is
-# the data, nothing of the type, no such name, a refusal, no reply, or what the name servers say.
+# Each zone has data at its name and at a.b below it; a redirect zone only at its name. Each question gets the data, NODATA,
+# NXDOMAIN, REFUSED, no reply, or the answer of the name servers.
 ZONE_TYPES = {
     "deny": "data drop drop drop",
     "refuse": "data refused refused refused",
@@ -84,8 +84,8 @@ MEANT = {"refused": "aa rcode 5", "nodata": "aa", "noname": "aa rcode 3", "asked
 
 
 def reply_or_drop(service, over, name, kind, is_asked):
-    """The words of the reply, or `drop` where the next question is answered in its place. What is held, as that is, overtakes what
-    name servers are asked for."""
+    """The words of the reply, or `drop` if the next question is answered instead. That one is cached, and a cached answer does not
+    wait for name servers."""
     with service.client(over) as client:
         client.send(query(name, kind, 1))
         client.send(query("marker.", "A", 2))
@@ -112,7 +112,7 @@ def check_zone_types(checks, over):
 
 
 def fault_reply(asked, rcode):
-    """A header alone that says a fault of a query with RD."""
+    """A header alone, the fault of a query with RD."""
     opcode = asked[2] & 0x78
     return asked[:2] + bytes([0x80 | opcode | (asked[2] & 1), 0x80 | rcode]) + bytes(8)
 
@@ -122,14 +122,14 @@ def with_octets(asked, at, octets):
 
 
 def padded(asked, size):
-    """A query of so many octets, by a record behind its question."""
+    """A query of a given size, with a record after its question."""
     record = b"\0" + number(65_280) + number(1) + number(0, 4)
     left = size - len(asked) - len(record) - 2
     return with_octets(asked, 10, number(1)) + record + number(left) + bytes(left)
 
 
 def wrong_queries():
-    """Octets that came, and the reply's code; None where there is no reply."""
+    """Octets that came, and the RCODE of the reply; None if there is no reply."""
     good = query("a.test.", "A", 0x1234)
     return [
         ("11 octets", good[:11], None),
@@ -147,7 +147,7 @@ def wrong_queries():
 
 
 def check_wrong_queries(checks, over):
-    """What is no good query gets a header with its fault, or no reply; the next question is answered."""
+    """A malformed query gets a header with its fault, or no reply. The next question is answered."""
     with Service(["192.0.2.1"]) as service:
         service.obey("local_data marker. 60 A 192.0.2.9", "local_data a.test. 60 A 192.0.2.7")
         rows = wrong_queries() + [("no octets", b"", None)]
@@ -174,7 +174,7 @@ def check_wrong_queries(checks, over):
 
 
 def check_long_replies(checks):
-    """Over UDP a reply above 512 octets is its header, with TC, and the question; over TCP it is whole."""
+    """Over UDP a reply above 512 octets is cut to its header, with TC, and the question. Over TCP it is whole."""
     with Service(["192.0.2.1"]) as service:
         for zone, last in (("fits.", 221), ("long.", 222)):
             words = ['"' + "x" * 255 + '"', '"' + "y" * last + '"']
@@ -186,7 +186,7 @@ def check_long_replies(checks):
                 checks.equal(f"{zone} over {over}", service.ask(zone, "TXT", over).words(), wanted)
 
 
-# Lines of an operator, and what each is told. The last has no end.
+# Lines of an operator with their replies. The last line has no line feed.
 DIALOGUE = [
     ("look c. A", "unknown"),
     ("local_zone c. static", "ok 1"),
@@ -234,7 +234,7 @@ DIALOGUE = [
 
 
 def check_control(checks):
-    """Every line, over one connection, and over others behind it."""
+    """Every line, over one connection, and over others after it."""
     with Service(["192.0.2.1"]) as service:
         with service.control() as control:
             for line, wanted in DIALOGUE:
@@ -265,7 +265,7 @@ LISTS = {"list_local_zones": "local_zone", "list_local_data": "local_data", "lis
 
 
 def check_given_again(checks):
-    """What the lists show, with the word of its command before each line, gives another service the same lists."""
+    """The lines of the lists, with the word of the command before each, give another service the same lists."""
     commands = [
         "local_zone ads.test. always_nxdomain", "local_zone home.test. redirect", "local_data home.test. 60 A 192.0.2.1",
         'local_data x.new. 30 TXT "a b" c', "local_data x.new. SRV 1 2 53 ns.new.", "stub_add corp.test. 10.0.0.53 ::1@5353",
@@ -280,7 +280,7 @@ def check_given_again(checks):
 
 
 def check_full(checks):
-    """A full cache answers all the same; what it can no longer hold is asked for each time."""
+    """With a full cache all questions are answered. Names for which it has no room are asked for each time."""
     with NameServers(WORKED) as servers, serving(servers, "--cells", "1") as service:
         for count in (1, 2):
             checks.equal(f"full: question {count}", service.ask("a.test.").words(), ALIAS)
@@ -295,7 +295,7 @@ def is_cached(servers, service, name):
 
 
 def check_swept(checks):
-    """The service sweeps by itself: once what fills the cache is dead, new names are cached, and no operator gave a line."""
+    """The service sweeps by itself: once the data in a full cache has expired, new names are cached without an operator's line."""
     short, long = ["one.", "two."], ["three.", "four."]
     says = {f"{name} A": f"aa | answer {name} {ttl} A 192.0.2.7" for names, ttl in ((short, 1), (long, 3600)) for name in names}
     with NameServers({ROOT: says}) as servers, serving(servers, "--cells", "2") as service:
@@ -306,7 +306,7 @@ def check_swept(checks):
 
 
 def check_undone(checks, over):
-    """A block that is set and undone while it serves, and a flush: as though neither had been."""
+    """A block and a flush, undone while the service answers: as if neither had been given."""
     with NameServers(WORKED) as servers, serving(servers) as service:
         rows = [
             (None, None, ALIAS, 1),
@@ -332,7 +332,7 @@ def check_undone(checks, over):
 
 
 def check_overlap(checks, over):
-    """The first question's exchange is held until a second question and a command have been answered: over UDP by one worker."""
+    """The first question's exchange is held up until a second question and a command were answered; over UDP by one worker."""
     workers = {"udp": "1", "tcp": "2"}[over]
     gate = threading.Event()
 
@@ -340,7 +340,7 @@ def check_overlap(checks, over):
         asked.wait(gate)
         yield asked.response("aa | answer slow.test. 60 A 192.0.2.1")
 
-    # Eight servers hold it, so that the resolver's patience with each adds up.
+    # Eight servers hold it up, one after another, so that the timeouts add up.
     addresses = [f"127.0.0.{place}" for place in range(2, 10)]
     zone = {"slow.test. A": held, "quick.test. A": "aa | answer quick.test. 60 A 192.0.2.2"}
     hints = {address: zone for address in addresses}
@@ -357,7 +357,7 @@ def check_overlap(checks, over):
 
 
 def check_row_of_calls(checks):
-    """What two callers are told: an operator who sets and takes back, and a client whose question is resolved and then held."""
+    """The replies to two callers: an operator who sets and undoes, and a client whose question is resolved and then cached."""
     with NameServers(WORKED) as servers, serving(servers, "--udp", "2") as service, service.control() as control:
         told = []
         client = threading.Thread(target=lambda: told.extend(service.ask("a.test.").words() for _ in range(2)))
@@ -381,7 +381,7 @@ class Load:
             thread.start()
 
     def _ask(self, over, place):
-        """Asks names that are held, and others that are not."""
+        """Asks for names that are cached, and for others."""
         number_asked = 0
         try:
             with self.service.client(over) as client:
@@ -414,7 +414,7 @@ def check_stop_under_load(checks):
 
 
 def check_nothing_left(checks):
-    """Behind a load the service has as many threads and descriptors as before it."""
+    """After a load the service has as many threads and descriptors as before it."""
     with NameServers(WORKED | {TEST: WORKED[TEST] | {"*": "aa rcode 3 | authority test. 60 SOA ns. host. 1 2 3 4 60"}}) as servers:
         with serving(servers, "--udp", "2", "--tcp", "3") as service:
             until(lambda: service.threads() == 7)
@@ -429,7 +429,7 @@ def check_nothing_left(checks):
 
 
 def check_stop_while_asking(checks):
-    """`stop` while exchanges wait for servers that keep silent: it ends with their deadlines, and says so as ever."""
+    """`stop` while exchanges wait for silent servers: the service ends at their deadlines, and logs its end."""
     with NameServers({ROOT: {"*": None}}) as servers, serving(servers, "--udp", "2") as service:
         with service.client() as client, service.client("tcp") as other:
             for place in range(2):

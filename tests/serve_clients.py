@@ -1,8 +1,8 @@
-"""The clients that people use ask a service: dig, kdig, drill, dnspython and dnsperf, and it asks the name server nsd, each where
-it is installed.
+"""Real programs that are installed: dig, kdig, drill, dnspython and dnsperf ask the service, and the service asks the name server
+nsd.
 
-tests/clients/CLIENT.rows has what a client shows: `== ARGUMENTS`, then its text without what differs from run to run. Times to
-live that count down stand there as `TTL`.
+tests/clients/CLIENT.rows has the output of a client: `== ARGUMENTS`, then its text without what differs from run to run. A TTL that
+counts down is written `TTL`.
 """
 
 import os
@@ -38,12 +38,12 @@ COMMANDS = [
     "local_zone shut. refuse",
 ]
 
-# Lines of a client's text that tell its version, its warnings, or the time.
+# Lines of a client's text with its version, its warnings, or the time.
 CHANGES = re.compile(r"; <<>> DiG|; \(\d server|;; global options|;; Got answer|;; WARNING|;; (Query time|WHEN|Time|From)")
 
 
 def steady(text):
-    """A client's text without what differs from run to run, and without blank lines."""
+    """The text of a client without what differs from run to run, and without blank lines."""
     lines = [line.rstrip() for line in text.splitlines() if line.strip() and not CHANGES.match(line)]
     text = "\n".join(re.sub(r"[,;] id: \d+$", "", line) for line in lines)
     text = re.sub(r"SERVER: .*?(\(\w+\))?$", r"SERVER: \1", text, flags=re.MULTILINE).replace("SERVER: \n", "SERVER:\n")
@@ -53,7 +53,7 @@ def steady(text):
 
 
 def rows_of(client):
-    """The rows of a client's file: its arguments, and the text that it shows."""
+    """The rows of a client's file: its arguments, and its output."""
     with open(os.path.join(TOP, "tests/clients", f"{client}.rows"), encoding="utf-8") as file:
         rows = re.findall(r"^== (.*)\n((?:(?!== ).*\n)*)", file.read(), re.MULTILINE)
     return [(arguments, "\n".join(line for line in text.splitlines() if line)) for arguments, text in rows]
@@ -71,7 +71,7 @@ def is_there(checks, client):
 
 
 def check_rows(checks, client, service):
-    """What the client shows, row by row."""
+    """The output of the client, row by row."""
     if not is_there(checks, client):
         return
     for arguments, wanted in rows_of(client):
@@ -123,7 +123,7 @@ def check_dnspython(checks, service):
 
 
 def check_dnsperf(checks, service):
-    """Five seconds of questions that are held, denied, blocked and asked for the first time: each is answered."""
+    """Five seconds of questions that are cached, denied, blocked and new: each is answered."""
     if not is_there(checks, "dnsperf"):
         return
     for over, options in (("udp", []), ("tcp", ["-m", "tcp", "-c", "1"])):
@@ -177,7 +177,7 @@ test. MX 10 mail.test.
     + "".join(f'long.test. TXT "{letter * 250}"\n' for letter in "abcdefgh"),
 }
 
-# What a service answers over nsd: the question, and the reply over TCP without times to live.
+# Questions that the service resolves at nsd, and the replies over TCP without TTLs.
 OVER_NSD = [
     ("a.test.", "A", "- | answer a.test. CNAME b.test. | answer b.test. A 192.0.2.7"),
     ("b.test.", "AAAA", "- | answer b.test. AAAA 2001:db8:0:0:0:0:0:7"),
@@ -208,7 +208,7 @@ def answers(address, port):
 
 
 def check_over_nsd(checks):
-    """Questions that are resolved over nsd: the root on one address, a zone below it on another."""
+    """Questions that the service resolves at nsd: the root at one address, a zone below it at another."""
     if not is_there(checks, "nsd"):
         return
     sockets, port = bound_together([ROOT, TEST])

@@ -1,5 +1,5 @@
-"""`resolver serve` with very many questions at once over UDP: none is lost and none answered twice, whatever name servers do; what
-is held waits for none of them; and it ends at once."""
+"""`resolver serve` with very many questions at once over UDP. None is lost or answered twice, whatever name servers do. Cached
+answers wait for none of them, and `stop` ends the service at once."""
 
 import re
 import resource
@@ -29,14 +29,14 @@ def serving(server, *options, **settings):
 
 
 def has_ended(checks, name, service, crowd):
-    """Stops a service, and looks at what came to a crowd until then: one reply for each name."""
+    """Stops a service, and checks that a crowd got one reply for each name."""
     checks.equal(f"{name}: stopped", service.stop(), STOPPED)
     crowd.take()
     checks.check(f"{name}: one reply each", crowd.once_each())
 
 
 def all_answered(checks, name, crowd, answer=answered):
-    """Each name of a crowd has its answer."""
+    """Each name of a crowd got its answer."""
     strange = [(asked, words) for asked, words in zip(crowd.names, crowd.words()) if words != answer(asked)]
     checks.equal(name, strange, [])
 
@@ -46,7 +46,7 @@ def names_of(word, count):
 
 
 def check_quick(checks):
-    """3,000 questions, 100 in flight, at a server that replies before anybody waits for it."""
+    """3,000 questions, 100 in flight, with a name server that replies at once."""
     with LateServer(at_once) as server, serving(server) as service, Crowd(service) as crowd:
         before = service.idle_descriptors()
         crowd.ask(names_of("n", 3_000), 100)
@@ -56,7 +56,7 @@ def check_quick(checks):
 
 
 def check_cut(checks):
-    """The same where each reply is cut, so that it is asked for again over TCP."""
+    """The same with responses that are truncated, so that each is asked for again over TCP."""
 
     def cut(asked):
         yield 0, asked.response("aa tc") if asked.over == "udp" else right(asked)
@@ -72,9 +72,9 @@ def check_cut(checks):
 
 
 def check_passed_limit(checks, count, workers, most_descriptors, room):
-    """More questions at once than exchanges may be under way: those above are answered that the server failed.
+    """More questions at once than there may be exchanges: those above the limit get SERVFAIL.
 
-    On a slow machine the first exchanges end before the last question is asked: those were in vain."""
+    On a slow machine the first exchanges end before the last question is asked, and get SERVFAIL too."""
     name = f"{count} at once, {workers} workers, {most_descriptors} descriptors"
     held_back, gate = [], threading.Event()
 
@@ -110,14 +110,14 @@ def check_passed_limit(checks, count, workers, most_descriptors, room):
             checks.equal(f"{name}: other lines", others, [])
             checks.equal(f"{name}: descriptors", until(lambda: service.descriptors() <= before), True)
             with Crowd(service) as later:
-                # Those in flight may all be at one worker, where it is slow.
+                # If a worker is slow, all questions in flight may be at it.
                 later.ask(names_of("later", 100), min(10, room // workers))
                 all_answered(checks, f"{name}: later", later)
             has_ended(checks, name, service, crowd)
 
 
 def check_table(checks, workers, most_descriptors, size):
-    """What exchanges may hold is in the system's table of descriptors before threads share it: it need not grow under them."""
+    """The system's table of descriptors has room for all exchanges before threads share it, so it need not grow under them."""
     name = f"{workers} workers, {most_descriptors} descriptors"
     if resource.getrlimit(resource.RLIMIT_NOFILE)[1] < most_descriptors:
         checks.skip(name, "a process may not have so many")
@@ -131,7 +131,7 @@ def check_table(checks, workers, most_descriptors, size):
 
 
 def check_liars(checks):
-    """Sixteen questions for each way of lying, all at once. In `as_it_ends` either may come first."""
+    """Sixteen questions for each way of lying, all at once. In `as_it_ends` the reply or the timeout may come first."""
     words = [*RIGHT, *WRONG, "as_it_ends"]
     names = [f"{word}{place}.test." for place in range(16) for word in words]
     with LateServer(Lies()) as server, serving(server, "--udp", "2") as service, Crowd(service, 16) as crowd:
@@ -151,7 +151,7 @@ def check_liars(checks):
 
 
 def check_no_tcp(checks):
-    """Cut replies of a server that takes no connections."""
+    """Truncated responses of a server that accepts no connections."""
     with LateServer(lambda asked: [(0, asked.response("aa tc"))], has_tcp=False) as server, serving(server) as service:
         with Crowd(service) as crowd:
             before = service.idle_descriptors()
@@ -163,7 +163,7 @@ def check_no_tcp(checks):
 
 
 def check_dead_first(checks):
-    """A port where nobody listens, a server that keeps silent, and one that answers, in this order."""
+    """A port at which nobody listens, a silent server, and one that answers, in this order."""
     with LateServer(never) as silent, LateServer(at_once) as server:
         hints = [f"127.0.0.2@{server.port}", silent.hint, server.hint]
         with Service(hints) as service, Crowd(service) as crowd:
@@ -194,7 +194,8 @@ def check_referred(checks):
             has_ended(checks, "referrals", service, crowd)
 
 
-# Where a service listens, where it is asked, a name server's address that leads to it, and whether its replies leave from there.
+# The address of a service, the address at which it is asked, that of a name server that is the service itself, and whether
+# replies leave from there.
 OWN = [
     (HOST, HOST, HOST, True),
     (HOST, HOST, "::ffff:7f00:1", True),
@@ -206,10 +207,10 @@ OWN = [
 
 
 def check_own(checks, listens, host, own, replies):
-    """A name server that is the service itself is not asked: who asks about its zone is told so at once, and keeps no exchange.
+    """A name server that is the service itself is not asked: a question about its zone gets SERVFAIL at once, and keeps no exchange.
 
-    A TCP client's worker asks the service, which does not ask itself. Exchanges that were kept would end six times behind
-    each other, as 100 questions wait at once; half of that is enough for a slow machine."""
+    A TCP client's worker asks the service, which does not ask itself. If exchanges were kept, they would end one after another in
+    six groups, since 100 questions wait at once. Half of that time is enough for a slow machine."""
     name = f"own address {own}, listening at {listens}"
     try:
         service = Service([f"{HOST}@1"], host=host, listens=listens)
@@ -230,7 +231,7 @@ def check_own(checks, listens, host, own, replies):
 
 
 def check_held(checks):
-    """What is held, in the tables or in the cache, is answered before any of 200 questions that wait; so is an operator."""
+    """Local and cached answers come before those of 200 questions that wait, and so does the reply to an operator."""
     gate = threading.Event()
 
     def dead_but_one(asked):
@@ -251,7 +252,7 @@ def check_held(checks):
 
 
 def check_stop(checks, over, workers):
-    """`stop` while 200 questions wait for a server that keeps silent: well before their exchanges end."""
+    """`stop` while 200 questions wait for a silent server: the service ends well before their exchanges do."""
     name = f"stop over {over} with {workers} workers"
 
     def silent(asked):
@@ -270,7 +271,7 @@ def check_stop(checks, over, workers):
 
 
 def check_bursts(checks):
-    """400 datagrams that are all there when the service comes to look, and nothing behind them."""
+    """400 datagrams that are all there when the service receives, and no more after them."""
     with LateServer(at_once) as server, serving(server) as service, Crowd(service, 20) as crowd:
         for kind, names in (("held", ["held.test."] * 400), ("not held", names_of("n", 400))):
             service.process.send_signal(signal.SIGSTOP)
@@ -284,7 +285,7 @@ def check_bursts(checks):
 
 
 def check_stopped_clock(checks):
-    """Replies come, and exchanges end, while the service is not let run: each is one of both."""
+    """Responses come and exchanges time out while the service is suspended: each question gets its answer or SERVFAIL."""
     with LateServer(lambda asked: [(0.3, right(asked))]) as server, serving(server) as service, Crowd(service) as crowd:
         before = service.idle_descriptors()
         crowd.send_all(names_of("n", 300))
@@ -303,7 +304,7 @@ def check_stopped_clock(checks):
 
 
 def check_interrupted(checks):
-    """What a wait is broken off by, as a debugger does it, is no failure of the worker, however often it comes."""
+    """A wait that a debugger interrupts is no failure of the worker, however often that happens."""
     with LateServer(at_once) as server, serving(server) as service:
         service.idle_descriptors()
         for _ in range(20):
@@ -319,7 +320,7 @@ def check_interrupted(checks):
 
 
 def check_rest(checks):
-    """It does not go round while it waits: not behind a crowd, nor while 200 questions are in flight."""
+    """The service uses no processor while it waits: neither after a crowd, nor while 200 questions are in flight."""
     with LateServer(lambda asked: at_once(asked) if asked.question.startswith("n") else never(asked)) as server:
         with serving(server, "--udp", "2") as service, Crowd(service) as crowd:
             crowd.ask(names_of("n", 1_000), 100)
@@ -336,14 +337,14 @@ def check_rest(checks):
 
 
 def check_memory(checks):
-    """A hit takes no memory, once as many calls are recorded as are. A larger batch takes more buffers, so 1,000 hits more may ask for some."""
+    """A hit takes no memory once the call log is full. A larger batch takes more buffers, so 1,000 hits more may allocate some."""
     once, twice = blocks_of_hits(1_000), blocks_of_hits(2_000)
     few = None not in (once, twice) and 0 < once and twice - once < 100
     checks.check("hits: memory", None if few else f"asked for {once} and {twice} times")
 
 
 def blocks_of_hits(count):
-    """How often a service asks for memory that is asked so often what it holds, behind 1,000 times; None where it told none."""
+    """The allocations of a service for a number of cached answers, after 1,000 others; None if it reported none."""
     environment = {"LD_PRELOAD": library("count"), "TELL": "2"}
     with LateServer(at_once) as server, serving(server, "--record", "100", environment=environment) as service, Crowd(service) as crowd:
         crowd.ask(["n1.test."], 1)
@@ -359,7 +360,7 @@ def is_stopped(service):
 
 
 def check_ipv6(checks):
-    """At an address of IPv6, with two workers."""
+    """At an IPv6 address, with two workers."""
     try:
         service = Service(["127.0.0.1@1"], "--udp", "2", host="::1")
     except (OSError, RuntimeError):
@@ -372,13 +373,13 @@ def check_ipv6(checks):
 
 
 def start_at(place, workers):
-    """A service at a place, whoever else may be there."""
+    """A service at an address and port that may be in use."""
     command = [RESOLVER, "serve", "--listen", place, "--control", f"{HOST}@{free_port()}", "--udp", workers, "192.0.2.1"]
     return subprocess.Popen(command, stdin=subprocess.DEVNULL, stdout=subprocess.PIPE, stderr=subprocess.PIPE, env={})
 
 
 def ends_of(processes):
-    """Whether each service began to serve, and what it told; then they are ended."""
+    """Whether each service began to serve, and its output. Then they are ended."""
     begun = [process.stdout.readline() == b"ready\n" for process in processes]
     ends = []
     for has_begun, process in zip(begun, processes):
@@ -389,7 +390,7 @@ def ends_of(processes):
 
 
 def check_second(checks):
-    """Where one service listens no second one does, though each worker has a socket of its own at the port."""
+    """A second service cannot listen at the same address, though each worker has a socket of its own at the port."""
     with Service(["192.0.2.1"], "--udp", "4") as service:
         used = f"{HOST}@{service.port}"
         refused = (False, CANNOT_LISTEN + used.encode() + b"\n")

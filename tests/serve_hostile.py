@@ -1,5 +1,5 @@
-"""`resolver serve` against servers and clients that lie, keep silent, go slowly or go away, and where descriptors are wanting or calls
-of sockets are disturbed."""
+"""`resolver serve` with name servers and clients that lie, stay silent, are slow or go away; without descriptors; and with calls of
+sockets that are interrupted or move little."""
 
 import select
 import socket
@@ -22,7 +22,7 @@ def good(asked):
 
 
 def lies_first(asked):
-    """What fits another query, and what is no message, before the response."""
+    """Datagrams that fit another query or are no message, before the response."""
     right = good(asked)
     yield bytes([right[0] ^ 1]) + right[1:]
     yield asked.response(f"aa asks other.test. A | answer {asked.question.split()[0]} 60 A 192.0.2.66")
@@ -33,7 +33,7 @@ def lies_first(asked):
 
 
 def lies_on(asked):
-    """Wrong datagrams, one each 100 ms, until the servers close: far longer than an exchange may take."""
+    """A wrong datagram each 100 ms until the servers close, far longer than an exchange may take."""
     while True:
         yield asked.response("id 1 aa | answer lies-on.test. 60 A 192.0.2.66")
         asked.pause(0.1)
@@ -44,7 +44,7 @@ def in_capitals(asked):
 
 
 def cut(does_over_tcp):
-    """Truncated over UDP, and over TCP as it is said."""
+    """A response that is truncated over UDP, and over TCP is sent in a given way."""
 
     def does(asked):
         if asked.over == "udp":
@@ -56,7 +56,7 @@ def cut(does_over_tcp):
 
 
 def drips(asked):
-    """The length and the front of the header octet by octet, each sent by itself, and then the rest."""
+    """The length and the first octets of the header, each octet sent by itself, and then the rest."""
     octets = framed(good(asked))
     for octet in octets[:6]:
         yield Piece([octet])
@@ -80,7 +80,7 @@ def is_another(asked):
 
 LONG = " | ".join(f"answer big.test. 60 TXT {place:03}{'x' * 250}" for place in range(230))
 
-# What the only name server does on a question, and what the client is told.
+# What the only name server does with a question, and the reply to the client.
 SERVED = {
     "good.test. A": (GOOD.format(name="good.test."), "good"),
     "lies-first.test. A": (lies_first, "good"),
@@ -102,7 +102,7 @@ MEANT = {"good": "- | answer {name} A 192.0.2.1", "failed": "rcode 2", "nothing"
 
 
 def check_servers(checks):
-    """All at once, over UDP and TCP: the liars have not ended when the reply comes."""
+    """All at once, over UDP and TCP: the reply comes before the liars have finished."""
     zone = {question: does for question, (does, _) in SERVED.items()}
     with NameServers({HOST: zone}) as servers, Service([f"{HOST}@{servers.port}"], "--udp", "8", "--tcp", "8") as service:
         for over in ("udp", "tcp"):
@@ -120,7 +120,7 @@ def check_servers(checks):
 
 
 def check_servers_of_tcp_clients(checks):
-    """Questions that nobody asked over UDP before: what is cached would hide how the workers of TCP clients ask name servers."""
+    """Questions that nobody asked over UDP before: from the cache, TCP workers would answer without a name server."""
     zone = {"lies-first.test. A": lies_first, "cut-drips.test. A": cut(drips)}
     with NameServers({HOST: zone}) as servers, Service([f"{HOST}@{servers.port}"]) as service:
         for question in zone:
@@ -129,7 +129,7 @@ def check_servers_of_tcp_clients(checks):
 
 
 def check_large(checks, settings):
-    """A response of 59 KiB, over TCP on both sides; to who asks over UDP it is cut."""
+    """A response of 59 KiB, over TCP on both sides. A client over UDP gets it cut."""
     does, sockets = cut(lambda asked: [asked.response(f"aa | {LONG}")]), disturbed(**settings)
     with NameServers({HOST: {"big.test. TXT": does}}) as servers, Service([f"{HOST}@{servers.port}"], environment=sockets) as service:
         checks.equal(f"59 KiB over UDP, {settings}", service.ask("big.test.", "TXT").words(), "tc")
@@ -139,12 +139,12 @@ def check_large(checks, settings):
         checks.equal(f"59 KiB: asked once, {settings}", len(servers.asked), 2)
 
 
-# What the calls of a service's sockets meet.
+# The ways in which the calls of a service's sockets are disturbed.
 DISTURBED = [{"SIGNALS": 1}, {"PIECE": 1}, {"SIGNALS": 1, "PIECE": 1}]
 
 
 def check_disturbed(checks, over, settings):
-    """Calls of sockets that a signal ends, and those that move one octet, are made again: each server is asked once, each
+    """The service repeats calls of sockets that a signal interrupts or that move one octet: each server is asked once, each
     client gets its reply, and no fault is logged."""
     how = f"over {over}, {settings}"
     zone = {question: SERVED[question][0] for question in ("good.test. A", "lies-first.test. A", "cut.test. A", "cut-drips.test. A")}
@@ -162,7 +162,7 @@ def check_disturbed(checks, over, settings):
 
 
 class Early(NameServers):
-    """Servers that answer over TCP once a query's length and identifier have come, and send octets behind that until the rest comes."""
+    """Servers that answer over TCP once a query's length and identifier have come, and then send octets until the rest comes."""
 
     FRONT = 4
 
@@ -180,12 +180,12 @@ class Early(NameServers):
                     connection.sendall(b"\0")
                 rest = receive(connection, 2 + int.from_bytes(front[:2], "big") - self.FRONT)
                 self.whole.append(question_of(front[2:] + rest) if rest else "the connection ended")
-        except Exception as fault:  # whatever it is, the query has not left
+        except Exception as fault:  # whatever happened, the query has not left
             self.whole.append(fault)
 
 
 def check_early(checks):
-    """A reply that comes before its query has left whole is read when the query has."""
+    """A response that comes before the whole query has left is read once the query has."""
     question = "early.test. A"
     with Early(question) as servers, Service([f"{HOST}@{servers.port}"], environment=disturbed(HOLD=Early.FRONT)) as service:
         checks.equal("an early reply", service.ask(*question.split()).words(), MEANT["good"].format(name="early.test."))
@@ -196,7 +196,7 @@ def check_early(checks):
 
 
 def check_dead_ports(checks):
-    """Hints where nobody listens are passed over; where there is none but those the question fails."""
+    """Hints at which nobody listens are skipped. If there are no others, the question fails."""
     zone = {"good.test. A": GOOD.format(name="good.test.")}
     with NameServers({HOST: zone}) as servers:
         dead = [f"127.0.0.{place}@{servers.port}" for place in (2, 3)]
@@ -207,7 +207,7 @@ def check_dead_ports(checks):
 
 
 def check_pipelined(checks, settings):
-    """300 queries in one write, five of them not held: 300 replies in order."""
+    """300 queries in one write, five of them for names that are not cached: 300 replies in order."""
     zone, sockets = {"*": lambda asked: [good(asked)]}, disturbed(**settings)
     with NameServers({HOST: zone}) as servers, Service([f"{HOST}@{servers.port}"], environment=sockets) as service:
         service.obey("local_data held.test. 60 A 192.0.2.1")
@@ -229,7 +229,7 @@ def check_pipelined(checks, settings):
 
 
 def never_reads(client):
-    """Asks and asks and reads nothing, until the service ends the connection; whether it did."""
+    """Sends queries and reads nothing until the service ends the connection. Returns whether it did."""
     many = b"".join(framed(query("held.test.", "TXT", place)) for place in range(100))
     try:
         for _ in range(100_000):
@@ -240,7 +240,7 @@ def never_reads(client):
 
 
 def check_slow_clients(checks):
-    """The only TCP worker is held by a client that does nothing more; it lets go by itself, and serves the next."""
+    """The only TCP worker is kept by a client that does nothing more. It drops that client by itself, and serves the next."""
     with Service(["192.0.2.1"]) as service:
         service.obey(*(f"local_data held.test. 60 TXT {'x' * 240} {'y' * 240} {'z' * 240} {place}" for place in range(20)))
         service.obey("local_data held.test. 60 A 192.0.2.1")
@@ -258,7 +258,7 @@ def check_slow_clients(checks):
 
 
 def check_gone_clients(checks):
-    """Clients that go before their reply comes end no worker: more of them than failures would."""
+    """Clients that go before their reply comes do not end a worker, not even more of them than sixteen failures."""
     with NameServers({HOST: {"*": lambda asked: [good(asked)]}}) as servers, Service([f"{HOST}@{servers.port}"]) as service:
         for over in ("udp", "tcp"):
             for place in range(40):
@@ -269,7 +269,7 @@ def check_gone_clients(checks):
 
 
 def check_no_port(checks):
-    """Queries from port 0, to which no reply can go: more of them than failures would end a worker."""
+    """Queries from port 0, to which no reply can go, do not end a worker, not even more of them than sixteen failures."""
     try:
         sender = socket.socket(socket.AF_INET, socket.SOCK_RAW, socket.IPPROTO_UDP)
     except PermissionError:
@@ -284,7 +284,7 @@ def check_no_port(checks):
 
 
 def check_crowd(checks):
-    """Fifty clients at once over TCP, for two workers: each has its turn."""
+    """Fifty clients at once over TCP with two workers: each is served."""
     with Service(["192.0.2.1"], "--tcp", "2") as service, ThreadPoolExecutor(50) as pool:
         service.obey("local_data held.test. 60 A 192.0.2.1")
         replies = list(pool.map(lambda _: service.ask("held.test.", "A", "tcp").words(), range(50)))
@@ -323,7 +323,7 @@ def check_burst(checks):
 
 
 def check_descriptors(checks):
-    """Where no descriptor is to be had questions fail and connections wait; with descriptors again all goes on."""
+    """Without free descriptors questions fail and connections wait. Once there are some again, all goes on."""
     with NameServers({HOST: {"*": lambda asked: [good(asked)]}}) as servers, Service([f"{HOST}@{servers.port}"]) as service:
         service.obey("local_data held.test. 60 A 192.0.2.1")
         until(lambda: service.threads() == 4)
@@ -335,11 +335,11 @@ def check_descriptors(checks):
         faults = service.log().count(b"resolver: device fault")
         began = time.monotonic()
         with service.client("tcp") as client:
-            # The operators' listener may fail beside the worker's, so seven faults are of three seconds at least.
+            # The operators' listener may fail as well as the worker's, so seven faults take at least three seconds.
             checks.equal("no descriptors: a failed accept is logged", service.logged(b"resolver: device fault", faults + 7), True)
             checks.check("no descriptors: a failed accept waits a second", None if time.monotonic() - began >= 3 else "it does not")
             service.limit(1_024)
-            # The connection that waited may have been ended meanwhile; the next is served.
+            # The connection that waited may have been closed by now. The next one is served.
             client.sock.close()
         for over in ("udp", "tcp"):
             reply = service.ask(f"later-{over}.test.", "A", over).words()
@@ -348,7 +348,7 @@ def check_descriptors(checks):
 
 
 def check_idle_operator(service, first):
-    """What comes of an operator behind one who says nothing."""
+    """The replies to an operator who waits for one who sends nothing."""
     with service.control() as second:
         second.sock.settimeout(180)
         second.sock.sendall(b"stop\n")

@@ -1,5 +1,5 @@
-"""With which status `resolver serve` and `resolver control` end, and what they then tell: arguments, binding, refused memory, log,
-how soon `stop` ends it, and the lines that `resolver control` sends."""
+"""The start and the end of `resolver serve` and `resolver control`, with their statuses and messages: arguments, binding, refused
+memory, the log, how soon `stop` ends the service, and the lines that `resolver control` sends."""
 
 import signal
 import socket
@@ -21,7 +21,7 @@ def serve(*arguments):
 
 
 def check_usage(checks):
-    """What `clap` refuses is told in its first line by the argument's name."""
+    """If `clap` rejects an argument, the first line of the error names it."""
     both = ["--listen", "127.0.0.1@1", "--control", "127.0.0.1@2"]
     for arguments, word in [
         (["--control", "127.0.0.1@2", "192.0.2.1"], b"--listen"),
@@ -49,7 +49,7 @@ def check_usage(checks):
 
 
 def check_addresses(checks):
-    """Addresses and counts, then the control address: the fault that is found first is told."""
+    """Addresses and counts, and then the control address: the first fault is reported."""
     listen, control, hint = "127.0.0.1@1", "127.0.0.1@2", "192.0.2.1"
     for listen_at, control_at, rest, wanted in [
         ("127.0.0.1:1", control, [hint], BAD),
@@ -74,7 +74,7 @@ def check_addresses(checks):
 
 
 def check_binding(checks):
-    """A port in use, over UDP or TCP, for questions or for control; and an address that is not this machine's."""
+    """A port in use, over UDP or TCP, for questions or for control; and an address of another machine."""
     free = f"{HOST}@{free_port()}"
     for kind, name in ((socket.SOCK_DGRAM, "UDP"), (socket.SOCK_STREAM, "TCP")):
         port = free_port()
@@ -106,7 +106,7 @@ def has_ipv6():
 
 
 def check_ranges(checks):
-    """Numbers at the ends of their ranges serve."""
+    """A service with numbers at the ends of their ranges."""
     for options in (
         ["--udp", "15", "--tcp", "1"],
         ["--udp=1", "--tcp=15", "--journal", "256", "--cells", "1000000", "--record", "1000000"],
@@ -154,7 +154,7 @@ def control(port, *words, text=b""):
 
 
 def check_control_program(checks):
-    """A line that is given, or each line of standard input; status 1 where one is told an error or a fault."""
+    """A line among the arguments, or each line of standard input. The status is 1 if a reply is an error or a fault."""
     with Service(["192.0.2.1"]) as service:
         port = service.control_port
         for words, text, wanted, status in [
@@ -165,7 +165,7 @@ def check_control_program(checks):
             ([], b"undo\nundo\n# a comment\n\nlist_local_zones\n", b"undone 2\nundone 1\nend\n", 0),
             ([], b"undo\nredo\nlist_local_zones", b"error nothing_to_undo\nredone 1\na. deny\nend\n", 1),
             ([], b"", b"", 0),
-            # What a list shows is no answer, whatever it begins with.
+            # A line of a list is no error, whatever it begins with.
             (["local_zone error. static"], b"", b"ok 3\n", 0),
             (["list_local_zones"], b"", b"a. deny\nerror. static\nend\n", 0),
             (["stop"], b"", b"ok stopping\n", 0),
@@ -184,7 +184,7 @@ def check_control_program(checks):
 
 
 def check_silent_server(checks):
-    """A name server that is not there: the log has its start and its end, and between them a line of the exchange that came to nothing."""
+    """A name server that is not there: between its start and its end the log has a line for the exchange that failed."""
     for over in ("udp", "tcp"):
         with NameServers({"127.0.0.1": {}}) as servers, Service([f"127.0.0.2@{servers.port}"]) as service:
             checks.equal(f"a dead server, over {over}", service.ask("a.test.", "A", over).words(), "rcode 2")
@@ -194,7 +194,7 @@ def check_silent_server(checks):
 
 
 def check_signal(checks):
-    """SIGTERM ends it by the signal, and the log has no last line."""
+    """SIGTERM ends the service by the signal, and the log has no last line."""
     with Service(["192.0.2.1"]) as service:
         service.logged(b"resolver: started")
         service.process.terminate()
@@ -205,19 +205,19 @@ def check_signal(checks):
 
 NO_MEMORY = b"resolver: no memory\n"
 
-# The service makes fewer growths of memory than this before it is ready.
+# The service makes fewer allocations than this before it is ready.
 MOST_GROWTHS = 1_000
 
 
 def refused_start(nth, *options):
-    """Starts a service whose growth of memory of this number is refused. Whether it was, and what is wrong with what came of it.
+    """Starts a service of which the Nth allocation is refused. Returns whether it was, and what is wrong with the outcome.
 
-    It ends and says why. Or it asked for less then, and serves as ever.
+    Either the service ends and reports why, or it asks again for less, and serves as ever.
     """
     environment = {"LD_PRELOAD": library("refuse"), "REFUSE_NTH": str(nth), "TELL": "2"}
     try:
         with Service(["192.0.2.1"], *options, environment=environment) as service:
-            # What comes behind `ready` may be refused too, and is no start.
+            # An allocation after `ready` may be refused too; that is not at the start.
             was_refused = b"refused\n" in service.log()
             if not was_refused:
                 return False, None
@@ -232,7 +232,7 @@ def refused_start(nth, *options):
 
 
 def check_refused_start(checks):
-    """Each growth of memory up to `ready` is refused in turn."""
+    """Each allocation up to `ready` is refused in turn."""
     for options in ([], ["--udp", "3", "--tcp", "2", "--seed", "1"]):
         name = " ".join(["serve", *options])
         for nth in range(1, MOST_GROWTHS):
@@ -243,12 +243,12 @@ def check_refused_start(checks):
         checks.check(f"{name}, growths refused", None if 50 < nth < MOST_GROWTHS - 1 else f"{nth - 1} were")
 
 
-# `stop` ends a service in a tenth of a second; on a machine that does other things beside, no later than this.
+# `stop` ends a service in a tenth of a second; on a busy machine, within this.
 STOP_SECONDS = 0.5
 
 
 def seconds_to_stop(service):
-    """How long it took from `stop` to the end of the program, which is with status 0."""
+    """The seconds from `stop` to the end of the program, with status 0."""
     with service.control() as control:
         began = time.monotonic()
         told = control.tell("stop")
@@ -258,7 +258,7 @@ def seconds_to_stop(service):
 
 
 def ask_on(service, over, ending):
-    """Asks for what is held, and does not stop before the service does."""
+    """Asks for cached names until the service ends."""
     try:
         with service.client(over) as client:
             client.sock.settimeout(5)
@@ -269,7 +269,7 @@ def ask_on(service, over, ending):
 
 
 def check_stop(checks, name, is_asked, is_loaded):
-    """How soon `stop` ends a service: one at rest, one of whose questions wait for a silent name server, one that is asked without end."""
+    """How soon `stop` ends a service: an idle one, one whose questions wait for a silent name server, and one that is asked all the time."""
     silent = {HOST: {"*": None}}
     with NameServers(silent) as servers, Service([f"{HOST}@{servers.port}"], "--udp", "2", "--tcp", "2") as service:
         service.obey("local_data held.test. 60 A 192.0.2.1")
@@ -296,13 +296,14 @@ def check_stop(checks, name, is_asked, is_loaded):
 
 
 def outlive_want():
-    """A worker that cannot accept for eighteen seconds, while nobody connects: the faults in the log, whether it ended, and what it answers then."""
+    """A worker that cannot accept for eighteen seconds, while nobody connects. Returns the faults in the log, whether the worker
+    ended, and its answer afterwards."""
     with Service(["192.0.2.1"]) as service:
         service.obey("local_data held.test. 60 A 192.0.2.1")
         until(lambda: service.threads() == 4)
         service.idle_descriptors()
         service.limit(service.first_free())
-        # A worker that waits has the descriptor of its next connection; the one behind it wants one.
+        # A worker that waits has the descriptor of its next connection; the connection after that needs one.
         with service.client("tcp") as client:
             client.ended()
         time.sleep(18.5)

@@ -1,18 +1,17 @@
 """A minute of questions, commands and undos at once, each reply checked against the script program.
 
-Which number the book gave a call is not told outside, so the order of all calls is not known here. Known is who waited for whom:
+The service does not show the number of a call, so the order of all calls is not known here. What is known is who waited for whom:
 
-- An operator gives commands one after another, and asks questions of a zone that nobody else asks about, each when the one before
-  it was answered. The script program is given the same lines in the same order, and what the name servers then sent is admitted
-  there. Every reply must be the script's, and the name servers of that zone must have been asked just where the script held
-  nothing.
-- Clients ask about names that the commands block and answer, all the while. A client's reply must be what the script answers of
-  that name behind some command: one that was given by the time the reply came, and none that another was acknowledged behind
-  before the question was sent. And these places must not go back: of two questions, where the first was answered before the
-  second was sent, the second is not answered from before the first's.
+- An operator sends commands one after another, and asks about a zone about which nobody else asks. Each line waits for the reply
+  to the one before. A script gets the same lines in the same order, and the data that the name servers then sent. Every reply must
+  be that of the script. The name servers of that zone must have been asked exactly if the script had nothing cached.
+- Meanwhile clients ask about names that the commands block and answer. A client's reply must be that of the script after some
+  command. That command was sent before the reply came, and no later command was acknowledged before the question was sent. These
+  places must not go back: if the first of two questions was answered before the second was sent, the place of the second is not
+  before that of the first.
 
-That each name's replies could be in one order with the commands is shown so; that the cells' contents were in that order is shown
-for the operator's own zone.
+So each name's replies could be in one order with the commands. That the cache had its data in that order is checked for the
+operator's own zone.
 """
 
 import itertools
@@ -36,8 +35,8 @@ from lib.service import STOPPED, Service, query
 SECONDS = 60
 SEED = 20_261_123
 ROOT, OWN, OTHERS, STUB = "127.0.0.1", "127.0.0.2", "127.0.0.3", "127.0.0.4"
-# Names that the operator alone asks about, of which the last is denied; and those that the clients ask about, of which the last two
-# may be dropped, so that they are asked over TCP alone.
+# Names about which only the operator asks; the last one is denied. And those about which clients ask; the last two may be dropped,
+# so they are asked only over TCP.
 OWN_NAMES = [f"s{place}.own." for place in range(5)] + ["n.own."]
 NAMES = [f"p{place}.others." for place in range(8)]
 DROPPED = NAMES[6:]
@@ -92,7 +91,7 @@ def without_left(told):
 
 
 def meant(told, name):
-    """The reply over the wire that a look comes to; None where name servers would be asked."""
+    """The reply over the wire for a lookup's reply; None if name servers would be asked."""
     word, *rest = told.split()
     fixed = {"local nodata": "aa", "local noname": "aa rcode 3", "local refuse": "aa rcode 5", "local drop": "drop"}
     if told in fixed or word == "unknown":
@@ -105,12 +104,12 @@ def meant(told, name):
 
 
 def shown(reply):
-    """A reply in the same words: what is local has its time to live."""
+    """A reply in the same words. A local one has its TTL."""
     return reply.with_times() if reply.head()[:1] == ["aa"] else reply.words()
 
 
 def ask_or_drop(client, name, marker="marker."):
-    """The reply to a question, or `drop` where the next one is answered in its place; both over one connection."""
+    """The reply to a question, or `drop` if the next one over the same connection is answered instead."""
     client.send(query(name, "A", 1))
     client.send(query(marker, "A", 2))
     first = client.octets()
@@ -146,7 +145,7 @@ class Client(threading.Thread):
                     for _ in range(20):
                         self._ask(client)
                         self.ending.wait(0.02)
-        except Exception as fault:  # told as a check that failed
+        except Exception as fault:  # becomes a check that failed
             self.fault = f"{type(fault).__name__}: {fault}"
 
     def _ask(self, client):
@@ -157,14 +156,14 @@ class Client(threading.Thread):
 
 
 class Operator:
-    """Gives drawn commands and asks questions, to the service and to the script."""
+    """Sends random commands and questions to the service and to the script."""
 
     def __init__(self, checks, service, servers, clock):
         self.checks, self.service, self.servers, self.clock = checks, service, servers, clock
         self.random = random.Random(SEED)
         self.script = Script("--journal", "16", "--server-port", str(servers.port), f"{ROOT}@{servers.port}")
         self.control = service.control()
-        self.given = []  # the ticks round each command, and what each name is answered behind it
+        self.given = []  # the ticks before and after each command, and the answer for each name after it
         self.questions = 0
         # No undo reaches the marker, since the journal has forgotten it.
         for line in ["local_data marker. 60 A 192.0.2.99"] + ["flush nobody."] * 16:
@@ -181,14 +180,14 @@ class Operator:
         self.given.append((began, ended, self._answers()))
 
     def _answers(self):
-        """What each name that the clients ask about is answered now."""
+        """The answer for each name of the clients now."""
         wanted = {}
         for place, name in enumerate(NAMES):
             wanted[name] = meant(self.script.tell(f"look {name} A"), name) or f"- | answer {name} A 192.0.2.{place}"
         return wanted
 
     def ask(self, name):
-        """A question of the operator's zone. Where the script holds nothing the name servers have to be asked, and it learns what they sent."""
+        """A question about the operator's zone. If the script has nothing cached, name servers have to be asked, and it gets what they sent."""
         before = len(self.own_asked())
         words = self._reply(name)
         asked = self.own_asked()[before:]
@@ -202,7 +201,7 @@ class Operator:
             self.checks.equal(f"question {self.questions} of {name} behind line {len(self.given)}", (words, asked), (wanted, route))
 
     def own_asked(self):
-        """Which servers were asked about the operator's zone so far."""
+        """The servers that were asked about the operator's zone so far."""
         return [server for server, _, question in list(self.servers.asked) if question.endswith("own. A")]
 
     def _reply(self, name):
@@ -216,7 +215,7 @@ class Operator:
             return ask_or_drop(client, name)
 
     def _route(self, name):
-        """The servers that have to be asked, and what the root's referral teaches."""
+        """The servers that have to be asked. The script gets the root's referral."""
         _, zone, source, addr = self.script.tell(f"servers {name}").split()
         if source != "hints":
             return [addr.split("@")[0]]
@@ -225,7 +224,7 @@ class Operator:
         return [ROOT, OWN]
 
     def _learnt(self, name, words):
-        """What a server of the zone taught, which the reply shows."""
+        """Gives the script the data of a server of the zone, which the reply shows."""
         if name == "n.own.":
             self.script.tell(f"noname {name} 3600 own. {SOA}")
             return f"rcode 3 | authority own. SOA {SOA}"
@@ -260,7 +259,7 @@ class Operator:
         return draw.choices(list(lines), list(lines.values()))[0]
 
     def go_on(self):
-        """One thing more."""
+        """One line or question more."""
         line = self.drawn()
         if line.startswith("?"):
             self.ask(line[1:])
@@ -273,9 +272,9 @@ class Operator:
 
 
 def misplaced(given, told):
-    """The first reply that has no place between the commands, or None. Each is put at the earliest that is left to it."""
+    """The first reply that has no place between the commands, or None. Each gets the earliest place that is left."""
     begun, ended = [began for began, _, _ in given], [end for _, end, _ in given]
-    settled = []  # ticks at which earlier replies ended, each with the latest place of those so far
+    settled = []  # the ticks at which earlier replies ended, each with the latest place so far
     for one in sorted(told, key=lambda one: one.began):
         first = max([bisect_left(ended, one.began) - 1, *(place for end, place in settled if end < one.began)])
         answers = [given[at][2][one.name] for at in range(first, bisect_left(begun, one.ended))]

@@ -1,4 +1,4 @@
-"""What name servers do on a question: reply at once or never, and every way of lying."""
+"""The behaviours of name servers: to reply at once or never, and every way of lying."""
 
 import random
 import re
@@ -9,12 +9,12 @@ from lib.crowds import END
 from lib.nameserver import Piece, framed
 
 SEED = 17
-# An exchange ends after so many seconds.
+# The seconds after which an exchange ends.
 EXCHANGE = 2
 
 
 def address(name):
-    """The address that a name has here, by the number in it."""
+    """The address of a name here, from the number in the name."""
     number = int(re.search(r"\d+", name).group())
     return f"10.{number >> 16}.{number >> 8 & 255}.{number & 255}"
 
@@ -37,7 +37,7 @@ def never(asked):
 
 
 class Lies:
-    """What a server does on a question, by the word before the number in its name: a method for each."""
+    """The behaviour of a server for a question: the method of the word before the number in its name."""
 
     def __init__(self):
         self.random = random.Random(SEED)
@@ -83,7 +83,7 @@ class Lies:
         yield 0, right(asked)
 
     def swapped(self, asked):
-        """Of two questions each gets the reply to the other first."""
+        """Of two questions each first gets the reply to the other."""
         if self.waiting is None:
             self.waiting = asked
             return
@@ -119,7 +119,7 @@ class Lies:
         return ()
 
     def as_it_ends(self, asked):
-        """About when the exchange ends."""
+        """A reply at about the time at which the exchange ends."""
         yield self.random.uniform(EXCHANGE - 0.1, EXCHANGE + 0.1), right(asked)
 
     def cut(self, asked, *over_tcp):
@@ -133,7 +133,7 @@ class Lies:
         return self.cut(asked, *((place / 100, Piece([octet])) for place, octet in enumerate(octets)))
 
     def cut_slow(self, asked):
-        """Octet by octet, each in time, and all of them far too late."""
+        """A reply octet by octet: each comes in time, and the whole far too late."""
         octets = framed(right(asked))
         return self.cut(asked, *((place / 5, Piece([octet])) for place, octet in enumerate(octets)))
 
@@ -159,12 +159,12 @@ class Lies:
         return self.cut(asked, (0, Piece(b"\xff\xff" + right(asked))))
 
     def cut_more(self, asked):
-        """A message, and more behind it."""
+        """A message with more octets after it."""
         return self.cut(asked, (0, Piece(2 * framed(right(asked)))))
 
 
 RIGHT = "right thrice id_first question_first junk_first flooded swapped cut_right cut_drips cut_more cut_right_ends".split()
 WRONG = "id_alone question_alone junk_on dead refuses echoes from_elsewhere".split()
 WRONG += "cut_twice cut_other_id cut_breaks cut_ends cut_silent cut_long cut_slow".split()
-# These are wrong, and yet replies to the query: their exchanges come to something.
+# These are wrong, but replies to the query, so their exchanges do not fail.
 REPLIED = "refuses cut_twice".split()

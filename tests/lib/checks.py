@@ -9,7 +9,7 @@ class Checks:
         self.failed = 0
 
     def check(self, name, fault=None):
-        """A check, and what is wrong, if anything is."""
+        """Counts a check, with what is wrong, if anything is."""
         if fault:
             self.failed += 1
             print(f"{name}: {fault}")
@@ -21,7 +21,7 @@ class Checks:
         self.check(name, None if found == wanted else difference(found, wanted))
 
     def make(self, check, *arguments):
-        """Makes the checks of a function. If it breaks off, that is a check that failed, and the next is made."""
+        """Makes the checks of a function. If it raises an exception, that counts as a failed check, and the next function runs."""
         try:
             check(self, *arguments)
         except Exception as fault:
@@ -29,7 +29,7 @@ class Checks:
             self.check(" ".join([check.__name__, *map(str, arguments)]), told)
 
     def skip(self, name, why):
-        """A check that cannot be made here; tests/run shows it."""
+        """Reports a check that cannot be made here; tests/run shows it."""
         print(f"skipped: {name}: {why}")
 
     def end(self):
@@ -38,13 +38,13 @@ class Checks:
 
 
 def short(value):
-    """A value as it is shown, cut where it is long."""
+    """A value as it is shown: cut if it is long."""
     text = repr(value)
     return text if len(text) <= 300 else f"{text[:300]}.. ({len(value)} long)"
 
 
 def difference(found, wanted):
-    """Where two values differ first, line by line where both are octets."""
+    """The first difference between two values, line by line if both are octets."""
     if isinstance(found, bytes) and isinstance(wanted, bytes):
         pairs = zip(found.split(b"\n"), wanted.split(b"\n"))
         for number, (line, want) in enumerate(pairs, 1):

@@ -1,4 +1,4 @@
-"""Very many questions at once: a name server that answers each in its own time, and clients that have so many in flight."""
+"""Very many questions at once: a name server that answers each in its own time, and clients that have many in flight."""
 
 import heapq
 import itertools
@@ -14,18 +14,18 @@ from lib.nameserver import PATIENCE, Asked, bound_together, framed
 from lib.replies import reply_in
 from lib.service import HOST, query, until
 
-# What ends a TCP connection in place of octets.
+# Ends a TCP connection, in place of octets.
 END = object()
 
-# So many datagrams find room in any UDP socket whose receive buffer nobody widened.
+# The datagrams for which any UDP socket has room, if nobody enlarged its receive buffer.
 SLICE = 200
 
 
 class LateServer:
     """Name servers at some addresses, over UDP and TCP, in one thread.
 
-    What it does on a question is a function of the question, an `Asked`, whose items are each a moment, in seconds from when the
-    question came, and the octets that then go out, or `END`.
+    Their behaviour is a function of the question, an `Asked`. It yields pairs: the seconds since the question came, and the octets
+    that are then sent, or `END`.
     """
 
     def __init__(self, does, addresses=(HOST,), has_tcp=True):
@@ -68,7 +68,7 @@ class LateServer:
             return sum(way == over for way, _ in self.asked)
 
     def wait_for(self, count):
-        """Waits until so many questions came; whether they did."""
+        """Waits until a number of questions came. Returns whether they did."""
         with self._changed:
             return self._changed.wait_for(lambda: len(self.asked) >= count, PATIENCE)
 
@@ -85,10 +85,10 @@ class LateServer:
                 try:
                     send(octets)
                 except OSError:
-                    pass  # who asked has gone
+                    pass  # the client has gone
 
     def _do(self, address, over, octets, send, peer=None):
-        """Notes a question, and what is to be sent and when. It is told how to send, and over UDP whom to."""
+        """Notes a question, and what is to be sent and when. It gets the function that sends, and over UDP the address."""
         now = time.monotonic()
         asked = Asked(self, address, over, octets, question_of(octets))
         asked.send, asked.peer = send, peer
@@ -145,7 +145,7 @@ class LateServer:
 
 
 class Crowd:
-    """Clients of a service over UDP, who ask for the addresses of names. The place of a name is the identifier of its query."""
+    """Clients of a service over UDP, who ask for the addresses of names. The identifier of a query is the place of its name."""
 
     def __init__(self, service, count=8):
         self.service = service
@@ -172,14 +172,14 @@ class Crowd:
         self.clients[place % len(self.clients)].send(query(name, "A", place))
 
     def send_all(self, names):
-        """Sends a query for each name, no faster than the service takes them."""
+        """Sends a query for each name, no faster than the service receives them."""
         for name in names:
             self.send(name)
             if len(self.names) % SLICE == 0:
                 until(lambda: waiting_at(self.service.port) == 0)
 
     def ask(self, names, most):
-        """Asks for each of the names, with so many in flight, until each has a reply or patience ends."""
+        """Asks for each of the names, with a number of them in flight, until each has a reply or time is up."""
         left = iter(list(names))
         end = time.monotonic() + PATIENCE
         while time.monotonic() < end:
@@ -190,13 +190,13 @@ class Crowd:
             self.take(0.1)
 
     def wait(self):
-        """Takes replies until each name has one or patience ends."""
+        """Receives replies until each name has one or time is up."""
         end = time.monotonic() + PATIENCE
         while len(self.replies) < len(self.names) and time.monotonic() < end:
             self.take(0.1)
 
     def take(self, seconds=0):
-        """Takes the replies that are there, waiting so long for the first; how many came."""
+        """Receives the replies that are there, after some seconds of waiting for the first. Returns how many came."""
         ready = self._selector.select(seconds)
         return sum(self._take_all(key.fileobj) for key, _ in ready)
 
@@ -209,7 +209,7 @@ class Crowd:
             self.replies.setdefault(int.from_bytes(octets[:2], "big"), []).append(octets)
 
     def once_each(self):
-        """What is wrong where each name has to have one reply, to its own question."""
+        """What is wrong, if each name has to have one reply, to its own question."""
         lost = [name for place, name in enumerate(self.names) if place not in self.replies]
         again = [self.names[place] for place, replies in self.replies.items() if len(replies) > 1]
         wrong = [replies[0].hex() for place, replies in self.replies.items() if not self._is_of(place, replies[0])]
@@ -227,12 +227,12 @@ class Crowd:
 
 
 def words_in(octets):
-    """The words of a reply; of one that is a header alone, as a service without memory or room gives it, those of its fault."""
+    """The words of a reply. If it is a header alone, as from a service without memory or room, those of its fault."""
     return f"rcode {octets[3] & 15}" if octets[4:] == bytes(8) else reply_in(octets).words()
 
 
 def waiting_at(port):
-    """The octets that wait to be taken at a UDP port."""
+    """The octets that wait to be received at a UDP port."""
     rows = []
     for path in filter(os.path.exists, ("/proc/net/udp", "/proc/net/udp6")):
         with open(path, encoding="ascii") as file:

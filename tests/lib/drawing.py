@@ -1,4 +1,4 @@
-"""Draws scripts of all lines, which stay near few names, the questions that they met, and the newest moment."""
+"""Draws random scripts of all lines. They stay near a few names, the questions of earlier lines, and the newest moment."""
 
 import random
 
@@ -61,7 +61,7 @@ at -1
 at 1 2
 """.split("\n")[1:-1] + ["x" * 1_025]
 
-# How often each kind of line is drawn: in scripts of all, of the cache, of servers, and of tables.
+# How often each kind of line is drawn: in scripts of all lines, of the cache, of servers, and of tables.
 WEIGHTS = [
     dict(
         at=6, clock=1, admit=16, ns=8, denial=6, look=16, servers=8, flush=7,
@@ -90,7 +90,7 @@ class Drawer:
     # ---- words
 
     def question(self):
-        """A question that was met lately, or another."""
+        """A recent question, or another."""
         if self.draw.random() < 0.25:
             self.met = self.met[-3:] + [(self.draw.choice(NAMES), self.draw.choice(TYPES))]
         return self.draw.choice(self.met)
@@ -107,7 +107,7 @@ class Drawer:
     # ---- lines
 
     def at(self):
-        """Later for the most part; now and then back, or too late for some lines."""
+        """Mostly a later moment; now and then an earlier one, or one that is too late for some lines."""
         self.moment += self.draw.choice([0, 1, 1, 4, 5, 15, 20, 40])
         if self.draw.random() < 0.05:
             return [f"at {self.draw.choice([2**40, 2**64 - 1])}", *self.look(), *self.change(), f"at {self.moment}"]
@@ -134,7 +134,7 @@ class Drawer:
         return [f"look {owner} {kind}"]
 
     def clock(self):
-        """An event whose moment counts, whatever is replied to it, before the moment goes back."""
+        """An event whose moment counts whatever its reply is, before the moment goes back."""
         owner, kind = self.question()
         draws = [self.change, self.change, self.admit, self.list, self.servers, self.sweep, self.look]
         refused = f"stub_add {owner} {' '.join(ADDRESSES * 3)}"
@@ -150,7 +150,7 @@ class Drawer:
         return [self.draw.choice([f"flush {owner}", f"flush_zone {owner}", f"flush_type {owner} {kind}"]), *self.look()]
 
     def flushed_type(self):
-        """A name that is denied, of which a flush covers some types and others not."""
+        """A name that is denied, and a flush that covers some of its types and not others."""
         owner = self.question()[0]
         kind = self.draw.choice([type_text(number) for number in sorted(FLUSHED)] + ["TXT", "TYPE731"])
         flush = self.draw.choice([f"flush {owner}", f"flush {owner}", f"flush_type {owner} {kind}"])
@@ -178,7 +178,7 @@ class Drawer:
         return [self.draw.choice(LISTS)]
 
     def back(self):
-        """Some undos and some redos, with a look or a list behind them."""
+        """Some undos and some redos, with a lookup or a list after them."""
         undos = self.draw.choice([1, 1, 2, 3])
         seen = [self.draw.choice([self.look, self.look, self.list])() for _ in range(2)]
         return ["undo"] * undos + seen[0] + ["redo"] * self.draw.randint(0, undos) + seen[1]

@@ -1,4 +1,4 @@
-"""Rows that are made: too many or too long for a file. What each gives is worked out here, from what the octets say."""
+"""Rows that are generated, since they are too many or too long for a file. Their results are computed here from the octets."""
 
 import os
 
@@ -37,12 +37,12 @@ def escape(octet):
 
 
 def name_text(labels):
-    """A name as text, with all that has to be escaped."""
+    """A name as text, with escapes for all octets that need one."""
     return "".join("".join(escape(octet) for octet in label) + "." for label in labels)
 
 
 def every_octet():
-    """The name of one label of each octet, and its text."""
+    """For each octet the name with that octet as its label, and the text of the name."""
     for octet in range(256):
         small = ord(chr(octet).lower()) if octet < 128 else octet
         text = (escape(small) + ".").encode()
@@ -52,7 +52,7 @@ def every_octet():
 
 
 def fronts():
-    """Each front of a message, without its end, is too short."""
+    """Each beginning of a message, without its end, is too short."""
     _, names = read_rows(os.path.join(ROWS, "messages.rows"))
     for message in (names["QUERY"], names["RESPONSE"]):
         for end in range(len(message)):
@@ -60,7 +60,7 @@ def fronts():
 
 
 def both_ways(message, told):
-    """A message that is written as the octets that it was read from."""
+    """A message that is written as the octets from which it was read."""
     yield call("decode", message), told
     yield call("encode", message), message.hex().encode()
     yield call("again", message), b"true"
@@ -93,7 +93,7 @@ def long_names():
 
 
 def many_data():
-    """A set of 1,900 addresses that come twice over, and one of 16 strings: behind the first few, each datum counts once too."""
+    """A set of 1,900 addresses that come twice, and one of 16 strings: after the first few data, too, each counts once."""
     addresses = [bytes([10, 0, place // 256, place % 256]) for place in range(1_900)]
     told = ", ".join(".".join(str(octet) for octet in address) for address in addresses)
     message = response(*(record(A, address) for address in addresses * 2))
@@ -105,7 +105,7 @@ def many_data():
 
 
 def longest():
-    """A message of 65,535 octets is written; one of 65,536 is too long, and one whose names, written whole, make it so."""
+    """A message of 65,535 octets is written. One of 65,536 is too long, and so is one that its whole names make too long."""
     fill = 65_535 - len(response(record(NULL, b"")))
     message = response(record(NULL, b"x" * fill))
     yield call("encode", message), message.hex().encode()
@@ -118,7 +118,7 @@ def longest():
 
 
 def longest_lent():
-    """244 strings of 255 octets and one that fills 65,535 octets are written as they are lent; with an octet more they are too long."""
+    """244 strings of 255 octets, and one that fills the message to 65,535 octets, are written. With an octet more it is too long."""
     query = number(0x1234) + number(0x0100) + number(1) + number(0) * 3 + QUESTION[:-4] + number(TXT) + number(1)
     strings = [b"x" * 255] * 244
 
@@ -134,7 +134,7 @@ def longest_lent():
 
 
 def pointer_chains():
-    """2,900 owners, each of them 8,000 pointers away from its label."""
+    """2,900 owners, each 8,000 pointers away from its label."""
     begin = len(response()) + 12
     places = [begin + 3 + 2 * step for step in range(8_000)]
     chain = b"\1b\0" + b"".join(number(0xC000 + place) for place in [begin, *places[:-1]])
@@ -149,7 +149,7 @@ def pointer_chains():
 
 
 def questions_of_many():
-    """Queries with 60 KiB behind the question."""
+    """Queries with 60 KiB after the question."""
     header = number(0x1234) + number(0x0100) + number(1) + number(0) * 2
     records = [record(A, b"\xc0\0\2\1")] * 3_800
     query = header + number(len(records)) + QUESTION + b"".join(records)
@@ -158,7 +158,7 @@ def questions_of_many():
 
 
 def made_files():
-    """The files of rows that are made, by name."""
+    """The generated files of rows, by name."""
     return {
         "every octet": every_octet(),
         "fronts": fronts(),

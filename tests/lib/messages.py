@@ -62,10 +62,10 @@ def question_of(octets):
 
 
 def response(asked, text):
-    """A response to a query for NAME TYPE, in words: what its header has, and its records, each behind a bar and its section.
+    """A response to a query for NAME TYPE, in words: those of its header, and its records, each after a bar and its section.
 
-    The header has words such as `aa`, `tc`, `rcode 3`, `opcode 1`, `query`, `id 1` (what the identifier differs by), `asks
-    NAME TYPE` (another question), `questions 2` (the question so many times).
+    The header has words such as `aa`, `tc`, `rcode 3`, `opcode 1`, `query`, `id 1` (the difference of the identifier), `asks NAME
+    TYPE` (another question), `questions 2` (the question twice).
     """
     head, *parts = [part.strip() for part in text.split("|")]
     words = head.split()

@@ -1,7 +1,7 @@
-"""What the lines of a script come to, by what they mean: each reply is worked out from the events before it.
+"""A model of the replies to a script, from the meaning of its lines: each reply is computed from the events before it.
 
-For each line the marks, what stands, the tables and the cells are replayed from nothing, over the list of events. Only the places
-of the cache are counted as the script goes, since no reply but `fault full` depends on them.
+For each line the marks, what is in force, the tables and the cells are replayed from nothing, from the list of events. Only the
+places of the cache are counted while the script runs, since no reply but `fault full` depends on them.
 """
 
 from dataclasses import dataclass
@@ -22,7 +22,7 @@ class Entry:
     ticket: int | None
 
 
-# ---- what a history comes to
+# ---- the replay of a history
 
 def now(history):
     return history[-1].moment if history else 0
@@ -33,7 +33,7 @@ def tickets(history):
 
 
 def marks(bound, history):
-    """What can be undone, what can be redone, and what is struck."""
+    """The tickets that can be undone, that can be redone, and that are struck."""
     done, undone, struck = [], [], set()
     for entry in history:
         verb = entry.event.verb
@@ -85,7 +85,7 @@ def outranks(cell, find, moment):
 
 
 def cell_of(entries, question):
-    """The find that is held of a question, and the moment at which it came."""
+    """The find that is cached for a question, and the moment at which it came."""
     cell = None
     for entry in entries:
         what = entry.event.what
@@ -98,14 +98,14 @@ def cell_of(entries, question):
 
 
 def shown(entries, question, moment):
-    """The find of a living cell, and the seconds left."""
+    """The find of a cell, if it has not expired, and the seconds left."""
     cell = cell_of(entries, question)
     return (cell[0], cell[1] + cell[0].ttl - moment) if is_alive(cell, moment) else None
 
 
 # ---- the places of the cache
 
-# What a version has of a type, if the denial of the whole name is meant.
+# The content of a version for a type, if that is the denial of the whole name.
 DENIAL = object()
 
 
@@ -113,7 +113,7 @@ class CachedName:
     """The denial of a name, and a column for each type: what is cached of it, by version."""
 
     def __init__(self):
-        self.denial, self.upto = None, 0  # it reaches the versions up to this one
+        self.denial, self.upto = None, 0  # it is in the versions up to this one
         self.columns = {}
 
     def has_place(self, kind):
@@ -131,7 +131,7 @@ class CachedName:
         return self.denial if cell is DENIAL else cell
 
     def open(self, kind, size):
-        """The column of a type. A new one is as the denial has it, or empty."""
+        """The column of a type. A new one has the denial, or is empty."""
         return self.columns.setdefault(kind, [None] * size if self.denial is None else [DENIAL] * (self.upto + 1))
 
 
@@ -140,7 +140,7 @@ class Places:
 
     A place is a name and a type, or a name that is denied. It counts while some version has a find there. Version N is what is
     cached if flush N is the last in force, and version 0 if none is. Each flush that can be undone or redone has its version.
-    Other versions go with a sweep.
+    A sweep removes other versions.
     """
 
     def __init__(self):
@@ -160,7 +160,7 @@ class Places:
         return find.kind is None or any(not outranks(name.cell(find.kind, version), find, moment) for version in asked)
 
     def admit(self, find, moment):
-        """Each version takes a find, unless what is cached there outranks it. Nothing outranks a denial of a name."""
+        """Enters a find into each version, unless the find there outranks it. Nothing outranks a denial of a name."""
         name = self.names.setdefault(find.owner, CachedName())
         if find.kind is None:
             name.denial, name.upto, name.columns = (find, moment), self.newest, {}
@@ -182,7 +182,7 @@ class Places:
         self.flushes[number], self.newest = flush, number
 
     def settle(self, number):
-        """A flush can no longer be undone: the versions before it are no more."""
+        """A flush can no longer be undone: removes the versions before it."""
         flush = self.flushes.pop(number)
         for owner, name in self.names.items():
             for kind, column in name.columns.items():
@@ -192,7 +192,7 @@ class Places:
                 name.denial = None
 
     def sweep(self, moment):
-        """What is dead goes, and what no version has that belongs to a flush that can be undone or redone."""
+        """Removes what has expired, and what is only in versions of flushes that can no longer be undone or redone."""
         for owner, name in self.names.items():
             if not is_alive(name.denial, moment):
                 name.denial = None
@@ -224,19 +224,19 @@ class Places:
 @dataclass(frozen=True)
 class Tables:
     zones: tuple = ()  # (name, type)
-    records: tuple = ()  # (owner, type, time to live, data)
+    records: tuple = ()  # (owner, type, TTL, data)
     stubs: tuple = ()  # (name, addresses)
 
 
 def put(items, new):
-    """In the place of the item of that name, or last."""
+    """Puts an item in the place of the one of that name, or last."""
     if any(item[0] == new[0] for item in items):
         return tuple(new if item[0] == new[0] else item for item in items)
     return items + (new,)
 
 
 class Types:
-    """The types of the zones of a list by name, made once for the list that was asked last."""
+    """The types of the zones of a list by name, computed once for the most recent list."""
 
     zones, types = (), {}
 
@@ -294,7 +294,7 @@ def tables_of(entries):
 
 
 def reason(tables, command, then):
-    """Why a command is refused, after which the tables would be these: the first reason that there is."""
+    """The first reason to refuse a command after which the tables would be these, if any."""
     word, *rest = command
     if word == "local_data":
         owner, kind = rest[:2]
@@ -314,7 +314,7 @@ def reason(tables, command, then):
 
 
 def local(tables, question):
-    """What a question is answered from the tables, or `None` where they pass it."""
+    """The answer of the tables to a question, or `None` if the cache is asked."""
     name, kind = question
     zone = closest(tables.zones, name)
     if zone is None:
@@ -339,7 +339,7 @@ def local(tables, question):
 # ---- servers
 
 def set_at(entries, name, kind, moment):
-    """The data of a living set of any rank."""
+    """The data of a set of any rank that has not expired."""
     found = shown(entries, (name, kind), moment)
     return found[0].body if found and isinstance(found[0].body, tuple) else ()
 
@@ -357,7 +357,7 @@ def servers_at(settings, entries, zone, moment):
 
 
 def servers(settings, entries, name, moment):
-    """The zone closest to a name that has a stub or a usable set, where it comes from, and its servers."""
+    """The closest zone to a name that has a stub or a usable NS set, its source, and its servers."""
     stubs = dict(tables_of(entries).stubs)
     for start in range(len(name) + 1):
         zone = name[start:]
@@ -397,7 +397,7 @@ def commands_text(settings, history):
 
 
 def list_text(tables, word):
-    """What a list of the tables says, line by line."""
+    """The lines of a list of the tables."""
     if word == "list_local_zones":
         lines = [f"{name_text(name)} {kind}" for name, kind in tables.zones]
     elif word == "list_local_data":
@@ -408,7 +408,7 @@ def list_text(tables, word):
 
 
 def seen_text(settings, history, entries, ask, moment):
-    """What a look sees, line by line."""
+    """The lines of the reply to a lookup."""
     word, *rest = ask
     tables = tables_of(entries)
     if word == "look":
@@ -426,7 +426,7 @@ def seen_text(settings, history, entries, ask, moment):
 
 
 def reply_text(settings, history, event):
-    """The lines that an event is answered with, and the ticket that it takes."""
+    """The lines of the reply to an event, and the ticket that it takes."""
     moment = max(now(history), event.moment)
     if event.verb == "sweep":
         return ["swept"], None
@@ -446,7 +446,7 @@ def reply_text(settings, history, event):
 
 
 class Model:
-    """A script that is obeyed line by line."""
+    """A script, line by line."""
 
     def __init__(self, journal=64, cells=100_000, hints=(), port=53):
         self.journal, self.cells, self.port = journal, cells, port
@@ -456,7 +456,7 @@ class Model:
         self.places = Places()
 
     def take(self, event):
-        """A fault and nothing else, or the reply, and then the event is in the history."""
+        """The fault of an event; or its reply, and then the event is in the history."""
         if event.moment >= FIRST_BAD_MOMENT:
             return ["fault bad_moment"]
         moment = max(now(self.history), event.moment)

@@ -1,11 +1,11 @@
-"""Name servers on loopback that do what a test says: each at an address of its own, all at one port, over UDP and TCP.
+"""Name servers on loopback that behave as a test says: each at an address of its own, all at one port, over UDP and TCP.
 
-What a server does on a question stands in its zone, a dictionary from `NAME TYPE` (or `*`, for every other question) to
+The zone of a server is a dictionary from `NAME TYPE` (or `*`, for every other question) to its behaviour:
 
 - a text, the response in the words of tests/lib/messages.py;
-- None: it keeps silent;
-- a function of the question (`Asked`), which gives one response after another as octets, and may wait between them. Over TCP
-  a `Piece` goes out as it is, without the length before it.
+- None: it stays silent;
+- a function of the question (`Asked`), which yields one response after another as octets, and may wait between them. Over TCP
+  a `Piece` is sent as it is, without a length before it.
 """
 
 import random
@@ -19,7 +19,7 @@ from lib.messages import question_of, response
 # Ports that no system gives to a socket by itself, so that only another test can be in the way.
 PORTS = range(20_000, 32_000)
 
-# So many seconds anything is awaited here; what is awaited comes in far fewer.
+# The seconds for which a test waits; what it waits for comes in far fewer.
 PATIENCE = 60
 
 REFUSED = "rcode 5"
@@ -30,7 +30,7 @@ class Closed(Exception):
 
 
 class Piece(bytes):
-    """Octets of a TCP connection that are no whole message."""
+    """Octets for a TCP connection that are no whole message."""
 
 
 @dataclass
@@ -44,7 +44,7 @@ class Asked:
     question: str
 
     def response(self, text):
-        """The response in words. Its identifier is that of the query, but for what the words let it differ by."""
+        """The response in words. Its identifier is that of the query, unless the words change it."""
         octets = response(self.question, text)
         identifier = int.from_bytes(octets[:2], "big") ^ int.from_bytes(self.query[:2], "big")
         return identifier.to_bytes(2, "big") + octets[2:]
@@ -65,7 +65,7 @@ def framed(octets):
 
 
 def receive(connection, count):
-    """So many octets, or None where the connection ends before."""
+    """A number of octets, or None if the connection ends before."""
     octets = b""
     while len(octets) < count:
         piece = connection.recv(count - len(octets))
@@ -90,7 +90,7 @@ def bound(kind, address, port):
 
 
 def bound_at(addresses, port):
-    """A UDP and a TCP socket at each of the addresses, or None where one of them is in use."""
+    """A UDP and a TCP socket at each of the addresses, or None if one of them is in use."""
     made = []
     try:
         for address in addresses:
@@ -149,13 +149,13 @@ class NameServers:
             return sum(q == question and over in (None, o) for _, o, q in self.asked)
 
     def wait_for(self, question, count=1, over=None):
-        """Waits until a question came so often; whether it did."""
+        """Waits until a question came a number of times. Returns whether it did."""
         with self._changed:
             enough = lambda: sum(q == question and over in (None, o) for _, o, q in self.asked) >= count
             return self._changed.wait_for(enough, PATIENCE)
 
     def _serve(self):
-        """Takes datagrams and connections at every address."""
+        """Receives datagrams and accepts connections at every address."""
         with selectors.DefaultSelector() as selector:
             for sock, address in self._sockets:
                 if sock.type == socket.SOCK_STREAM:
@@ -206,7 +206,7 @@ class NameServers:
         try:
             sock.sendto(octets, peer)
         except OSError:
-            pass  # who asked has gone
+            pass  # the client has gone
 
     def _play(self, sock, peer, asked, does):
         try:
@@ -231,7 +231,7 @@ class NameServers:
                 self._connections.discard(connection)
 
     def _answer(self, connection, asked):
-        """Sends what there is to be sent; whether the connection stays open."""
+        """Sends what is to be sent. Returns whether the connection is still open."""
         does = self._does(asked)
         responses = [asked.response(does)] if isinstance(does, str) else does(asked) if does else []
         is_whole = True

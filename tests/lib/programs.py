@@ -1,4 +1,4 @@
-"""Runs the finished programs, with a library in front of the C library where that is wanted."""
+"""Runs the finished programs, if wanted with a library in front of the C library."""
 
 import os
 import pty
@@ -16,7 +16,7 @@ BOOKS = os.path.join(TOP, "crates/shared_book_drawn/out/shared_book_drawn")
 PLAY = os.path.join(TOP, "crates/play/out/play")
 MEASURE = os.path.join(TOP, "crates/measure/out/measure")
 
-# A table's lines, and what they come to: local zones are what the gate runs the program on.
+# The lines for a table, and their output. Those for local zones are the input with which the gate runs the program.
 TABLES = {
     "zones": (os.path.join(TOP, "crates/play/stdin"), os.path.join(TOP, "crates/play/stdout")),
     "stubs": (os.path.join(TOP, "tests/tables/stubs.lines"), os.path.join(TOP, "tests/tables/stubs.out")),
@@ -33,7 +33,7 @@ class Run:
     status: int
     out: bytes
     err: bytes
-    # What the library told, line by line.
+    # The lines that the library wrote.
     told: list
 
 
@@ -48,7 +48,7 @@ def library(name):
 
 
 def run(command, text=b"", preload=None, **settings):
-    """Runs a command over a text or a file. With a library it tells on a pipe, and takes settings from the environment."""
+    """Runs a command with a text or a file as input. A library writes to a pipe, and takes settings from the environment."""
     given = {"input": text} if isinstance(text, bytes) else {"stdin": text}
     environment = {name: str(value) for name, value in settings.items()}
     reading, writing = os.pipe()
@@ -65,8 +65,8 @@ def run(command, text=b"", preload=None, **settings):
     return Run(done.returncode, done.stdout, done.stderr, told)
 
 
-# Runs a command and tells the most memory that it had, in KiB. A process counts what its parent had when it was started, so a small
-# one starts it.
+# Runs a command and prints the most memory that it had, in KiB. The count of a process includes that of its parent at its start, so
+# a small process starts it.
 MEASURE_PEAK = """
 import os, sys
 process = os.posix_spawn(sys.argv[1], sys.argv[1:], os.environ)
@@ -77,14 +77,14 @@ sys.exit(os.waitstatus_to_exitcode(status))
 
 
 def run_measured(command, asked, told):
-    """Runs a command from one file to another. How it ended, and the most memory that it had, in KiB."""
+    """Runs a command from one file to another. Returns its status, and the most memory that it had, in KiB."""
     small = [sys.executable, "-S", "-c", MEASURE_PEAK]
     done = subprocess.run(small + command, stdin=asked, stdout=told, stderr=subprocess.PIPE, timeout=PATIENCE)
     return done.returncode, int(done.stderr.split()[-1])
 
 
 def run_to_most(command, text, most):
-    """Runs a command over a text, where its output is a file that takes so many octets and no more. What the file has, and how it ended."""
+    """Runs a command whose output is a file with a limited size. Returns what the file has, and how the command ended."""
     with tempfile.TemporaryFile() as file:
         done = subprocess.run(
             command, input=text, stdout=file, stderr=subprocess.PIPE, timeout=PATIENCE,
@@ -95,7 +95,7 @@ def run_to_most(command, text, most):
 
 
 def run_to_hangup(command, text):
-    """Runs a command over a terminal that gives a text and then hangs up, so that the next read fails. What it wrote, and how it ended."""
+    """Runs a command at a terminal that gives a text and then hangs up, so that the next read fails. Returns its output and status."""
     reader, terminal = pty.openpty()
     try:
         tty.setraw(terminal)

@@ -1,6 +1,6 @@
-"""What a line says: an event, or its first fault. A name is the tuple of its labels, data are their text as it is written.
+"""The meaning of a line: an event, or its first fault. A name is the tuple of its labels, and data is its text as written.
 
-Names with escapes, and such texts as the drawn scripts do not have, are left out.
+Names with escapes, and texts that random scripts do not have, are left out.
 """
 
 import ipaddress
@@ -25,7 +25,7 @@ ZONE_TYPES = (
 # ---- words
 
 class Fault(Exception):
-    """Why a line comes to nothing."""
+    """The fault of a line."""
 
 
 def words_of(text):
@@ -65,7 +65,7 @@ def type_text(kind):
 
 
 def ip_in(word, fault):
-    """An address and whether it is of version 6. IPv6 text that ends as IPv4 does is none."""
+    """An address, and whether it is of version 6. IPv6 text that ends in an IPv4 address is no address here."""
     try:
         if ":" in word and "." not in word and "%" not in word:
             groups = ipaddress.IPv6Address(word).exploded.split(":")
@@ -82,13 +82,13 @@ def addr_in(word):
     return f"{ip}@{number_in(port, 1, 65_535, 'bad_address') if at else 53}"
 
 
-# The forms of data, by what stands in them: a name, or a number of at most so much.
+# The forms of data: a name, or the greatest value of a number, for each word.
 NAME, SHORT, LONG = "name", 2**16 - 1, 2**32 - 1
 FORMS = {2: [NAME], 5: [NAME], 12: [NAME], 15: [SHORT, NAME], 6: [NAME] * 2 + [LONG] * 5, 33: [SHORT] * 3 + [NAME]}
 
 
 def data_in(kind, words):
-    """Data of a type, as they are written."""
+    """Data of a type, as it is written."""
     if kind == TYPES["A"] and len(words) == 1 and ":" not in words[0]:
         return ip_in(words[0], "bad_data")
     if kind == TYPES["AAAA"] and len(words) == 1 and ":" in words[0]:
@@ -111,7 +111,7 @@ def data_in(kind, words):
 
 @dataclass(frozen=True)
 class Find:
-    """What was learnt about a name and a type, or about a name whatever the type, where there is none."""
+    """What is cached for a name and a type, or, without a type, for a name."""
 
     owner: tuple
     kind: int | None
@@ -122,7 +122,7 @@ class Find:
 
 @dataclass(frozen=True)
 class Event:
-    """An admission of a find, a look with what it asks, `sweep`, `do` with a command, `undo` or `redo`."""
+    """An admission of a find, a lookup with its question, `sweep`, `do` with a command, `undo` or `redo`."""
 
     verb: str
     moment: int
@@ -131,7 +131,7 @@ class Event:
 
 # ---- lines
 
-# So many words each line has at least.
+# The least number of words of each line.
 LEAST = {
     "at": 1, "admit": 5, "nodata": 5, "noname": 4, "look": 2, "servers": 1, "sweep": 0, "undo": 0, "redo": 0,
     "list_local_zones": 0, "list_local_data": 0, "list_stubs": 0, "list_commands": 0,
@@ -159,7 +159,7 @@ def admission_in(words):
 
 
 def denial_in(verb, words):
-    """A name, a time to live and, of a type alone, that type; and the SOA record that denies."""
+    """A name, a TTL, the type if only one is denied, and the SOA record that denies."""
     owner, ttl = name_in(words[0]), min(number_in(words[1], 1, GREATEST_TTL), LONGEST_NEGATIVE_TTL)
     kind, soa = (type_in(words[2]), words[3:]) if verb == "nodata" else (None, words[2:])
     name_in(soa[0])
@@ -218,7 +218,7 @@ def event_in(verb, words, moment):
 
 
 def said_by(line, moment):
-    """What a line says at a moment: the next moment, or an event."""
+    """The meaning of a line at a moment: the next moment, or an event."""
     if len(line) > LONGEST_LINE:
         raise Fault("too_long")
     verb, *words = words_of(line) or [""]

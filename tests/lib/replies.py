@@ -15,7 +15,7 @@ def number_at(octets, at, size=2):
 
 
 def name_at(octets, at):
-    """The name that begins there, as text, and where what follows it begins."""
+    """The name that begins at a place, as text, and the place after it."""
     labels, end = [], None
     while True:
         length = number_at(octets, at, 1)
@@ -78,7 +78,7 @@ class Reply:
     records: tuple
 
     def head(self):
-        """What the header says beside what every reply to a query with RD has to say."""
+        """The words of the header, without those of every reply to a query with RD."""
         words = [word for word, bit in (("aa", AA), ("tc", TC)) if self.flags & bit]
         if self.flags & 0xF:
             words.append(f"rcode {self.flags & 0xF}")
@@ -87,12 +87,12 @@ class Reply:
         return words
 
     def words(self):
-        """The reply without times to live: `aa | answer a.test. A 192.0.2.1`; `-` where nothing is to be said."""
+        """The reply without TTLs: `aa | answer a.test. A 192.0.2.1`; `-` if the header has no word."""
         records = [f"{r.section} {r.owner} {r.kind} {r.data}" for r in self.records]
         return " | ".join([" ".join(self.head()) or "-", *records])
 
     def with_times(self):
-        """The same with times to live."""
+        """The same with TTLs."""
         records = [f"{r.section} {r.owner} {r.ttl} {r.kind} {r.data}" for r in self.records]
         return " | ".join([" ".join(self.head()) or "-", *records])
 

@@ -5,24 +5,24 @@
         01'A' 04'tEst' 00 0001 0001           a line that begins with a blank goes on with the line before
     == what the row is about                  a row begins, and its lines follow (not in tests/rows)
 
-Octets are pairs of hexadecimal digits, text between ', names, and so many times one of these, as 255*'x'; - is none.
+Octets are pairs of hexadecimal digits, text between ', names of octets, or one of these repeated, as 255*'x'. A - is no octet.
 
-What a line says, by its first word:
+The meaning of a line, by its first word:
 
 | First | In `rows` | In `resolution` | In `engines` | In `flight` |
 |---|---|---|---|---|
-| `>` | | a query that has to go out: `> SERVER udp|tcp NAME TYPE` | the same | the same behind its key |
-| `<` | | what comes of that query: a response in the words of messages.py, `failed`, `octets 00..` or `no_memory` | the same | |
+| `>` | | a query that has to be sent: `> SERVER udp|tcp NAME TYPE` | the same | the same after its key |
+| `<` | | the outcome of that query: a response in the words of messages.py, `failed`, `octets 00..` or `no_memory` | the same | |
 | `=` | what the call returns | the answer | the reply, or what is written | the reply to a client |
 | `==` | the same, as octets | a row | a row | a row |
 | `:` | | the reply to a line | the same | the same |
-| `?`, `!` | | what the book was asked before, and what it was not | | `!`: a client gets SERVFAIL, and why |
+| `?`, `!` | | what the book was asked before, and what it was not asked | | `!`: a client gets SERVFAIL, and why |
 | `.` | | | how a stream ends | |
 | `-` | | | | a client gets no reply |
-| `*` | | | a line that is given so many times | |
-| else | a call and its arguments, parted by commas | a line for the program | a line for the program | a line for the program |
+| `*` | | | a line that is repeated | |
+| else | a call and its arguments, separated by commas | a line for the program | a line for the program | a line for the program |
 
-In `rows` a call and what it gives are a row. In `tables` a row has lines and `:` alone.
+In `rows` a row is a call and its result. In `tables` a row has only lines and `:`.
 """
 
 import os
@@ -36,7 +36,7 @@ PART = re.compile(r"(?:(\d+)\*)?(?:'([^']*)'|((?:[0-9a-f]{2})+)(?![0-9a-f])|([A-
 
 
 def octets(text, names):
-    """The octets that a text of parts stands for."""
+    """The octets of a text, part by part."""
     found = b""
     at = 0
     while at < len(text):
@@ -74,7 +74,7 @@ def logical_lines(text):
 
 
 def read_rows(path):
-    """The rows of a file, each the line of a call and of what it gives, and the octets that have a name."""
+    """The rows of a file, each the line of a call and that of its result, and the octets that have a name."""
     with open(path) as file:
         lines = logical_lines(file.read())
     names = {}
@@ -95,12 +95,12 @@ def read_rows(path):
 
 
 def split_arguments(text):
-    """The arguments in a text: commas part them, but not between '."""
+    """The arguments in a text, separated by commas that are not between '."""
     return re.findall(r"(?:'[^']*'|[^',])+", text)
 
 
 def rows_in(path):
-    """The rows of a file, each what it is about and its lines, and the octets that have a name."""
+    """The rows of a file, each with its subject and its lines, and the octets that have a name."""
     names, found = {}, []
     with open(path, encoding="utf-8") as file:
         for line in logical_lines(file.read()):
@@ -115,7 +115,7 @@ def rows_in(path):
 
 
 def came(asked, text):
-    """The line that tells what comes of a query for NAME TYPE."""
+    """The line for the outcome of a query for NAME TYPE."""
     if text in ("failed", "no_memory"):
         return text
     if text.startswith("octets"):
@@ -124,7 +124,7 @@ def came(asked, text):
 
 
 def query_words(line):
-    """A line `send ..` of a program, in the words of a row; what else the query's octets say stands behind them."""
+    """A line `send ..` of a program, in the words of a row. If the header of the query is unusual, its octets follow."""
     _, server, over, digits = line.split()
     octets = bytes.fromhex(digits)
     words = f"{server} {over} {question_of(octets)}"

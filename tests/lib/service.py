@@ -1,4 +1,4 @@
-"""Starts `resolver serve` on loopback, at ports that are free, and asks and commands it."""
+"""Starts `resolver serve` on loopback, at free ports, and sends it queries and lines."""
 
 import os
 import random
@@ -37,15 +37,15 @@ def query(name, kind, identifier=None):
 
 
 def disturbed(**settings):
-    """The environment in which calls of sockets do less than a service asks; tests/lib/sockets.c says how."""
+    """The environment in which calls of sockets are interrupted or move little; tests/lib/sockets.c says how."""
     return {"LD_PRELOAD": library("sockets"), "TELL": "2", **{name: str(value) for name, value in settings.items()}}
 
 
 class Client:
-    """Who asks the service, over one socket."""
+    """A client of the service, over one socket."""
 
     def __init__(self, over, port, host=HOST, room=None):
-        """With room for so many octets that are not read yet, where that is given."""
+        """If `room` is given, the socket has room for that many octets that are not read yet."""
         self.over = over
         kind = socket.SOCK_DGRAM if over == "udp" else socket.SOCK_STREAM
         self.sock = socket.socket(socket.AF_INET6 if ":" in host else socket.AF_INET, kind)
@@ -71,18 +71,18 @@ class Client:
             self.sock.sendall(framed(octets))
 
     def octets(self):
-        """The next reply as octets; None where the service has ended the connection."""
+        """The next reply as octets, or None if the service has closed the connection."""
         if self.over == "udp":
             return self.sock.recv(65_535)
         length = receive(self.sock, 2)
         return length and receive(self.sock, int.from_bytes(length, "big"))
 
     def has_reply(self, seconds=0):
-        """Whether a reply, or the end, has come by now, or comes in so many seconds."""
+        """Whether a reply, or the end of the connection, has come or comes within some seconds."""
         return bool(select.select([self.sock], [], [], seconds)[0])
 
     def ask(self, name, kind):
-        """The reply to a question, whose identifier and question have to be the query's."""
+        """The reply to a question. Its identifier and its question have to be those of the query."""
         asked = query(name, kind)
         self.send(asked)
         octets = self.octets()
@@ -93,7 +93,7 @@ class Client:
         return reply_in(octets)
 
     def ended(self):
-        """Whether the service ends the connection before it says more."""
+        """Whether the service closes the connection before it sends more."""
         try:
             return self.sock.recv(1) == b""
         except ConnectionError:
@@ -138,10 +138,10 @@ class NotReady(RuntimeError):
 
 
 class Service:
-    """A service that is ready, until it is stopped; at the end of a `with` it is ended whatever it does."""
+    """A service that is ready, until it is stopped. At the end of a `with` it is killed if it still runs."""
 
     def __init__(self, hints, *options, host=HOST, listens=None, environment=None, most_descriptors=None, program=RESOLVER):
-        """It is asked and commanded at `host`, and listens there, or else at `listens`."""
+        """It gets queries and lines at `host`, and listens there, or at `listens`."""
         self.host, self.listens = host, listens or host
         self.command = [program, "serve"]
         if most_descriptors:
@@ -166,7 +166,7 @@ class Service:
         )
 
     def _is_ready(self):
-        """Whether it says so, and not that it has ended. One that says neither is killed."""
+        """Whether it says that it is ready, before it ends. If it does neither, it is killed."""
         came, _, _ = select.select([self.process.stdout], [], [], PATIENCE)
         line = self.process.stdout.readline() if came else None
         if line == b"":
@@ -198,37 +198,37 @@ class Service:
             return client.ask(name, kind)
 
     def obey(self, *lines):
-        """What the lines are told, over a connection of their own: a reply for each."""
+        """The replies to the lines, over a connection of their own."""
         with self.control() as control:
             return [control.tell(line) for line in lines]
 
     def log(self):
-        """What standard error got so far."""
+        """The text on standard error so far."""
         size = os.fstat(self.errors.fileno()).st_size
         return os.pread(self.errors.fileno(), size, 0)
 
     def disturbances(self):
-        """How often calls of a service that was `disturbed` did less, by what they did, once it has ended."""
+        """How often calls of a `disturbed` service were interrupted or moved little, by kind, once it has ended."""
         return {did.decode(): int(count) for did, count in re.findall(rb"(interrupted|cut|held) (\d+)", self.log())}
 
     def logged(self, words, count=1):
-        """Waits until so many lines of standard error have the words; whether they came."""
+        """Waits until a number of lines on standard error have the words. Returns whether they came."""
         return until(lambda: sum(words in line for line in self.log().splitlines()) >= count)
 
     def wait(self):
-        """How it ended by itself: the status, and what standard output got behind `ready`."""
+        """The end of a service that ends by itself: the status, and its standard output after `ready`."""
         status = self.process.wait(PATIENCE)
         return status, self.process.stdout.read()
 
     def stop(self):
-        """Stops it by control: the reply to `stop`, and how it ended."""
+        """Stops it by control. Returns the reply to `stop`, and its end."""
         return self.obey("stop")[0], *self.wait()
 
     def threads(self):
         return len(os.listdir(f"/proc/{self.process.pid}/task"))
 
     def processor(self):
-        """The seconds of a processor that it has had."""
+        """The seconds of a processor that it has used."""
         with open(f"/proc/{self.process.pid}/stat", encoding="ascii") as file:
             fields = file.read().rpartition(")")[2].split()
         return (int(fields[11]) + int(fields[12])) / os.sysconf("SC_CLK_TCK")
@@ -242,12 +242,12 @@ class Service:
         return next(place for place in range(len(used) + 1) if place not in used)
 
     def limit(self, most):
-        """Lets it get descriptors below this one alone."""
+        """Limits its descriptors to those below this one."""
         _, hard = resource.prlimit(self.process.pid, resource.RLIMIT_NOFILE)
         resource.prlimit(self.process.pid, resource.RLIMIT_NOFILE, (most, hard))
 
     def idle_descriptors(self):
-        """How many descriptors it has, once they have been as many for a while."""
+        """The number of its descriptors, once it has not changed for a while."""
         found, since = self.descriptors(), time.monotonic()
         while time.monotonic() < since + 0.3:
             time.sleep(0.02)
@@ -260,7 +260,7 @@ STOPPED = ("ok stopping", 0, b"")
 
 
 def until(holds):
-    """Whether it comes to hold, within what is awaited here."""
+    """Whether a condition becomes true in time."""
     end = time.monotonic() + PATIENCE
     while not holds():
         if time.monotonic() > end:
