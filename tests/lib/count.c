@@ -1,5 +1,5 @@
-/* Counts growths of memory: preloaded into a finished program, it counts the calls of malloc, realloc, calloc, posix_memalign
-   and aligned_alloc, and at the end writes a line "allocations N" on the file descriptor TELL. Nothing links it. */
+/* Counts allocations. Preloaded into a finished program, it counts the calls of malloc, realloc, calloc, posix_memalign
+   and aligned_alloc, and at the end writes a line "allocations N" on the file descriptor TELL. No program is linked with it. */
 #define _GNU_SOURCE
 #include <errno.h>
 #include <stddef.h>

@@ -1,6 +1,6 @@
 /* Disturbs reads of standard input and writes to standard output: preloaded into a finished program, it makes every third
    call fail with EINTR and the one after it move one octet (INTERRUPT=1). At the end it writes a line "reads N" on the file
-   descriptor TELL, how often standard input was read. Nothing links it. */
+   descriptor TELL, the number of reads of standard input. No program is linked with it. */
 #define _GNU_SOURCE
 #include <errno.h>
 #include <stdio.h>
@@ -29,7 +29,7 @@ __attribute__((noreturn)) void _exit(int status) {
     for (;;) syscall(SYS_exit_group, status);
 }
 
-/* How many octets a call may move, or -1 where a signal interrupts it. */
+/* How many octets a call may move, or -1 if a signal interrupts it. */
 static ssize_t may_move(size_t len) {
     if (!disturbs) return (ssize_t)len;
     moves++;

@@ -152,7 +152,7 @@ class Places:
         return sum(name.places() for name in self.names.values())
 
     def needs_one(self, find, moment):
-        """Whether a find needs a new place: none counts, and no version outranks it."""
+        """Whether a find needs a new place: it has none, and some version does not outrank it."""
         name = self.names.get(find.owner, CachedName())
         if name.has_place(find.kind):
             return False

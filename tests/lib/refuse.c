@@ -1,8 +1,7 @@
-/* Refuses growths of memory: preloaded into a finished program, it counts the calls of malloc, realloc, calloc,
-   posix_memalign and aligned_alloc that ask for more. REFUSE_NTH=N fails the Nth of the run. REFUSE_EACH=N fails the Nth
-   behind each write to standard output, and none before the first. On the file descriptor TELL it writes a line
-   "refused" for each, and at the end "largest N", the most that was asked for at once behind the first write. Nothing links
-   it. */
+/* Refuses allocations. Preloaded into a finished program, it counts the calls of malloc, realloc, calloc, posix_memalign
+   and aligned_alloc that ask for more. REFUSE_NTH=N fails the Nth of the run. REFUSE_EACH=N fails the Nth after each write
+   to standard output, and none before the first write. On the file descriptor TELL it writes a line "refused" for each,
+   and at the end "largest N", the largest allocation after the first write. No program is linked with it. */
 #define _GNU_SOURCE
 #include <errno.h>
 #include <stddef.h>

@@ -1,9 +1,9 @@
-/* Disturbs sockets: preloaded into a finished service, it makes their calls do less than was asked, as a system may.
+/* Disturbs sockets: preloaded into a finished service, it makes their calls fail or move less than was asked, as a system may.
    SIGNALS=1: on each socket every other call that receives, accepts or waits, or that sends on a connection, fails with EINTR.
    PIECE=N: on a connection a call moves N octets at most.
-   HOLD=N: a connection that the program made takes N octets and then none (EAGAIN), until it refused some when others had come.
-   At the end it writes a line "interrupted N, cut N, held N", how often it did each, on the file descriptor TELL. Nothing
-   links it. */
+   HOLD=N: a connection that the program made takes N octets and then none (EAGAIN), until it has refused a call while there were octets to read.
+   At the end it writes a line "interrupted N, cut N, held N", the number of each, on the file descriptor TELL. No program is
+   linked with it. */
 #define _GNU_SOURCE
 #include <errno.h>
 #include <poll.h>
@@ -71,7 +71,7 @@ static size_t at_most(size_t len, size_t most) {
     return most;
 }
 
-/* Whether a connection takes nothing now. */
+/* Whether a connection takes no octets now. */
 static int is_held(int file) {
     if (!hold || !is_made[file] || taken[file] < (size_t)hold || has_refused[file]) return 0;
     struct pollfd asked = {.fd = file, .events = POLLIN};
