@@ -1,9 +1,9 @@
-// ask PORT SOCKETS EACH PAUSE SECONDS MOST NAMES PREFIX: asks a server on loopback for addresses, until so many seconds have gone or
-// so many questions were asked (0: no matter how many), and prints what came of it: of the first few thousand questions, too, how
-// many microseconds each took.
+// ask PORT SOCKETS EACH PAUSE SECONDS MOST NAMES PREFIX: asks a server on loopback for addresses, until SECONDS have passed or
+// MOST questions were asked (0: no limit), and prints the counts. Of the first few thousand questions it also prints how many
+// microseconds each took.
 //
 // Each of the sockets has EACH questions in flight. A question that is answered is followed by the next, PAUSE microseconds later.
-// The names are PREFIXn.test., where n goes from 0 to NAMES - 1 again and again, or on and on where NAMES is 0. A question
+// The names are PREFIXn.test., where n goes from 0 to NAMES - 1 again and again, or on and on if NAMES is 0. A question
 // without a reply for three seconds is lost.
 #define _GNU_SOURCE
 #include <arpa/inet.h>
@@ -18,7 +18,7 @@
 enum { MOST_SOCKETS = 64, MOST_EACH = 512, MOST_KEPT = 1 << 12 };
 #define PATIENCE 3.0
 
-// A question that is in flight; or, where its time of sending is 0, one that is to be asked at a time.
+// A question that is in flight; or, if its time of sending is 0, one that is to be asked at a given time.
 struct slot {
     double sent, at;
     unsigned short id;
@@ -60,7 +60,7 @@ static void ask(int sock, int place, double time)
     asked++;
 }
 
-// Takes what came at a socket.
+// Receives what has come at a socket.
 static void take(int sock)
 {
     unsigned char octets[4096];
@@ -85,7 +85,7 @@ static void take(int sock)
     }
 }
 
-// Asks what is due, gives up what is lost, and notes when there is more to do.
+// Asks the questions that are due, gives up the lost ones, and notes when there is more to do.
 static void ask_due(double time)
 {
     due = time + 0.01;

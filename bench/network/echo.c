@@ -1,4 +1,4 @@
-// echo PORT: the least that any server of datagrams does. Each datagram goes back to whoever sent it, as a response by one bit
+// echo PORT: the least that a UDP server can do. Each datagram goes back to whoever sent it, as a response by one bit
 // of its header (RFC 1035, section 4.1.1). Several processes may share the port.
 #include <arpa/inet.h>
 #include <netinet/in.h>

@@ -1,4 +1,4 @@
-// late PORT MILLISECONDS: a name server that answers each question for an address so much later, whatever name it is for.
+// late PORT MILLISECONDS: a name server that answers each question for an address after that time, whatever its name is.
 #define _GNU_SOURCE
 #include <arpa/inet.h>
 #include <netinet/in.h>
@@ -11,7 +11,7 @@
 
 enum { ROOM = 65536, LONGEST = 512 };
 
-// Replies that wait, in the order in which they go out: all wait equally long.
+// Replies that wait, in the order in which they are sent: all wait equally long.
 static struct {
     double when;
     struct sockaddr_in peer;
@@ -26,7 +26,7 @@ static double now(void)
     return time.tv_sec + time.tv_nsec * 1e-9;
 }
 
-// Makes a query the reply to it: its question, and one address. The length of the reply; 0 where it is no query.
+// Makes a query the reply to it: its question, and one address. Returns the length of the reply, or 0 if it is no query.
 static int reply(unsigned char *octets, int length)
 {
     int end = 12;
