@@ -65,7 +65,7 @@ def fault_of_script(command, lines, done, start):
         return f"{done.out!r} are not the replies to {len(lines)} lines"
     wants = sum(reply in NO_MEMORY or reply == LOST for reply in replies)
     if wants > refusals(done):
-        return f"{wants} lines want memory, {refusals(done)} growths were refused"
+        return f"{wants} lines want memory, {refusals(done)} allocations were refused"
     kept = [(line, reply) for line, reply in zip(lines, replies) if reply not in NO_MEMORY]
     again = run(command, b"".join(line + b"\n" for line, _ in kept))
     wanted = replies_to([line for line, _ in kept], again.out)
@@ -101,8 +101,8 @@ def check_script(checks, name, command, text, start):
         done = run(command, text, preload="refuse", REFUSE_NTH=nth)
         if not refusals(done):
             break
-        checks.check(f"{name}, growth {nth} refused", fault_of_script(command, lines, done, start))
-    checks.check(f"{name}, growths refused", None if nth > 1 else "none was")
+        checks.check(f"{name}, allocation {nth} refused", fault_of_script(command, lines, done, start))
+    checks.check(f"{name}, allocations refused", None if nth > 1 else "none was")
 
 
 # ---- rows: one allocation of each call is refused in one run
@@ -123,17 +123,17 @@ def check_rows(checks, name, rows):
         if done.status != 0 or len(told) != len(rows):
             wrong.append(f"status {done.status}, {len(told)} lines to {len(rows)} calls")
         if wants != refusals(done):
-            wrong.append(f"{refusals(done)} growths refused, {wants} calls want memory")
-        checks.check(f"{name}, growth {nth} of each call refused", "; ".join(wrong[:3]))
+            wrong.append(f"{refusals(done)} allocations refused, {wants} calls want memory")
+        checks.check(f"{name}, allocation {nth} of each call refused", "; ".join(wrong[:3]))
         if not refusals(done):
             break
-    checks.check(f"{name}, growths refused", None if nth > 1 else "none was")
+    checks.check(f"{name}, allocations refused", None if nth > 1 else "none was")
 
 
 def check_start_of_rows(checks):
     """If there is no memory for the first line, the program ends with a failure."""
     done = run([CALLS], call("name", b"a") + b"\n", preload="refuse", REFUSE_NTH=1)
-    checks.equal("the first growth of the calls", (refusals(done), done.status, done.out), (1, 1, b""))
+    checks.equal("the first allocation of the calls", (refusals(done), done.status, done.out), (1, 1, b""))
 
 
 # ---- changes of local zones and of stubs, each with its way back
@@ -163,8 +163,8 @@ def check_table(checks, word):
         if not refusals(done):
             break
         good = done.out in may if done.status == 0 else whole.startswith(done.out)
-        checks.check(f"{word}, growth {nth} refused", None if good else f"status {done.status}, {short(done.out)}")
-    checks.check(f"{word}, growths refused", None if nth > 1 else "none was")
+        checks.check(f"{word}, allocation {nth} refused", None if good else f"status {done.status}, {short(done.out)}")
+    checks.check(f"{word}, allocations refused", None if nth > 1 else "none was")
 
 
 # ---- calls of a book, each recorded
@@ -191,7 +191,7 @@ def fault_of_steps(whole, done):
     lines = done.out.split(b"\n")
     wants = [place for place, line in enumerate(lines) if line.endswith(b": " + WANT)]
     if done.status != 0 or len(wants) > refusals(done):
-        return f"status {done.status}, {refusals(done)} growths refused, {len(wants)} calls want memory"
+        return f"status {done.status}, {refusals(done)} allocations refused, {len(wants)} calls want memory"
     for place in wants:
         before = lines[place - 1].split(b": ")[0] if place else UNTOUCHED
         after = lines.pop(place).split(b": ")[0]
@@ -212,7 +212,7 @@ def check_steps(checks):
         if not refusals(done):
             break
         wants += done.out.count(b": " + WANT + b"\n")
-        checks.check(f"recorded calls, growth {nth} refused", fault_of_steps(whole, done))
+        checks.check(f"recorded calls, allocation {nth} refused", fault_of_steps(whole, done))
     checks.check("recorded calls that find no memory", None if wants > 60 else f"are {wants}")
 
 
@@ -226,8 +226,8 @@ def check_drawn(checks):
         done = run([CALLS], b"drawn\n", preload="refuse", REFUSE_NTH=nth)
         ended += done.status == 1
         wanted = (1, 1, b"") if done.status else (1, 0, b"fault NoMemory\n")
-        checks.equal(f"drawn messages, growth {nth} refused", (refusals(done), done.status, done.out), wanted)
-    checks.check("growths before the first call", None if ended < 9 else f"{ended} ended the program")
+        checks.equal(f"drawn messages, allocation {nth} refused", (refusals(done), done.status, done.out), wanted)
+    checks.check("allocations before the first call", None if ended < 9 else f"{ended} ended the program")
 
 
 # ---- how much memory is requested
@@ -240,7 +240,7 @@ def check_counts(checks):
     for line in [call(word, octets) for word in ("decode", "ask") for octets in (header, one_question)]:
         done = run([CALLS], first + b"\n" + line + b"\n", preload="refuse")
         largest = [int(told.split()[1]) for told in done.told if told.startswith("largest ")]
-        checks.check(f"{line.decode()}, growth", None if largest and largest[0] <= 1_024 else f"as much as {largest}")
+        checks.check(f"{line.decode()}, allocation", None if largest and largest[0] <= 1_024 else f"as much as {largest}")
 
 
 def main():

@@ -305,10 +305,10 @@ def refuse_each(checks, about, lines):
     for nth in range(1, MOST):
         done = talk(text, preload="refuse", REFUSE_NTH=nth)
         if "refused" not in done.told:
-            checks.check(f"{about}: some growths are refused", None if nth > 5 else f"{nth}")
+            checks.check(f"{about}: some allocations are refused", None if nth > 5 else f"{nth}")
             return
-        checks.check(f"{about}: growth {nth}", fault_of_refusal(whole_lines(done.out.decode()), whole, done.status))
-    checks.check(f"{about}: each growth is refused", f"more than {MOST}")
+        checks.check(f"{about}: allocation {nth}", fault_of_refusal(whole_lines(done.out.decode()), whole, done.status))
+    checks.check(f"{about}: each allocation is refused", f"more than {MOST}")
 
 
 # ---- random octets

@@ -111,9 +111,9 @@ def refuse_each(checks, about, lines):
     for nth in range(1, MOST):
         done = run([PLAY, "resolve"], text, preload="refuse", REFUSE_NTH=nth)
         if "refused" not in done.told:
-            checks.check(f"{about}: some growths are refused", None if nth > 20 else f"{nth}")
+            checks.check(f"{about}: some allocations are refused", None if nth > 20 else f"{nth}")
             return
-        checks.check(f"{about}: growth {nth}", fault_of_refusal(done.out.decode().splitlines(), whole, done.status))
+        checks.check(f"{about}: allocation {nth}", fault_of_refusal(done.out.decode().splitlines(), whole, done.status))
 
 
 def main():

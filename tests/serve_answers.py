@@ -160,7 +160,7 @@ def check_wrong_queries(checks, over):
                 client.send(query("marker.", "A", 0x4321))
                 replies = [client.octets() for _ in range(len(wanted) + 1)]
             checks.equal(f"{over}: {name}", replies[:-1], wanted)
-            checks.equal(f"{over}: behind {name}", replies[-1][:2], number(0x4321))
+            checks.equal(f"{over}: after {name}", replies[-1][:2], number(0x4321))
         most = 4_096 if over == "udp" else 65_535
         with service.client(over) as client:
             client.send(padded(query("a.test.", "A", 0x1234), most))
@@ -244,10 +244,10 @@ def check_control(checks):
             checks.equal("control: comments, and a last line with no end", control.file.read(), b"undone 11\nredone 11\n")
         with service.control() as control:
             control.sock.sendall(b"und")
-        checks.equal("control: behind an operator who goes in a line", service.obey("undo"), ["undone 11"])
+        checks.equal("control: after an operator who goes in a line", service.obey("undo"), ["undone 11"])
         with service.control() as control:
             control.sock.sendall(b"stop\nlist_local_zones\n")
-            checks.equal("control: behind stop", control.file.read(), b"ok stopping\n")
+            checks.equal("control: after stop", control.file.read(), b"ok stopping\n")
         checks.equal("control: stopped", service.wait(), (0, b""))
         check_log(checks, "control", service.log())
 
@@ -327,8 +327,8 @@ def check_undone(checks, over):
             if line:
                 checks.equal(f"undone over {over}: {line}", service.obey(line), [told])
             if words:
-                checks.equal(f"undone over {over}: behind {line}", service.ask("a.test.", "A", over).words(), words)
-            checks.equal(f"undone over {over}: asked behind {line}", servers.count("a.test. A") - 1, count)
+                checks.equal(f"undone over {over}: after {line}", service.ask("a.test.", "A", over).words(), words)
+            checks.equal(f"undone over {over}: asked after {line}", servers.count("a.test. A") - 1, count)
 
 
 def check_overlap(checks, over):
@@ -410,7 +410,7 @@ def check_stop_under_load(checks):
             check_log(checks, "stop under load", service.log(), may_fault=True)
             again = Service(["192.0.2.1"])
             with again:
-                checks.equal("a service behind it", again.stop(), STOPPED)
+                checks.equal("a service after it", again.stop(), STOPPED)
 
 
 def check_nothing_left(checks):
@@ -423,7 +423,7 @@ def check_nothing_left(checks):
             until(lambda: load.answered > 200)
             load.end()
             is_as_before = until(lambda: (service.threads(), service.descriptors()) == before)
-            checks.check("nothing is left behind a load", None if is_as_before else f"{before} became {(service.threads(), service.descriptors())}")
+            checks.check("nothing is left after a load", None if is_as_before else f"{before} became {(service.threads(), service.descriptors())}")
             checks.equal("threads: one for each worker, the sweeper's and the operator's", before[0], 7)
             checks.equal("nothing is left: stopped", service.stop(), STOPPED)
 

@@ -242,7 +242,7 @@ def main():
             check_rows(checks, client, service)
         check_dnspython(checks, service)
         check_dnsperf(checks, service)
-        checks.equal("behind clients: stopped", service.stop(), STOPPED)
+        checks.equal("after clients: stopped", service.stop(), STOPPED)
     checks.end()
 
 

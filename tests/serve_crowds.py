@@ -98,7 +98,7 @@ def check_passed_limit(checks, count, workers, most_descriptors, room):
             crowd.wait()
             took = time.monotonic() - began
             strange = [words for asked, words in zip(crowd.names, crowd.words()) if words not in (answered(asked), FAILED)]
-            checks.equal(f"{name}: what is told", strange, [])
+            checks.equal(f"{name}: the replies", strange, [])
             checks.check(f"{name}: exchanges at once", None if room // 2 < most <= room else f"{most}, where there is room for {room}")
             refused = service.log().count(TOO_MANY)
             checks.check(f"{name}: too many", None if refused else "none is logged")
@@ -244,7 +244,7 @@ def check_held(checks):
         replies = {service.ask(name).words() for name in ["held.test.", "kept7.test."] * 25}
         told = service.obey("local_zone a. static", "undo")
         checks.equal("held: none of 200 has ended", crowd.take(), 0)
-        checks.equal("held: what is told", replies, {HELD, answered("kept7.test.")})
+        checks.equal("held: the replies", replies, {HELD, answered("kept7.test.")})
         checks.equal("held: the operator", told, ["ok 2", "undone 2"])
         crowd.wait()
         checks.equal("held: those that waited", set(crowd.words()), {FAILED})
@@ -265,9 +265,9 @@ def check_stop(checks, over, workers):
         checks.equal(name, service.stop(), STOPPED)
         took = time.monotonic() - began
         checks.check(f"{name}: at once", None if took < EXCHANGE - 0.5 else f"after {took:.2f} seconds")
-        checks.equal(f"{name}: none is told", crowd.take(), 0)
+        checks.equal(f"{name}: no reply comes", crowd.take(), 0)
         with Service([server.hint], "--udp", str(workers)) as again:
-            checks.equal(f"{name}: a service behind it", again.stop(), STOPPED)
+            checks.equal(f"{name}: a service after it", again.stop(), STOPPED)
 
 
 def check_bursts(checks):
@@ -396,7 +396,7 @@ def check_second(checks):
         refused = (False, CANNOT_LISTEN + used.encode() + b"\n")
         for workers in ("1", "4"):
             checks.equal(f"a second service of {workers} workers", ends_of([start_at(used, workers)]), [refused])
-        checks.equal("beside a second service: stopped", service.stop(), STOPPED)
+        checks.equal("with a second service: stopped", service.stop(), STOPPED)
         ends = ends_of([start_at(used, "4") for _ in range(6)])
         begun = [has_begun for has_begun, _ in ends].count(True)
         checks.equal("six services at once: those that do not listen", ends.count(refused), 6 - begun)

@@ -116,7 +116,7 @@ def check_servers(checks):
             checks.equal(f"{question}: asked over UDP, then over TCP, then held", counts, (1, 1))
         for question in ("refuses.test. A", "silent.test. A"):
             checks.equal(f"{question}: a failure is not held", servers.count(question), 2)
-        checks.equal("behind liars: stopped", service.stop(), STOPPED)
+        checks.equal("after liars: stopped", service.stop(), STOPPED)
 
 
 def check_servers_of_tcp_clients(checks):
@@ -253,8 +253,8 @@ def check_slow_clients(checks):
             with service.client("tcp", room=4_096) as client:
                 checks.equal(name, does(client), True)
                 reply = service.ask("held.test.", "A", "tcp").words()
-                checks.equal(f"behind {name}", reply, "aa | answer held.test. A 192.0.2.1")
-        checks.equal("behind slow clients: stopped", service.stop(), STOPPED)
+                checks.equal(f"after {name}", reply, "aa | answer held.test. A 192.0.2.1")
+        checks.equal("after slow clients: stopped", service.stop(), STOPPED)
 
 
 def check_gone_clients(checks):
@@ -264,8 +264,8 @@ def check_gone_clients(checks):
             for place in range(40):
                 with service.client(over) as client:
                     client.send(query(f"gone{place}-{over}.test.", "A"))
-            checks.equal(f"behind clients that went, over {over}", service.ask("stays.test.", "A", over).words(), "- | answer stays.test. A 192.0.2.1")
-        checks.equal("behind clients that went: stopped", service.stop(), STOPPED)
+            checks.equal(f"after clients that went, over {over}", service.ask("stays.test.", "A", over).words(), "- | answer stays.test. A 192.0.2.1")
+        checks.equal("after clients that went: stopped", service.stop(), STOPPED)
 
 
 def check_no_port(checks):
@@ -279,8 +279,8 @@ def check_no_port(checks):
         for place in range(40):
             octets = query("held.test.", "A", place)
             sender.sendto(number(0) + number(service.port) + number(8 + len(octets)) + number(0) + octets, (HOST, service.port))
-        checks.equal("behind queries from port 0", service.ask("held.test.").words(), "aa | answer held.test. A 192.0.2.1")
-        checks.equal("behind queries from port 0: stopped", service.stop(), STOPPED)
+        checks.equal("after queries from port 0", service.ask("held.test.").words(), "aa | answer held.test. A 192.0.2.1")
+        checks.equal("after queries from port 0: stopped", service.stop(), STOPPED)
 
 
 def check_crowd(checks):
@@ -379,7 +379,7 @@ def main():
         checks.make(check_ipv6_servers)
         checks.make(check_burst)
         checks.make(check_descriptors)
-        checks.equal("an operator behind an idle one", waiting.result(), STOPPED)
+        checks.equal("an operator after an idle one", waiting.result(), STOPPED)
     checks.end()
 
 

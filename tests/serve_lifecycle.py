@@ -94,7 +94,7 @@ def check_binding(checks):
         used = f"{HOST}@{service.port}"
         done = serve("--listen", used, "--control", free, "192.0.2.1")
         checks.equal("a second service", (done.status, done.err), (1, CANNOT_LISTEN + used.encode() + b"\n"))
-        checks.equal("beside a second service: stopped", service.stop(), STOPPED)
+        checks.equal("with a second service: stopped", service.stop(), STOPPED)
 
 
 def has_ipv6():
@@ -176,7 +176,7 @@ def check_control_program(checks):
         checks.equal("control: stopped", service.wait(), (0, b""))
         done = control(port, "undo")
         checks.equal("control with no service", (done.out, done.status), (b"", 1))
-        checks.check("control with no service: it is told", None if done.err.startswith(b"resolver: ") else repr(done.err))
+        checks.check("control with no service: the message", None if done.err.startswith(b"resolver: ") else repr(done.err))
     done = run([RESOLVER, "control"])
     checks.equal("control with no address", (done.out, done.status), (b"", 2))
     done = run([RESOLVER, "control", "nowhere", "undo"])
@@ -239,8 +239,8 @@ def check_refused_start(checks):
             was_refused, fault = refused_start(nth, *options)
             if not was_refused:
                 break
-            checks.check(f"{name}, growth {nth} refused", fault)
-        checks.check(f"{name}, growths refused", None if 50 < nth < MOST_GROWTHS - 1 else f"{nth - 1} were")
+            checks.check(f"{name}, allocation {nth} refused", fault)
+        checks.check(f"{name}, allocations refused", None if 50 < nth < MOST_GROWTHS - 1 else f"{nth - 1} were")
 
 
 # `stop` ends a service in a tenth of a second; on a busy machine, within this.

@@ -198,7 +198,7 @@ class Operator:
             wanted = self._learnt(name, words)
         self.questions += 1
         if (words, asked) != (wanted, route):
-            self.checks.equal(f"question {self.questions} of {name} behind line {len(self.given)}", (words, asked), (wanted, route))
+            self.checks.equal(f"question {self.questions} of {name} after line {len(self.given)}", (words, asked), (wanted, route))
 
     def own_asked(self):
         """The servers that were asked about the operator's zone so far."""
