@@ -79,17 +79,18 @@ def methods():
     return found
 
 
-# Words in code type of docs/MEANINGS.md that are no names of ours.
-OTHER_WORDS = {"TYPE", "c00c", "clap", "no_memory", "reply_lost"}
+# Words in code type that are no names of ours: of lines and messages, and of the kit's crates.
+OTHER_WORDS = {"TYPE", "c00c", "no_memory", "reply_lost", "ready", "clap", "Brand", "Snapshot", "Waker"}
 
 
 def check_names(checks):
-    """Each name of docs/PROMISE.md and docs/MEANINGS.md is one of a crate, of a file of specs/, or of a line."""
+    """Each name of four documents is one of a crate, of a line, or, in docs/MEANINGS.md, of a file of specs/."""
     crates = set(re.findall(r"^\w+", text_of("crates.txt"), re.MULTILINE))
     known = defined() | crates | {line.split()[0] for line in listed()} | OTHER_WORDS
     files = {name.removesuffix(".antt") for name, _ in sources("crates")} | {"Read", "Write", "Server"}
     of_types = methods()
-    for path, names in (("docs/PROMISE.md", known), ("docs/MEANINGS.md", known | files)):
+    pages = {"PROMISE": known, "PROVED": known, "ARCHITECTURE": known, "MEANINGS": known | files}
+    for path, names in ((f"docs/{name}.md", names) for name, names in pages.items()):
         for name in sorted(set(re.findall(r"`((?:\w+::)*\w+)`", text_of(path)))):
             parts = name.split("::")
             missing = [part for part in parts if part not in names]
