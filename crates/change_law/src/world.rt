@@ -15,7 +15,7 @@ use ranked::{Fate, SharedFind};
 /// It shows the face of the changes that are in effect. The constructor of a world must also promise that it keeps nothing yet:
 /// a world that never keeps a change would meet every clause below.
 pub trait World: Drop {
-    /// The part of a face beside its cells.
+    /// The part of a face without its cells.
     type Tables;
 
     /// The data that a change saves for its way back.
@@ -67,7 +67,7 @@ pub trait World: Drop {
         ensures same_store { OnErr result (stored self.new ≡ stored self.old) }
         ensures limit { limit self.new ≡ limit self.old };
 
-    /// Drops content that is dead at a moment. From that moment on, no face changes by it.
+    /// Removes content that has expired at a moment. From that moment on, no face changes by it.
     fn sweep(&mut self, moment: u64)
         ensures row { IsEachRowFrom table keeps face moment (λ f. f) self.old self.new }
         ensures newest { newest self.new ≤ newest self.old }

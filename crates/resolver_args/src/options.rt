@@ -46,8 +46,8 @@ pub(crate) const VERSION: &str = "0.1.0";
 
 /// The last part of the help on `serve`.
 const SERVE_HELP: &str = "\
-This service is for trials, not for a network. A full cache takes nothing new until the line `sweep` makes room,
-and some memory of each cached name stays until a restart. The line `stop` on the control socket ends the service.";
+This service is for trials, not for production. A cache that is full of live data takes no new names until some of it
+expires. The line `stop` on the control socket ends the service.";
 
 /// The default of `--journal`.
 const DEFAULT_JOURNAL: &str = "64";

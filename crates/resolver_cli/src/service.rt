@@ -61,8 +61,8 @@ fn obey<L: CallLedger, R: Wait + Clock + Log + Print>(
     Ok(())
 }
 
-/// Runs the sweeper and each worker in a thread of its own, and obeys operators in this one. After `stop` it wakes all workers, and waits until
-/// the last of them has ended.
+/// Runs the sweeper and each worker in a thread of its own, and obeys operators in this one. After `stop` it wakes all workers,
+/// and waits until the last of them has ended.
 fn run<L: CallLedger + Send + Sync, R>(
     rt: &R,
     alloc: Global,

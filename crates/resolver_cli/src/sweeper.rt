@@ -1,4 +1,4 @@
-//! Sweeps: the service drops what is dead from its cache, so that memory follows what is alive.
+//! The sweeper: it removes expired data from the cache, so that the cache takes memory only for live data.
 
 use crate::worker::Lent;
 use command_text::Clock;
@@ -11,10 +11,10 @@ use std::sync::atomic::Ordering;
 use std::thread;
 use std::time::Duration;
 
-/// How long the sweeper sleeps before it looks at the stop flag again, in milliseconds: `stop` waits for that at most.
+/// The time between two looks at the stop flag, in milliseconds. `stop` waits for the sweeper at most that long.
 const GLANCE_MILLISECONDS: u64 = 50;
 
-/// The least time between two sweeps, in milliseconds. A TTL counts whole seconds, so more sweeps would drop no more.
+/// The least time between two sweeps, in milliseconds. A TTL counts whole seconds, so more sweeps would remove no more.
 const LEAST_MILLISECONDS: u64 = 1_000;
 
 /// A sweep holds the lock while it visits each name. So the next one waits for so many times as long as the last one took:

@@ -1,4 +1,4 @@
-//! What the counted places are, by the admissions so far.
+//! Laws of the counted places, by the admissions so far.
 
 ghost use Rattle.std.specs.Prelude.{◌≡◌, ◌++◌, ◌∷◌, [], ℕ, List};
 ghost use Rattle.ranked.specs.declared.find.Find.{Find};

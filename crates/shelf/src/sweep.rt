@@ -1,4 +1,4 @@
-//! The sweep: it drops dead finds, and the versions that no kept flush needs.
+//! The sweep: it removes expired finds, and the versions that no kept flush needs.
 
 ghost use Rattle.std.specs.Prelude.{◌≡◌, ◌≤◌, ℕ, length, vec_capacity};
 ghost use Rattle.cell_store.specs.Count.{stored_in};
@@ -23,7 +23,7 @@ fn collect(kept: &[KeptFlush], owner: &Name, kind: u16, numbers: &mut Vec<u64>)
     }
 }
 
-// Drops the finds of a name that are dead at a moment, and the versions that no kept flush needs.
+// Removes the finds of a name that have expired at a moment, and the versions that no kept flush needs.
 fn sweep_name(
     cells: &mut OwnerCells,
     name: &Name,

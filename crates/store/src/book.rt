@@ -1,4 +1,4 @@
-//! What a book asks of the tables and the cache: what they show, and the change of each command.
+//! The tables and the cache as a book needs them: what they show, and the change of each command.
 
 ghost use Rattle.std.specs.Prelude.{◌≡◌, IfOk};
 ghost use Rattle.store.specs.Command.{IsMadeOf};

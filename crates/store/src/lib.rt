@@ -1,4 +1,4 @@
-//! What the operator set and the cache, as one world in which every command can be undone.
+//! The operator's tables and the cache, as one world in which every command can be undone.
 #![tactic(auto)]
 
 // The cache as a world, and flushes as its changes.

@@ -97,7 +97,7 @@ impl ShelfWorld {
         self.shelf.stored()
     }
 
-    /// Forgets a name: nothing of it is held, whatever choice of the kept flushes stands. It takes no memory.
+    /// Forgets a name: then nothing of it is cached, whatever choice of the kept flushes is in force. It takes no memory.
     pub fn forget(&mut self, owner: &Name)
         ensures row { HoldsNothingOf owner.now self.old self.new }
         ensures newest { ⟦<ShelfWorld as World>⟧.newest self.new ≤ ⟦<ShelfWorld as World>⟧.newest self.old }

@@ -1,4 +1,4 @@
--- Where in a log the entries stand that can change what is held.
+-- The index of a log: the entries that can change a cell.
 use Rattle.std.specs.Prelude.{ℕ, ◌+◌, ◌==◌, Bool, true, Option, Some, None, List, [], ◌∷◌, fold, if◌then◌else◌, slice_get}
 use Rattle.std.specs.List.{cons_option}
 use Rattle.std.specs.Option.{option_map_or}

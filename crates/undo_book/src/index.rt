@@ -1,4 +1,4 @@
-//! Where in a log the entries stand that can change what is held.
+//! The index of a log: the entries that can change a cell.
 
 ghost use Rattle.std.specs.Prelude.{◌≡◌, ◌<◌, ◌++◌, [], vec_len, vec_capacity};
 ghost use Rattle.std.specs.List.{cons_option};
@@ -21,7 +21,7 @@ pub(crate) fn tag(name: &Name) -> u64
     hasher.finish()
 }
 
-/// Where an entry stands that can change what is held: an admission, with the tag of its owner, or a command.
+/// The place of an entry that can change a cell: an admission, with the tag of its owner, or a command.
 #[derive(Clone, Copy, Drop)]
 pub struct Indexed {
     pub at: usize,
@@ -29,7 +29,7 @@ pub struct Indexed {
 }
 
 impl Indexed {
-    /// That of an entry with this event. None where the event can change nothing that is held.
+    /// The index entry for this event, or None if the event cannot change any cell.
     pub fn of(at: usize, event: &Event) -> Option<Indexed>
         ensures { result ≡ index_of_entry at event.now }
     {
@@ -53,7 +53,7 @@ impl Indexed {
         }
     }
 
-    /// A cell after the entry, if that stands and is about the question, whose owner has this tag.
+    /// A cell after the entry, if that is in force and about the question, whose owner has this tag.
     pub fn replay<'a>(
         &self,
         log: &'a [Logged],
@@ -75,7 +75,7 @@ impl Indexed {
     }
 }
 
-/// Adds what stands in an index of an entry with this event.
+/// Adds the index entry for this event, if there is one.
 pub(crate) fn add_to_index(index: &mut Vec<Indexed>, at: usize, event: &Event)
     requires room { vec_len index.old < vec_capacity index.old }
     ensures { index.new.items ≡ index.old.items ++ cons_option (index_of_entry at event.now) [] }

@@ -6,7 +6,7 @@ ghost use Rattle.history.specs.Marks.{without, in_place};
 use dns_name::NoMemory;
 use std::alloc::Global;
 
-/// The marks of a history. What is struck stands in the log too, beside each entry.
+/// The marks of a history. Each entry of the log also says whether it is struck.
 #[derive(Drop)]
 pub struct PlainMarks {
     pub tickets: u64,
@@ -81,7 +81,7 @@ impl PlainMarks {
         self.struck.push_reserved(ticket);
     }
 
-    /// Lets a command stand again that can be redone.
+    /// Puts a command that can be redone in force again.
     pub fn restore(&mut self, ticket: u64)
         requires { HasRoom self.old }
         ensures { marks_in self.new ≡ restore (marks_in self.old) ticket }
@@ -107,7 +107,7 @@ fn put_in_place(tickets: &mut Vec<u64>, ticket: u64)
     let _ = tickets.insert(place, ticket);
 }
 
-/// How many tickets stand before the first that is greater than this one.
+/// The number of tickets before the first one that is greater than this.
 fn place_of(tickets: &[u64], ticket: u64) -> usize
     ensures within { result ≤ length tickets.now }
     ensures place { in_place ticket tickets.now ≡ take result tickets.now ++ ticket ∷ drop result tickets.now }

@@ -18,7 +18,7 @@ use local_zone::ZoneTable;
 use std::alloc::Global;
 use stub_table::StubTable;
 
-/// A book that keeps its whole history, and answers by a replay. Beside it stand the tables that it comes to.
+/// A book that keeps its whole history, and answers by a replay. It also keeps the tables that the history gives.
 #[derive(Drop)]
 pub struct PlainBook {
     past: PlainPast,

@@ -1,4 +1,4 @@
-//! What is replied to an event, and the tables as they are after it.
+//! The reply to an event, and the tables after it.
 
 ghost use Rattle.std.specs.Prelude.{◌≡◌, IfOk, OnErr, OnOk, ◌+◌, ◌<◌, ◌^◌};
 ghost use Rattle.history.specs.Changes.{reason_on, unless_refused};

@@ -1,4 +1,4 @@
-//! What is seen of what is asked, with a share of the data.
+//! The result of a lookup, which shares the data.
 
 ghost use Rattle.std.specs.Prelude.{◌≡◌, IfOk};
 ghost use Rattle.history.specs.History.{stubs_of, tables_of};

@@ -26,7 +26,7 @@ pub(crate) fn replay_tables(
     Ok(tables)
 }
 
-/// Obeys the command of an entry, if that stands.
+/// Obeys the command of an entry, if it is in force.
 fn replay_command(
     tables: &mut Tables,
     logged: &Logged,

@@ -35,7 +35,7 @@ pub record IsWell {W T S D : Type 0} (by : Ghosts W T S D) (book : BookState W S
   pub tickets : book.changes.tickets ≤ book.count
   pub count : book.count ≤ MOST_EVENTS
 
--- The book is what the history comes to.
+-- The book is in the state that the history gives.
 pub record IsBookOf {W S : Type 0} (by : Ghosts W Tables S Command) (book : BookState W S) (history : List Event) : Type 0 where
   pub tied : IsTied by book.world book.changes book.settings.journal (past_of book.settings.journal history)
   pub moment : book.moment ≡ (past_of book.settings.journal history).now

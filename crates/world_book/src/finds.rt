@@ -1,4 +1,4 @@
-//! What an admission and a sweep do to a world under its journal.
+//! Admissions and sweeps of a world under its journal.
 
 ghost use Rattle.std.specs.Prelude.{◌≡◌, ℕ, IfOk, IfErr, OnOk, OnErr};
 ghost use Rattle.history.specs.declared.event.Event.TheVariants.{Admit, Sweep};
@@ -12,7 +12,7 @@ use history::{Reply, StepFault};
 use ranked::{Fate, SharedFind};
 use undo_journal::Journal;
 
-/// Admits a find, where the clock stands here with it.
+/// Admits a find. `clock` is the clock after the admission.
 pub(crate) fn admit<C: BookChange>(
     journal: &Journal<C>,
     world: &mut C::World,
@@ -45,7 +45,7 @@ fn reply_of_fate(fate: Fate) -> Reply
     }
 }
 
-/// Lets the world drop what is dead, where the clock stands here with the sweep.
+/// Lets the world remove what has expired. `clock` is the clock after the sweep.
 pub(crate) fn sweep<C: BookChange>(journal: &Journal<C>, world: &mut C::World, clock: u64)
     requires { IsSound C.World.World world.old journal.now }
     ensures tied { (moment : ℕ) → TakesIn C.World.World clock (Sweep moment) world.old journal.now world.new journal.now }

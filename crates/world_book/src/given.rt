@@ -1,4 +1,4 @@
-//! What a command does to a world under its journal.
+//! Commands to a world under its journal.
 
 ghost use Rattle.std.specs.Prelude.{◌≡◌, ◌<◌, ◌^◌, ℕ, IfOk, OnOk, OnErr};
 ghost use Rattle.history.specs.declared.event.Event.TheVariants.{Do};
@@ -14,7 +14,7 @@ use history::{Command, Reason, Reply};
 use std::alloc::AllocError;
 use undo_journal::Journal;
 
-/// Makes the change of a command, or tells why it is refused.
+/// Makes the change of a command, or returns why it is refused.
 pub(crate) fn give<C: BookChange>(
     journal: &mut Journal<C>,
     world: &mut C::World,
@@ -38,7 +38,7 @@ pub(crate) fn give<C: BookChange>(
     }
 }
 
-/// The reason that a change tells by this number.
+/// The reason that a change returns as this number.
 fn reason_coded(code: u8) -> Reason
     ensures { (reason : Reason) → code ≡ code_of reason → result ≡ reason }
 {

@@ -1,4 +1,4 @@
-//! What a log comes to, by its deeds.
+//! Laws: the replay of a log is the replay of its deeds.
 
 ghost use Rattle.std.specs.Prelude.{◌≡◌, ℕ, Bool, List, Some, true};
 ghost use Rattle.change_law.specs.Face.{IsSame};
@@ -7,7 +7,7 @@ ghost use Rattle.history.specs.declared.event.Entry.{Entry};
 ghost use Rattle.history.specs.Marks.{Marks, is_struck, strike, restore};
 ghost use Rattle.world_book.specs.Deeds.{deeds_of, empty_face, face_of};
 
-/// A replay of the deeds of a log shows what stands of it, by any choice of its commands.
+/// For any choice of commands, a replay of the deeds of a log shows what is in force of the log.
 pub fn deeds_law()
     ensures { (chosen : ℕ → Bool) (log : List Entry) → IsSame (face_by true chosen empty_face (deeds_of log)) (face_of chosen log) }
 {}

@@ -1,4 +1,4 @@
-//! What an undo and a redo do to a world under its journal.
+//! Undos and redos of a world under its journal.
 
 ghost use Rattle.std.specs.Prelude.{◌≡◌, ℕ, IfOk, IsOk, OnOk, OnErr};
 ghost use Rattle.history.specs.declared.event.Event.TheVariants.{Undo, Redo};

@@ -1,4 +1,4 @@
-//! What an event does to a world under its journal.
+//! Events of a world under its journal.
 
 ghost use Rattle.std.specs.Prelude.{◌<◌, ◌^◌, IfOk, IfErr, IsOk, OnOk, OnErr, if◌then◌else◌};
 ghost use Rattle.history.specs.Event.{is_admission};
@@ -14,7 +14,7 @@ use history::{Event, Reply, Settings, StepFault};
 use std::alloc::Global;
 use undo_journal::Journal;
 
-/// Obeys an event, where the clock stands here with it.
+/// Obeys an event. `clock` is the clock after it.
 pub(crate) fn obey<C: BookChange>(
     alloc: Global,
     settings: &Settings,

@@ -1,4 +1,4 @@
-//! What a look sees of a world under its journal.
+//! Lookups in a world under its journal.
 
 ghost use Rattle.std.specs.Prelude.{◌≡◌, max, ℕ, IfOk};
 ghost use Rattle.history.specs.History.{Past};
@@ -15,7 +15,7 @@ use history::{
 use std::alloc::Global;
 use undo_journal::Journal;
 
-/// What is seen of what is asked, where the clock stands here with the look.
+/// The result of a lookup. `clock` is the clock at the lookup.
 pub(crate) fn seen<C: BookChange>(
     alloc: Global,
     settings: &Settings,

@@ -1,4 +1,4 @@
-//! What a book asks of a world and of its changes.
+//! The traits that a book needs of a world and of its changes.
 
 ghost use Rattle.std.specs.Prelude.{◌≡◌, ◌≤◌, ℕ, true, IfOk};
 ghost use Rattle.std.specs.Option.{option_map};
