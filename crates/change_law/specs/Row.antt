@@ -1,12 +1,15 @@
 -- The row of a world: its face for each choice of the changes that it keeps. `table`, `keeps` and `face` are the world's own.
-use Rattle.std.specs.Prelude.{◌≡◌, ◌<◌, ◌≤◌, ℕ, Bool, true, false, Option, List, [], ◌∷◌, ◌++◌, if◌then◌else◌}
+use Rattle.std.specs.Prelude.{◌≡◌, ◌<◌, ◌≤◌, ◌+◌, ℕ, Bool, true, false, Option, List, [], ◌∷◌, ◌++◌, if◌then◌else◌}
 use Rattle.std.proofs.Common.{refl, sym, subst}
 use Rattle.std.specs.List.{AllByRecursion}
+use Rattle.dns_name.specs.Labels.{Labels}
+use Rattle.ranked.specs.declared.find.Scope.{Scope}
 use Rattle.change_law.specs.declared.kept.KeptChange.{KeptChange}
 use Rattle.change_law.specs.declared.kept.Standing.{Standing}
 use Rattle.change_law.specs.declared.kept.Standing.TheVariants.{Done, Undone, Cleared}
 use Rattle.change_law.specs.Face.{Face, IsSame, IsSameAt}
 use Rattle.change_law.specs.Choice.{IsChoice, IsUncovered, IsFounded, cleared}
+use Rattle.change_law.specs.Pairs.{AddsPairs}
 
 -- a kept change, by its ticket and the data that it saved
 abbrev pub kept_as : {S : Type 0} → Standing → ℕ → S → KeptChange S
@@ -111,10 +114,18 @@ SettlesCleared {S = S} table keeps face before saved after = (earlier : List (Ke
 abbrev pub IsSameKind : {S D : Type 0} → (S → Option ℕ) → (S → Bool) → (S → D) → S → S → Type 0
 IsSameKind table needs_memory told before after = (table after ≡ table before) × (needs_memory after ≡ needs_memory before) × (told after ≡ told before)
 
--- The world has no newer ticket, stores no more cells, and has the same limit.
-abbrev pub IsNoMore : {W : Type 0} → (W → ℕ) → (W → ℕ) → (W → ℕ) → W → W → Type 0
-IsNoMore newest stored limit before after = (newest after ≤ newest before) × (stored after ≤ stored before) × (limit after ≡ limit before)
+-- The world has no newer ticket, stores no more cells, has the same limit, and counts no pair that it did not.
+abbrev pub IsNoMore : {W : Type 0} → (W → ℕ) → (W → ℕ) → (W → ℕ) → (W → (Labels × Scope) → Bool) → W → W → Type 0
+IsNoMore newest stored limit counts before after =
+    (newest after ≤ newest before) × (stored after ≤ stored before) × (limit after ≡ limit before) × AddsPairs counts [] before after
 
--- The world refused the call and is as it was: its faces, its tickets and its number of cells.
-abbrev pub IsRefused : {W S T : Type 0} → (S → Option ℕ) → (W → List (KeptChange S) → Type 0) → (W → List (KeptChange S) → (ℕ → Bool) → Face T) → (W → ℕ) → (W → ℕ) → W → W → Type 0
-IsRefused table keeps face newest stored before after = IsSameRow table keeps face before after × (newest after ≤ newest before) × (stored after ≡ stored before)
+-- The world has no newer ticket and the same limit. It may store one more cell, and count this pair beside those that it did.
+abbrev pub IsOneMore : {W : Type 0} → (W → ℕ) → (W → ℕ) → (W → ℕ) → (W → (Labels × Scope) → Bool) → Labels × Scope → W → W → Type 0
+IsOneMore newest stored limit counts pair before after =
+    (newest after ≤ newest before) × (stored after ≤ stored before + 1) × (limit after ≡ limit before) × AddsPairs counts (pair ∷ []) before after
+
+-- The world refused the call and is as it was: its faces, its tickets, its number of cells and the pairs that count.
+abbrev pub IsRefused : {W S T : Type 0} → (S → Option ℕ) → (W → List (KeptChange S) → Type 0) → (W → List (KeptChange S) → (ℕ → Bool) → Face T) → (W → ℕ) → (W → ℕ) →
+    (W → (Labels × Scope) → Bool) → W → W → Type 0
+IsRefused table keeps face newest stored counts before after =
+    IsSameRow table keeps face before after × (newest after ≤ newest before) × (stored after ≡ stored before) × AddsPairs counts [] before after

@@ -1,8 +1,9 @@
 //! A change of a world, with its way back.
 
-ghost use Rattle.std.specs.Prelude.{◌≡◌, ◌≤◌, ◌<◌, max, ℕ, Bool, false, Option, None, IfOk, IfErr, IsOk, OnOk, OnErr};
+ghost use Rattle.std.specs.Prelude.{◌≡◌, ◌≤◌, ◌<◌, max, ℕ, Bool, false, Option, None, [], IfOk, IfErr, IsOk, OnOk, OnErr};
 ghost use Rattle.dns_text.specs.declared.record.Question.{Question};
 ghost use Rattle.change_law.specs.Effect.{effect, IsFaultFor};
+ghost use Rattle.change_law.specs.Pairs.{AddsPairs};
 ghost use Rattle.change_law.specs.Row.{CanGoBack, CanGoAgain, GoesBack, GoesAgain, IsSameKind, IsMade, SettlesOldest, SettlesCleared};
 ghost use Rattle.change_law.specs.Row.{IsNoMore, IsRefused, where_chosen};
 
@@ -47,9 +48,9 @@ pub trait Change: Drop {
         // If the tables allow it, the only fault is that there is no memory.
         ensures err { IfErr result (λ fault. IsFaultFor (reason self (Self.World.shown world.old).tables) fault) }
         ensures same { OnErr result (IsRefused Self.World.table Self.World.keeps Self.World.face Self.World.newest Self.World.stored
-            world.old world.new) }
+            Self.World.counts world.old world.new) }
         ensures store { (Self.World.stored world.new ≤ Self.World.stored world.old)
-            × (Self.World.limit world.new ≡ Self.World.limit world.old) };
+            × (Self.World.limit world.new ≡ Self.World.limit world.old) × AddsPairs Self.World.counts [] world.old world.new };
 
     /// Undoes a change. No later change of its table is in effect. No face changes.
     fn back(
@@ -61,8 +62,8 @@ pub trait Change: Drop {
         ensures kind { OnOk result (IsSameKind Self.World.table Self.World.needs_memory Self.World.told saved.old saved.new) }
         ensures free { Self.World.needs_memory saved.old ≡ false → IsOk result }
         ensures err { OnErr result (IsRefused Self.World.table Self.World.keeps Self.World.face Self.World.newest Self.World.stored
-            world.old world.new × (saved.new ≡ saved.old)) }
-        ensures counts { IsNoMore Self.World.newest Self.World.stored Self.World.limit world.old world.new };
+            Self.World.counts world.old world.new × (saved.new ≡ saved.old)) }
+        ensures counts { IsNoMore Self.World.newest Self.World.stored Self.World.limit Self.World.counts world.old world.new };
 
     /// Redoes an undone change. No earlier change of its table is undone. No face changes.
     fn again(
@@ -74,12 +75,12 @@ pub trait Change: Drop {
         ensures kind { OnOk result (IsSameKind Self.World.table Self.World.needs_memory Self.World.told saved.old saved.new) }
         ensures free { Self.World.needs_memory saved.old ≡ false → IsOk result }
         ensures err { OnErr result (IsRefused Self.World.table Self.World.keeps Self.World.face Self.World.newest Self.World.stored
-            world.old world.new × (saved.new ≡ saved.old)) }
-        ensures counts { IsNoMore Self.World.newest Self.World.stored Self.World.limit world.old world.new };
+            Self.World.counts world.old world.new × (saved.new ≡ saved.old)) }
+        ensures counts { IsNoMore Self.World.newest Self.World.stored Self.World.limit Self.World.counts world.old world.new };
 
     /// Stops keeping a change: the oldest, which stays in effect for good, or a cleared one, which never will be again.
     fn settle(world: &mut Self::World, saved: <Self::World as World>::Saved)
         ensures oldest { SettlesOldest Self.World.table Self.World.keeps Self.World.face world.old saved world.new }
         ensures cleared { SettlesCleared Self.World.table Self.World.keeps Self.World.face world.old saved world.new }
-        ensures counts { IsNoMore Self.World.newest Self.World.stored Self.World.limit world.old world.new };
+        ensures counts { IsNoMore Self.World.newest Self.World.stored Self.World.limit Self.World.counts world.old world.new };
 }

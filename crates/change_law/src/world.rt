@@ -1,10 +1,13 @@
 //! The world: its face, and the changes that it keeps.
 
-ghost use Rattle.std.specs.Prelude.{◌≡◌, ◌≤◌, ◌+◌, ℕ, Bool, List, Option, IfOk, OnOk, OnErr, IsErrOf};
+ghost use Rattle.std.specs.Prelude.{◌≡◌, ℕ, Bool, List, Option, IfOk, IsOk, OnOk, OnErr, IsErrOf};
+ghost use Rattle.dns_name.specs.Labels.{Labels};
+ghost use Rattle.ranked.specs.declared.find.Scope.{Scope};
 ghost use Rattle.change_law.specs.declared.kept.KeptChange.{KeptChange};
 ghost use Rattle.change_law.specs.Face.{Face, IsSame, face_with, fate_in};
 ghost use Rattle.change_law.specs.Choice.{IsPresent, cleared};
-ghost use Rattle.change_law.specs.Row.{IsRowAfter, IsEachRowFrom, IsSameRow, any, same_face};
+ghost use Rattle.change_law.specs.Row.{IsRowAfter, IsEachRowFrom, IsNoMore, IsOneMore, IsRefused, any, same_face};
+ghost use Rattle.change_law.specs.Pairs.{IsAliveIn, pair_of};
 
 use crate::fault::WorldFault;
 use ranked::{Fate, SharedFind};
@@ -54,25 +57,27 @@ pub trait World: Drop {
     /// The most cells that it may store.
     ghost limit: { Self → ℕ };
 
+    /// Whether the place of a pair counts: that of the finds of one owner and scope. As many count as cells are stored.
+    ghost counts: { Self → (Labels × Scope) → Bool };
+
     /// Admits a find, to each face separately. It is `Full` only if the world stores as many cells as it may.
     fn admit(&mut self, find: SharedFind, moment: u64) -> Result<Fate, WorldFault>
         ensures told { IfOk result (λ fate. fate ≡ fate_in (shown self.old) find moment find.scope) }
         ensures row { OnOk result (IsEachRowFrom table keeps face moment (face_with has_cells find moment) self.old self.new) }
-        ensures err { OnErr result (IsSameRow table keeps face self.old self.new) }
-        ensures newest { newest self.new ≤ newest self.old }
-
-        // One admission stores one more cell at most.
+        ensures err { OnErr result (IsRefused table keeps face newest stored counts self.old self.new) }
         ensures full { (n : ℕ) → IsErrOf result (WorldFault.Full n) → (stored self.old ≡ n) × (limit self.old ≡ n) }
-        ensures stored { stored self.new ≤ stored self.old + 1 }
-        ensures same_store { OnErr result (stored self.new ≡ stored self.old) }
-        ensures limit { limit self.new ≡ limit self.old };
+
+        // A find is not refused if one of its pair is alive, by whichever choice of the kept changes.
+        ensures free { (kept : List (KeptChange Self.Saved)) → keeps self.old kept →
+            IsAliveIn table face self.old kept moment (pair_of find) → IsOk result }
+
+        // One admission stores one more cell at most: that of the find's pair.
+        ensures counts { IsOneMore newest stored limit counts (pair_of find) self.old self.new };
 
     /// Removes content that has expired at a moment. From that moment on, no face changes by it.
     fn sweep(&mut self, moment: u64)
         ensures row { IsEachRowFrom table keeps face moment (λ f. f) self.old self.new }
-        ensures newest { newest self.new ≤ newest self.old }
-        ensures stored { stored self.new ≤ stored self.old }
-        ensures limit { limit self.new ≡ limit self.old };
+        ensures counts { IsNoMore newest stored limit counts self.old self.new };
 
     /// A law: the face that it shows is the face of the changes in effect.
     ghost shows: { (world : Self) (kept : List (KeptChange Self.Saved)) (chosen : ℕ → Bool) → keeps world kept → IsPresent kept chosen →

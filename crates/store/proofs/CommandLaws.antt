@@ -15,11 +15,12 @@ use Rattle.history.specs.declared.event.Command.TheVariants.{FlushType, Flush, F
 use Rattle.history.specs.declared.made.Tables.{Tables}
 use Rattle.history.specs.Changes.{after_command_on, reason_on, reason_in, stub_reason_in}
 use Rattle.history.specs.Event.{covers, flush_of}
-use Rattle.table_changes.specs.Both.{change_of, change_after, change_reason}
+use Rattle.table_changes.specs.Both.{change_of, change_after, change_reason, change_table}
 use Rattle.table_changes.specs.Stubs.{stub_code_in}
 use Rattle.table_changes.specs.Zones.{zone_code_in}
 use Rattle.table_changes.specs.declared.tables.TableChange.{TableChange}
 use Rattle.world_book.specs.Step.{code_of}
+use Rattle.world_book.specs.Versions.{table_of}
 use Rattle.store.specs.Command.{IsMadeOf}
 use Rattle.store.specs.declared.store.Made.TheVariants as made
 
@@ -81,6 +82,21 @@ reason_is (DropName name) t = refl
 reason_is (SetStub new) t = stub_codes (reason_of_stub new t.stubs)
 reason_is (DropStub name) t = refl
 
+abbrev table_in : Option TableChange → Option ℕ
+table_in None = None
+table_in (Some change) = change_table change
+
+table_is : (command : Command) → table_in (change_of command) ≡ table_of command
+table_is (FlushType target) = refl
+table_is (Flush name) = refl
+table_is (FlushZone name) = refl
+table_is (SetZone name kind) = refl
+table_is (DropZone name) = refl
+table_is (AddRecord new) = refl
+table_is (DropName name) = refl
+table_is (SetStub new) = refl
+table_is (DropStub name) = refl
+
 -- A flush is no change of the tables.
 flush_apart : (command : Command) (flush : CellFlush) → flush_of command ≡ Some flush → change_of command ≡ None
 flush_apart (FlushType target) flush e = refl
@@ -111,6 +127,7 @@ flush_is_made command flush e =
     record {
       after = λ t. ap (λ (o : Option TableChange). after_in o t) apart ∙ after_is command t;
       empties = λ q. ap (λ (o : Option CellFlush). covers_in o q) (sym e) ∙ covers_is command q;
+      table = ap table_in apart ∙ table_is command;
       reason = λ t. ap (λ (o : Option TableChange). reason_by o t) apart ∙ reason_is command t;
     }
 
@@ -118,5 +135,6 @@ pub table_is_made : (command : Command) (change : TableChange) → flush_of comm
 table_is_made command change e f = record {
   after = λ t. ap (λ (o : Option TableChange). after_in o t) (sym f) ∙ after_is command t;
   empties = λ q. ap (λ (o : Option CellFlush). covers_in o q) (sym e) ∙ covers_is command q;
+  table = ap table_in (sym f) ∙ table_is command;
   reason = λ t. ap (λ (o : Option TableChange). reason_by o t) (sym f) ∙ reason_is command t;
 }

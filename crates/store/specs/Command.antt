@@ -7,11 +7,13 @@ use Rattle.history.specs.declared.made.Tables.{Tables}
 use Rattle.history.specs.Changes.{after_command_on, reason_on}
 use Rattle.history.specs.Event.{covers}
 use Rattle.world_book.specs.Step.{code_of}
+use Rattle.world_book.specs.Versions.{table_of}
 use Rattle.store.specs.declared.store.Made.{Made}
-use Rattle.store.specs.Store.{reason_of_made, after_made, empties_made}
+use Rattle.store.specs.Store.{reason_of_made, after_made, empties_made, table_of_made}
 
--- It does to the tables and the cells what the command does, and is refused for the same reason.
+-- It changes the same table, does to the tables and the cells what the command does, and is refused for the same reason.
 pub record IsMadeOf (command : Command) (made : Made) : Type 0 where
   pub after : (t : Tables) → after_made made t ≡ after_command_on command t
   pub empties : (q : Question) → empties_made made q ≡ covers command q
+  pub table : table_of_made made ≡ table_of command
   pub reason : (t : Tables) → reason_of_made made t ≡ option_map code_of (reason_on t command)

@@ -1,5 +1,8 @@
 -- The row of the store, by the rows of its parts: lemmas.
 use Rattle.std.proofs.Common.{◌≡◌, ℕ, Bool, true, false, Option, Some, None, List, [], ◌∷◌, ◌++◌, refl, sym, ap, subst, ◌∙◌, arith}
+use Rattle.std.specs.List.{AllByRecursion}
+use Rattle.dns_name.specs.Labels.{Labels}
+use Rattle.dns_name.specs.ListLaws.{all_weaker}
 use Rattle.dns_text.specs.declared.record.Question.{Question}
 use Rattle.ranked.specs.declared.cell.Fate.{Fate}
 use Rattle.ranked.specs.declared.find.Find.{Find}
@@ -10,6 +13,7 @@ use Rattle.change_law.specs.declared.kept.Standing.TheVariants.{Done, Undone, Cl
 use Rattle.change_law.specs.Choice.{IsPresent, cleared}
 use Rattle.change_law.specs.Effect.{effect}
 use Rattle.change_law.specs.Face.{Face, IsSame, face_with, fate_in}
+use Rattle.change_law.specs.Pairs.{IsAliveIn}
 use Rattle.change_law.specs.Row.{IsRowAfter, IsEachRowFrom, IsSameRow, IsMade, CanGoBack, CanGoAgain, GoesBack, GoesAgain, any, same_face, where_chosen, kept_as}
 use Rattle.history.specs.declared.event.Command.{Command}
 use Rattle.history.specs.declared.made.Tables.{Tables}
@@ -19,7 +23,8 @@ use Rattle.table_changes.specs.Both.{saved_table, change_after, shown_tables, Ke
 use Rattle.table_changes.specs.Both as tables
 use Rattle.table_changes.specs.BothLaws.{clears_both, shows_both}
 use Rattle.table_changes.specs.declared.tables.SavedTable.{SavedTable}
-use Rattle.store.specs.SumLaws.{sum_same, sum_clears, sum_shows, sum_admitted, sum_swept, first_made, second_made, first_moved, second_moved, first_gone, second_gone, next_part, last_part, first_part, row_still}
+use Rattle.table_changes.specs.declared.tables.SavedTable.TheVariants as saved_by
+use Rattle.store.specs.SumLaws.{choice_part, sum_same, sum_clears, sum_shows, sum_admitted, sum_swept, first_made, second_made, first_moved, second_moved, first_gone, second_gone, next_part, last_part, first_part, row_still}
 use Rattle.store.specs.World.{Shelved, KeepsFlushes, shown_face}
 use Rattle.store.specs.World as cells
 use Rattle.store.specs.WorldLaws.{shows_present, clears_by_word}
@@ -28,7 +33,7 @@ use Rattle.store.specs.declared.store.WayBack.{WayBack}
 use Rattle.store.specs.declared.store.WayBack.TheVariants as way
 use Rattle.store.specs.declared.store.SavedChange.{SavedChange}
 use Rattle.store.specs.declared.store.Store.{Store}
-use Rattle.store.specs.Store.{tables_in, cells_in, table_way, flush_way, of_tables, of_cells, table_of, store_table, KeepsStore, store_face, store_shown}
+use Rattle.store.specs.Store.{tables_in, cells_in, table_way, flush_way, of_tables, of_cells, table_of, needs_memory_of, store_table, KeepsStore, store_face, store_shown}
 
 -- ---- the tables of the parts
 
@@ -48,6 +53,32 @@ tables_agree saved s e = way_of_tables saved.way s e
 
 cells_agree : (saved : SavedChange) (s : SavedFlush) → of_cells saved ≡ Some s → store_table saved ≡ no_table s
 cells_agree saved s e = way_of_cells saved.way s e
+
+pub flush_needs_none : (w : WayBack) → table_of w ≡ None → needs_memory_of w ≡ false
+flush_needs_none (way.Table saved) none = absurd (some_table saved none)
+  where
+    some_table : (saved : SavedTable) → saved_table saved ≡ None → ⊥
+    some_table (saved_by.Zones s) none = absurd cc
+    some_table (saved_by.Stubs s) none = absurd cc
+flush_needs_none (way.Flush saved) none = refl
+
+-- ---- what is alive in a face is so in that of the cells
+
+pub store_alive : (x : Store) (kept : List (KeptChange SavedChange)) (t : ℕ) (pair : Labels × Scope) → IsAliveIn store_table store_face x kept t pair →
+    IsAliveIn no_table cells.face_by x.cells (part of_cells kept) t pair
+store_alive x kept t pair is = record {
+  chosen = is.chosen;
+  choice = choice_part of_cells store_table no_table cells_agree kept is.chosen is.choice;
+  question = is.question;
+  held = is.held;
+  alive = is.alive;
+  same = is.same;
+}
+
+pub all_store_alive : (x : Store) (kept : List (KeptChange SavedChange)) (t : ℕ) (pairs : List (Labels × Scope)) → AllByRecursion (IsAliveIn store_table store_face x kept t) pairs →
+    AllByRecursion (IsAliveIn no_table cells.face_by x.cells (part of_cells kept) t) pairs
+all_store_alive x kept t pairs all =
+    all_weaker (IsAliveIn store_table store_face x kept t) (IsAliveIn no_table cells.face_by x.cells (part of_cells kept) t) (λ pair is. store_alive x kept t pair is) pairs all
 
 -- ---- the laws of the world
 

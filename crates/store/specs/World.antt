@@ -1,5 +1,5 @@
 -- The flushes that a shelf keeps, and its faces.
-use Rattle.std.specs.Prelude.{◌≡◌, ℕ, Bool, Option, None, List, map, if◌then◌else◌}
+use Rattle.std.specs.Prelude.{◌≡◌, ℕ, Bool, false, Option, None, List, map, if◌then◌else◌}
 use Rattle.std.specs.List.{AllByRecursion}
 use Rattle.dns_text.specs.declared.record.Question.{Question}
 use Rattle.change_law.specs.declared.kept.KeptChange.{KeptChange}
@@ -8,12 +8,15 @@ use Rattle.change_law.specs.declared.fault.WorldFault.TheVariants as world
 use Rattle.change_law.specs.Choice.{is_done}
 use Rattle.change_law.specs.Face.{Face}
 use Rattle.std.specs.Map.{lookup}
+use Rattle.std.specs.Option.{option_map_or}
 use Rattle.dns_name.specs.Labels.{Labels}
 use Rattle.dns_name.specs.Order.{name_eq}
 use Rattle.ranked.specs.declared.find.Find.{Find}
+use Rattle.ranked.specs.declared.find.Scope.{Scope}
 use Rattle.ranked.specs.declared.cell.Admitted.{Admitted}
 use Rattle.cell_store.specs.declared.owner.OwnerCells.{OwnerCells}
 use Rattle.cell_store.specs.Store.{cell_by_owner}
+use Rattle.cell_store.specs.Count.{has_place}
 use Rattle.shelf.specs.declared.fault.StoreFault.{StoreFault}
 use Rattle.shelf.specs.declared.fault.StoreFault.TheVariants as store
 use Rattle.shelf.specs.declared.shelf.KeptFlush.{KeptFlush}
@@ -39,6 +42,10 @@ cell_at shelf q v = cell_by_owner (lookup (name_eq q.owner) shelf.names) q.kind 
 -- the cell of a question, if of the kept flushes just the chosen ones stood
 abbrev pub cell_by : Shelved → (ℕ → Bool) → Question → Option (Admitted Find)
 cell_by shelf chosen q = cell_at shelf q (chosen_version shelf.flushes q chosen)
+
+-- whether the place of a pair counts
+abbrev pub counts_in : Shelved → (Labels × Scope) → Bool
+counts_in shelf pair = option_map_or (λ cells. has_place cells pair.1) (lookup (name_eq pair.0) shelf.names) false
 
 abbrev pub fault_told : StoreFault → WorldFault
 fault_told (store.Full stored) = world.Full stored

@@ -323,7 +323,7 @@ row_admitted before after kept find moment h items faces = record {
   faces = λ chosen choice. record { tables = refl; cell = λ q. ap (alive_at moment) (faces chosen q) };
 }
 
-same_alive : (t : ℕ) (cell : Option (Admitted Find)) → alive_at t cell ≡ stored_alive t cell
+pub same_alive : (t : ℕ) (cell : Option (Admitted Find)) → alive_at t cell ≡ stored_alive t cell
 same_alive t None = refl
 same_alive t (Some held) = refl
 

@@ -24,6 +24,7 @@ impl CellSource for Store {
 
 impl BookWorld for Store {
     ghost use Rattle.std.specs.Prelude.{refl};
+    ghost use Rattle.store.specs.StoreLaws.{flush_needs_none};
 
     fn tables(&self) -> &Tables {
         self.tables.tables()
@@ -36,6 +37,8 @@ impl BookWorld for Store {
     fn command(saved: &SavedChange) -> &Command {
         &saved.command
     }
+
+    ghost needs_none = { λ saved none. flush_needs_none saved.way none };
 
     ghost with_cells = { refl };
 

@@ -65,6 +65,7 @@ impl World for Store {
     ghost use Rattle.std.specs.Prelude.{true};
     ghost use Rattle.store.specs.Store.{store_face, store_shown, table_of, needs_memory_of, KeepsStore};
     ghost use Rattle.store.specs.StoreLaws.{clears_store, shows_store};
+    ghost use Rattle.store.specs.World.{counts_in};
 
     type Tables = Tables;
 
@@ -91,6 +92,8 @@ impl World for Store {
     ghost stored = { λ store. store.cells.stored };
 
     ghost limit = { λ store. store.cells.limit };
+
+    ghost counts = { λ store pair. counts_in store.cells pair };
 
     ghost shows = { λ world kept chosen h p. shows_store world kept chosen h p };
 

@@ -8,7 +8,7 @@ use cell_store::NameSeed;
 use change_law::{Change, ChangeFault, World, WorldFault};
 use dns_name::{Name, NoMemory};
 use ranked::{Fate, Flush, Held, SharedFind};
-use shelf::{Shelf, StoreFault};
+use shelf::{Shelf, StoreFault, admitted_law};
 use std::alloc::Global;
 use std::marker::Model;
 
@@ -57,8 +57,15 @@ fn fault_told(fault: StoreFault) -> WorldFault
 }
 
 impl ShelfWorld {
-    ghost use Rattle.std.specs.Prelude.{◌≤◌, ◌^◌};
+    ghost use Rattle.std.specs.Prelude.{◌≤◌, ◌^◌, ℕ, List, map};
+    ghost use Rattle.std.specs.List.{AllByRecursion};
+    ghost use Rattle.dns_name.specs.Labels.{Labels};
+    ghost use Rattle.ranked.specs.declared.find.Find.{Find};
+    ghost use Rattle.ranked.specs.declared.find.Scope.{Scope};
     ghost use Rattle.ranked.specs.Cell.{shown_at};
+    ghost use Rattle.change_law.specs.declared.kept.KeptChange.{KeptChange};
+    ghost use Rattle.change_law.specs.Pairs.{CountsAmong, IsAliveIn, count_pairs, pair_of};
+    ghost use Rattle.store.specs.declared.world.SavedFlush.{SavedFlush};
     ghost use Rattle.cell_store.specs.Owner.{held_now};
     ghost use Rattle.store.specs.World.{empty_cells, HoldsNothingOf};
     ghost use Rattle.world_book.specs.Book.{IsUntouched};
@@ -76,9 +83,10 @@ impl ShelfWorld {
         requires { limit ≤ 2 ^ 32 }
         ensures { IsUntouched ⟦<ShelfWorld as World>⟧ empty_cells limit result }
     {
-        ShelfWorld {
-            shelf: Shelf::seeded(alloc, limit, seed),
-        }
+        let shelf = Shelf::seeded(alloc, limit, seed);
+        // It is called for its clause `none`: no place counts yet.
+        admitted_law();
+        ShelfWorld { shelf }
     }
 
     /// What is shown of a question at a moment. It takes no memory.
@@ -89,10 +97,16 @@ impl ShelfWorld {
         self.shelf.show(owner, kind, moment)
     }
 
-    /// How many places count. They are never more than the limit.
+    /// How many places count. They are never more than the limit, nor more than the different pairs that count. They are never
+    /// fewer than the different pairs of the finds that are alive at a moment, whatever choice of the kept flushes stands.
     pub fn stored(&self) -> u64
         ensures stored { result ≡ ⟦<ShelfWorld as World>⟧.stored self.now }
         ensures within { ⟦<ShelfWorld as World>⟧.stored self.now ≤ ⟦<ShelfWorld as World>⟧.limit self.now }
+        ensures most { (finds : List Find) → CountsAmong ⟦<ShelfWorld as World>⟧.counts (map pair_of finds) self.now →
+            ⟦<ShelfWorld as World>⟧.stored self.now ≤ count_pairs (map pair_of finds) }
+        ensures least { (kept : List (KeptChange SavedFlush)) (t : ℕ) (pairs : List (Labels × Scope)) →
+            AllByRecursion (IsAliveIn ⟦<ShelfWorld as World>⟧.table ⟦<ShelfWorld as World>⟧.face self.now kept t) pairs →
+            count_pairs pairs ≤ ⟦<ShelfWorld as World>⟧.stored self.now }
     {
         self.shelf.stored()
     }
@@ -109,7 +123,7 @@ impl ShelfWorld {
 
 impl World for ShelfWorld {
     ghost use Rattle.std.specs.Prelude.{true, false, None};
-    ghost use Rattle.store.specs.World.{KeepsFlushes, face_by, shown_face};
+    ghost use Rattle.store.specs.World.{KeepsFlushes, counts_in, face_by, shown_face};
     ghost use Rattle.store.specs.WorldLaws.{shows_present, clears_by_word};
 
     type Tables = ();
@@ -137,6 +151,8 @@ impl World for ShelfWorld {
     ghost stored = { λ shelf. shelf.stored };
 
     ghost limit = { λ shelf. shelf.limit };
+
+    ghost counts = { counts_in };
 
     ghost shows = { λ world kept chosen h p. shows_present world kept chosen h p };
 

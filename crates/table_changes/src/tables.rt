@@ -120,6 +120,8 @@ impl World for TableWorld {
 
     ghost limit = { λ world. 0 };
 
+    ghost counts = { λ world pair. false };
+
     ghost shows = { λ world kept chosen h p. shows_both world kept chosen p };
 
     fn admit(&mut self, _find: SharedFind, _moment: u64) -> Result<Fate, WorldFault> {

@@ -51,7 +51,13 @@ impl ShelfBook {
 
 impl Book for ShelfBook {
     ghost use Rattle.std.proofs.Common.{◌≡◌, ◌≤◌, List, sym, ◌∙◌};
+    ghost use Rattle.std.specs.Prelude.{◌⊎◌, ℕ, OnErr, IfErr, IsErrOf};
+    ghost use Rattle.dns_name.specs.Labels.{Labels};
+    ghost use Rattle.ranked.specs.declared.find.Scope.{Scope};
     ghost use Rattle.history.specs.declared.event.Event.{Event};
+    ghost use Rattle.history.specs.Answers.{Answers, history_after};
+    ghost use Rattle.history.specs.History.{past_of};
+    ghost use Rattle.world_book.specs.Versions.{count_pairs, pairs_admitted, AreAliveAfter, IsFreeIn};
 
     ghost stands_for = { λ book history. ⟦<WorldBook<StoreChange> as Book>⟧.stands_for book.book history };
 
@@ -65,7 +71,27 @@ impl Book for ShelfBook {
 
     ghost one_count = { λ book h k is also. sym is.count ∙ also.count };
 
-    fn step(&mut self, event: Event) -> Result<Reply, StepFault> {
+    fn step(&mut self, event: Event) -> Result<Reply, StepFault>
+        ensures answers { (h : List Event) → ⟦<WorldBook<StoreChange> as Book>⟧.stands_for self.old.book h →
+            Answers (⟦<WorldBook<StoreChange> as Book>⟧.settings self.old.book) h event result }
+        ensures stands { (h : List Event) → ⟦<WorldBook<StoreChange> as Book>⟧.stands_for self.old.book h →
+            ⟦<WorldBook<StoreChange> as Book>⟧.stands_for self.new.book (history_after h event result) }
+        ensures full { (n : ℕ) → IsErrOf result (StepFault.Full n) → ⟦<WorldBook<StoreChange> as Book>⟧.stored self.old.book ≡ n }
+        ensures same_store { OnErr result (⟦<WorldBook<StoreChange> as Book>⟧.stored self.new.book
+            ≡ ⟦<WorldBook<StoreChange> as Book>⟧.stored self.old.book) }
+        ensures settings { ⟦<WorldBook<StoreChange> as Book>⟧.settings self.new.book
+            ≡ ⟦<WorldBook<StoreChange> as Book>⟧.settings self.old.book }
+
+        // It is full only once as many different pairs of owner and scope were admitted as there may be cells.
+        ensures many { (h : List Event) → ⟦<WorldBook<StoreChange> as Book>⟧.stands_for self.old.book h →
+            (n : ℕ) → IsErrOf result (StepFault.Full n) →
+            (⟦<WorldBook<StoreChange> as Book>⟧.settings self.old.book).cells ≤ count_pairs (pairs_admitted h) }
+
+        // A sweep, an undo or a redo that reaches a flush, and an admission whose pair is alive in some version need no memory.
+        ensures free { (h : List Event) → ⟦<WorldBook<StoreChange> as Book>⟧.stands_for self.old.book h →
+            IsFreeIn (past_of (⟦<WorldBook<StoreChange> as Book>⟧.settings self.old.book).journal h) event →
+            IfErr result (λ fault. (fault ≡ StepFault.BadMoment) ⊎ (fault ≡ StepFault.CountEnded)) }
+    {
         match self.book.step(event) {
             Ok(reply) => Ok(reply),
             Err(fault) => Err(fault),
@@ -98,6 +124,15 @@ impl Book for ShelfBook {
         ensures stored { result ≡ ⟦<WorldBook<StoreChange> as Book>⟧.stored self.now.book }
         ensures within { (h : List Event) → ⟦<WorldBook<StoreChange> as Book>⟧.stands_for self.now.book h →
             result ≤ (⟦<WorldBook<StoreChange> as Book>⟧.settings self.now.book).cells }
+
+        // No more than the different pairs of owner and scope that were admitted.
+        ensures most { (h : List Event) → ⟦<WorldBook<StoreChange> as Book>⟧.stands_for self.now.book h →
+            result ≤ count_pairs (pairs_admitted h) }
+
+        // No fewer than the different pairs of the finds that are alive now in some version.
+        ensures least { (h : List Event) → ⟦<WorldBook<StoreChange> as Book>⟧.stands_for self.now.book h →
+            (pairs : List (Labels × Scope)) →
+            AreAliveAfter (⟦<WorldBook<StoreChange> as Book>⟧.settings self.now.book).journal h pairs → count_pairs pairs ≤ result }
     {
         self.book.stored()
     }

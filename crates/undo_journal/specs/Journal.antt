@@ -28,7 +28,7 @@ done_of changes = take changes.done (tickets_of changes.kept)
 abbrev pub undone_of : {S : Type 0} → Changes S → List ℕ
 undone_of changes = drop changes.done (tickets_of changes.kept)
 
--- the descriptions of the kept changes, each with its ticket
+-- the descriptions of the kept changes, or their tables, each with its ticket
 abbrev pub told_of : {S D : Type 0} → (S → D) → List (KeptChange S) → List (ℕ × D)
 told_of told kept = map (λ k. (k.ticket, told k.saved)) kept
 
@@ -65,7 +65,7 @@ pub record IsChange {S : Type 0} (before : Changes S) (ticket : ℕ) (after : Ch
   pub done : done_of after ≡ newest before.limit (done_of before ++ ticket ∷ [])
   pub undone : undone_of after ≡ []
 
--- The new change has this description, and the others have theirs.
+-- The new change has this description or table, and the others have theirs.
 abbrev pub IsToldAfter : {S D : Type 0} → (S → D) → Changes S → ℕ → D → Changes S → Type 0
 IsToldAfter told before ticket said after =
     told_of told after.kept ≡ newest before.limit (take before.done (told_of told before.kept) ++ (ticket, said) ∷ [])

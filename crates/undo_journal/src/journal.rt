@@ -6,6 +6,7 @@ ghost use Rattle.change_law.specs.declared.kept.KeptChange.{KeptChange};
 ghost use Rattle.change_law.specs.declared.kept.Standing.TheVariants.{Done};
 ghost use Rattle.change_law.specs.Choice.{IsChoice, IsPresent, cleared};
 ghost use Rattle.change_law.specs.Effect.{effect, IsFaultFor};
+ghost use Rattle.change_law.specs.Pairs.{AddsPairs};
 ghost use Rattle.change_law.specs.Row.{IsRowAfter, any, same_face, where_chosen, kept_as, IsNoMore, IsRefused};
 
 use change_law::{Change, ChangeFault, KeptChange, Standing, World};
@@ -61,9 +62,10 @@ impl<C: Change> Journal<C> {
             world.old self.old.kept world.new self.new.kept) }
         ensures choices { OnOk result (AreChoicesBefore C.World.table any self.old self.new) }
         ensures told { OnOk result (told_of C.World.told self.new.kept ≡ told_of C.World.told self.old.kept) }
-        ensures err { OnErr result (IsRefused C.World.table C.World.keeps C.World.face C.World.newest C.World.stored world.old world.new
-            × (self.new ≡ self.old)) }
-        ensures counts { IsNoMore C.World.newest C.World.stored C.World.limit world.old world.new }
+        ensures tables { OnOk result (told_of C.World.table self.new.kept ≡ told_of C.World.table self.old.kept) }
+        ensures err { OnErr result (IsRefused C.World.table C.World.keeps C.World.face C.World.newest C.World.stored C.World.counts
+            world.old world.new × (self.new ≡ self.old)) }
+        ensures counts { IsNoMore C.World.newest C.World.stored C.World.limit C.World.counts world.old world.new }
     {
         if self.done == 0 {
             return Ok(None);
@@ -89,9 +91,10 @@ impl<C: Change> Journal<C> {
             world.old self.old.kept world.new self.new.kept) }
         ensures choices { OnOk result (AreChoicesBefore C.World.table any self.old self.new) }
         ensures told { OnOk result (told_of C.World.told self.new.kept ≡ told_of C.World.told self.old.kept) }
-        ensures err { OnErr result (IsRefused C.World.table C.World.keeps C.World.face C.World.newest C.World.stored world.old world.new
-            × (self.new ≡ self.old)) }
-        ensures counts { IsNoMore C.World.newest C.World.stored C.World.limit world.old world.new }
+        ensures tables { OnOk result (told_of C.World.table self.new.kept ≡ told_of C.World.table self.old.kept) }
+        ensures err { OnErr result (IsRefused C.World.table C.World.keeps C.World.face C.World.newest C.World.stored C.World.counts
+            world.old world.new × (self.new ≡ self.old)) }
+        ensures counts { IsNoMore C.World.newest C.World.stored C.World.limit C.World.counts world.old world.new }
     {
         let place = self.done;
         if place >= self.ring.len() {
@@ -115,7 +118,8 @@ impl<C: Change> Journal<C> {
         requires tickets { (C.World.newest world.old ≤ self.old.tickets) × (self.old.tickets < 2 ^ 62) }
         ensures reason { OnOk result (C.reason change (C.World.shown world.old).tables ≡ None) }
         ensures ticket { IfOk result (λ ticket. IsChange self.old ticket self.new
-            × IsToldAfter C.World.told self.old ticket (C.told change) self.new) }
+            × IsToldAfter C.World.told self.old ticket (C.told change) self.new
+            × IsToldAfter C.World.table self.old ticket (C.table change) self.new) }
 
         // A choice that agrees with the settled changes has the face that it had, with the effect of the change if that is chosen.
         ensures row { IfOk result (λ ticket. IsRowAfter C.World.table C.World.keeps C.World.face
@@ -123,10 +127,10 @@ impl<C: Change> Journal<C> {
             world.old self.old.kept world.new self.new.kept
             × AreChoicesBefore C.World.table (IsPresent (settled_by self.old)) self.old self.new) }
         ensures err { IfErr result (λ fault. IsFaultFor (C.reason change (C.World.shown world.old).tables) fault) }
-        ensures same { OnErr result (IsRefused C.World.table C.World.keeps C.World.face C.World.newest C.World.stored world.old world.new
-            × (self.new ≡ self.old)) }
+        ensures same { OnErr result (IsRefused C.World.table C.World.keeps C.World.face C.World.newest C.World.stored C.World.counts
+            world.old world.new × (self.new ≡ self.old)) }
         ensures counts { (C.World.newest world.new ≤ self.new.tickets) × (C.World.stored world.new ≤ C.World.stored world.old)
-            × (C.World.limit world.new ≡ C.World.limit world.old) }
+            × (C.World.limit world.new ≡ C.World.limit world.old) × AddsPairs C.World.counts [] world.old world.new }
     {
         let ticket = self.tickets + 1;
         let saved = change.apply(world, ticket)?;
@@ -142,7 +146,7 @@ impl<C: Change> Journal<C> {
         ensures row { (tail : List (KeptChange C.World.Saved)) → C.World.keeps world.old (cleared self.old.kept ++ tail) →
             IsRowAfter C.World.table C.World.keeps C.World.face same_face (IsPresent (drop self.old.done self.old.kept))
             world.old (cleared self.old.kept ++ tail) world.new (self.new.kept ++ tail) }
-        ensures counts { IsNoMore C.World.newest C.World.stored C.World.limit world.old world.new }
+        ensures counts { IsNoMore C.World.newest C.World.stored C.World.limit C.World.counts world.old world.new }
     {
         let undone = self.undone();
         for _round in 0..undone {
@@ -176,7 +180,7 @@ impl<C: Change> Journal<C> {
     fn clear_last(&mut self, world: &mut C::World)
         requires { self.old.done < length self.old.kept }
         ensures cleared { ClearsLast C.World.table C.World.keeps C.World.face world.old self.old world.new self.new }
-        ensures counts { IsNoMore C.World.newest C.World.stored C.World.limit world.old world.new }
+        ensures counts { IsNoMore C.World.newest C.World.stored C.World.limit C.World.counts world.old world.new }
     {
         match self.ring.pop_back() {
             Some(last) => {
@@ -195,7 +199,7 @@ impl<C: Change> Journal<C> {
             IsRowAfter C.World.table C.World.keeps C.World.face same_face
             (IsPresent (take (length self.old.kept + 1 - self.old.limit) self.old.kept))
             world.old (self.old.kept ++ tail) world.new (self.new.kept ++ tail) }
-        ensures counts { IsNoMore C.World.newest C.World.stored C.World.limit world.old world.new }
+        ensures counts { IsNoMore C.World.newest C.World.stored C.World.limit C.World.counts world.old world.new }
     {
         if self.ring.is_full() {
             if let Some(oldest) = self.ring.pop_front() {

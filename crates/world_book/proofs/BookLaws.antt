@@ -1,8 +1,15 @@
 -- A book goes on standing for its history, with the event or without it.
-use Rattle.std.proofs.Common.{◌≡◌, ℕ, ◌+◌, ◌<◌, ◌≤◌, true, cond, List, [], ◌∷◌, ◌++◌, max, refl, sym, ap, subst, ◌∙◌, arith, length-append}
-use Rattle.std.specs.Prelude.{count_by, Ok, Err}
+use Rattle.std.proofs.Common.{◌≡◌, ℕ, ◌+◌, ◌<◌, ◌≤◌, Bool, true, false, cond, List, [], ◌∷◌, ◌++◌, map, max, refl, sym, ap, subst, ◌∙◌, arith, length-append}
+use Rattle.std.specs.Prelude.{count_by, ◌||◌, Ok, Err}
+use Rattle.std.specs.Set.{is_member}
+use Rattle.std.proofs.lemmas.List.{map-append}
+use Rattle.std.proofs.lemmas.List.Elements.{filter_map-append}
+use Rattle.std.proofs.lemmas.List.Folds.{list_any-append}
 use Rattle.std.proofs.lemmas.List.Sums.{fold-append, sum_by-append}
+use Rattle.dns_name.specs.Labels.{Labels}
+use Rattle.ranked.specs.declared.find.Scope.{Scope}
 use Rattle.change_law.specs.declared.world.World.{Ghosts}
+use Rattle.change_law.specs.Pairs.{AddsPairs, CountsAmong, pair_eq, pair_of}
 use Rattle.undo_journal.specs.Journal.{Changes}
 use Rattle.course.specs.CourseLaws.{same_at}
 use Rattle.history.specs.declared.book.StepFault.{StepFault}
@@ -19,6 +26,7 @@ use Rattle.history.specs.History.{Past, past_of, nothing, followed_by}
 use Rattle.world_book.specs.Book.{BookState, IsBookOf, IsUntouched}
 use Rattle.world_book.specs.Deeds.{empty_face}
 use Rattle.world_book.specs.Step.{IsFaultOf}
+use Rattle.world_book.specs.Versions.{find_admitted, finds_admitted, pairs_admitted}
 use Rattle.world_book.specs.Tied.{IsTied, IsReplyTo, TakesIn, TakesNothingIn}
 
 pub past_more : (bound : ℕ) (h : List Event) (event : Event) → past_of bound (h ++ event ∷ []) ≡ followed_by bound (past_of bound h) event
@@ -27,6 +35,22 @@ past_more bound h event = fold-append (followed_by bound) nothing h (event ∷ [
 admissions_more : (h : List Event) (event : Event) → count_by is_admission (h ++ event ∷ []) ≡ count_by is_admission h + cond (is_admission event) 1 0
 admissions_more h event = sum_by-append (λ (e : Event). cond (is_admission e) 1 0) h (event ∷ []) ∙ ap (λ n. count_by is_admission h + n) (omega arith)
 
+-- ---- the pairs that count
+
+pairs_more : (h : List Event) (event : Event) → pairs_admitted (h ++ event ∷ []) ≡ pairs_admitted h ++ pairs_admitted (event ∷ [])
+pairs_more h event =
+    ap (map pair_of) (filter_map-append find_admitted h (event ∷ [])) ∙ map-append pair_of (finds_admitted h) (finds_admitted (event ∷ []))
+
+either : (a b c : Bool) → (a || b) ≡ true → (b ≡ true → c ≡ true) → (c || a) ≡ true
+either true b true is then = refl
+either true b false is then = refl
+either false b c is then = rw (then is) refl
+
+among_more : {W : Type 0} (counts : W → (Labels × Scope) → Bool) (pairs added : List (Labels × Scope)) (w w' : W) →
+    CountsAmong counts pairs w → AddsPairs counts added w w' → CountsAmong counts (pairs ++ added) w'
+among_more counts pairs added w w' among adds pair has =
+    list_any-append (pair_eq pair) pairs added ∙ either (is_member pair_eq added pair) (counts w pair) (is_member pair_eq pairs pair) (adds pair has) (among pair)
+
 module _ {W S : Type 0} (by : Ghosts W Tables S Command) where
   abbrev BookOf : BookState W S → List Event → Type 0
   BookOf book h = IsBookOf by book h
@@ -34,8 +58,8 @@ module _ {W S : Type 0} (by : Ghosts W Tables S Command) where
   -- with the event
   pub goes_on : (book : BookState W S) (w' : W) (changes' : Changes S) (clock : ℕ) (event : Event) → clock ≡ max book.moment (moment_of event) →
       TakesIn by clock event book.world book.changes w' changes' → by.stored w' ≤ by.stored book.world + cond (is_admission event) 1 0 → by.limit w' ≡ by.limit book.world →
-      (h : List Event) → BookOf book h → BookOf (record { world = w'; changes = changes'; settings = book.settings; moment = clock; count = book.count + 1 }) (h ++ event ∷ [])
-  goes_on book w' changes' clock event is takes fewer same h so =
+      AddsPairs by.counts (pairs_admitted (event ∷ [])) book.world w' → (h : List Event) → BookOf book h → BookOf (record { world = w'; changes = changes'; settings = book.settings; moment = clock; count = book.count + 1 }) (h ++ event ∷ [])
+  goes_on book w' changes' clock event is takes fewer same adds h so =
       let bound = book.settings.journal in
       let past = past_of bound h in
       let more : past_of bound (h ++ event ∷ []) ≡ followed_by bound past event = past_more bound h event in
@@ -45,6 +69,7 @@ module _ {W S : Type 0} (by : Ghosts W Tables S Command) where
         moment = at ∙ sym (ap (λ (p : Past). p.now) more);
         count = omega (arith, so.count, length-append h (event ∷ []));
         few = omega (arith, fewer, so.few, admissions_more h event);
+        pairs = subst (λ (pairs : List (Labels × Scope)). CountsAmong by.counts pairs w') (sym (pairs_more h event)) (among_more by.counts (pairs_admitted h) (pairs_admitted (event ∷ [])) book.world w' so.pairs adds);
         most = same ∙ so.most;
         some_commands = so.some_commands;
       }
@@ -57,6 +82,7 @@ module _ {W S : Type 0} (by : Ghosts W Tables S Command) where
     moment = so.moment;
     count = so.count;
     few = omega (arith, none.stored, so.few);
+    pairs = λ pair has. so.pairs pair (none.pairs pair has);
     most = same ∙ so.most;
     some_commands = so.some_commands;
   }
@@ -96,10 +122,12 @@ module _ {W S : Type 0} (by : Ghosts W Tables S Command) where
       tickets = refl;
       limit = refl;
       given = record { ascending = tt; known = tt; kept = tt };
+      tables = refl;
     };
     moment = refl;
     count = refl;
     few = omega (arith, untouched.stored);
+    pairs = untouched.pairs;
     most = untouched.limit;
     some_commands = some;
   }

@@ -1,7 +1,7 @@
 -- The commands that a journal keeps are those that can be undone or redone.
-use Rattle.std.proofs.Common.{◌≡◌, ◌≢◌, ℕ, ◌<◌, ◌≤◌, Bool, true, false, cond, Option, Some, None, ◌⊎◌, inl, inr, List, [], ◌∷◌, ◌++◌, zero, suc, length, get_or, take, drop, map, refl, sym, ap, subst, ◌∙◌, arith}
+use Rattle.std.proofs.Common.{◌≡◌, ℕ, ◌<◌, Bool, true, false, Option, Some, None, ◌⊎◌, inl, inr, List, [], ◌∷◌, ◌++◌, zero, suc, length, get_or, take, drop, map, refl, sym, ap, subst, ◌∙◌, arith}
 use Rattle.std.specs.Prelude.{filter_map, ◌==◌, ◌||◌, ◌+◌, reverse, slice_get, if◌then◌else◌}
-use Rattle.std.specs.List.{AllByRecursion, Contains, cons_option, list_any}
+use Rattle.std.specs.List.{AllByRecursion, Contains, cons_option}
 use Rattle.std.specs.Option.{option_map}
 use Rattle.std.proofs.Math.Path.{fun_ext}
 use Rattle.std.proofs.lemmas.Bool.{cases_Bool, eq-eqb, eqb-true, false≢true}

@@ -1,5 +1,5 @@
 -- What is alive decides what is shown and what becomes of an admission.
-use Rattle.std.proofs.Common.{◌≡◌, ℕ, ◌≤◌, ◌-◌, Bool, true, false, Option, Some, None, refl, sym, ap, subst, ◌∙◌, arith, max, rules}
+use Rattle.std.proofs.Common.{◌≡◌, ℕ, ◌≤◌, ◌-◌, Bool, true, false, Option, Some, None, refl, sym, ap, subst, ◌∙◌, arith, max}
 use Rattle.std.specs.Prelude.{nat_lt, ◌&&◌, if◌then◌else◌}
 use Rattle.std.specs.Option.{option_map}
 use Rattle.std.proofs.Math.Path.{fun_ext}
@@ -15,14 +15,12 @@ use Rattle.ranked.specs.Cell.{is_alive, turns_away, shown_at}
 use Rattle.ranked.specs.Find.{admission_of}
 use Rattle.ranked.specs.Rank.{level_of}
 use Rattle.change_law.specs.Face.{Face, IsSameAt, alive_at, fate_in}
-use Rattle.change_law.specs.declared.fault.ChangeFault.{ChangeFault}
 use Rattle.change_law.specs.declared.fault.ChangeFault.TheVariants as change
 use Rattle.change_law.specs.Effect.{IsFaultFor}
 use Rattle.course.specs.CourseLaws.{alive_later}
 use Rattle.history.specs.declared.event.Command.{Command}
 use Rattle.history.specs.Changes.{reason_on}
 use Rattle.history.specs.declared.event.Reason.{Reason}
-use Rattle.history.specs.declared.event.Reply.{Reply}
 use Rattle.history.specs.declared.event.Reply.TheVariants.{Taken, Outranked}
 use Rattle.history.specs.declared.made.Tables.{Tables}
 use Rattle.history.specs.Cells.{cell_of, shows}

@@ -1,26 +1,25 @@
 -- The tie of a world under its journal to a past goes on with each event.
-use Rattle.std.proofs.Common.{◌≡◌, ◌≢◌, ℕ, ◌+◌, ◌-◌, ◌<◌, ◌≤◌, Bool, true, false, not, Option, Some, None, List, [], ◌∷◌, ◌++◌, length, take, drop, map, max, refl, sym, ap, subst, ◌∙◌, arith, rules, append_assoc, length-append}
-use Rattle.std.specs.Prelude.{filter_map, reverse, ⊤}
+use Rattle.std.proofs.Common.{◌≡◌, ℕ, ◌+◌, ◌-◌, ◌<◌, ◌≤◌, Bool, Option, Some, None, List, [], ◌∷◌, ◌++◌, length, take, drop, map, max, refl, sym, ap, subst, ◌∙◌, arith, rules}
+use Rattle.std.specs.Prelude.{reverse}
 use Rattle.std.specs.List.{AllByRecursion, Contains, cons_option}
 use Rattle.std.specs.Option.{option_map_or}
 use Rattle.std.proofs.Math.Path.{fun_ext}
 use Rattle.std.proofs.lemmas.List.{append-nil, map-append, reverse-reverse, take-append-drop}
 use Rattle.std.proofs.lemmas.List.Elements.{filter_map-append, Contains-append_left, Contains-append_right}
-use Rattle.dns_name.specs.ListLaws.{all-append, all-take, all-drop, all_weaker, all_split}
+use Rattle.dns_name.specs.ListLaws.{all-append, all-take, all-drop, all_weaker}
 use Rattle.dns_text.specs.declared.record.Question.{Question}
 use Rattle.ranked.specs.declared.find.Find.{Find}
 use Rattle.change_law.specs.declared.kept.KeptChange.{KeptChange}
 use Rattle.change_law.specs.declared.world.World.{Ghosts}
 use Rattle.change_law.specs.Choice.{IsChoice, IsPresent}
 use Rattle.change_law.specs.Effect.{effect}
-use Rattle.change_law.specs.Face.{Face, IsSame, IsSameAt, face_with}
+use Rattle.change_law.specs.Face.{IsSame, IsSameAt, face_with}
 use Rattle.change_law.specs.Row.{IsRowAfter, IsRowFrom, IsSameRow, any, same_face, where_chosen}
 use Rattle.undo_journal.specs.Journal.{Changes, AreChanges, IsChange, IsUndo, IsRedo, tickets_of, done_of, undone_of, told_of, newest, settled_by}
-use Rattle.course.specs.Course.{Deed, Came, Made, AreAscending, Stands, face_by, struck_with, struck_without}
-use Rattle.course.specs.CourseLaws.{asc_front, asc_push, asc_cross, same_at, same_at_later, same_at_then, stands_admitted, stands_swept, stands_made, stands_undo, stands_redo, stands_still, stands_shown}
+use Rattle.course.specs.Course.{Deed, Came, Made, AreAscending, Stands, face_by}
+use Rattle.course.specs.CourseLaws.{drop_map, map_length, take_map, asc_front, asc_push, asc_cross, same_at, same_at_later, same_at_then, stands_admitted, stands_swept, stands_made, stands_undo, stands_redo, stands_still, stands_shown}
 use Rattle.history.specs.declared.event.Ask.{Ask}
 use Rattle.history.specs.declared.event.Command.{Command}
-use Rattle.history.specs.declared.event.Event.{Event}
 use Rattle.history.specs.declared.event.Event.TheVariants.{Admit, Look, Sweep, Do, Undo, Redo}
 use Rattle.history.specs.declared.event.Entry.{Entry}
 use Rattle.history.specs.declared.event.Reason.{Reason}
@@ -30,7 +29,8 @@ use Rattle.history.specs.Changes.{after_command_on}
 use Rattle.history.specs.Marks.{Marks, is_struck, last_of, without, in_place, strike, restore, after_command}
 use Rattle.history.specs.History.{Past, followed_by, marks_after, ticket_unless, reason_of, is_unstruck}
 use Rattle.world_book.specs.Deeds.{deed_of, deeds_of, given_of, given_in, given_tickets, empty_face, face_of}
-use Rattle.world_book.specs.Tied.{AreGiven, IsTied}
+use Rattle.world_book.specs.Tied.{AreGiven, IsTied, tables_told}
+use Rattle.world_book.specs.Versions.{table_of}
 use Rattle.world_book.proofs.DeedLaws.{deeds_show}
 use Rattle.world_book.proofs.MarkLaws.{last_push, without_last, without_least, in_place_last, struck_after_strike, struck_after_restore, turned, turned_push, turned_none}
 
@@ -90,6 +90,18 @@ now_given told before after past now marks e c one tickets kept g =
           (all-take (λ given. Contains (given_in past.log ++ new ∷ []) given) before.done (told_of told before.kept) wider) (itself, tt))));
     }
 
+-- ---- the tables of the commands
+
+abbrev one_table : ℕ × Command → ℕ × Option ℕ
+one_table one = (one.0, table_of one.1)
+
+newest_map : {X Y : Type 0} (f : X → Y) (n d : ℕ) (xs : List X) (x : X) → map f (newest n (take d xs ++ x ∷ [])) ≡ newest n (take d (map f xs) ++ f x ∷ [])
+newest_map {X} {Y} f n d xs x =
+    let all = take d xs ++ x ∷ [] in
+    let same : map f all ≡ take d (map f xs) ++ f x ∷ [] = map-append f (take d xs) (x ∷ []) ∙ ap (λ (l : List Y). l ++ f x ∷ []) (take_map f d xs) in
+    let long : length all ≡ length (take d (map f xs) ++ f x ∷ []) = sym (map_length f all) ∙ ap (λ (l : List Y). length l) same in
+    drop_map f (length all - n) all ∙ (λ i. drop (long i - n) (same i))
+
 -- ---- what an undo and a redo reach
 
 module _ {W S : Type 0} (by : Ghosts W Tables S Command) where
@@ -125,9 +137,9 @@ module _ {W S : Type 0} (by : Ghosts W Tables S Command) where
   moved : (w w' : W) (before after : Changes S) (bound now : ℕ) (past : Past) (marks : Marks) (e : Entry) →
       deed_of e.event e.moment e.ticket ≡ None → given_of e.event e.ticket ≡ None →
       StandsAt w' after now (deeds_of past.log) (is_struck marks) → done_of after ≡ marks.done → undone_of after ≡ reverse marks.undone →
-      after.tickets ≡ before.tickets → after.limit ≡ before.limit → marks.tickets ≡ past.marks.tickets → told_of by.told after.kept ≡ told_of by.told before.kept →
+      after.tickets ≡ before.tickets → after.limit ≡ before.limit → marks.tickets ≡ past.marks.tickets → told_of by.told after.kept ≡ told_of by.told before.kept → told_of by.table after.kept ≡ told_of by.table before.kept →
       Tied w before bound past → Tied w' after bound (record { now = now; marks = marks; log = past.log ++ e ∷ [] })
-  moved w w' before after bound now past marks e no_deed no_command st done undone tickets limit same_tickets same tied = record {
+  moved w w' before after bound now past marks e no_deed no_command st done undone tickets limit same_tickets same tabs tied = record {
     cells = tied.cells;
     stands = subst (λ (deeds : List (Deed Tables)). StandsAt w' after now deeds (is_struck marks)) (sym (deeds_same past.log e no_deed)) st;
     done = done;
@@ -135,6 +147,7 @@ module _ {W S : Type 0} (by : Ghosts W Tables S Command) where
     tickets = tickets ∙ tied.tickets ∙ sym same_tickets;
     limit = limit ∙ tied.limit;
     given = still_given by.told before after past now marks e no_command same_tickets same tied.given;
+    tables = tabs ∙ tied.tables ∙ sym (ap tables_told same);
   }
 
   -- ---- undo
@@ -142,13 +155,13 @@ module _ {W S : Type 0} (by : Ghosts W Tables S Command) where
   undone_now : (w w' : W) (before after : Changes S) (bound now : ℕ) (past : Past) (e : Entry) (ticket : Option ℕ) → past.now ≤ now →
       deed_of e.event e.moment e.ticket ≡ None → given_of e.event e.ticket ≡ None →
       IsUndo before ticket after → IsRowAfter by.table by.keeps by.face same_face any w before.kept w' after.kept →
-      ((chosen : ℕ → Bool) → IsChoice by.table after.kept chosen → IsChoice by.table before.kept chosen) → told_of by.told after.kept ≡ told_of by.told before.kept →
+      ((chosen : ℕ → Bool) → IsChoice by.table after.kept chosen → IsChoice by.table before.kept chosen) → told_of by.told after.kept ≡ told_of by.told before.kept → told_of by.table after.kept ≡ told_of by.table before.kept →
       Tied w before bound past → Tied w' after bound (record { now = now; marks = option_map_or (strike past.marks) ticket past.marks; log = past.log ++ e ∷ [] })
-  undone_now w w' before after bound now past e None less no_deed no_command is row choices same tied =
+  undone_now w w' before after bound now past e None less no_deed no_command is row choices same tabs tied =
       moved w w' before after bound now past past.marks e no_deed no_command
       (later w' after past.now now (deeds_of past.log) (is_struck past.marks) less (stands_undo by.has_cells by.table by.keeps by.face empty_face w w' before after past.now (deeds_of past.log) (is_struck past.marks) None is row choices tied.stands))
-      (ap done_of is.1 ∙ tied.done) (ap undone_of is.1 ∙ tied.undone) (ap (λ (x : Changes S). x.tickets) is.1) (ap (λ (x : Changes S). x.limit) is.1) refl same tied
-  undone_now w w' before after bound now past e (Some t) less no_deed no_command is row choices same tied =
+      (ap done_of is.1 ∙ tied.done) (ap undone_of is.1 ∙ tied.undone) (ap (λ (x : Changes S). x.tickets) is.1) (ap (λ (x : Changes S). x.limit) is.1) refl same tabs tied
+  undone_now w w' before after bound now past e (Some t) less no_deed no_command is row choices same tabs tied =
       let D = done_of after in
       let U = undone_of before in
       let all : tickets_of before.kept ≡ (D ++ t ∷ []) ++ U = sym (take-append-drop before.done (tickets_of before.kept)) ∙ ap (λ (l : List ℕ). l ++ U) is.0 in
@@ -161,31 +174,31 @@ module _ {W S : Type 0} (by : Ghosts W Tables S Command) where
       (stands_undo by.has_cells by.table by.keeps by.face empty_face w w' before after past.now (deeds_of past.log) (is_struck past.marks) (Some t) is row choices tied.stands)))
       (sym (ap (λ (l : List ℕ). without t l) done ∙ without_last t D below))
       (is.1 ∙ ap (λ (l : List ℕ). t ∷ l) tied.undone ∙ sym (turned_push past.marks.undone t))
-      is.2 is.3 refl same tied
+      is.2 is.3 refl same tabs tied
 
   pub tied_undo : (w w' : W) (before after : Changes S) (bound moment : ℕ) (past : Past) (ticket : Option ℕ) →
       IsUndo before ticket after → IsRowAfter by.table by.keeps by.face same_face any w before.kept w' after.kept →
-      ((chosen : ℕ → Bool) → IsChoice by.table after.kept chosen → IsChoice by.table before.kept chosen) → told_of by.told after.kept ≡ told_of by.told before.kept →
+      ((chosen : ℕ → Bool) → IsChoice by.table after.kept chosen → IsChoice by.table before.kept chosen) → told_of by.told after.kept ≡ told_of by.told before.kept → told_of by.table after.kept ≡ told_of by.table before.kept →
       Tied w before bound past → Tied w' after bound (followed_by bound past (Undo moment))
-  tied_undo w w' before after bound moment past ticket is row choices same tied =
+  tied_undo w w' before after bound moment past ticket is row choices same tabs tied =
       let now = max past.now moment in
       let e : Entry = record { event = Undo moment; moment = now; ticket = None } in
       subst (λ (o : Option ℕ). Tied w' after bound (record { now = now; marks = option_map_or (strike past.marks) o past.marks; log = past.log ++ e ∷ [] }))
       (sym (undo_reaches w before after bound past ticket tied is))
-      (undone_now w w' before after bound now past e ticket (omega arith) refl refl is row choices same tied)
+      (undone_now w w' before after bound now past e ticket (omega arith) refl refl is row choices same tabs tied)
 
   -- ---- redo
 
   redone_now : (w w' : W) (before after : Changes S) (bound now : ℕ) (past : Past) (e : Entry) (ticket : Option ℕ) → past.now ≤ now →
       deed_of e.event e.moment e.ticket ≡ None → given_of e.event e.ticket ≡ None →
       IsRedo before ticket after → IsRowAfter by.table by.keeps by.face same_face any w before.kept w' after.kept →
-      ((chosen : ℕ → Bool) → IsChoice by.table after.kept chosen → IsChoice by.table before.kept chosen) → told_of by.told after.kept ≡ told_of by.told before.kept →
+      ((chosen : ℕ → Bool) → IsChoice by.table after.kept chosen → IsChoice by.table before.kept chosen) → told_of by.told after.kept ≡ told_of by.told before.kept → told_of by.table after.kept ≡ told_of by.table before.kept →
       Tied w before bound past → Tied w' after bound (record { now = now; marks = option_map_or (restore past.marks) ticket past.marks; log = past.log ++ e ∷ [] })
-  redone_now w w' before after bound now past e None less no_deed no_command is row choices same tied =
+  redone_now w w' before after bound now past e None less no_deed no_command is row choices same tabs tied =
       moved w w' before after bound now past past.marks e no_deed no_command
       (later w' after past.now now (deeds_of past.log) (is_struck past.marks) less (stands_redo by.has_cells by.table by.keeps by.face empty_face w w' before after past.now (deeds_of past.log) (is_struck past.marks) None is row choices tied.stands))
-      (ap done_of is.1 ∙ tied.done) (ap undone_of is.1 ∙ tied.undone) (ap (λ (x : Changes S). x.tickets) is.1) (ap (λ (x : Changes S). x.limit) is.1) refl same tied
-  redone_now w w' before after bound now past e (Some t) less no_deed no_command is row choices same tied =
+      (ap done_of is.1 ∙ tied.done) (ap undone_of is.1 ∙ tied.undone) (ap (λ (x : Changes S). x.tickets) is.1) (ap (λ (x : Changes S). x.limit) is.1) refl same tabs tied
+  redone_now w w' before after bound now past e (Some t) less no_deed no_command is row choices same tabs tied =
       let D = done_of before in
       let U = undone_of after in
       let all : tickets_of before.kept ≡ D ++ t ∷ U = sym (take-append-drop before.done (tickets_of before.kept)) ∙ ap (λ (l : List ℕ). D ++ l) is.1 in
@@ -199,7 +212,7 @@ module _ {W S : Type 0} (by : Ghosts W Tables S Command) where
       (stands_redo by.has_cells by.table by.keeps by.face empty_face w w' before after past.now (deeds_of past.log) (is_struck past.marks) (Some t) is row choices tied.stands)))
       (is.0 ∙ sym (in_place_last t D below) ∙ ap (λ (l : List ℕ). in_place t l) tied.done)
       (sym (ap (λ (l : List ℕ). reverse (without t l)) undone ∙ ap reverse (without_least t U above) ∙ reverse-reverse U))
-      is.2 is.3 refl same tied
+      is.2 is.3 refl same tabs tied
     where
       behind : (D : List ℕ) (t : ℕ) (U : List ℕ) → AreAscending (D ++ t ∷ U) → AllByRecursion (λ u. t < u) U
       behind [] t U h = h.0
@@ -207,14 +220,14 @@ module _ {W S : Type 0} (by : Ghosts W Tables S Command) where
 
   pub tied_redo : (w w' : W) (before after : Changes S) (bound moment : ℕ) (past : Past) (ticket : Option ℕ) →
       IsRedo before ticket after → IsRowAfter by.table by.keeps by.face same_face any w before.kept w' after.kept →
-      ((chosen : ℕ → Bool) → IsChoice by.table after.kept chosen → IsChoice by.table before.kept chosen) → told_of by.told after.kept ≡ told_of by.told before.kept →
+      ((chosen : ℕ → Bool) → IsChoice by.table after.kept chosen → IsChoice by.table before.kept chosen) → told_of by.told after.kept ≡ told_of by.told before.kept → told_of by.table after.kept ≡ told_of by.table before.kept →
       Tied w before bound past → Tied w' after bound (followed_by bound past (Redo moment))
-  tied_redo w w' before after bound moment past ticket is row choices same tied =
+  tied_redo w w' before after bound moment past ticket is row choices same tabs tied =
       let now = max past.now moment in
       let e : Entry = record { event = Redo moment; moment = now; ticket = None } in
       subst (λ (o : Option ℕ). Tied w' after bound (record { now = now; marks = option_map_or (restore past.marks) o past.marks; log = past.log ++ e ∷ [] }))
       (sym (redo_reaches w before after bound past ticket tied is))
-      (redone_now w w' before after bound now past e ticket (omega arith) refl refl is row choices same tied)
+      (redone_now w w' before after bound now past e ticket (omega arith) refl refl is row choices same tabs tied)
 
   -- ---- what changes no command
 
@@ -231,13 +244,14 @@ module _ {W S : Type 0} (by : Ghosts W Tables S Command) where
         tickets = ap (λ (x : Changes S). x.tickets) same ∙ tied.tickets;
         limit = ap (λ (x : Changes S). x.limit) same ∙ tied.limit;
         given = subst (λ (x : Changes S). AreGiven by.told x past) (sym same) tied.given;
+        tables = subst (λ (x : Changes S). told_of by.table x.kept ≡ tables_told (told_of by.told x.kept)) (sym same) tied.tables;
       }
 
   quiet : (w : W) (changes : Changes S) (bound now : ℕ) (past : Past) (e : Entry) → past.now ≤ now → deed_of e.event e.moment e.ticket ≡ None → given_of e.event e.ticket ≡ None →
       Tied w changes bound past → Tied w changes bound (record { now = now; marks = past.marks; log = past.log ++ e ∷ [] })
   quiet w changes bound now past e less no_deed no_command tied =
       moved w w changes changes bound now past past.marks e no_deed no_command (later w changes past.now now (deeds_of past.log) (is_struck past.marks) less tied.stands)
-      tied.done tied.undone refl refl refl refl tied
+      tied.done tied.undone refl refl refl refl refl tied
 
   pub tied_look : (w : W) (changes : Changes S) (bound moment : ℕ) (ask : Ask) (past : Past) → Tied w changes bound past → Tied w changes bound (followed_by bound past (Look moment ask))
   tied_look w changes bound moment ask past tied =
@@ -250,7 +264,7 @@ module _ {W S : Type 0} (by : Ghosts W Tables S Command) where
       let now = max past.now moment in
       moved w w' changes changes bound now past past.marks (record { event = Sweep moment; moment = now; ticket = None }) refl refl
       (stands_swept by.has_cells by.table by.keeps by.face empty_face w w' changes past.now now (deeds_of past.log) (is_struck past.marks) (omega arith) row tied.stands)
-      tied.done tied.undone refl refl refl refl tied
+      tied.done tied.undone refl refl refl refl refl tied
 
   pub tied_came : (w w' : W) (changes : Changes S) (bound moment : ℕ) (find : Find) (past : Past) →
       IsRowFrom by.table by.keeps by.face (max past.now moment) (face_with by.has_cells find (max past.now moment)) w changes.kept w' →
@@ -267,6 +281,7 @@ module _ {W S : Type 0} (by : Ghosts W Tables S Command) where
         tickets = tied.tickets;
         limit = tied.limit;
         given = still_given by.told changes changes past now past.marks e refl refl refl tied.given;
+        tables = tied.tables;
       }
 
   -- the same, at the moment to which the clock comes
@@ -294,18 +309,19 @@ module _ {W S : Type 0} (by : Ghosts W Tables S Command) where
       })) (sym refused)
       (quiet w' after bound now past (record { event = Do moment command; moment = now; ticket = None }) (omega arith) refl refl (tied_still w w' before after bound past row same tied))
 
-  made_now : (w w' : W) (before after : Changes S) (bound now moment : ℕ) (command : Command) (past : Past) (ticket : ℕ) (tables : Tables → Tables) (empties : Question → Bool) (said : Command) →
-      past.now ≤ now → ((t : Tables) → tables t ≡ after_command_on command t) → ((q : Question) → empties q ≡ covers command q) → said ≡ command →
+  made_now : (w w' : W) (before after : Changes S) (bound now moment : ℕ) (command : Command) (past : Past) (ticket : ℕ) (tables : Tables → Tables) (empties : Question → Bool) (said : Command) (tab : Option ℕ) →
+      past.now ≤ now → ((t : Tables) → tables t ≡ after_command_on command t) → ((q : Question) → empties q ≡ covers command q) → said ≡ command → tab ≡ table_of command →
       AreChanges before → IsChange before ticket after →
       IsRowAfter by.table by.keeps by.face (where_chosen ticket (effect tables empties)) (IsPresent (settled_by before)) w before.kept w' after.kept →
       ((chosen : ℕ → Bool) → IsPresent (settled_by before) chosen → IsChoice by.table after.kept chosen → IsChoice by.table before.kept chosen) →
       told_of by.told after.kept ≡ newest before.limit (take before.done (told_of by.told before.kept) ++ (ticket, said) ∷ []) →
+      told_of by.table after.kept ≡ newest before.limit (take before.done (told_of by.table before.kept) ++ (ticket, tab) ∷ []) →
       Tied w before bound past → Tied w' after bound (record {
         now = now;
         marks = after_command bound past.marks;
         log = past.log ++ record { event = Do moment command; moment = now; ticket = Some (past.marks.tickets + 1) } ∷ [];
       })
-  made_now w w' before after bound now moment command past ticket tables empties said less same_tables same_cells same_said are is row choices kept tied =
+  made_now w w' before after bound now moment command past ticket tables empties said tab less same_tables same_cells same_said same_tab are is row choices kept tabs tied =
       let n = past.marks.tickets + 1 in
       let e : Entry = record { event = Do moment command; moment = now; ticket = Some n } in
       let struck = is_struck past.marks in
@@ -323,23 +339,27 @@ module _ {W S : Type 0} (by : Ghosts W Tables S Command) where
         limit = is.limit ∙ tied.limit;
         given = now_given by.told before after past now (after_command bound past.marks) e command refl refl
             (kept ∙ (λ i. newest before.limit (take before.done (told_of by.told before.kept) ++ (tick i, same_said i) ∷ []))) tied.given;
+        tables = tabs
+            ∙ (λ i. newest before.limit (take before.done (tied.tables i) ++ (ticket, (same_tab ∙ sym (ap table_of same_said)) i) ∷ []))
+            ∙ sym (newest_map one_table before.limit before.done (told_of by.told before.kept) (ticket, said)) ∙ sym (ap tables_told kept);
       }
 
-  pub tied_made : (w w' : W) (before after : Changes S) (bound moment : ℕ) (command : Command) (past : Past) (ticket : ℕ) (tables : Tables → Tables) (empties : Question → Bool) (said : Command) →
-      ((t : Tables) → tables t ≡ after_command_on command t) → ((q : Question) → empties q ≡ covers command q) → said ≡ command → reason_of past command ≡ None →
+  pub tied_made : (w w' : W) (before after : Changes S) (bound moment : ℕ) (command : Command) (past : Past) (ticket : ℕ) (tables : Tables → Tables) (empties : Question → Bool) (said : Command) (tab : Option ℕ) →
+      ((t : Tables) → tables t ≡ after_command_on command t) → ((q : Question) → empties q ≡ covers command q) → said ≡ command → tab ≡ table_of command → reason_of past command ≡ None →
       AreChanges before → IsChange before ticket after →
       IsRowAfter by.table by.keeps by.face (where_chosen ticket (effect tables empties)) (IsPresent (settled_by before)) w before.kept w' after.kept →
       ((chosen : ℕ → Bool) → IsPresent (settled_by before) chosen → IsChoice by.table after.kept chosen → IsChoice by.table before.kept chosen) →
       told_of by.told after.kept ≡ newest before.limit (take before.done (told_of by.told before.kept) ++ (ticket, said) ∷ []) →
+      told_of by.table after.kept ≡ newest before.limit (take before.done (told_of by.table before.kept) ++ (ticket, tab) ∷ []) →
       Tied w before bound past → Tied w' after bound (followed_by bound past (Do moment command))
-  tied_made w w' before after bound moment command past ticket tables empties said same_tables same_cells same_said accepted are is row choices kept tied =
+  tied_made w w' before after bound moment command past ticket tables empties said tab same_tables same_cells same_said same_tab accepted are is row choices kept tabs tied =
       let now = max past.now moment in
       subst (λ (o : Option Reason). Tied w' after bound (record {
         now = now;
         marks = marks_after bound past.marks (Do moment command) (ticket_unless past.marks o);
         log = past.log ++ record { event = Do moment command; moment = now; ticket = ticket_unless past.marks o } ∷ [];
       })) (sym accepted)
-      (made_now w w' before after bound now moment command past ticket tables empties said (omega arith) same_tables same_cells same_said are is row choices kept tied)
+      (made_now w w' before after bound now moment command past ticket tables empties said tab (omega arith) same_tables same_cells same_said same_tab are is row choices kept tabs tied)
 
   -- ---- what is shown
 

@@ -3,6 +3,7 @@ use Rattle.std.specs.Prelude.{◌≡◌, ◌≤◌, ℕ, Bool, List, [], length,
 use Rattle.std.specs.Coded.{Coded, code_by, coded×, coded_ℕ}
 use Rattle.change_law.specs.declared.world.World.{Ghosts}
 use Rattle.change_law.specs.Face.{Face, IsSame}
+use Rattle.change_law.specs.Pairs.{CountsAmong}
 use Rattle.undo_journal.specs.Journal.{Changes}
 use Rattle.history.specs.declared.event.Command.{Command}
 use Rattle.history.specs.declared.event.Event.{Event}
@@ -13,6 +14,7 @@ use Rattle.history.specs.Event.{is_admission}
 use Rattle.history.specs.History.{past_of}
 use Rattle.world_book.specs.Step.{IsSound}
 use Rattle.world_book.specs.Tied.{IsTied}
+use Rattle.world_book.specs.Versions.{pairs_admitted}
 
 -- a world, the changes of its journal, the settings, the greatest moment and the count of events
 pub record BookState (W S : Type 0) : Type 0 where
@@ -41,13 +43,15 @@ pub record IsBookOf {W S : Type 0} (by : Ghosts W Tables S Command) (book : Book
   pub moment : book.moment ≡ (past_of book.settings.journal history).now
   pub count : book.count ≡ length history
   pub few : by.stored book.world ≤ count_by is_admission history
+  pub pairs : CountsAmong by.counts (pairs_admitted history) book.world
   pub most : by.limit book.world ≡ book.settings.cells
   pub some_commands : 1 ≤ book.settings.journal
 
--- Nothing has happened to a world: it keeps no change, by each choice it shows this face, it knows no ticket, and it stores no cell. It may store so many.
+-- Nothing has happened to a world: it keeps no change, by each choice it shows this face, it knows no ticket, it stores no cell, and no pair counts. It may store so many.
 pub record IsUntouched {W T S D : Type 0} (by : Ghosts W T S D) (shown : Face T) (most : ℕ) (world : W) : Type 0 where
   pub keeps : by.keeps world []
   pub faces : (chosen : ℕ → Bool) → IsSame (by.face world [] chosen) shown
   pub newest : by.newest world ≡ 0
   pub stored : by.stored world ≡ 0
   pub limit : by.limit world ≡ most
+  pub pairs : CountsAmong by.counts [] world

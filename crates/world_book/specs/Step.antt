@@ -1,8 +1,11 @@
 -- What a step does to a world under its journal.
-use Rattle.std.specs.Prelude.{◌≡◌, ◌≤◌, ◌+◌, ◌-◌, ℕ, Bool, false, IfSome, IsTrue, slice_get}
+use Rattle.std.specs.Prelude.{◌≡◌, ◌≤◌, ◌+◌, ◌-◌, ℕ, Bool, false, List, IfSome, IsTrue, slice_get}
+use Rattle.dns_name.specs.Labels.{Labels}
 use Rattle.change_law.specs.declared.world.World.{Ghosts}
+use Rattle.change_law.specs.Pairs.{AddsPairs}
 use Rattle.ranked.specs.declared.cell.Fate.{Fate}
 use Rattle.ranked.specs.declared.cell.Fate.TheVariants as fate
+use Rattle.ranked.specs.declared.find.Scope.{Scope}
 use Rattle.undo_journal.specs.Journal.{Changes}
 use Rattle.history.specs.declared.book.StepFault.{StepFault}
 use Rattle.history.specs.declared.book.StepFault.TheVariants.{Full, NoMemory}
@@ -19,12 +22,13 @@ pub record IsSound {W T S D : Type 0} (by : Ghosts W T S D) (world : W) (changes
   pub kept : by.keeps world changes.kept
   pub latest : by.newest world ≤ changes.tickets
 
--- After a step the world is sound under its journal. At most one more ticket was given out, and at most so many more cells are stored. The limit of cells is the same.
-pub record IsSoundAfter {W T S D : Type 0} (by : Ghosts W T S D) (more : ℕ) (world : W) (changes : Changes S) (world' : W) (changes' : Changes S) : Type 0 where
+-- After a step the world is sound under its journal. At most one more ticket was given out, at most so many more cells are stored, and no more pairs count than these. The limit of cells is the same.
+pub record IsSoundAfter {W T S D : Type 0} (by : Ghosts W T S D) (more : ℕ) (added : List (Labels × Scope)) (world : W) (changes : Changes S) (world' : W) (changes' : Changes S) : Type 0 where
   pub sound : IsSound by world' changes'
   pub tickets : changes'.tickets ≤ changes.tickets + 1
   pub stored : by.stored world' ≤ by.stored world + more
   pub limit : by.limit world' ≡ by.limit world
+  pub pairs : AddsPairs by.counts added world world'
 
 -- the numbers by which changes tell the reasons
 abbrev pub code_of : Reason → ℕ

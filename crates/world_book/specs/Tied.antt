@@ -1,7 +1,8 @@
 -- What ties a world under its journal to a past.
-use Rattle.std.specs.Prelude.{◌≡◌, ℕ, ◌≤◌, max, true, reverse}
+use Rattle.std.specs.Prelude.{◌≡◌, ℕ, ◌≤◌, max, true, Option, List, [], map, reverse, Result, IsOk}
 use Rattle.std.specs.List.{AllByRecursion, Contains}
 use Rattle.change_law.specs.declared.world.World.{Ghosts}
+use Rattle.change_law.specs.Pairs.{AddsPairs}
 use Rattle.undo_journal.specs.Journal.{Changes, done_of, undone_of, told_of}
 use Rattle.course.specs.Course.{AreAscending, Stands}
 use Rattle.history.specs.declared.event.Command.{Command}
@@ -14,6 +15,7 @@ use Rattle.history.specs.Marks.{is_struck}
 use Rattle.history.specs.History.{Past, followed_by}
 use Rattle.history.specs.Reply.{reply_of}
 use Rattle.world_book.specs.Deeds.{deeds_of, given_in, given_tickets, empty_face}
+use Rattle.world_book.specs.Versions.{table_of, IsFreeIn}
 
 -- The kept changes are commands of the past, each with its ticket.
 pub record AreGiven {S : Type 0} (told : S → Command) (changes : Changes S) (past : Past) : Type 0 where
@@ -21,7 +23,11 @@ pub record AreGiven {S : Type 0} (told : S → Command) (changes : Changes S) (p
   pub known : AllByRecursion (λ t. t ≤ past.marks.tickets) (given_tickets past.log)
   pub kept : AllByRecursion (λ given. Contains (given_in past.log) given) (told_of told changes.kept)
 
--- A world under its journal is what a past comes to: its deeds, what can be undone and redone, the tickets and the commands.
+-- the tables of some commands, each with its ticket
+abbrev pub tables_told : List (ℕ × Command) → List (ℕ × Option ℕ)
+tables_told given = map (λ one. (one.0, table_of one.1)) given
+
+-- A world under its journal is what a past comes to: its deeds, what can be undone and redone, the tickets, the commands and their tables.
 pub record IsTied {W S : Type 0} (by : Ghosts W Tables S Command) (world : W) (changes : Changes S) (bound : ℕ) (past : Past) : Type 0 where
   pub cells : by.has_cells ≡ true
   pub stands : Stands by.has_cells by.table by.keeps by.face empty_face world changes past.now (deeds_of past.log) (is_struck past.marks)
@@ -30,6 +36,7 @@ pub record IsTied {W S : Type 0} (by : Ghosts W Tables S Command) (world : W) (c
   pub tickets : changes.tickets ≡ past.marks.tickets
   pub limit : changes.limit ≡ bound
   pub given : AreGiven by.told changes past
+  pub tables : told_of by.table changes.kept ≡ tables_told (told_of by.told changes.kept)
 
 -- The reply is what the history says, whichever the world and its journal come to. The clock is at the later of its last moment and the event's.
 abbrev pub IsReplyTo : {W S : Type 0} → Ghosts W Tables S Command → Settings → ℕ → Event → W → Changes S → Reply → Type 0
@@ -41,8 +48,14 @@ abbrev pub TakesIn : {W S : Type 0} → Ghosts W Tables S Command → ℕ → Ev
 TakesIn by clock event world changes world' changes' =
     (bound : ℕ) (past : Past) → clock ≡ max past.now (moment_of event) → IsTied by world changes bound past → IsTied by world' changes' bound (followed_by bound past event)
 
--- A fault took nothing in: the world and its journal come to the same histories, no ticket was given out, and as many cells are stored.
+-- A fault took nothing in: the world and its journal come to the same histories, no ticket was given out, as many cells are stored, and no more pairs count.
 pub record TakesNothingIn {W S : Type 0} (by : Ghosts W Tables S Command) (world : W) (changes : Changes S) (world' : W) (changes' : Changes S) : Type 0 where
   pub tied : (bound : ℕ) (past : Past) → IsTied by world changes bound past → IsTied by world' changes' bound past
   pub tickets : changes'.tickets ≡ changes.tickets
   pub stored : by.stored world' ≡ by.stored world
+  pub pairs : AddsPairs by.counts [] world world'
+
+-- Whatever history the world and its journal came to, the event is answered if it needs no memory. The clock is at the later of its last moment and the event's.
+abbrev pub IsTakenIfFree : {W S A E : Type 0} → Ghosts W Tables S Command → ℕ → Event → W → Changes S → Result A E → Type 0
+IsTakenIfFree by clock event world changes result =
+    (bound : ℕ) (past : Past) → clock ≡ max past.now (moment_of event) → IsTied by world changes bound past → IsFreeIn past event → IsOk result

@@ -64,8 +64,15 @@ impl<C: BookChange> WorldBook<C> {
 
 impl<C: BookChange> Book for WorldBook<C> {
     ghost use Rattle.std.proofs.Common.{◌≡◌, ◌≤◌, List, sym, ◌∙◌};
+    ghost use Rattle.std.specs.Prelude.{◌⊎◌, ℕ, OnErr, IfErr, IsErrOf};
+    ghost use Rattle.dns_name.specs.Labels.{Labels};
+    ghost use Rattle.ranked.specs.declared.find.Scope.{Scope};
+    ghost use Rattle.change_law.specs.Pairs.{count_pairs};
     ghost use Rattle.history.specs.declared.event.Event.{Event};
+    ghost use Rattle.history.specs.Answers.{Answers, history_after};
+    ghost use Rattle.history.specs.History.{past_of};
     ghost use Rattle.world_book.specs.Book.{IsBookOf};
+    ghost use Rattle.world_book.specs.Versions.{pairs_admitted, AreAliveAfter, IsFreeIn};
 
     ghost stands_for = { IsBookOf C.World.World };
 
@@ -79,7 +86,22 @@ impl<C: BookChange> Book for WorldBook<C> {
 
     ghost one_count = { λ book h k is also. sym is.count ∙ also.count };
 
-    fn step(&mut self, event: Event) -> Result<Reply, StepFault> {
+    fn step(&mut self, event: Event) -> Result<Reply, StepFault>
+        ensures answers { (h : List Event) → IsBookOf C.World.World self.old h → Answers self.old.settings h event result }
+        ensures stands { (h : List Event) → IsBookOf C.World.World self.old h →
+            IsBookOf C.World.World self.new (history_after h event result) }
+        ensures full { (n : ℕ) → IsErrOf result (StepFault.Full n) → C.World.stored self.old.world ≡ n }
+        ensures same_store { OnErr result (C.World.stored self.new.world ≡ C.World.stored self.old.world) }
+        ensures settings { self.new.settings ≡ self.old.settings }
+
+        // It is full only once as many different pairs of owner and scope were admitted as there may be cells.
+        ensures many { (h : List Event) → IsBookOf C.World.World self.old h → (n : ℕ) → IsErrOf result (StepFault.Full n) →
+            self.old.settings.cells ≤ count_pairs (pairs_admitted h) }
+
+        // An event that needs no memory is refused only by the clock and the count of events.
+        ensures free { (h : List Event) → IsBookOf C.World.World self.old h → IsFreeIn (past_of self.old.settings.journal h) event →
+            IfErr result (λ fault. (fault ≡ StepFault.BadMoment) ⊎ (fault ≡ StepFault.CountEnded)) }
+    {
         if event.moment() >= MOMENT_END {
             return Err(StepFault::BadMoment);
         }
@@ -87,6 +109,8 @@ impl<C: BookChange> Book for WorldBook<C> {
             return Err(StepFault::CountEnded);
         }
         let clock = self.moment.max(event.moment());
+        // It is called for its clause `most`, which the proof of `many` cites.
+        let _stored = self.world.stored();
         match obey(
             self.alloc,
             &self.settings,
@@ -151,7 +175,15 @@ impl<C: BookChange> Book for WorldBook<C> {
     fn stored(&self) -> usize
         ensures stored { result ≡ C.World.stored self.now.world }
         ensures within { (h : List Event) → IsBookOf C.World.World self.now h → result ≤ self.now.settings.cells }
+
+        // No more than the different pairs of owner and scope that were admitted.
+        ensures most { (h : List Event) → IsBookOf C.World.World self.now h → result ≤ count_pairs (pairs_admitted h) }
+
+        // No fewer than the different pairs of the finds that are alive now in some version.
+        ensures least { (h : List Event) → IsBookOf C.World.World self.now h → (pairs : List (Labels × Scope)) →
+            AreAliveAfter self.now.settings.journal h pairs → count_pairs pairs ≤ result }
     {
+        let _undone = self.journal.undone();
         self.world.stored()
     }
 }

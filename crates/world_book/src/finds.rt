@@ -1,6 +1,7 @@
 //! Admissions and sweeps of a world under its journal.
 
-ghost use Rattle.std.specs.Prelude.{◌≡◌, ℕ, IfOk, IfErr, OnOk, OnErr};
+ghost use Rattle.std.specs.Prelude.{◌≡◌, ◌∷◌, [], ℕ, IfOk, IfErr, IsOk, OnOk, OnErr};
+ghost use Rattle.change_law.specs.Pairs.{IsAliveIn, pair_of};
 ghost use Rattle.history.specs.declared.event.Event.TheVariants.{Admit, Sweep};
 ghost use Rattle.history.specs.declared.event.Settings.{Settings};
 ghost use Rattle.world_book.specs.Step.{IsSound, IsSoundAfter, IsFaultOf, reply_of_fate};
@@ -26,7 +27,8 @@ pub(crate) fn admit<C: BookChange>(
         TakesIn C.World.World clock (Admit moment find) world.old journal.now world.new journal.now) }
     ensures same { OnErr result (TakesNothingIn C.World.World world.old journal.now world.new journal.now) }
     ensures faults { IfErr result (λ fault. (moment : ℕ) → IsFaultOf C.World.World world.old (Admit moment find) fault) }
-    ensures sound { IsSoundAfter C.World.World 1 world.old journal.now world.new journal.now }
+    ensures free { IsAliveIn C.World.table C.World.face world.old journal.now.kept clock (pair_of find) → IsOk result }
+    ensures sound { IsSoundAfter C.World.World 1 (pair_of find ∷ []) world.old journal.now world.new journal.now }
 {
     let _undone = journal.undone();
     match world.admit(find, clock) {
@@ -49,7 +51,7 @@ fn reply_of_fate(fate: Fate) -> Reply
 pub(crate) fn sweep<C: BookChange>(journal: &Journal<C>, world: &mut C::World, clock: u64)
     requires { IsSound C.World.World world.old journal.now }
     ensures tied { (moment : ℕ) → TakesIn C.World.World clock (Sweep moment) world.old journal.now world.new journal.now }
-    ensures sound { IsSoundAfter C.World.World 0 world.old journal.now world.new journal.now }
+    ensures sound { IsSoundAfter C.World.World 0 [] world.old journal.now world.new journal.now }
 {
     let _ = journal;
     world.sweep(clock);

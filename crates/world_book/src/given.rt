@@ -1,6 +1,6 @@
 //! Commands to a world under its journal.
 
-ghost use Rattle.std.specs.Prelude.{◌≡◌, ◌<◌, ◌^◌, ℕ, IfOk, OnOk, OnErr};
+ghost use Rattle.std.specs.Prelude.{◌≡◌, ◌<◌, ◌^◌, [], ℕ, IfOk, OnOk, OnErr};
 ghost use Rattle.history.specs.declared.event.Event.TheVariants.{Do};
 ghost use Rattle.history.specs.declared.event.Reason.{Reason};
 ghost use Rattle.history.specs.declared.event.Settings.{Settings};
@@ -27,7 +27,7 @@ pub(crate) fn give<C: BookChange>(
     ensures tied { OnOk result ((clock moment : ℕ) →
         TakesIn C.World.World clock (Do moment command) world.old journal.old world.new journal.new) }
     ensures same { OnErr result (TakesNothingIn C.World.World world.old journal.old world.new journal.new) }
-    ensures sound { IsSoundAfter C.World.World 0 world.old journal.old world.new journal.new }
+    ensures sound { IsSoundAfter C.World.World 0 [] world.old journal.old world.new journal.new }
 {
     let _undone = journal.undone();
     let change = C::of(command)?;

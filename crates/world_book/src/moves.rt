@@ -1,6 +1,6 @@
 //! Undos and redos of a world under its journal.
 
-ghost use Rattle.std.specs.Prelude.{◌≡◌, ℕ, IfOk, IsOk, OnOk, OnErr};
+ghost use Rattle.std.specs.Prelude.{◌≡◌, [], ℕ, IfOk, IsOk, OnOk, OnErr};
 ghost use Rattle.history.specs.declared.event.Event.TheVariants.{Undo, Redo};
 ghost use Rattle.history.specs.declared.event.Settings.{Settings};
 ghost use Rattle.history.specs.Reply.{reply_to_undo, reply_to_redo};
@@ -24,7 +24,7 @@ pub(crate) fn undo<C: BookChange>(
         TakesIn C.World.World clock (Undo moment) world.old journal.old world.new journal.new) }
     ensures same { OnErr result (TakesNothingIn C.World.World world.old journal.old world.new journal.new) }
     ensures free { (moment : ℕ) → IsFree C.World.needs_memory journal.old (Undo moment) → IsOk result }
-    ensures sound { IsSoundAfter C.World.World 0 world.old journal.old world.new journal.new }
+    ensures sound { IsSoundAfter C.World.World 0 [] world.old journal.old world.new journal.new }
 {
     let ticket = journal.undo(world)?;
     Ok(reply_to_undo(ticket))
@@ -42,7 +42,7 @@ pub(crate) fn redo<C: BookChange>(
         TakesIn C.World.World clock (Redo moment) world.old journal.old world.new journal.new) }
     ensures same { OnErr result (TakesNothingIn C.World.World world.old journal.old world.new journal.new) }
     ensures free { (moment : ℕ) → IsFree C.World.needs_memory journal.old (Redo moment) → IsOk result }
-    ensures sound { IsSoundAfter C.World.World 0 world.old journal.old world.new journal.new }
+    ensures sound { IsSoundAfter C.World.World 0 [] world.old journal.old world.new journal.new }
 {
     let ticket = journal.redo(world)?;
     Ok(reply_to_redo(ticket))

@@ -1,9 +1,10 @@
 //! Events of a world under its journal.
 
-ghost use Rattle.std.specs.Prelude.{◌<◌, ◌^◌, IfOk, IfErr, IsOk, OnOk, OnErr, if◌then◌else◌};
+ghost use Rattle.std.specs.Prelude.{◌<◌, ◌^◌, ◌∷◌, [], IfOk, IfErr, OnOk, OnErr, if◌then◌else◌};
 ghost use Rattle.history.specs.Event.{is_admission};
-ghost use Rattle.world_book.specs.Step.{IsSound, IsSoundAfter, IsFaultOf, IsFree};
-ghost use Rattle.world_book.specs.Tied.{IsReplyTo, TakesIn, TakesNothingIn};
+ghost use Rattle.world_book.specs.Step.{IsSound, IsSoundAfter, IsFaultOf};
+ghost use Rattle.world_book.specs.Tied.{IsReplyTo, IsTakenIfFree, TakesIn, TakesNothingIn};
+ghost use Rattle.world_book.specs.Versions.{pairs_admitted};
 
 use crate::finds::{admit, sweep};
 use crate::given::give;
@@ -29,9 +30,11 @@ pub(crate) fn obey<C: BookChange>(
     ensures tied { OnOk result (TakesIn C.World.World clock event world.old journal.old world.new journal.new) }
     ensures same { OnErr result (TakesNothingIn C.World.World world.old journal.old world.new journal.new) }
     ensures faults { IfErr result (λ fault. IsFaultOf C.World.World world.old event fault) }
-    ensures free { IsFree C.World.needs_memory journal.old event → IsOk result }
-    ensures sound { IsSoundAfter C.World.World (if is_admission event then 1 else 0) world.old journal.old world.new journal.new }
+    ensures free { IsTakenIfFree C.World.World clock event world.old journal.old result }
+    ensures sound { IsSoundAfter C.World.World (if is_admission event then 1 else 0) (pairs_admitted (event ∷ []))
+        world.old journal.old world.new journal.new }
 {
+    let _undone = journal.undone();
     match event {
         Event::Admit { find, .. } => match admit(journal, world, find, clock) {
             Ok(reply) => Ok(reply),

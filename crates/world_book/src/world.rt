@@ -1,13 +1,20 @@
 //! The traits that a book needs of a world and of its changes.
 
-ghost use Rattle.std.specs.Prelude.{◌≡◌, ◌≤◌, ℕ, true, IfOk};
+ghost use Rattle.std.specs.Prelude.{◌≡◌, ◌≤◌, ℕ, true, false, None, List, map, IfOk};
+ghost use Rattle.std.specs.List.{AllByRecursion};
 ghost use Rattle.std.specs.Option.{option_map};
+ghost use Rattle.dns_name.specs.Labels.{Labels};
 ghost use Rattle.dns_text.specs.declared.record.Question.{Question};
+ghost use Rattle.ranked.specs.declared.find.Find.{Find};
+ghost use Rattle.ranked.specs.declared.find.Scope.{Scope};
 ghost use Rattle.ranked.specs.Cell.{shown_at};
 ghost use Rattle.history.specs.declared.made.Tables.{Tables};
 ghost use Rattle.history.specs.Changes.{after_command_on, reason_on};
 ghost use Rattle.history.specs.Event.{covers};
+ghost use Rattle.change_law.specs.declared.kept.KeptChange.{KeptChange};
+ghost use Rattle.change_law.specs.Pairs.{CountsAmong, IsAliveIn, count_pairs, pair_of};
 ghost use Rattle.world_book.specs.Step.{code_of};
+ghost use Rattle.world_book.specs.Versions.{table_of};
 
 use change_law::{Change, World};
 use dns_name::NoMemory;
@@ -19,14 +26,22 @@ pub trait BookWorld: World<Tables = Tables, Told = Command> + CellSource {
     fn tables(&self) -> &Tables
         ensures { result.now ≡ (Self.shown self.now).tables };
 
-    /// How many cells are stored. They are never more than the limit.
+    /// How many cells are stored. They are never more than the limit, nor more than the different pairs that count. They are never
+    /// fewer than the different pairs of the finds that are alive at a moment, by whichever choice of the kept changes.
     fn stored(&self) -> usize
         ensures stored { result ≡ Self.stored self.now }
-        ensures within { Self.stored self.now ≤ Self.limit self.now };
+        ensures within { Self.stored self.now ≤ Self.limit self.now }
+        ensures most { (finds : List Find) → CountsAmong Self.counts (map pair_of finds) self.now →
+            Self.stored self.now ≤ count_pairs (map pair_of finds) }
+        ensures least { (kept : List (KeptChange Self.Saved)) → Self.keeps self.now kept → (t : ℕ) (pairs : List (Labels × Scope)) →
+            AllByRecursion (IsAliveIn Self.table Self.face self.now kept t) pairs → count_pairs pairs ≤ Self.stored self.now };
 
     /// The command of a change that is kept.
     fn command(saved: &Self::Saved) -> &Command
         ensures { result.now ≡ Self.told saved.now };
+
+    /// A change of no table takes no memory to undo or redo.
+    ghost needs_none: { (saved : Self.Saved) → Self.table saved ≡ None → Self.needs_memory saved ≡ false };
 
     /// It has cells.
     ghost with_cells: { Self.has_cells ≡ true };
@@ -43,5 +58,6 @@ pub trait BookChange: Change<World: BookWorld> {
         ensures after { IfOk result (λ change. (t : Tables) → Self.after change t ≡ after_command_on command t) }
         ensures empties { IfOk result (λ change. (q : Question) → Self.empties change q ≡ covers command q) }
         ensures reason { IfOk result (λ change. (t : Tables) → Self.reason change t ≡ option_map code_of (reason_on t command)) }
-        ensures told { IfOk result (λ change. Self.told change ≡ command) };
+        ensures told { IfOk result (λ change. Self.told change ≡ command) }
+        ensures table { IfOk result (λ change. Self.table change ≡ table_of command) };
 }

@@ -22,9 +22,9 @@ returns-in-Ok-clause-tied g c = λ clock moment bound past is tied.
     = accepted past (g.C.World.World.shown c.args.world.now) c.args.command (g.C.Change.reason c.in_ok-change.change) c.in_ok-change.ensures.reason shown c.in-Ok.ensures.reason in
     let change = c.in_ok-change.change in
     tied_made g.C.World.World
-    c.args.world.now c.apply.new.world c.args.journal.now c.apply.new.self bound moment c.args.command past c.in-Ok.ticket (g.C.Change.after change) (g.C.Change.empties change) (g.C.Change.told change)
-    c.in_ok-change.ensures.after c.in_ok-change.ensures.empties c.in_ok-change.ensures.told none
-    c.undone-undone.ensures.sound c.in-Ok.ensures.ticket.0 c.in-Ok.ensures.row.0 c.in-Ok.ensures.row.1 c.in-Ok.ensures.ticket.1 tied
+    c.args.world.now c.apply.new.world c.args.journal.now c.apply.new.self bound moment c.args.command past c.in-Ok.ticket (g.C.Change.after change) (g.C.Change.empties change) (g.C.Change.told change) (g.C.Change.table change)
+    c.in_ok-change.ensures.after c.in_ok-change.ensures.empties c.in_ok-change.ensures.told c.in_ok-change.ensures.table none
+    c.undone-undone.ensures.sound c.in-Ok.ensures.ticket.0 c.in-Ok.ensures.row.0 c.in-Ok.ensures.row.1 c.in-Ok.ensures.ticket.1 c.in-Ok.ensures.ticket.2 tied
 
 pub returns-in-Err-Refused-clause-told : goal.returns-in-Err-Refused-clause-told
 returns-in-Err-Refused-clause-told g c = λ settings clock moment bound past is tied.

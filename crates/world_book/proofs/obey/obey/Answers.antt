@@ -1,12 +1,16 @@
-use Rattle.std.proofs.Common.{◌≡◌, ◌∙◌, sym, ap, subst, max}
+use Rattle.std.proofs.Common.{◌≡◌, ◌≤◌, ℕ, ◌∙◌, sym, ap, subst, max, arith}
 use Rattle.std.proofs.lemmas.Bool.{false≢true}
 use Rattle.history.specs.declared.event.Event.{Event}
 use Rattle.history.specs.declared.event.Reply.TheVariants.{Seen}
 use Rattle.history.specs.Event.{moment_of}
 use Rattle.history.specs.Reply.{reply_of}
-use Rattle.world_book.specs.Step.{IsFaultOf, IsFree}
+use Rattle.change_law.specs.Pairs.{pair_of}
+use Rattle.history.specs.declared.event.Event.TheVariants.{Undo, Redo}
+use Rattle.world_book.specs.Step.{IsFaultOf}
+use Rattle.world_book.specs.Versions.{IsAliveInVersion, IsFreeIn}
 use Rattle.world_book.specs.Tied.{IsReplyTo, TakesIn}
 use Rattle.world_book.proofs.TiedLaws.{tied_look}
+use Rattle.world_book.proofs.VersionLaws.{alive_in_face, undo_free, redo_free}
 use Rattle.world_book.proofs.obey.obey.Goals as goal
 
 pub returns-in-Ok-clause-told : goal.returns-in-Ok-clause-told
@@ -56,15 +60,36 @@ returns-in_ok-undo-in-Undo-clause-told g c =
     subst (λ (e : Event). IsReplyTo g.C.World.World c.args.settings.now c.args.clock e c.args.world.now c.args.journal.now c.in_ok-undo-in-Undo.field-0) (sym c.in-Undo.is)
     (c.in_ok-undo-in-Undo.ensures.told c.args.settings.now c.args.clock c.in-Undo.moment)
 
-pub returns-in_err-undo-in-Undo-clause-free : goal.returns-in_err-undo-in-Undo-clause-free
-returns-in_err-undo-in-Undo-clause-free g c = λ free.
-    absurd (false≢true (c.in_err-undo-in-Undo.ensures.free c.in-Undo.moment (subst (λ (e : Event). IsFree g.C.World.World.needs_memory c.args.journal.now e) c.in-Undo.is free)))
-
 pub returns-in_ok-redo-in-Redo-clause-told : goal.returns-in_ok-redo-in-Redo-clause-told
 returns-in_ok-redo-in-Redo-clause-told g c =
     subst (λ (e : Event). IsReplyTo g.C.World.World c.args.settings.now c.args.clock e c.args.world.now c.args.journal.now c.in_ok-redo-in-Redo.field-0) (sym c.in-Redo.is)
     (c.in_ok-redo-in-Redo.ensures.told c.args.settings.now c.args.clock c.in-Redo.moment)
 
+-- ---- what needs no memory
+
+pub returns-in-Err-clause-free : goal.returns-in-Err-clause-free
+returns-in-Err-clause-free g c = λ bound past is tied free.
+    let at : c.args.clock ≡ max past.now c.in-Admit.moment = is ∙ ap (λ (e : Event). max past.now (moment_of e)) c.in-Admit.is in
+    let less : past.now ≤ c.args.clock = omega (arith, at) in
+    let given : IsAliveInVersion past (max past.now c.in-Admit.moment) (pair_of c.in-Admit.find) = subst (λ (e : Event). IsFreeIn past e) c.in-Admit.is free in
+    let alive : IsAliveInVersion past c.args.clock (pair_of c.in-Admit.find) = subst (λ (m : ℕ). IsAliveInVersion past m (pair_of c.in-Admit.find)) (sym at) given in
+    absurd (false≢true (c.in-Err.ensures.free
+    (alive_in_face g.C.World.World c.args.world.now c.args.journal.now bound past c.undone-undone.ensures.sound tied c.args.clock (pair_of c.in-Admit.find) less alive)))
+
+pub returns-in_err-undo-in-Undo-clause-free : goal.returns-in_err-undo-in-Undo-clause-free
+returns-in_err-undo-in-Undo-clause-free g c = λ bound past is tied free.
+    let flush : IsFreeIn past (Undo c.in-Undo.moment) = subst (λ (e : Event). IsFreeIn past e) c.in-Undo.is free in
+    absurd (false≢true (c.in_err-undo-in-Undo.ensures.free c.in-Undo.moment
+    (undo_free g.C.World.World c.args.world.now c.args.journal.now bound past c.undone-undone.ensures.sound tied g.met.C.World.BookWorld.needs_none flush.0 flush.1 flush.2)))
+
 pub returns-in_err-redo-in-Redo-clause-free : goal.returns-in_err-redo-in-Redo-clause-free
-returns-in_err-redo-in-Redo-clause-free g c = λ free.
-    absurd (false≢true (c.in_err-redo-in-Redo.ensures.free c.in-Redo.moment (subst (λ (e : Event). IsFree g.C.World.World.needs_memory c.args.journal.now e) c.in-Redo.is free)))
+returns-in_err-redo-in-Redo-clause-free g c = λ bound past is tied free.
+    let flush : IsFreeIn past (Redo c.in-Redo.moment) = subst (λ (e : Event). IsFreeIn past e) c.in-Redo.is free in
+    absurd (false≢true (c.in_err-redo-in-Redo.ensures.free c.in-Redo.moment
+    (redo_free g.C.World.World c.args.world.now c.args.journal.now bound past c.undone-undone.ensures.sound tied g.met.C.World.BookWorld.needs_none flush.0 flush.1 flush.2)))
+
+pub returns-in_err-seen-in-Look-clause-free : goal.returns-in_err-seen-in-Look-clause-free
+returns-in_err-seen-in-Look-clause-free g c = λ bound past is tied free. absurd (subst (λ (e : Event). IsFreeIn past e) c.in-Look.is free)
+
+pub returns-in_err-give-in-Do-clause-free : goal.returns-in_err-give-in-Do-clause-free
+returns-in_err-give-in-Do-clause-free g c = λ bound past is tied free. absurd (subst (λ (e : Event). IsFreeIn past e) c.in-Do.is free)

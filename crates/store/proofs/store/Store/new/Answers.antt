@@ -7,4 +7,5 @@ returns c = record {
   newest = c.seeded.ensures.newest;
   stored = c.seeded.ensures.stored;
   limit = c.seeded.ensures.limit;
+  pairs = c.seeded.ensures.pairs;
 }

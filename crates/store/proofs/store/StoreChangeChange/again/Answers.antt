@@ -13,7 +13,7 @@ returns-in_err-again-in-Table-clause-err c =
     let err = c.in_err-again-in-Table.ensures.err in
     let same = tables_same_row c.args.world.now (record { tables = c.again.new.world; cells = c.args.world.now.cells }) refl err.0.0 in
     let saved : ◌≡◌ {A = SavedChange} (record { command = c.args.saved.now.command; way = way.Table c.again.new.saved }) c.args.saved.now = same_table c.args.saved.now c.in-Table.saved c.again.new.saved c.in-Table.is err.1 in
-    on_err c.from_residual.result ((same, omega arith, refl), saved)
+    on_err c.from_residual.result ((same, omega arith, refl, λ pair has. has), saved)
 
 pub again-requires-in-Flush : goal.again-requires-in-Flush
 again-requires-in-Flush c = flush_can_go_again c.args.world.now c.args.saved.now c.in-Flush.saved c.in-Flush.is c.requires

@@ -8,12 +8,12 @@ use Rattle.store.proofs.store.StoreChangeChange.apply.Goals as goal
 pub returns-in_err-saved-in-Table-clause-same : goal.returns-in_err-saved-in-Table-clause-same
 returns-in_err-saved-in-Table-clause-same c =
     let same = tables_same_row c.args.world.now (record { tables = c.apply.new.world; cells = c.args.world.now.cells }) refl c.in_err-saved-in-Table.ensures.same.0 in
-    on_err c.from_residual.result (same, omega arith, refl)
+    on_err c.from_residual.result (same, omega arith, refl, λ pair has. has)
 
 pub returns-in_err-saved-in-Flush-clause-same : goal.returns-in_err-saved-in-Flush-clause-same
 returns-in_err-saved-in-Flush-clause-same c =
     let same = cells_same_row c.args.world.now (record { tables = c.args.world.now.tables; cells = c.apply-in-Flush.new.world }) refl c.in_err-saved-in-Flush.ensures.same.0 in
-    on_err c.from_residual-in_err-saved-in-Flush.result (same, c.in_err-saved-in-Flush.ensures.same.1, c.in_err-saved-in-Flush.ensures.same.2)
+    on_err c.from_residual-in_err-saved-in-Flush.result (same, c.in_err-saved-in-Flush.ensures.same.1, c.in_err-saved-in-Flush.ensures.same.2, c.in_err-saved-in-Flush.ensures.same.3)
 
 pub returns-in_ok-saved-in-Table-clause-row : goal.returns-in_ok-saved-in-Table-clause-row
 returns-in_ok-saved-in-Table-clause-row c = rw c.in-Table.is (table_made c.args.world.now (record { tables = c.apply.new.world; cells = c.args.world.now.cells })

@@ -13,7 +13,7 @@ returns-in_err-back-in-Table-clause-err c =
     let err = c.in_err-back-in-Table.ensures.err in
     let same = tables_same_row c.args.world.now (record { tables = c.back.new.world; cells = c.args.world.now.cells }) refl err.0.0 in
     let saved : ◌≡◌ {A = SavedChange} (record { command = c.args.saved.now.command; way = way.Table c.back.new.saved }) c.args.saved.now = same_table c.args.saved.now c.in-Table.saved c.back.new.saved c.in-Table.is err.1 in
-    on_err c.from_residual.result ((same, omega arith, refl), saved)
+    on_err c.from_residual.result ((same, omega arith, refl, λ pair has. has), saved)
 
 pub back-requires-in-Flush : goal.back-requires-in-Flush
 back-requires-in-Flush c = flush_can_go_back c.args.world.now c.args.saved.now c.in-Flush.saved c.in-Flush.is c.requires

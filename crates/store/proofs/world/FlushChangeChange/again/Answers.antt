@@ -1,3 +1,5 @@
+use Rattle.std.proofs.Common.{arith}
+use Rattle.store.proofs.PairLaws.{same_owners}
 use Rattle.change_law.specs.declared.kept.Standing.TheVariants.{Done, Undone}
 use Rattle.store.specs.World.{shelved}
 use Rattle.store.specs.WorldLaws.{row_turned}
@@ -6,3 +8,11 @@ use Rattle.store.proofs.world.FlushChangeChange.again.Goals as goal
 pub returns-clause-row : goal.returns-clause-row
 returns-clause-row c = rw (← c.world.view_is) (λ earlier ticket later first.
     row_turned Undone Done (shelved c.world.inside.shelf) (shelved c.unhide.new.self) earlier ticket c.args.saved.now later c.world.invariant.ascending first.kept c.unhide.ensures.kept c.unhide.ensures.faces)
+
+pub returns-clause-counts : goal.returns-clause-counts
+returns-clause-counts c = rw (← c.world.view_is) ((
+  omega (arith, c.unhide.ensures.top),
+  omega (arith, c.unhide.ensures.stored),
+  c.unhide.ensures.limit,
+  same_owners c.world.inside.shelf c.unhide.new.self c.unhide.ensures.owners,
+))

@@ -15,4 +15,10 @@ returns-in_err-open_flush-clause-same c = rw (← c.world.view_is)
     (let before = shelved c.world.inside.shelf in
     let after = shelved c.open_flush.new.self in
     let is = c.in_err-open_flush.ensures.same in
-    on_err c.from_residual.result (row_same before after is.kept is.faces, omega (arith, is.top), is.stored))
+    on_err c.from_residual.result (row_same before after is.kept is.faces, omega (arith, is.top), is.stored, λ pair has. is.pairs pair has))
+
+pub returns-clause-store : goal.returns-clause-store
+returns-clause-store c = rw (← c.world.view_is) ((omega (arith, c.open_flush.ensures.stored), c.open_flush.ensures.limit, λ pair has. c.in_ok-open_flush.ensures.flushed.pairs pair has))
+
+pub returns-in_err-open_flush-clause-store : goal.returns-in_err-open_flush-clause-store
+returns-in_err-open_flush-clause-store c = rw (← c.world.view_is) ((omega (arith, c.open_flush.ensures.stored), c.open_flush.ensures.limit, λ pair has. c.in_err-open_flush.ensures.same.pairs pair has))

@@ -1,3 +1,4 @@
+use Rattle.std.proofs.Common.{arith}
 use Rattle.store.specs.World.{shelved}
 use Rattle.store.specs.WorldLaws.{row_oldest, row_cleared}
 use Rattle.store.proofs.world.FlushChangeChange.settle.Goals as goal
@@ -9,3 +10,11 @@ returns-clause-oldest c = rw (← c.world.view_is) (λ ticket later h.
 pub returns-clause-cleared : goal.returns-clause-cleared
 returns-clause-cleared c = rw (← c.world.view_is) (λ earlier ticket later h.
     row_cleared (shelved c.world.inside.shelf) (shelved c.settle.new.self) earlier ticket c.args.saved later c.world.invariant.ascending h c.settle.ensures.kept c.settle.ensures.faces)
+
+pub returns-clause-counts : goal.returns-clause-counts
+returns-clause-counts c = rw (← c.world.view_is) ((
+  omega (arith, c.settle.ensures.top),
+  c.settle.ensures.stored,
+  c.settle.ensures.limit,
+  λ pair has. c.settle.ensures.pairs pair has,
+))

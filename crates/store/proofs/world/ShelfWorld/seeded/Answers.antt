@@ -6,9 +6,10 @@ use Rattle.store.proofs.world.ShelfWorld.seeded.Goals as goal
 
 pub returns : goal.returns
 returns c = record {
-  keeps = record { agree = sym (ap (λ (flushes : List KeptFlush). map mark flushes) c.seeded.ensures.kept); numbers = tt };
-  faces = λ chosen. empty_faces c.seeded.result c.seeded.ensures.kept c.seeded.ensures.cells chosen;
-  newest = c.seeded.ensures.top;
-  stored = c.seeded.ensures.stored;
-  limit = c.seeded.ensures.limit;
+  keeps = record { agree = sym (ap (λ (flushes : List KeptFlush). map mark flushes) c.seeded-shelf.ensures.kept); numbers = tt };
+  faces = λ chosen. empty_faces c.seeded-shelf.result c.seeded-shelf.ensures.kept c.seeded-shelf.ensures.cells chosen;
+  newest = c.seeded-shelf.ensures.top;
+  stored = c.seeded-shelf.ensures.stored;
+  limit = c.seeded-shelf.ensures.limit;
+  pairs = c.admitted_law.ensures.none c.seeded-shelf.result c.seeded-shelf.ensures.whole c.seeded-shelf.ensures.stored;
 }

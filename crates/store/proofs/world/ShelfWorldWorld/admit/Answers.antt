@@ -1,4 +1,7 @@
-use Rattle.std.proofs.Common.{◌≡◌, ◌∙◌, ap, subst}
+use Rattle.std.proofs.Common.{◌≡◌, ◌∙◌, ap, subst, arith}
+use Rattle.std.proofs.lemmas.Bool.{false≢true}
+use Rattle.change_law.specs.Pairs.{pair_of}
+use Rattle.store.proofs.PairLaws.{adds_pair, adds_none, alive_there}
 use Rattle.ranked.specs.declared.find.Find.{Find}
 use Rattle.change_law.specs.Face.{fate_in}
 use Rattle.shelf.specs.Room.{fate_of}
@@ -16,4 +19,29 @@ returns-in-Ok-clause-row c = rw (← c.self.view_is) (λ kept h.
     row_admitted (shelved c.self.inside.shelf) (shelved c.admit.new.self) kept c.args.find c.args.moment h c.admit.ensures.flushes.0 c.in-Ok.ensures.admitted.faces)
 
 pub returns-in-Err-clause-err : goal.returns-in-Err-clause-err
-returns-in-Err-clause-err c = rw (← c.self.view_is) (row_same (shelved c.self.inside.shelf) (shelved c.admit.new.self) c.admit.ensures.flushes.0 c.in-Err.ensures.same.faces)
+returns-in-Err-clause-err c = rw (← c.self.view_is) ((
+  row_same (shelved c.self.inside.shelf) (shelved c.admit.new.self) c.admit.ensures.flushes.0 c.in-Err.ensures.same.faces,
+  omega (arith, c.admit.ensures.flushes.1),
+  c.in-Err.ensures.same.stored,
+  λ pair has. c.in-Err.ensures.same.pairs pair has,
+))
+
+pub returns-in-Ok-clause-counts : goal.returns-in-Ok-clause-counts
+returns-in-Ok-clause-counts c = rw (← c.self.view_is) ((
+  omega (arith, c.admit.ensures.flushes.1),
+  c.admit.ensures.stored,
+  c.admit.ensures.flushes.2,
+  adds_pair c.args.find c.self.inside.shelf c.admit.new.self c.in-Ok.ensures.admitted.pairs,
+))
+
+pub returns-in-Err-clause-counts : goal.returns-in-Err-clause-counts
+returns-in-Err-clause-counts c = rw (← c.self.view_is) ((
+  omega (arith, c.admit.ensures.flushes.1),
+  c.admit.ensures.stored,
+  c.admit.ensures.flushes.2,
+  adds_none c.args.find c.self.inside.shelf c.admit.new.self c.in-Err.ensures.same.pairs,
+))
+
+pub returns-in-Err-clause-free : goal.returns-in-Err-clause-free
+returns-in-Err-clause-free c = rw (← c.self.view_is) (λ kept h alive.
+    absurd (false≢true (c.in-Err.ensures.room.alive (alive_there c.self.inside.shelf kept c.args.moment (pair_of c.args.find) alive))))

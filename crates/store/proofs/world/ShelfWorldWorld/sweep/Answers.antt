@@ -1,3 +1,4 @@
+use Rattle.std.proofs.Common.{arith}
 use Rattle.store.specs.World.{shelved}
 use Rattle.store.specs.WorldLaws.{row_swept}
 use Rattle.store.proofs.world.ShelfWorldWorld.sweep.Goals as goal
@@ -5,3 +6,11 @@ use Rattle.store.proofs.world.ShelfWorldWorld.sweep.Goals as goal
 pub returns-clause-row : goal.returns-clause-row
 returns-clause-row c = rw (← c.self.view_is) (λ kept h.
     row_swept (shelved c.self.inside.shelf) (shelved c.sweep.new.self) kept c.args.moment h c.sweep.ensures.flushes.0 c.sweep.ensures.faces)
+
+pub returns-clause-counts : goal.returns-clause-counts
+returns-clause-counts c = rw (← c.self.view_is) ((
+  omega (arith, c.sweep.ensures.flushes.1),
+  c.sweep.ensures.stored,
+  c.sweep.ensures.flushes.2,
+  λ pair has. c.sweep.ensures.pairs pair has,
+))

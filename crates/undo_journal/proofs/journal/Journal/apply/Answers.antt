@@ -16,6 +16,8 @@ returns-clause-ticket g c =
       applied_changes before c.self.invariant c.in_ok-saved.saved c.clear.new.self c.forget.new.self c.keep.new.self shrunk c.forget.ensures.kept c.keep.ensures,
       applied_told before c.self.invariant c.in_ok-saved.saved g.C.World.World.told (g.C.Change.told c.args.change) c.in_ok-saved.ensures.kind.1 c.clear.new.self c.forget.new.self c.keep.new.self shrunk c.forget.ensures.kept
           (ap (λ (x : Changes g.row.C-World-Saved.Denot). x.kept) c.keep.ensures),
+      applied_told before c.self.invariant c.in_ok-saved.saved g.C.World.World.table (g.C.Change.table c.args.change) c.in_ok-saved.ensures.kind.0 c.clear.new.self c.forget.new.self c.keep.new.self shrunk c.forget.ensures.kept
+          (ap (λ (x : Changes g.row.C-World-Saved.Denot). x.kept) c.keep.ensures),
     ))
 
 pub returns-clause-row : goal.returns-clause-row

@@ -10,6 +10,7 @@ loop-round-init g c = record {
   limit = refl;
   newest = omega arith;
   stored = omega arith;
+  pairs = λ pair has. has;
   most = refl;
 }
 
@@ -26,6 +27,7 @@ loop-round-preserved g c =
       limit = is.limit ∙ so.limit;
       newest = omega (arith, so.newest, c.clear_last.ensures.counts.0);
       stored = omega (arith, so.stored, c.clear_last.ensures.counts.1);
+      pairs = λ pair has. so.pairs pair (c.clear_last.ensures.counts.3 pair has);
       most = c.clear_last.ensures.counts.2 ∙ so.most;
     }
 

@@ -41,7 +41,7 @@ returns-in_err-back-in-Some-clause-err g c =
     let at = at_place _ _ k (sym c.in-Some.ensures.value) in
     let some : 0 < j.done = omega (arith, c.if-self-eq0.false) in
     let same = same_there j.ring.items j.done j.tickets j.ring.capacity k some at c.self.invariant c.back.new.saved c.in_err-back-in-Some.ensures.err.1 ∙ c.self.view_is in
-    let both : IsRefused g.C.World.World.table g.C.World.World.keeps g.C.World.World.face g.C.World.World.newest g.C.World.World.stored c.args.world.now c.back.new.world × (record { kept = slice_set j.ring.items (j.done - 1) (record { ticket = k.ticket; standing = k.standing; saved = c.back.new.saved }); done = j.done; tickets = j.tickets; limit = j.ring.capacity } ≡ c.args.self.now)
+    let both : IsRefused g.C.World.World.table g.C.World.World.keeps g.C.World.World.face g.C.World.World.newest g.C.World.World.stored g.C.World.World.counts c.args.world.now c.back.new.world × (record { kept = slice_set j.ring.items (j.done - 1) (record { ticket = k.ticket; standing = k.standing; saved = c.back.new.saved }); done = j.done; tickets = j.tickets; limit = j.ring.capacity } ≡ c.args.self.now)
     = (c.in_err-back-in-Some.ensures.err.0, same) in
     on_err _ both
 
@@ -85,3 +85,10 @@ returns-in_ok-back-in-Some-clause-told g c =
     let k = c.in-Some.kept.now in
     let at = at_place _ _ k (sym c.in-Some.ensures.value) in
     rw (← c.self.view_is) (told_at g.C.World.World.told j.ring.items (j.done - 1) k (kept_as Undone k.ticket c.back.new.saved) at refl c.in_ok-back-in-Some.ensures.kind.2)
+
+pub returns-in_ok-back-in-Some-clause-tables : goal.returns-in_ok-back-in-Some-clause-tables
+returns-in_ok-back-in-Some-clause-tables g c =
+    let j = c.self.inside in
+    let k = c.in-Some.kept.now in
+    let at = at_place _ _ k (sym c.in-Some.ensures.value) in
+    rw (← c.self.view_is) (told_at g.C.World.World.table j.ring.items (j.done - 1) k (kept_as Undone k.ticket c.back.new.saved) at refl c.in_ok-back-in-Some.ensures.kind.0)

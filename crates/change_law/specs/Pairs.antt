@@ -1,0 +1,43 @@
+-- The pairs that a world counts. A pair is the owner and the scope of a find.
+use Rattle.std.specs.Prelude.{◌≡◌, ◌&&◌, ◌||◌, ℕ, Bool, true, Option, Some, List}
+use Rattle.std.specs.Set.{distinct_count, is_member}
+use Rattle.dns_name.specs.Labels.{Labels}
+use Rattle.dns_name.specs.Order.{name_eq}
+use Rattle.dns_text.specs.declared.record.Question.{Question}
+use Rattle.ranked.specs.declared.cell.Admitted.{Admitted}
+use Rattle.ranked.specs.declared.find.Find.{Find}
+use Rattle.ranked.specs.declared.find.Scope.{Scope}
+use Rattle.ranked.specs.Equal.{scope_eq}
+use Rattle.change_law.specs.declared.kept.KeptChange.{KeptChange}
+use Rattle.change_law.specs.Choice.{IsChoice}
+use Rattle.change_law.specs.Face.{Face, alive_at}
+
+-- the pair of a find: finds of one owner and scope share a place
+abbrev pub pair_of : Find → Labels × Scope
+pair_of find = (find.owner, find.scope)
+
+-- whether two pairs are the same
+abbrev pub pair_eq : Labels × Scope → Labels × Scope → Bool
+pair_eq a b = name_eq a.0 b.0 && scope_eq a.1 b.1
+
+-- the number of different pairs in a list
+abbrev pub count_pairs : List (Labels × Scope) → ℕ
+count_pairs pairs = distinct_count pair_eq pairs
+
+-- Each pair that counts now did so before, or is one of these.
+abbrev pub AddsPairs : {W : Type 0} → (W → (Labels × Scope) → Bool) → List (Labels × Scope) → W → W → Type 0
+AddsPairs counts added before after = (pair : Labels × Scope) → counts after pair ≡ true → (is_member pair_eq added pair || counts before pair) ≡ true
+
+-- Each pair that counts is one of these.
+abbrev pub CountsAmong : {W : Type 0} → (W → (Labels × Scope) → Bool) → List (Labels × Scope) → W → Type 0
+CountsAmong counts pairs world = (pair : Labels × Scope) → counts world pair ≡ true → is_member pair_eq pairs pair ≡ true
+
+-- By some choice of the kept changes, a cell has a find of this pair that is alive at a moment.
+pub record IsAliveIn {W S T : Type 0} (table : S → Option ℕ) (face : W → List (KeptChange S) → (ℕ → Bool) → Face T)
+    (world : W) (kept : List (KeptChange S)) (t : ℕ) (pair : Labels × Scope) : Type 0 where
+  pub chosen : ℕ → Bool
+  pub choice : IsChoice table kept chosen
+  pub question : Question
+  pub held : Admitted Find
+  pub alive : alive_at t ((face world kept chosen).cell question) ≡ Some held
+  pub same : pair_of held.body ≡ pair

@@ -1,0 +1,80 @@
+-- The versions of a history: the cells that it would give, if only some of the commands of its journal were in force. And the events that need no memory.
+use Rattle.std.specs.Prelude.{◌≡◌, ◌≢◌, ℕ, max, Bool, false, Option, Some, None, List, [], ◌∷◌, filter_map, map}
+use Rattle.std.specs.List.{AllByRecursion}
+use Rattle.dns_name.specs.Labels.{Labels}
+use Rattle.dns_text.specs.declared.record.Question.{Question}
+use Rattle.ranked.specs.declared.cell.Admitted.{Admitted}
+use Rattle.ranked.specs.declared.find.Find.{Find}
+use Rattle.ranked.specs.declared.find.Scope.{Scope}
+use Rattle.change_law.specs.Choice.{IsOneTable}
+use Rattle.change_law.specs.Face.{alive_at}
+pub use Rattle.change_law.specs.Pairs.{count_pairs}
+use Rattle.change_law.specs.Pairs.{pair_of}
+use Rattle.history.specs.declared.event.Command.{Command}
+use Rattle.history.specs.declared.event.Command.TheVariants.{SetZone, DropZone, AddRecord, DropName, SetStub, DropStub}
+use Rattle.history.specs.declared.event.Event.{Event}
+use Rattle.history.specs.declared.event.Event.TheVariants.{Admit, Sweep, Undo, Redo}
+use Rattle.history.specs.declared.event.Journalled.{Journalled}
+use Rattle.history.specs.History.{Past, is_unstruck, past_of}
+use Rattle.history.specs.Journal.{commands_of}
+use Rattle.history.specs.Marks.{last_of}
+use Rattle.world_book.specs.Deeds.{face_of}
+
+-- the find that an event admits
+abbrev pub find_admitted : Event → Option Find
+find_admitted (Admit moment find) = Some find
+find_admitted event = None
+
+-- the finds of the admissions of a history
+abbrev pub finds_admitted : List Event → List Find
+finds_admitted history = filter_map find_admitted history
+
+-- the pairs of the admissions of a history: of each find its owner and its scope
+abbrev pub pairs_admitted : List Event → List (Labels × Scope)
+pairs_admitted history = map pair_of (finds_admitted history)
+
+-- the number of the table that a command changes: 1 is that of local zones and records, 2 that of stubs; a flush changes none
+abbrev pub table_of : Command → Option ℕ
+table_of (SetZone name kind) = Some 1
+table_of (DropZone name) = Some 1
+table_of (AddRecord new) = Some 1
+table_of (DropName name) = Some 1
+table_of (SetStub new) = Some 2
+table_of (DropStub name) = Some 2
+table_of command = None
+
+-- With a command of a table, all earlier ones of that table are chosen. A flush is free.
+abbrev pub IsChoiceOf : List Journalled → (ℕ → Bool) → Type 0
+IsChoiceOf [] chosen = Unit {0}
+IsChoiceOf (held ∷ later) chosen =
+    (chosen held.ticket ≡ false → AllByRecursion (λ other. IsOneTable (table_of held.command) (table_of other.command) → chosen other.ticket ≡ false) later) × IsChoiceOf later chosen
+
+-- A choice of commands. Of those in the journal it has, with each of a table, all earlier ones of that table. Of all others it has those that are in force.
+pub record IsVersion (past : Past) (chosen : ℕ → Bool) : Type 0 where
+  pub journal : IsChoiceOf (commands_of past) chosen
+  pub others : (ticket : ℕ) → AllByRecursion (λ held. held.ticket ≢ ticket) (commands_of past) → chosen ticket ≡ is_unstruck past.marks ticket
+
+-- In some version of a past, a cell has a find of this pair that is alive at a moment.
+pub record IsAliveInVersion (past : Past) (t : ℕ) (pair : Labels × Scope) : Type 0 where
+  pub chosen : ℕ → Bool
+  pub version : IsVersion past chosen
+  pub question : Question
+  pub held : Admitted Find
+  pub alive : alive_at t ((face_of chosen past.log).cell question) ≡ Some held
+  pub same : pair_of held.body ≡ pair
+
+-- Of each of these pairs a find is alive at the end of a history, in a cell of some version.
+abbrev pub AreAliveAfter : ℕ → List Event → List (Labels × Scope) → Type 0
+AreAliveAfter bound history pairs = AllByRecursion (IsAliveInVersion (past_of bound history) (past_of bound history).now) pairs
+
+-- The command of a ticket is a flush, if the journal holds it.
+abbrev pub IsFlush : Past → ℕ → Type 0
+IsFlush past ticket = AllByRecursion (λ held. held.ticket ≡ ticket → table_of held.command ≡ None) (commands_of past)
+
+-- An event that needs no memory: a sweep, an undo or a redo that reaches a flush, and an admission whose pair is alive in some version. (A look and a command may need memory.)
+abbrev pub IsFreeIn : Past → Event → Type 0
+IsFreeIn past (Sweep moment) = Unit {0}
+IsFreeIn past (Undo moment) = (ticket : ℕ) × (last_of past.marks.done ≡ Some ticket) × IsFlush past ticket
+IsFreeIn past (Redo moment) = (ticket : ℕ) × (last_of past.marks.undone ≡ Some ticket) × IsFlush past ticket
+IsFreeIn past (Admit moment find) = IsAliveInVersion past (max past.now moment) (pair_of find)
+IsFreeIn past event = ⊥
