@@ -37,9 +37,30 @@ def check_hints(checks):
     for name, arguments in (("16 hints", hints[:16]), ("hints round an option", [*hints[:3], "--journal", "1", *hints[3:16]])):
         done = run([RESOLVER, "script", *arguments], b"servers a.\n")
         checks.equal(name, (done.status, done.out, done.err), (0, f"servers . hints{told}\n".encode(), b""))
-    for arguments in (hints, [*hints[:2], "ns.test."], ["1.2.3@53"], ["::1@0"], ["192.0.2.1@65536"], ["192.0.2.01"], [""]):
+    form = "not an IP address; the form is IP@PORT, or IP for port 53"
+    port = "the port is not a number from 1 to 65535"
+    for arguments, why in (
+        (hints, "HINT: 17 addresses; the most are 16"),
+        ([*hints[:2], "ns.test.", "@"], f"HINT ns.test.: {form}"),
+        (["1.2.3@53"], f"HINT 1.2.3@53: {form}"),
+        (["192.0.2.01"], f"HINT 192.0.2.01: {form}"),
+        (["192.0.2.1:53"], f"HINT 192.0.2.1:53: {form}"),
+        (["[::1]@53"], f"HINT [::1]@53: {form}"),
+        ([""], f"HINT : {form}"),
+        (["@53"], f"HINT @53: {form}"),
+        (["::1@0"], f"HINT ::1@0: {port}"),
+        (["192.0.2.1@65536"], f"HINT 192.0.2.1@65536: {port}"),
+        (["192.0.2.1@"], f"HINT 192.0.2.1@: {port}"),
+        (["192.0.2.1@53@53"], f"HINT 192.0.2.1@53@53: {port}"),
+        # What would end the line, or move a terminal's cursor, is a question mark.
+        (["a\nb\x1b[2J\x7fé"], f"HINT a?b?[2J?é: {form}"),
+    ):
         done = run([RESOLVER, "script", *arguments], b"servers a.\n")
-        checks.equal(f"hints {' '.join(arguments)}", (done.status, done.out, done.err), (2, b"", b"resolver: bad arguments\n"))
+        wanted = f"resolver: bad arguments\nresolver: {why}\n".encode()
+        checks.equal(f"hints {arguments}", (done.status, done.out, done.err), (2, b"", wanted))
+    done = run([RESOLVER, "script", b"\xff"])
+    wanted = b"resolver: bad arguments\nresolver: an argument is not UTF-8\n"
+    checks.equal("an argument that is not UTF-8", (done.status, done.out, done.err), (2, b"", wanted))
 
 
 def check_help(checks):

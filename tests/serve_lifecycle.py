@@ -12,8 +12,15 @@ from lib.nameserver import NameServers, bound
 from lib.programs import RESOLVER, library, run
 from lib.service import CANNOT_LISTEN, HOST, STOPPED, NotReady, Service, free_port, query, until
 
-BAD = b"resolver: bad arguments\n"
+FORM = "not an IP address; the form is IP@PORT, or IP for port 53"
+MANY = "too many workers; the most are 16 together"
+PORT = "the port is not a number from 1 to 65535"
 NOT_LOOPBACK = b"resolver: control must be loopback\n"
+
+
+def bad(why):
+    """What is told of bad arguments: the fixed line, and why."""
+    return f"resolver: bad arguments\nresolver: {why}\n".encode()
 
 
 def serve(*arguments):
@@ -49,20 +56,24 @@ def check_usage(checks):
 
 
 def check_addresses(checks):
-    """Addresses and counts, and then the control address: the first fault is reported."""
+    """Addresses and counts, and then the control address: the first fault is reported, with the argument and the reason."""
     listen, control, hint = "127.0.0.1@1", "127.0.0.1@2", "192.0.2.1"
     for listen_at, control_at, rest, wanted in [
-        ("127.0.0.1:1", control, [hint], BAD),
-        ("localhost", control, [hint], BAD),
-        ("127.0.0.1@0", control, [hint], BAD),
-        (listen, "127.0.0.1@65536", [hint], BAD),
-        (listen, control, ["ns.test."], BAD),
-        (listen, control, [], BAD),
-        (listen, control, [hint] * 17, BAD),
-        (listen, control, ["--udp", "16", hint], BAD),
-        (listen, control, ["--udp", "8", "--tcp", "9", hint], BAD),
-        (listen, "192.0.2.1@2", ["--udp", "16", hint], BAD),
-        (listen, "192.0.2.1@2", [], BAD),
+        ("127.0.0.1:1", control, [hint], bad(f"--listen 127.0.0.1:1: {FORM}")),
+        ("localhost", control, [hint], bad(f"--listen localhost: {FORM}")),
+        ("example.org@5300", control, [hint], bad(f"--listen example.org@5300: {FORM}")),
+        ("127.0.0.1@0", control, [hint], bad(f"--listen 127.0.0.1@0: {PORT}")),
+        (listen, "127.0.0.1@65536", [hint], bad(f"--control 127.0.0.1@65536: {PORT}")),
+        (listen, "[::1]@53", [hint], bad(f"--control [::1]@53: {FORM}")),
+        ("localhost", "localhost", [hint], bad(f"--listen localhost: {FORM}")),
+        ("localhost", control, ["ns.test."], bad(f"HINT ns.test.: {FORM}")),
+        (listen, control, ["ns.test."], bad(f"HINT ns.test.: {FORM}")),
+        (listen, control, [], bad("HINT: missing; a service needs the address of a root server")),
+        (listen, control, [hint] * 17, bad("HINT: 17 addresses; the most are 16")),
+        (listen, control, ["--udp", "16", hint], bad(f"--udp 16 and --tcp 1: {MANY}")),
+        (listen, control, ["--udp", "8", "--tcp", "9", hint], bad(f"--udp 8 and --tcp 9: {MANY}")),
+        (listen, "192.0.2.1@2", ["--udp", "16", hint], bad(f"--udp 16 and --tcp 1: {MANY}")),
+        (listen, "192.0.2.1@2", [], bad("HINT: missing; a service needs the address of a root server")),
         (listen, "192.0.2.1@2", [hint], NOT_LOOPBACK),
         (listen, "0.0.0.0@2", [hint], NOT_LOOPBACK),
         (listen, "128.0.0.1@2", [hint], NOT_LOOPBACK),
@@ -74,7 +85,8 @@ def check_addresses(checks):
 
 
 def check_binding(checks):
-    """A port in use, over UDP or TCP, for questions or for control; and an address of another machine."""
+    """A port in use, over UDP or TCP, for questions or for control; and an address of another machine. Each says why."""
+    in_use = b"\nresolver: Address already in use (os error 98)\n"
     free = f"{HOST}@{free_port()}"
     for kind, name in ((socket.SOCK_DGRAM, "UDP"), (socket.SOCK_STREAM, "TCP")):
         port = free_port()
@@ -83,17 +95,18 @@ def check_binding(checks):
                 sock.listen()
             used = f"{HOST}@{port}"
             done = serve("--listen", used, "--control", free, "192.0.2.1")
-            checks.equal(f"listen in use over {name}", (done.status, done.out, done.err), (1, b"", CANNOT_LISTEN + used.encode() + b"\n"))
+            wanted = (1, b"", CANNOT_LISTEN + used.encode() + in_use)
+            checks.equal(f"listen in use over {name}", (done.status, done.out, done.err), wanted)
             if kind == socket.SOCK_STREAM:
                 done = serve("--listen", free, "--control", used, "192.0.2.1")
-                wanted = (1, b"", CANNOT_LISTEN + used.encode() + b"\n")
                 checks.equal("control in use", (done.status, done.out, done.err), wanted)
+    elsewhere = b"\nresolver: Cannot assign requested address (os error 99)\n"
     done = serve("--listen", "192.0.2.1@5300", "--control", free, "192.0.2.1")
-    checks.equal("another's address", (done.status, done.out, done.err), (1, b"", CANNOT_LISTEN + b"192.0.2.1@5300\n"))
+    checks.equal("another's address", (done.status, done.out, done.err), (1, b"", CANNOT_LISTEN + b"192.0.2.1@5300" + elsewhere))
     with Service(["192.0.2.1"]) as service:
         used = f"{HOST}@{service.port}"
         done = serve("--listen", used, "--control", free, "192.0.2.1")
-        checks.equal("a second service", (done.status, done.err), (1, CANNOT_LISTEN + used.encode() + b"\n"))
+        checks.equal("a second service", (done.status, done.err), (1, CANNOT_LISTEN + used.encode() + in_use))
         checks.equal("with a second service: stopped", service.stop(), STOPPED)
 
 
@@ -180,7 +193,7 @@ def check_control_program(checks):
     done = run([RESOLVER, "control"])
     checks.equal("control with no address", (done.out, done.status), (b"", 2))
     done = run([RESOLVER, "control", "nowhere", "undo"])
-    checks.equal("control with no address of a service", (done.out, done.err, done.status), (b"", BAD, 2))
+    checks.equal("control with no address of a service", (done.out, done.err, done.status), (b"", bad(f"ADDR nowhere: {FORM}"), 2))
 
 
 def check_silent_server(checks):

@@ -1,5 +1,5 @@
 -- What a command becomes as arguments are added to it.
-use Rattle.std.proofs.Common.{◌≡◌, ◌∙◌, ◌++◌, ◌∷◌, ◌||◌, [], List, Bool, false, ap, sym, refl, rules, append_assoc, Option, Some, None}
+use Rattle.std.proofs.Common.{◌≡◌, ◌∙◌, ◌++◌, ◌∷◌, ◌||◌, [], List, Bool, false, ap, rules, append_assoc, Option, Some, None}
 use Rattle.std.specs.Prelude.{IsSomeAnd}
 use Rattle.clap.specs.Built.{AddsArg}
 use Rattle.clap.specs.Simple.{App, app_of, new_rule, on_top, with_rule}

@@ -1,18 +1,20 @@
 -- What was given, from what clap's getters answer.
-use Rattle.std.proofs.Common.{◌≡◌, ◌≢◌, ◌∙◌, ◌+◌, ◌<◌, ◌^◌, ◌∷◌, ◌++◌, [], ℕ, List, Option, Some, None, Result, Ok, Err, map, option_map, ap, sym, refl, subst, rules, arith, append_assoc, length, inl, inr, ◌⊎◌}
+use Rattle.std.proofs.Common.{◌≡◌, ◌∙◌, ◌<◌, ◌^◌, ◌∷◌, ◌++◌, [], ℕ, List, Option, Some, None, Result, Ok, Err, map, option_map, ap, sym, refl, subst, arith, append_assoc, length, inl, inr, ◌⊎◌}
 use Rattle.std.specs.Prelude.{Any, MatchResult, zero, suc, slice_index_or, unwrap_or}
 use Rattle.std.specs.List.{join_with_byte}
 use Rattle.std.specs.Borrow.{Bor}
 use Rattle.std.specs.Str.Parse.{ParsesUnsigned, digits_value, without_leading_plus}
 use Rattle.clap.specs.Matches.{TriesOne, first_value, found_of, matched_of, one_text, raw_values}
-use Rattle.clap.specs.Walk.{Row, Text, all_of, first_of, one_of}
+use Rattle.clap.specs.Walk.{Row, Text, all_of, one_of}
 use Rattle.clap.proofs.WalkLemmas.{first_value-rows, one_text-rows, raw_values-rows}
 use Rattle.clap.specs.declared.parser.matches.ArgMatches.{ArgMatches}
 use Rattle.dns_text.specs.declared.addr.Addr.{Addr}
 use Rattle.dns_text.specs.Addr.{addr_in}
 use Rattle.resolver_args.specs.Given.{AreAddrs, GivesAddr, GivesAddrs, GivesNumber, LacksAddr, LacksAddrs, LacksNumber, LacksOption, MayGive, WritesNumber, rows_in}
-use Rattle.resolver_args.specs.Says.{GivesService, GivesSettings, RefusedFor}
+use Rattle.resolver_args.specs.Says.{GivesService, GivesSettings, IsBad, RefusedFor}
+use Rattle.resolver_args.specs.Blame.{BlamesService, BlamesWord}
 use Rattle.resolver_args.specs.declared.fault.ArgsFault.{ArgsFault}
+use Rattle.resolver_args.specs.declared.fault.ArgsFault.TheVariants.{NoMemory, Usage, BadArguments, NotLoopback}
 use Rattle.resolver_args.specs.declared.mode.Service.{Service}
 use Rattle.history.specs.declared.event.Settings.{Settings}
 
@@ -27,6 +29,25 @@ one_number rows name m n first second =
 pub for_reason : {P Q : Type 0} (fault : ArgsFault) → (P → Q) → RefusedFor P fault → RefusedFor Q fault
 for_reason fault leads (inl is) = inl is
 for_reason fault leads (inr why) = inr (why.0, leads why.1)
+
+-- An argument that is blamed is bad.
+pub blames_word : (name word : Text) (fault : ArgsFault) → BlamesWord name word fault → IsBad fault
+blames_word name word NoMemory blamed = absurd blamed
+blames_word name word (Usage _) blamed = absurd blamed
+blames_word name word (BadArguments _) blamed = tt
+blames_word name word NotLoopback blamed = absurd blamed
+
+pub blames_service : (service : Service) (fault : ArgsFault) → BlamesService service fault → IsBad fault
+blames_service service NoMemory blamed = absurd blamed
+blames_service service (Usage _) blamed = absurd blamed
+blames_service service (BadArguments _) blamed = tt
+blames_service service NotLoopback blamed = absurd blamed
+
+-- A word that is blamed refuses the arguments, for what its being no address leads to.
+pub word_refuses : {Q : Type 0} (name word : Text) (fault : ArgsFault) → (addr_in word ≡ None → Q)
+    → (fault ≡ NoMemory) ⊎ ((addr_in word ≡ None) × BlamesWord name word fault) → RefusedFor Q fault
+word_refuses name word fault leads (inl is) = inl is
+word_refuses name word fault leads (inr why) = inr (blames_word name word fault why.1, leads why.0)
 
 -- What is no number of 32 bits is none of 8.
 pub fewer_bits : (rows : List Row) (name : Text) → LacksNumber 32 rows name → LacksNumber 8 rows name

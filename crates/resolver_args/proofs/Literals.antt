@@ -7,7 +7,6 @@ use Rattle.clap.specs.Walk.{Row, Text, all_of, one_of}
 use Rattle.clap.proofs.OnLiterals.{clap_on_literals}
 use Rattle.dns_text.specs.declared.addr.Addr.{Addr}
 use Rattle.dns_text.specs.Addr.{addr_in}
-use Rattle.history.specs.declared.event.Settings.{Settings}
 use Rattle.resolver_args.specs.CommandLine.{resolver_app}
 use Rattle.resolver_args.specs.Given.{GivesAddrs, GivesNumber}
 

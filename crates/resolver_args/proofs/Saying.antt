@@ -1,7 +1,7 @@
 -- What words say, from what clap makes of them.
-use Rattle.std.proofs.Common.{◌≡◌, ◌≢◌, ◌∙◌, ◌⊎◌, inl, inr, ap, sym, refl, subst, codes, List, [], Option, Some, None, Bool, true}
+use Rattle.std.proofs.Common.{◌≡◌, ◌≢◌, ◌∙◌, ◌⊎◌, inl, inr, ap, sym, refl, subst, codes, List, [], Option, Some, None, true}
 use Rattle.clap.specs.Faults.{fault_of, is_simple_and_free}
-use Rattle.clap.specs.Kinds.{HasKind, IsAmong, Kinds}
+use Rattle.clap.specs.Kinds.{HasKind, IsAmong}
 use Rattle.clap.specs.Simple.{App, HasMatchesOf, is_simple as is_simple_app, subcommand_of, subcommand_rows_of}
 use Rattle.clap.specs.Values.{kind_of}
 use Rattle.clap.specs.Walk.{Row, Text}
@@ -12,7 +12,7 @@ use Rattle.clap.specs.declared.error.kind.ErrorKind.TheVariants.{OutOfMemory}
 use Rattle.resolver_args.specs.CommandLine.{resolver_app}
 use Rattle.resolver_args.specs.Given.{LacksAddr}
 use Rattle.resolver_args.specs.Mode.{HasNumbers}
-use Rattle.resolver_args.specs.Says.{Gives, IsUsage, LacksMode, Refuses, RefusesMode, Says}
+use Rattle.resolver_args.specs.Says.{Gives, IsBad, IsUsage, LacksMode, Refuses, RefusesMode, Says}
 use Rattle.resolver_args.specs.declared.fault.ArgsFault.{ArgsFault}
 use Rattle.resolver_args.specs.declared.fault.ArgsFault.TheVariants.{NoMemory, Usage, BadArguments, NotLoopback}
 use Rattle.resolver_args.specs.declared.mode.Mode.{Mode}
@@ -40,10 +40,17 @@ pub refuses_usage : (words : List Text) (fault : ArgsFault) (error : Error) → 
     → (fault ≡ NoMemory) ⊎ (IsUsage fault × (kind_of error ≢ OutOfMemory)) → Refuses words fault
 refuses_usage words fault error kinds (inl is) = subst (Refuses words) (sym is) tt
 refuses_usage words NoMemory error kinds (inr usage) = absurd usage.0
-refuses_usage words BadArguments error kinds (inr usage) = absurd usage.0
+refuses_usage words (BadArguments _) error kinds (inr usage) = absurd usage.0
 refuses_usage words NotLoopback error kinds (inr usage) = absurd usage.0
 refuses_usage words (Usage text) error (inl memory) (inr usage) = absurd (usage.1 memory)
 refuses_usage words (Usage text) error (inr among) (inr usage) = λ none. subst (IsAmong (kind_of error)) none among
+
+-- An argument is bad, and there is no mode.
+pub refuses_bad : (words : List Text) (fault : ArgsFault) → IsBad fault → ((mode : Mode) → Says words mode → ⊥) → Refuses words fault
+refuses_bad words NoMemory bad none = absurd bad
+refuses_bad words (Usage _) bad none = absurd bad
+refuses_bad words (BadArguments _) bad none = none
+refuses_bad words NotLoopback bad none = absurd bad
 
 pub says : (words : List Text) (name : Text) (rows : List Row) (mode : Mode) → fault_of resolver_app words ≡ []
     → subcommand_of resolver_app words ≡ Some (name, rows) → Gives name rows mode → HasNumbers mode → Says words mode
@@ -55,7 +62,7 @@ same_command a b o first second = cc
 pub refuses_mode : (words : List Text) (name : Text) (rows : List Row) → fault_of resolver_app words ≡ [] → subcommand_of resolver_app words ≡ Some (name, rows)
     → (fault : ArgsFault) → RefusesMode name rows fault → Refuses words fault
 refuses_mode words name rows taken command fault (inl (inl is)) = subst (Refuses words) (sym is) tt
-refuses_mode words name rows taken command fault (inl (inr why)) = subst (Refuses words) (sym why.0) (λ mode said.
+refuses_mode words name rows taken command fault (inl (inr why)) = refuses_bad words fault why.0 (λ mode said.
     let same : said.given.0 ≡ (name, rows) = same_command said.given.0 (name, rows) _ said.given.1 command in
     why.1 mode (subst (λ (p : Text × List Row). Gives p.0 p.1 mode) same said.given.2) said.in_range)
 refuses_mode words name rows taken command fault (inr why) = subst (Refuses words) (sym why.0)

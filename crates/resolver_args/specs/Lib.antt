@@ -1,3 +1,4 @@
+pub mod Blame
 pub mod CommandLine
 pub mod Given
 pub mod Mode

@@ -1,5 +1,5 @@
 -- Ranges of the numbers of a mode, and loopback addresses.
-use Rattle.std.specs.Prelude.{◌≡◌, ◌≤◌, ◌+◌, ℕ, List, [], ◌∷◌, length, slice_index}
+use Rattle.std.specs.Prelude.{◌≡◌, ◌≤◌, ◌+◌, [], ◌∷◌, length, slice_index}
 use Rattle.dns_text.specs.declared.addr.Ip.{Ip}
 use Rattle.dns_text.specs.declared.addr.Ip.TheVariants.{V4, V6}
 use Rattle.history.specs.Event.{AreSettings}

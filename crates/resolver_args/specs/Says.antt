@@ -1,5 +1,5 @@
 -- Command lines and the modes that they give.
-use Rattle.std.specs.Prelude.{◌≡◌, ◌⊎◌, ◌<◌, ◌^◌, ℕ, List, [], Option, Some, String, codes, option_map}
+use Rattle.std.specs.Prelude.{◌≡◌, ◌⊎◌, ◌<◌, ◌^◌, List, [], Option, Some, String, codes, option_map}
 use Rattle.clap.specs.Faults.{fault_of}
 use Rattle.clap.specs.Simple.{subcommand_of}
 use Rattle.clap.specs.Walk.{Row, Text}
@@ -58,7 +58,7 @@ pub record Says (words : List Text) (mode : Mode) : Type 0 where
 abbrev pub Refuses : List Text → ArgsFault → Type 0
 Refuses words NoMemory = Unit {0}
 Refuses words (Usage _) = fault_of resolver_app words ≡ [] → ⊥
-Refuses words BadArguments = (mode : Mode) → Says words mode → ⊥
+Refuses words (BadArguments _) = (mode : Mode) → Says words mode → ⊥
 Refuses words NotLoopback = (service : Service) × Says words (Serve service) × (IsLoopback service.control.ip → ⊥)
 
 -- The fault has lines of clap.
@@ -66,9 +66,14 @@ abbrev pub IsUsage : ArgsFault → Type 0
 IsUsage (Usage _) = Unit {0}
 IsUsage _ = ⊥
 
--- There was no memory, or the arguments are bad for this reason.
+-- An argument is bad.
+abbrev pub IsBad : ArgsFault → Type 0
+IsBad (BadArguments _) = Unit {0}
+IsBad _ = ⊥
+
+-- There was no memory, or an argument is bad and this is so.
 abbrev pub RefusedFor : Type 0 → ArgsFault → Type 0
-RefusedFor reason fault = (fault ≡ NoMemory) ⊎ ((fault ≡ BadArguments) × reason)
+RefusedFor reason fault = (fault ≡ NoMemory) ⊎ (IsBad fault × reason)
 
 -- The options and arguments have no settings in range.
 abbrev pub LacksSettings : List Row → Type 0

@@ -1,26 +1,26 @@
 //! The mode that the arguments give.
 
-ghost use Rattle.std.specs.Prelude.{◌≡◌, ◌≢◌, ◌⊎◌, ◌∷◌, None, Some, Any, map, option_map, codes, IfOk, IfErr};
+ghost use Rattle.std.specs.Prelude.{◌≡◌, ◌≢◌, ◌⊎◌, ◌∷◌, None, Some, map, option_map, codes, IfOk, IfErr};
 ghost use Rattle.std.specs.List.{join_with_byte};
 ghost use Rattle.clap.specs.Simple.{subcommand_rows_of};
 ghost use Rattle.clap.specs.Values.{kind_of};
 ghost use Rattle.clap.specs.declared.error.kind.ErrorKind.TheVariants.{OutOfMemory};
-ghost use Rattle.dns_text.specs.Addr.{addr_in};
 ghost use Rattle.history.specs.Event.{AreSettings};
 ghost use Rattle.resolver_args.specs.declared.mode.Mode.TheVariants.{Control, Serve};
 ghost use Rattle.resolver_args.specs.declared.fault.ArgsFault.TheVariants.{NoMemory};
-ghost use Rattle.resolver_args.specs.Given.{AreAddrs, GivesAddr, GivesAddrs, GivesLine, GivesNumber, rows_in};
+ghost use Rattle.resolver_args.specs.Given.{GivesAddr, GivesAddrs, GivesLine, GivesNumber, rows_in};
 ghost use Rattle.resolver_args.specs.Given.{LacksAddr, LacksAddrs, LacksNumber, LacksOption, MayGive};
 ghost use Rattle.resolver_args.specs.Mode.{HasNumbers, IsLoopback};
-ghost use Rattle.resolver_args.specs.Says.{Gives, GivesService, GivesSettings, IsGuarded, IsUsage, LacksSettings};
+ghost use Rattle.resolver_args.specs.Says.{Gives, GivesService, GivesSettings, IsBad, IsGuarded, IsUsage, LacksSettings};
 ghost use Rattle.resolver_args.specs.Says.{RefusedFor, Refuses, RefusesMode, RefusesService, Says, text_of};
 
-use crate::fault::ArgsFault;
-use crate::mode::{Mode, Service, settings_of};
+use crate::address::{addr_of, addrs_of};
+use crate::fault::{ArgsFault, BadArgument};
+use crate::mode::{Mode, Service, misfit_of, settings_of};
 use crate::options::{LinesHelp, command};
 use clap::error::ErrorKind;
 use clap::{ArgMatches, Error};
-use dns_text::{Addr, Items, read_addr};
+use dns_text::{Addr, Items};
 use history::Settings;
 use std::alloc::{AllocError, Global};
 
@@ -37,68 +37,64 @@ fn usage(alloc: Global, error: &Error) -> ArgsFault
     }
 }
 
+/// An option or a command that `clap` should have rejected.
+fn unfit(shown: &'static str) -> ArgsFault
+    ensures { IsBad result }
+{
+    ArgsFault::BadArguments(BadArgument::Unfit(shown))
+}
+
 /// The number of an option, if it has one.
-fn number_in(found: &ArgMatches<'_>, name: &str) -> Result<Option<u32>, ArgsFault>
+fn number_in(
+    found: &ArgMatches<'_>,
+    name: &str,
+    shown: &'static str,
+) -> Result<Option<u32>, ArgsFault>
     ensures given { IfOk result (MayGive (rows_in found.now) name.now) }
     ensures fault { IfErr result (RefusedFor (LacksOption (rows_in found.now) name.now)) }
 {
     match found.try_get_one::<u32>(name) {
         Ok(number) => Ok(number),
-        Err(_) => Err(ArgsFault::BadArguments),
+        Err(_) => Err(unfit(shown)),
     }
 }
 
 /// The number of an option that has one, if only by default.
-fn count_in(found: &ArgMatches<'_>, name: &str) -> Result<u32, ArgsFault>
+fn count_in(found: &ArgMatches<'_>, name: &str, shown: &'static str) -> Result<u32, ArgsFault>
     ensures given { IfOk result (GivesNumber (rows_in found.now) name.now) }
     ensures fault { IfErr result (RefusedFor (LacksNumber 32 (rows_in found.now) name.now)) }
 {
-    match number_in(found, name)? {
+    match number_in(found, name, shown)? {
         Some(count) => Ok(count),
-        None => Err(ArgsFault::BadArguments),
+        None => Err(unfit(shown)),
     }
 }
 
 /// The number of workers of an option.
-fn workers_in(found: &ArgMatches<'_>, name: &str) -> Result<u8, ArgsFault>
+fn workers_in(found: &ArgMatches<'_>, name: &str, shown: &'static str) -> Result<u8, ArgsFault>
     ensures given { IfOk result (GivesNumber (rows_in found.now) name.now) }
     ensures fault { IfErr result (RefusedFor (LacksNumber 8 (rows_in found.now) name.now)) }
 {
-    match u8::try_from(count_in(found, name)?) {
+    match u8::try_from(count_in(found, name, shown)?) {
         Ok(workers) => Ok(workers),
-        Err(_) => Err(ArgsFault::BadArguments),
+        Err(_) => Err(unfit(shown)),
     }
 }
 
-/// The address of an option or argument.
-fn addr_in(found: &ArgMatches<'_>, name: &str) -> Result<Addr, ArgsFault>
+/// The address of an option or argument, which is shown by this name.
+fn addr_in(
+    alloc: Global,
+    found: &ArgMatches<'_>,
+    name: &str,
+    shown: &'static str,
+) -> Result<Addr, ArgsFault>
     ensures given { IfOk result (GivesAddr (rows_in found.now) name.now) }
     ensures fault { IfErr result (RefusedFor (LacksAddr (rows_in found.now) name.now)) }
 {
-    let Some(text) = found.get_str(name) else {
-        return Err(ArgsFault::BadArguments);
-    };
-    match read_addr(text.as_bytes()) {
-        Ok(addr) => Ok(addr),
-        Err(_) => Err(ArgsFault::BadArguments),
+    match found.get_str(name) {
+        Some(text) => addr_of(alloc, shown, text),
+        None => Err(unfit(shown)),
     }
-}
-
-/// The addresses that these texts write.
-fn addrs_of(alloc: Global, texts: &[&str]) -> Result<Vec<Addr>, ArgsFault>
-    ensures addrs { IfOk result (λ addrs. AreAddrs (map (λ text. text.now) texts.now) addrs.items) }
-    ensures fault { IfErr result (RefusedFor (Any (λ text. addr_in text.now ≡ None) texts.now)) }
-{
-    let mut addrs = Vec::new(alloc);
-    for text in texts {
-        let Ok(addr) = read_addr(text.as_bytes()) else {
-            return Err(ArgsFault::BadArguments);
-        };
-        if addrs.push(addr).is_err() {
-            return Err(ArgsFault::NoMemory);
-        }
-    }
-    Ok(addrs)
 }
 
 /// The hints, in order.
@@ -107,7 +103,7 @@ fn hints_in(alloc: Global, found: &ArgMatches<'_>) -> Result<Items<Addr>, ArgsFa
     ensures fault { IfErr result (RefusedFor (LacksAddrs (rows_in found.now) (codes "HINT"))) }
 {
     match found.get_strs("HINT") {
-        Some(texts) => Ok(Items::new(addrs_of(alloc, texts)?)),
+        Some(texts) => Ok(Items::new(addrs_of(alloc, "HINT", texts)?)),
         None => Ok(Items::new(Vec::new(alloc))),
     }
 }
@@ -118,13 +114,14 @@ fn settings_in(alloc: Global, found: &ArgMatches<'_>) -> Result<Settings, ArgsFa
     ensures in_range { IfOk result (λ settings. AreSettings settings) }
     ensures fault { IfErr result (RefusedFor (LacksSettings (rows_in found.now))) }
 {
-    let journal = count_in(found, "journal")?;
-    let cells = count_in(found, "cells")?;
+    let journal = count_in(found, "journal", "--journal")?;
+    let cells = count_in(found, "cells", "--cells")?;
     let hints = hints_in(alloc, found)?;
-    let server_port = count_in(found, "server-port")?;
+    let server_port = count_in(found, "server-port", "--server-port")?;
+    let misfit = misfit_of(hints.as_slice().len());
     match settings_of(journal, cells, hints, server_port) {
         Some(settings) => Ok(settings),
-        None => Err(ArgsFault::BadArguments),
+        None => Err(ArgsFault::BadArguments(misfit)),
     }
 }
 
@@ -136,12 +133,12 @@ fn service_in(alloc: Global, found: &ArgMatches<'_>) -> Result<Service, ArgsFaul
 {
     let service = Service {
         settings: settings_in(alloc, found)?,
-        listen: addr_in(found, "listen")?,
-        control: addr_in(found, "control")?,
-        udp: workers_in(found, "udp")?,
-        tcp: workers_in(found, "tcp")?,
-        record_limit: u64::from(count_in(found, "record")?),
-        seed: number_in(found, "seed")?,
+        listen: addr_in(alloc, found, "listen", "--listen")?,
+        control: addr_in(alloc, found, "control", "--control")?,
+        udp: workers_in(found, "udp", "--udp")?,
+        tcp: workers_in(found, "tcp", "--tcp")?,
+        record_limit: u64::from(count_in(found, "record", "--record")?),
+        seed: number_in(found, "seed", "--seed")?,
     };
     service.checked()
 }
@@ -183,7 +180,7 @@ fn control_in(alloc: Global, found: &ArgMatches<'_>) -> Result<Mode, ArgsFault>
     ensures given { IfOk result (λ mode. Gives (codes "control") (rows_in found.now) mode × (HasNumbers mode × IsGuarded mode)) }
     ensures fault { IfErr result (RefusedFor (LacksAddr (rows_in found.now) (codes "ADDR"))) }
 {
-    let addr = addr_in(found, "ADDR")?;
+    let addr = addr_in(alloc, found, "ADDR", "ADDR")?;
     let line = line_in(alloc, found)?;
     Ok(Mode::Control { addr, line })
 }
@@ -198,7 +195,7 @@ fn mode_in(alloc: Global, name: &str, found: &ArgMatches<'_>) -> Result<Mode, Ar
         "script" => Ok(Mode::Script(settings_in(alloc, found)?)),
         "serve" => Ok(Mode::Serve(service_in(alloc, found)?)),
         "control" => control_in(alloc, found),
-        _ => Err(ArgsFault::BadArguments),
+        _ => Err(unfit("COMMAND")),
     }
 }
 
@@ -223,6 +220,6 @@ pub fn read_args(alloc: Global, words: &[&str]) -> Result<Mode, ArgsFault>
     };
     match command_in(&found) {
         Some((name, inner)) => mode_in(alloc, name, inner),
-        None => Err(ArgsFault::BadArguments),
+        None => Err(unfit("COMMAND")),
     }
 }

@@ -7,12 +7,14 @@ mod fault;
 mod mode;
 // The commands of the program, as help shows them.
 mod options;
+// Addresses that words of the command line write.
+mod address;
 // The mode that the arguments give.
 mod args;
 // Laws of two command lines.
 mod laws;
 
 pub use args::read_args;
-pub use fault::ArgsFault;
+pub use fault::{ArgsFault, BadArgument};
 pub use laws::{defaults_law, given_law};
 pub use mode::{MOST_WORKERS, Mode, Service};

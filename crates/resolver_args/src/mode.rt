@@ -2,10 +2,11 @@
 
 ghost use Rattle.std.specs.Prelude.{◌≡◌, ◌↔◌, ◌⊎◌, ◌<◌, ◌^◌, IsTrue, IsSome, IfOk, IfErr, IfSome};
 ghost use Rattle.history.specs.Event.{AreSettings};
-ghost use Rattle.resolver_args.specs.declared.fault.ArgsFault.TheVariants.{BadArguments, NotLoopback};
+ghost use Rattle.resolver_args.specs.declared.fault.ArgsFault.TheVariants.{NotLoopback};
+ghost use Rattle.resolver_args.specs.Blame.{BlamesHints, BlamesCount, BlamesService};
 ghost use Rattle.resolver_args.specs.Mode.{IsLoopback, HasCounts, IsService};
 
-use crate::fault::ArgsFault;
+use crate::fault::{ArgsFault, BadArgument};
 use dns_text::{Addr, Ip, Items};
 use history::{MOST_CELLS, MOST_COMMANDS, MOST_HINTS, Settings};
 use shared_book::MOST_RECORDED;
@@ -71,6 +72,16 @@ pub(crate) fn settings_of(
     }
 }
 
+/// The number that does not fit, of settings with so many hints. `clap` holds the others to their ranges.
+pub(crate) fn misfit_of(hints: usize) -> BadArgument
+    ensures { BlamesHints hints result }
+{
+    if hints > MOST_HINTS {
+        return BadArgument::ManyHints(hints);
+    }
+    BadArgument::Unfit("--journal, --cells or --server-port")
+}
+
 /// Whether only this machine can send to the address.
 fn is_loopback(ip: &Ip) -> bool
     ensures { IsTrue result ↔ IsLoopback ip.now }
@@ -93,16 +104,30 @@ impl Service {
         has_hints && has_each && has_few && has_record
     }
 
+    /// The number that does not fit, if not all of them do.
+    fn misfit(&self) -> BadArgument
+        ensures { BlamesCount self.now result }
+    {
+        if self.settings.hints.as_slice().is_empty() {
+            return BadArgument::NoHint;
+        }
+        let (udp, tcp) = (self.udp, self.tcp);
+        if u16::from(udp) + u16::from(tcp) > u16::from(MOST_WORKERS) {
+            return BadArgument::ManyWorkers { udp, tcp };
+        }
+        BadArgument::Unfit("--udp, --tcp or --record")
+    }
+
     /// Returns the service if it can run. Checks its numbers before its control address.
     pub(crate) fn checked(self) -> Result<Service, ArgsFault>
         requires { AreSettings self.settings }
         ensures same { IfOk result (λ service. service ≡ self) }
         ensures fit { IfOk result IsService }
-        ensures fault { IfErr result (λ fault. ((fault ≡ BadArguments) × ¬ HasCounts self)
+        ensures fault { IfErr result (λ fault. (BlamesService self fault × ¬ HasCounts self)
             ⊎ ((fault ≡ NotLoopback) × (HasCounts self × ¬ IsLoopback self.control.ip))) }
     {
         if !self.has_counts() {
-            return Err(ArgsFault::BadArguments);
+            return Err(ArgsFault::BadArguments(self.misfit()));
         }
         if !is_loopback(&self.control.ip) {
             return Err(ArgsFault::NotLoopback);

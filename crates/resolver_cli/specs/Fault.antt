@@ -1,5 +1,5 @@
 -- The ends of a run that failed.
-use Rattle.std.specs.Prelude.{◌≡◌, ◌++◌, ℕ, List, codes}
+use Rattle.std.specs.Prelude.{◌≡◌, ◌++◌, ◌⊎◌, ◌==◌, ◌||◌, ℕ, List, codes, map, nat_lt, if◌then◌else◌}
 use Rattle.dns_text.specs.declared.addr.Addr.{Addr}
 use Rattle.dns_text.specs.Addr.{addr_text}
 use Rattle.resolver_args.specs.declared.fault.ArgsFault.{ArgsFault}
@@ -12,13 +12,29 @@ use Rattle.streams.specs.Text.{octets_in}
 abbrev pub Ends : CliFault → ℕ → List ℕ → Type 0
 Ends fault status words = (fault.status ≡ status) × (octets_in fault.text ≡ with_end words)
 
+-- An octet as a line shows it: one that would end the line, or move the cursor of a terminal, is a question mark.
+abbrev pub shown : ℕ → ℕ
+shown octet = if nat_lt octet 32 || octet == 127 then 63 else octet
+
+-- A line that says why.
+abbrev pub why_line : List ℕ → List ℕ
+why_line why = with_end (codes "resolver: " ++ map shown why)
+
+-- The first line has these words, and the second says why.
+abbrev pub HasWhy : List ℕ → List ℕ → Type 0
+HasWhy words lines = (why : List ℕ) × (lines ≡ with_end words ++ why_line why)
+
+-- The program ends with this status, and writes these words as a line to standard error, and one that says why.
+abbrev pub EndsWhy : CliFault → ℕ → List ℕ → Type 0
+EndsWhy fault status words = (fault.status ≡ status) × HasWhy words (octets_in fault.text)
+
 -- Memory ran out at the start.
 abbrev pub IsNoMemory : CliFault → Type 0
 IsNoMemory fault = Ends fault 1 (codes "resolver: no memory")
 
--- An argument is not UTF-8 or no address, or there are too few or too many hints or workers.
+-- An argument is not UTF-8 or no address, or there are too few or too many hints or workers. If there is memory, it says which.
 abbrev pub IsBadArguments : CliFault → Type 0
-IsBadArguments fault = Ends fault 2 (codes "resolver: bad arguments")
+IsBadArguments fault = EndsWhy fault 2 (codes "resolver: bad arguments") ⊎ Ends fault 2 (codes "resolver: bad arguments")
 
 -- Other machines could reach the control address.
 abbrev pub IsNotLoopback : CliFault → Type 0
@@ -36,9 +52,9 @@ IsFailedWrite fault = Ends fault 1 (codes "resolver: write failed")
 abbrev pub CannotStart : CliFault → Type 0
 CannotStart fault = Ends fault 1 (codes "resolver: cannot start")
 
--- The service cannot listen at this address.
+-- The service cannot listen at this address, and why.
 abbrev pub CannotListen : Addr → CliFault → Type 0
-CannotListen addr fault = Ends fault 1 (codes "resolver: cannot listen on " ++ addr_text addr)
+CannotListen addr fault = EndsWhy fault 1 (codes "resolver: cannot listen on " ++ addr_text addr)
 
 -- No service listens at this address.
 abbrev pub HasNoService : Addr → CliFault → Type 0
@@ -52,5 +68,5 @@ IsUsage lines fault = (fault.status ≡ 2) × (octets_in fault.text ≡ lines)
 abbrev pub EndsFor : ArgsFault → CliFault → Type 0
 EndsFor NoMemory fault = IsNoMemory fault
 EndsFor (Usage lines) fault = IsUsage lines.bytes.items fault
-EndsFor BadArguments fault = IsBadArguments fault
+EndsFor (BadArguments _) fault = IsBadArguments fault
 EndsFor NotLoopback fault = IsNotLoopback fault

@@ -1,14 +1,16 @@
-//! The end of a run that failed: its exit status, and the line for standard error.
+//! The end of a run that failed: its exit status, and the lines for standard error.
 
-ghost use Rattle.std.specs.Prelude.{◌≡◌, ◌++◌, ◌⊎◌, IfOk};
+ghost use Rattle.std.specs.Prelude.{◌≡◌, ◌++◌, ◌⊎◌, IfOk, OnOk, codes};
 ghost use Rattle.dns_text.specs.Addr.{addr_text};
 ghost use Rattle.streams.specs.Split.{with_end};
-ghost use Rattle.resolver_cli.specs.Fault.{Ends, IsNoMemory, IsBadArguments, IsNotLoopback, EndsFor, IsFailedRead, IsFailedWrite, CannotStart, CannotListen, HasNoService};
+ghost use Rattle.resolver_cli.specs.Fault.{Ends, IsNoMemory, IsBadArguments, IsNotLoopback, EndsFor, IsFailedRead, IsFailedWrite, shown, why_line, HasWhy, CannotStart, CannotListen, HasNoService};
 
 use dns_name::NoMemory;
 use dns_text::{Addr, push_addr};
 use resolver_args::ArgsFault;
-use std::alloc::Global;
+use std::alloc::{AllocError, Global};
+use std::fmt::Display;
+use std::io;
 use streams::Text;
 
 /// A failure that ends the program.
@@ -16,7 +18,7 @@ use streams::Text;
 pub struct CliFault {
     /// The exit status.
     pub status: u8,
-    /// The line for standard error.
+    /// The lines for standard error: what failed, and often a second one that says why.
     pub text: Text,
 }
 
@@ -31,13 +33,20 @@ impl CliFault {
         }
     }
 
-    /// An argument is not UTF-8 or no address, or there are too few or too many hints or workers.
-    pub fn bad_arguments() -> CliFault
+    /// An argument is not UTF-8 or no address, or there are too few or too many hints or workers. The second line says which,
+    /// unless there is no memory for it.
+    pub fn bad_arguments<W: Display>(alloc: Global, why: &W) -> CliFault
         ensures { IsBadArguments result }
     {
-        CliFault {
-            status: 2,
-            text: Text::Fixed(b"resolver: bad arguments\n"),
+        match explained(alloc, b"resolver: bad arguments", why) {
+            Ok(lines) => CliFault {
+                status: 2,
+                text: Text::Made(lines),
+            },
+            Err(_) => CliFault {
+                status: 2,
+                text: Text::Fixed(b"resolver: bad arguments\n"),
+            },
         }
     }
 
@@ -81,11 +90,17 @@ impl CliFault {
         }
     }
 
-    /// The service cannot listen at this address.
-    pub fn cannot_listen(alloc: Global, addr: &Addr) -> CliFault
+    /// The service cannot listen at this address. The second line is what the system says of it.
+    pub fn cannot_listen(alloc: Global, addr: &Addr, error: &io::Error) -> CliFault
         ensures { CannotListen addr.now result ⊎ IsNoMemory result }
     {
-        at_addr(alloc, b"resolver: cannot listen on ", addr)
+        match unbound(alloc, addr, error) {
+            Ok(lines) => CliFault {
+                status: 1,
+                text: Text::Made(lines),
+            },
+            Err(_) => CliFault::no_memory(),
+        }
     }
 
     /// No service listens at this address.
@@ -96,20 +111,70 @@ impl CliFault {
     }
 }
 
-impl From<ArgsFault> for CliFault {
-    ghost from_gives = { λ fault ended. EndsFor fault ended };
-
-    fn from(fault: ArgsFault) -> CliFault {
-        match fault {
-            ArgsFault::NoMemory => CliFault::no_memory(),
-            ArgsFault::Usage(lines) => CliFault {
-                status: 2,
-                text: Text::Made(lines.into_bytes()),
-            },
-            ArgsFault::BadArguments => CliFault::bad_arguments(),
-            ArgsFault::NotLoopback => CliFault::not_loopback(),
-        }
+/// The end of a run whose arguments select no mode.
+pub(crate) fn end_for(alloc: Global, fault: ArgsFault) -> CliFault
+    ensures { EndsFor fault result }
+{
+    match fault {
+        ArgsFault::NoMemory => CliFault::no_memory(),
+        ArgsFault::Usage(lines) => CliFault {
+            status: 2,
+            text: Text::Made(lines.into_bytes()),
+        },
+        ArgsFault::BadArguments(why) => CliFault::bad_arguments(alloc, &why),
+        ArgsFault::NotLoopback => CliFault::not_loopback(),
     }
+}
+
+/// An octet as a line shows it: one that would end the line, or move the cursor of a terminal, is a question mark.
+fn shown(octet: u8) -> u8
+    ensures { result ≡ shown octet }
+{
+    if octet < 32 || octet == 127 {
+        b'?'
+    } else {
+        octet
+    }
+}
+
+/// Writes a line that says why.
+fn push_why(lines: &mut Vec<u8>, why: &[u8]) -> Result<(), AllocError>
+    ensures { OnOk result (lines.new.items ≡ lines.old.items ++ why_line why.now) }
+{
+    lines.extend_from_slice(b"resolver: ")?;
+    for octet in why {
+        lines.push(shown(*octet))?;
+    }
+    lines.push(b'\n')?;
+    Ok(())
+}
+
+/// A line of these words, and one that says why.
+fn with_why(alloc: Global, words: &[u8], why: &[u8]) -> Result<Vec<u8>, AllocError>
+    ensures { IfOk result (λ lines. HasWhy words.now lines.items) }
+{
+    let mut lines = Vec::from_slice(alloc, words)?;
+    lines.push(b'\n')?;
+    push_why(&mut lines, why)?;
+    Ok(lines)
+}
+
+/// A line of these words, and one that says why.
+fn explained<W: Display>(alloc: Global, words: &[u8], why: &W) -> Result<Vec<u8>, AllocError>
+    ensures { IfOk result (λ lines. HasWhy words.now lines.items) }
+{
+    let why = why.to_string(alloc)?;
+    with_why(alloc, words, why.as_bytes())
+}
+
+/// The line for an address at which nothing can listen, and one that says why.
+fn unbound(alloc: Global, addr: &Addr, error: &io::Error) -> Result<Vec<u8>, NoMemory>
+    ensures { IfOk result (λ lines. HasWhy (codes "resolver: cannot listen on " ++ addr_text addr.now) lines.items) }
+{
+    let why = error.to_string(alloc)?;
+    let mut lines = line_of(alloc, b"resolver: cannot listen on ", addr)?;
+    push_why(&mut lines, why.as_bytes())?;
+    Ok(lines)
 }
 
 /// A line of these words and an address.

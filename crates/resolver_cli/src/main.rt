@@ -25,7 +25,7 @@ ghost use Rattle.resolver_args.specs.Says.{Says, IsGuarded};
 
 use client::send;
 use dns_text::Addr;
-use fault::CliFault;
+use fault::{CliFault, end_for};
 use resolver_args::{Mode, read_args};
 use script::obey_input;
 use service::serve;
@@ -50,9 +50,12 @@ fn mode_of(alloc: Global, words: &[String]) -> Result<Mode, CliFault>
     ensures said { IfOk result (Says (map (λ word. word.bytes.items) words.now)) }
     ensures guarded { IfOk result IsGuarded }
 {
-    match texts_of(alloc, words) {
-        Ok(texts) => Ok(read_args(alloc, texts.as_slice())?),
-        Err(_) => Err(CliFault::no_memory()),
+    let Ok(texts) = texts_of(alloc, words) else {
+        return Err(CliFault::no_memory());
+    };
+    match read_args(alloc, texts.as_slice()) {
+        Ok(mode) => Ok(mode),
+        Err(fault) => Err(end_for(alloc, fault)),
     }
 }
 
@@ -71,7 +74,7 @@ fn arguments(rt: &HostRuntime) -> Result<Mode, CliFault>
             if error.kind() == ErrorKind::OutOfMemory {
                 return Err(CliFault::no_memory());
             }
-            Err(CliFault::bad_arguments())
+            Err(CliFault::bad_arguments(rt.alloc(), &"an argument is not UTF-8"))
         }
     }
 }

@@ -36,7 +36,7 @@ fn listening<S>(alloc: Global, addr: &Addr, socket: io::Result<S>) -> Result<S, 
             if error.kind() == ErrorKind::OutOfMemory {
                 return Err(CliFault::no_memory());
             }
-            Err(CliFault::cannot_listen(alloc, addr))
+            Err(CliFault::cannot_listen(alloc, addr, &error))
         }
     }
 }

@@ -1,4 +1,4 @@
-use Rattle.std.proofs.Common.{◌≡◌, ◌∙◌, Some, None, [], codes, map, refl, rules, sym}
+use Rattle.std.proofs.Common.{◌≡◌, Some, None, [], codes, map, rules}
 use Rattle.std.specs.Prelude.{Any, IfErr}
 use Rattle.std.proofs.lemmas.Result.{IfErr-weaker}
 use Rattle.clap.specs.Walk.{all_of}

@@ -1,4 +1,4 @@
-use Rattle.std.proofs.Common.{◌≡◌, ◌∙◌, Some, None, codes, List, Option, ap, map, option_map, refl, rules, sym}
+use Rattle.std.proofs.Common.{◌≡◌, ◌∙◌, Some, None, codes, List, Option, ap, map, option_map, rules, sym}
 use Rattle.std.specs.List.{join_with_byte}
 use Rattle.clap.specs.Walk.{Text, all_of}
 use Rattle.resolver_args.specs.Given.{rows_in}

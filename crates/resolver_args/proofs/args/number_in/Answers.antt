@@ -1,4 +1,4 @@
-use Rattle.std.proofs.Common.{Ok, Err, ℕ, List, Result, refl, inr}
+use Rattle.std.proofs.Common.{Ok, Err, ℕ, List, Result, inr}
 use Rattle.std.specs.Str.Parse.{ParsesUnsigned, ExplainsUnsignedError, HasUnsignedDigitsIfOk}
 use Rattle.std.specs.declared.num.ParseIntError.{ParseIntError}
 use Rattle.resolver_args.proofs.Giving.{tried}
@@ -13,4 +13,4 @@ returns-in-Ok-clause-given c =
 
 pub returns-in-Err-clause-fault : goal.returns-in-Err-clause-fault
 returns-in-Err-clause-fault c =
-    inr (refl, tried ParseIntError parses c.args.found.now c.args.name.now (Err c.in-Err.field-0) (λ u x g. g.0) c.in-Err.ensures.none c.in-Err.ensures.value)
+    inr (c.unfit.ensures, tried ParseIntError parses c.args.found.now c.args.name.now (Err c.in-Err.field-0) (λ u x g. g.0) c.in-Err.ensures.none c.in-Err.ensures.value)

@@ -6,7 +6,7 @@ use Rattle.clap.specs.Kinds.{HasKind}
 use Rattle.clap.specs.Simple.{App, app_of, subcommand_of}
 use Rattle.resolver_args.specs.CommandLine.{resolver_app}
 use Rattle.resolver_args.specs.Given.{rows_in}
-use Rattle.resolver_args.proofs.Saying.{command_is, is_simple, no_command, refuses_mode, refuses_usage, says}
+use Rattle.resolver_args.proofs.Saying.{command_is, is_simple, no_command, refuses_bad, refuses_mode, refuses_usage, says}
 use Rattle.resolver_args.proofs.args.read_args.Goals as goal
 
 pub returns-in-Err-clause-refused : goal.returns-in-Err-clause-refused
@@ -41,4 +41,4 @@ returns-clause-refused c =
     let is : app_of c.in_ok-command.command ≡ resolver_app = c.in_ok-command.ensures in
     let none : subcommand_of resolver_app words ≡ None =
     sym (c.in-None.ensures ∙ command_is (app_of c.in_ok-command.command) words c.in-Ok.found is c.in-Ok.ensures.matches) in
-    no_command words none
+    refuses_bad words c.unfit.result c.unfit.ensures (no_command words none)

@@ -1,5 +1,5 @@
-use Rattle.std.proofs.Common.{rules, arith, codes, refl, sym, subst, inl, inr, ◌≡◌, ◌<◌}
-use Rattle.std.specs.Prelude.{IfErr, IfOk}
+use Rattle.std.proofs.Common.{rules, arith, codes, sym, subst, inl, inr}
+use Rattle.std.specs.Prelude.{IfErr}
 use Rattle.std.proofs.lemmas.Result.{IfErr-weaker}
 use Rattle.std.proofs.lemmas.Result.{IfOk-weaker}
 use Rattle.history.specs.Event.{AreSettings}
@@ -7,7 +7,7 @@ use Rattle.resolver_args.specs.Given.{LacksAddr, LacksNumber, LacksOption, rows_
 use Rattle.resolver_args.specs.Mode.{HasCounts}
 use Rattle.resolver_args.specs.Says.{GivesService, LacksService, RefusedFor, RefusesService}
 use Rattle.resolver_args.specs.declared.mode.Service.{Service}
-use Rattle.resolver_args.proofs.Giving.{for_reason, one_service}
+use Rattle.resolver_args.proofs.Giving.{blames_service, for_reason, one_service}
 use Rattle.resolver_args.proofs.args.service_in.Goals as goal
 
 pub returns-in_err-addr_in-clause-fault : goal.returns-in_err-addr_in-clause-fault
@@ -83,6 +83,6 @@ returns-clause-fault c =
     let rows = rows_in c.args.found.now in
     let fits : AreSettings c.in_ok-settings_in.field-0 = c.in_ok-settings_in.ensures.in_range in
     IfErr-weaker c.checked.result _ _ (λ fault why. elim why as (λ w. RefusesService rows fault) [
-      | inl bad ↦ inl (inr (bad.0, λ service given in_range. bad.1 (subst HasCounts (one_service rows service (made c) given (built c)) in_range.1)))
+      | inl bad ↦ inl (inr (blames_service (made c) fault bad.0, λ service given in_range. bad.1 (subst HasCounts (one_service rows service (made c) given (built c)) in_range.1)))
       | inr why ↦ inr (why.0, (made c, built c, (fits, why.1.0), why.1.1))
     ]) c.checked.ensures.fault

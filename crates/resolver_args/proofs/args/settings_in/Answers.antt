@@ -1,10 +1,10 @@
-use Rattle.std.proofs.Common.{rules, arith, codes, refl, sym, subst, inr, ℕ, ◌≡◌, ◌<◌, ◌^◌, true, false}
+use Rattle.std.proofs.Common.{rules, arith, codes, subst, inr, ℕ, ◌≡◌, ◌<◌, ◌^◌, true, false}
 use Rattle.std.specs.Prelude.{IfErr}
 use Rattle.std.proofs.lemmas.Result.{IfErr-weaker}
 use Rattle.history.specs.Event.{AreSettings}
 use Rattle.history.specs.declared.event.Settings.{Settings}
 use Rattle.resolver_args.specs.Given.{LacksNumber, rows_in}
-use Rattle.resolver_args.specs.Says.{GivesSettings, LacksSettings, RefusedFor}
+use Rattle.resolver_args.specs.Says.{LacksSettings, RefusedFor}
 use Rattle.resolver_args.proofs.Giving.{for_reason, one_addrs, one_number, same_settings}
 use Rattle.resolver_args.proofs.args.settings_in.Goals as goal
 
@@ -31,7 +31,7 @@ returns-in_err-server_port-clause-fault c =
 
 pub returns-in-None-clause-fault : goal.returns-in-None-clause-fault
 returns-in-None-clause-fault c = inr (
-  refl,
+  tt,
   λ s given fits.
       let rows = rows_in c.args.found.now in
       let made : Settings = record {

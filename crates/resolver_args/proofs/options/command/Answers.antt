@@ -3,7 +3,6 @@ use Rattle.std.proofs.lemmas.Result.{IfOk-weaker}
 use Rattle.clap.specs.Simple.{App, app_of, app_of_fields, new_app, on_top, with_subcommand}
 use Rattle.clap.specs.declared.builder.command.Command.{Command}
 use Rattle.clap.specs.declared.builder.command.Command.TheOpen.{Command-F}
-use Rattle.resolver_args.specs.CommandLine.{control_shape, resolver_app, script_shape, serve_shape}
 use Rattle.resolver_args.proofs.options.command.Goals as goal
 
 abbrev wants_subcommand : App → App
