@@ -207,13 +207,19 @@ def check_silent_server(checks):
 
 
 def check_signal(checks):
-    """SIGTERM ends the service by the signal, and the log has no last line."""
-    with Service(["192.0.2.1"]) as service:
-        service.logged(b"resolver: started")
-        service.process.terminate()
-        checks.equal("SIGTERM", service.wait(), (-signal.SIGTERM, b""))
-        words = [line.partition(b"resolver: ")[2] for line in service.log().splitlines()]
-        checks.equal("SIGTERM: the log", words, [b"started"])
+    """SIGTERM, SIGINT and SIGHUP end the service by the signal, and the log has no last line. Under `nohup` a SIGHUP does nothing."""
+    for number in (signal.SIGTERM, signal.SIGINT, signal.SIGHUP):
+        with Service(["192.0.2.1"]) as service:
+            service.logged(b"resolver: started")
+            service.process.send_signal(number)
+            checks.equal(number.name, service.wait(), (-number, b""))
+            words = [line.partition(b"resolver: ")[2] for line in service.log().splitlines()]
+            checks.equal(f"{number.name}: the log", words, [b"started"])
+    with Service(["192.0.2.1"], prefix=["nohup"]) as service:
+        service.process.send_signal(signal.SIGHUP)
+        service.obey("local_data a. 60 A 192.0.2.1")
+        checks.equal("SIGHUP under nohup", service.ask("a.").words(), "aa | answer a. A 192.0.2.1")
+        checks.equal("SIGHUP under nohup: stopped", service.stop(), STOPPED)
 
 
 NO_MEMORY = b"resolver: no memory\n"

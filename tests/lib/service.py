@@ -140,10 +140,10 @@ class NotReady(RuntimeError):
 class Service:
     """A service that is ready, until it is stopped. At the end of a `with` it is killed if it still runs."""
 
-    def __init__(self, hints, *options, host=HOST, listens=None, environment=None, most_descriptors=None, program=RESOLVER):
-        """It gets queries and lines at `host`, and listens there, or at `listens`."""
+    def __init__(self, hints, *options, host=HOST, listens=None, environment=None, most_descriptors=None, program=RESOLVER, prefix=()):
+        """It gets queries and lines at `host`, and listens there, or at `listens`. A prefix is a command that starts it."""
         self.host, self.listens = host, listens or host
-        self.command = [program, "serve"]
+        self.command = [*prefix, program, "serve"]
         if most_descriptors:
             self.command = ["prlimit", f"--nofile={most_descriptors}", *self.command]
         for _ in range(20):
