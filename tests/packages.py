@@ -7,6 +7,7 @@ import shlex
 import shutil
 import subprocess
 import tempfile
+import time
 
 from lib.checks import Checks
 from lib.programs import RESOLVER, TOP, read, run
@@ -50,30 +51,40 @@ def check_unit(checks):
     checks.equal("the systemd unit", (done.returncode, done.stdout, done.stderr), (0, b"", b""))
 
 
-def check_commands(checks, name, starting, stopping):
-    """Runs the command line that starts the service and the one that stops it, at free ports."""
+def check_commands(checks, name, starting, stopping, waiting=None):
+    """Runs the command line that starts the service and the one that stops it, at free ports. A third waits until it is ready."""
     ports = {":53": free_port(), ":8953": free_port()}
 
     def here(words):
-        moved = [re.sub(r"^[\d.]+@(53|8953)$", lambda found: f"{HOST}@{ports[':' + found[1]]}", word) for word in words]
-        return [RESOLVER if word == PROGRAM else word for word in moved]
+        moved = [re.sub(r"\b[\d.]+@(53|8953)\b", lambda found: f"{HOST}@{ports[':' + found[1]]}", word) for word in words]
+        return [word.replace(PROGRAM, RESOLVER) for word in moved]
 
+    waiter = waiting and subprocess.Popen(here(waiting), stdout=subprocess.PIPE, stderr=subprocess.STDOUT)
+    if waiter:
+        time.sleep(0.5)
+        checks.equal(f"{name}: before it starts it is not ready", waiter.poll(), None)
     with subprocess.Popen(here(starting), stdout=subprocess.PIPE, stderr=subprocess.PIPE, env={}) as service:
         try:
             checks.equal(f"{name}: it starts", service.stdout.readline(), b"ready\n")
+            if waiter:
+                checks.equal(f"{name}: it is ready", (waiter.wait(60), waiter.stdout.read()), (0, b""))
             done = run(here(stopping))
             checks.equal(f"{name}: its stop", (done.status, done.out), (0, b"ok stopping\n"))
             checks.equal(f"{name}: its end", service.wait(60), 0)
         finally:
             service.kill()
+            if waiter:
+                waiter.kill()
+                waiter.stdout.close()
 
 
 def main():
     checks = Checks()
     check_manual(checks)
     check_unit(checks)
-    unit = dict(re.findall(r"^(ExecStart|ExecStop)=(.*)$", packaged("resolver.service"), re.MULTILINE))
-    check_commands(checks, "the systemd unit", shlex.split(unit["ExecStart"]), shlex.split(unit["ExecStop"]))
+    unit = dict(re.findall(r"^(ExecStart|ExecStartPost|ExecStop)=(.*)$", packaged("resolver.service"), re.MULTILINE))
+    words = [shlex.split(unit[name]) for name in ("ExecStart", "ExecStop", "ExecStartPost")]
+    check_commands(checks, "the systemd unit", *words)
     image = packaged("Containerfile")
     starting = [json.loads(re.search(rf"^{word} (.*)$", image, re.MULTILINE)[1]) for word in ("ENTRYPOINT", "CMD")]
     stopping = re.search(r"exec resolver resolver (control .* stop)$", image, re.MULTILINE)[1].split()
