@@ -347,39 +347,26 @@ def check_descriptors(checks):
         checks.equal("descriptors again: stopped", service.stop(), STOPPED)
 
 
-def check_idle_operator(service, first):
-    """The replies to an operator who waits for one who sends nothing."""
-    with service.control() as second:
-        second.sock.settimeout(180)
-        second.sock.sendall(b"stop\n")
-        told = second.line()
-    first.close()
-    return told, *service.wait()
-
-
 def main():
     checks = Checks()
-    with Service(["192.0.2.1"]) as service, ThreadPoolExecutor(1) as pool:
-        waiting = pool.submit(check_idle_operator, service, service.control().sock)
-        checks.make(check_servers)
-        checks.make(check_servers_of_tcp_clients)
-        for over in ("udp", "tcp"):
-            for settings in DISTURBED:
-                checks.make(check_disturbed, over, settings)
-        checks.make(check_early)
-        checks.make(check_large, {})
-        checks.make(check_large, {"SIGNALS": 1, "PIECE": 10_000})
-        checks.make(check_dead_ports)
-        checks.make(check_pipelined, {})
-        checks.make(check_pipelined, {"SIGNALS": 1, "PIECE": 100})
-        checks.make(check_slow_clients)
-        checks.make(check_gone_clients)
-        checks.make(check_no_port)
-        checks.make(check_crowd)
-        checks.make(check_ipv6_servers)
-        checks.make(check_burst)
-        checks.make(check_descriptors)
-        checks.equal("an operator after an idle one", waiting.result(), STOPPED)
+    checks.make(check_servers)
+    checks.make(check_servers_of_tcp_clients)
+    for over in ("udp", "tcp"):
+        for settings in DISTURBED:
+            checks.make(check_disturbed, over, settings)
+    checks.make(check_early)
+    checks.make(check_large, {})
+    checks.make(check_large, {"SIGNALS": 1, "PIECE": 10_000})
+    checks.make(check_dead_ports)
+    checks.make(check_pipelined, {})
+    checks.make(check_pipelined, {"SIGNALS": 1, "PIECE": 100})
+    checks.make(check_slow_clients)
+    checks.make(check_gone_clients)
+    checks.make(check_no_port)
+    checks.make(check_crowd)
+    checks.make(check_ipv6_servers)
+    checks.make(check_burst)
+    checks.make(check_descriptors)
     checks.end()
 
 

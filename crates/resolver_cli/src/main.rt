@@ -12,6 +12,12 @@ mod client;
 mod sockets;
 // One worker, in a thread of its own.
 mod worker;
+// The octets with which an operator's line may begin.
+mod first_octet;
+// The operators that wait for their turn.
+mod operator_queue;
+// The turn of an operator, and the patience with it.
+mod operator_turn;
 // The control socket of a service.
 mod operators;
 // Sweeps of a service's cache.

@@ -1,5 +1,7 @@
 //! The control socket, which serves one operator at a time.
 
+use crate::operator_queue::OperatorQueue;
+use crate::operator_turn::Turn;
 use crate::worker::Lent;
 use command_text::serve_control;
 use dns_sockets::{MonotonicClock, REST_SECONDS};
@@ -7,36 +9,29 @@ use front_workers::DEVICE_FAULT;
 use log::{Log, warn};
 use shared_book::{CallLedger, Seat};
 use std::alloc::Global;
-use std::net::{TcpListener, TcpStream};
+use std::net::TcpStream;
 use std::rt::Clock;
 use std::sync::Wait;
+use std::thread;
 use std::time::Duration;
-use std::{io, thread};
 use streams::{CountedReader, CountedWriter, Ended};
 use undo_book::ShelfBook;
 
-/// How long an operator may send nothing, or read nothing, in seconds. The others wait meanwhile.
-const PATIENCE_SECONDS: u64 = 60;
-
-/// The connection of the next operator, with its timeouts set.
-fn next_operator(listener: &TcpListener) -> io::Result<TcpStream> {
-    let (stream, _) = listener.accept()?;
-    let patience = Some(Duration::from_secs(PATIENCE_SECONDS));
-    stream.set_read_timeout(patience)?;
-    stream.set_write_timeout(patience)?;
-    stream.set_nodelay(true)?;
-    Ok(stream)
-}
-
 /// Obeys an operator's lines. It returns whether one of them was `stop`.
-fn obey_operator<L: CallLedger, R: Wait + Clock>(
+fn obey_operator<'a, 'q, L: CallLedger, R: Wait + Clock + Log>(
+    rt: &'a R,
     alloc: Global,
     desk: &mut Seat<'_, ShelfBook, L, R>,
     clock: &mut MonotonicClock<'_, R>,
-    stream: &TcpStream,
+    stream: &'a TcpStream,
+    queue: &'a mut OperatorQueue<'q>,
 ) -> bool {
-    let mut reader = CountedReader::new(stream);
-    let mut writer = CountedWriter::new(stream);
+    let Ok(turn) = Turn::new(rt, stream, queue) else {
+        warn!(rt; "{DEVICE_FAULT}");
+        return false;
+    };
+    let mut reader = CountedReader::new(&turn);
+    let mut writer = CountedWriter::new(&turn);
     matches!(
         serve_control(alloc, desk, clock, &mut reader, &mut writer),
         Ok(Ended::Stop)
@@ -52,10 +47,11 @@ pub(crate) fn obey_operators<L: CallLedger, R: Wait + Clock + Log>(
     mut desk: Seat<'_, ShelfBook, L, R>,
 ) {
     let mut clock = MonotonicClock::new(rt, lent.terms.start);
+    let mut queue = OperatorQueue::new(alloc, &lent.sockets.control);
     for _ in rt.forever() {
-        match next_operator(&lent.sockets.control) {
+        match queue.next() {
             Ok(stream) => {
-                if obey_operator(alloc, &mut desk, &mut clock, &stream) {
+                if obey_operator(rt, alloc, &mut desk, &mut clock, &stream, &mut queue) {
                     return;
                 }
             }

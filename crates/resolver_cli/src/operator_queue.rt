@@ -1,0 +1,118 @@
+//! The queue of operators: the listener of the control socket, and the connections that wait for their turn.
+
+ghost use Rattle.std.specs.Prelude.{◌<◌, vec_len, IfSome};
+
+use crate::first_octet::begins_line;
+use dns_sockets::would_wait;
+use std::alloc::Global;
+use std::io;
+use std::net::{TcpListener, TcpStream};
+
+/// The most connections that wait here. More wait in the system's own queue.
+const MOST_WAITING: usize = 16;
+
+/// The most connections that are accepted at once, so that a crowd of them delays no line for long.
+const MOST_ACCEPTED: u32 = 256;
+
+/// The octets of a connection at which the queue looks: more than the longest line has.
+const LOOK: usize = 2048;
+
+/// Whether serving a connection would wait for nothing: it has sent a whole line, begins as no line does, or has ended.
+fn is_ready(stream: &TcpStream) -> bool {
+    let mut room = [0u8; LOOK];
+    if stream.set_nonblocking(true).is_err() {
+        return true;
+    }
+    let seen = stream.peek(&mut room);
+    if stream.set_nonblocking(false).is_err() {
+        return true;
+    }
+    match seen {
+        Ok(count) => count == 0 || !begins_line(room[0]) || room[..count].contains(&b'\n'),
+        Err(error) => would_wait(error).is_err(),
+    }
+}
+
+/// The operators that wait for their turn, in the order in which they came.
+#[derive(Drop)]
+pub(crate) struct OperatorQueue<'a> {
+    listener: &'a TcpListener,
+    waiting: Vec<TcpStream>,
+}
+
+impl<'a> OperatorQueue<'a> {
+    /// The queue of a listener, in which nobody waits.
+    pub fn new(alloc: Global, listener: &'a TcpListener) -> OperatorQueue<'a> {
+        OperatorQueue {
+            listener,
+            waiting: Vec::new(alloc),
+        }
+    }
+
+    /// Accepts a connection if one has come in.
+    fn accept_now(&self) -> io::Result<Option<TcpStream>> {
+        self.listener.set_nonblocking(true)?;
+        let came = self.listener.accept();
+        self.listener.set_nonblocking(false)?;
+        match came {
+            Ok((stream, _)) => Ok(Some(stream)),
+            Err(error) => {
+                let _ = would_wait(error)?;
+                Ok(None)
+            }
+        }
+    }
+
+    /// The place of the first connection that is ready, or of the first that is not.
+    fn first(&self, ready: bool) -> Option<usize>
+        ensures { IfSome result (λ place. place < vec_len self.now.waiting) }
+    {
+        for (place, stream) in self.waiting.iter().enumerate() {
+            if is_ready(stream) == ready {
+                return Some(place);
+            }
+        }
+        None
+    }
+
+    /// Takes in a connection if one has come in. If the queue is full, the first that is not ready gives up its place. Returns
+    /// whether one was taken in.
+    fn take_one(&mut self) -> io::Result<bool> {
+        let is_full = self.waiting.len() >= MOST_WAITING;
+        let idle = if is_full { self.first(false) } else { None };
+        if is_full && idle.is_none() {
+            return Ok(false);
+        }
+        let Some(stream) = self.accept_now()? else {
+            return Ok(false);
+        };
+        if let (true, Some(place)) = (is_full, idle) {
+            drop(self.waiting.remove(place));
+        }
+        // If there is no memory for its place, it is closed.
+        let _ = self.waiting.push(stream);
+        Ok(true)
+    }
+
+    /// Takes in the connections that have come in, and returns whether any waits for its turn.
+    pub fn gather(&mut self) -> io::Result<bool> {
+        for _ in 0..MOST_ACCEPTED {
+            if !self.take_one()? {
+                break;
+            }
+        }
+        Ok(!self.waiting.is_empty())
+    }
+
+    /// The connection whose turn it is: the first that is ready, or else the first. If none waits, waits for one.
+    pub fn next(&mut self) -> io::Result<TcpStream> {
+        let gathered = self.gather();
+        if self.waiting.is_empty() {
+            let _ = gathered?;
+            let (stream, _) = self.listener.accept()?;
+            return Ok(stream);
+        }
+        let place = self.first(true).unwrap_or(0);
+        Ok(self.waiting.remove(place))
+    }
+}
