@@ -1,6 +1,8 @@
-"""Who comes to the control socket: strangers that speak something else, and operators that hold it."""
+"""Who comes to the control socket, and `resolver control`: strangers that speak something else, operators that hold it, and lines of
+standard input over one connection."""
 
 import socket
+import subprocess
 import threading
 import time
 from concurrent.futures import ThreadPoolExecutor
@@ -10,6 +12,7 @@ from lib.programs import RESOLVER, run
 from lib.service import HOST, STOPPED, Service
 
 CLOSED = b"resolver: control connection closed: it begins as no command does"
+NO_REPLY = "resolver: no reply from {}\n"
 
 # How long an operator waits behind whoever holds the socket: a second of the one whose turn it is, and what a loaded machine adds.
 WAIT_SECONDS = 3
@@ -154,8 +157,159 @@ def check_operators_at_once(checks):
         checks.equal("fifty operators: stopped", service.stop(), STOPPED)
 
 
+class FakeService:
+    """A control socket that answers each line with its number, or as it is told to, and counts the connections."""
+
+    def __init__(self, serve):
+        self.listener = socket.create_server((HOST, 0))
+        self.addr = f"{HOST}@{self.listener.getsockname()[1]}"
+        self.accepted = 0
+        self.lines = 0
+        self.serve = serve
+        self.released = threading.Semaphore(0)
+        self.thread = threading.Thread(target=self._run, daemon=True)
+        self.thread.start()
+
+    def _run(self):
+        while True:
+            try:
+                sock, _ = self.listener.accept()
+            except OSError:
+                return
+            self.accepted += 1
+            with sock, sock.makefile("rb") as file:
+                try:
+                    self.serve(self, sock, file)
+                except OSError:
+                    pass
+
+    def answer(self, sock):
+        self.lines += 1
+        sock.sendall(b"ok %d\n" % self.lines)
+
+    def __enter__(self):
+        return self
+
+    def __exit__(self, *_):
+        self.listener.shutdown(socket.SHUT_RDWR)
+        self.listener.close()
+        self.thread.join()
+
+
+def answer_all(service, sock, file):
+    for _ in file:
+        service.answer(sock)
+
+
+def answer_one(service, sock, file):
+    if file.readline():
+        service.answer(sock)
+
+
+def answer_none(service, _sock, file):
+    file.read()
+    service.released.acquire(timeout=10)
+
+
 def control(addr, *words, text=b""):
     return run([RESOLVER, "control", addr, *words], text)
+
+
+def numbered(count):
+    return b"".join(b"ok %d\n" % number for number in range(1, count + 1))
+
+
+def check_one_connection(checks):
+    """A thousand lines go over one connection, and the replies come in order."""
+    with FakeService(answer_all) as service:
+        done = control(service.addr, text=b"undo\n" * 1_000)
+        checks.equal("a thousand lines", (done.out, done.err, done.status), (numbered(1_000), b"", 0))
+        checks.equal("a thousand lines: connections", service.accepted, 1)
+    with Service(["192.0.2.1"]) as service:
+        addr = f"{HOST}@{service.control_port}"
+        done = control(addr, text=RECORDS)
+        checks.equal("a thousand records", (done.out, done.err, done.status), (numbered(1_000), b"", 0))
+        # More than the buffers of both ends take.
+        done = control(addr, text=b"list_local_data\n" * 8)
+        checks.equal("long replies", (done.out.count(b"\n"), done.err, done.status), (1_001 * 8, b"", 0))
+        done = control(addr, text=b"stop\nundo\n")
+        checks.equal("behind stop", (done.out, done.status), (b"ok stopping\n", 1))
+        checks.equal("a thousand lines: stopped", service.wait(), (0, b""))
+
+
+class Typist:
+    """`resolver control` at whose standard input lines come one by one."""
+
+    def __init__(self, addr, *options):
+        command = [RESOLVER, "control", *options, addr]
+        self.process = subprocess.Popen(command, stdin=subprocess.PIPE, stdout=subprocess.PIPE, stderr=subprocess.PIPE)
+
+    def type(self, line):
+        self.process.stdin.write(line + b"\n")
+        self.process.stdin.flush()
+        return self.process.stdout.readline()
+
+    def end(self):
+        out, err = self.process.communicate(timeout=20)
+        return out, err, self.process.returncode
+
+
+def check_typed(checks):
+    """Lines that come one by one: each reply comes before the next line, and a connection that the service ended is made anew."""
+    with FakeService(answer_one) as service:
+        typist = Typist(service.addr)
+        for number in range(1, 4):
+            checks.equal(f"ended behind each line: line {number}", typist.type(b"undo"), b"ok %d\n" % number)
+            time.sleep(0.3)
+        checks.equal("ended behind each line", typist.end(), (b"", b"", 0))
+        checks.equal("ended behind each line: connections", service.accepted, 3)
+        # Of lines that were sent and not replied to nobody knows whether they were obeyed.
+        done = control(service.addr, text=b"undo\nundo\n")
+        checks.equal("ended behind the first of two lines", (done.out, done.err, done.status), (b"ok 4\n", b"resolver: read failed\n", 1))
+    with Service(["192.0.2.1"]) as service:
+        typist = Typist(f"{HOST}@{service.control_port}", "--seconds", "5")
+        checks.equal("an idle client", typist.type(b"local_zone a. static"), b"ok 1\n")
+        began = time.monotonic()
+        checks.equal("behind an idle client", service.obey("undo"), ["undone 1"])
+        took = time.monotonic() - began
+        checks.check("behind an idle client: how soon", None if took < WAIT_SECONDS else f"{took:.1f} s")
+        time.sleep(0.3)
+        checks.equal("an idle client goes on", typist.type(b"redo"), b"redone 1\n")
+        checks.equal("an idle client: refused", typist.type(b"frob"), b"error unknown\n")
+        checks.equal("an idle client: its end", typist.end(), (b"", b"", 1))
+        checks.equal("behind an idle client: stopped", service.stop(), STOPPED)
+
+
+def check_seconds(checks):
+    """A service that does not reply, or to which no connection comes about: a text and a status of its own, in time."""
+    with FakeService(answer_none) as service:
+        told = (b"", NO_REPLY.format(service.addr).encode(), 3)
+        for words, text in ((["undo"], b""), ([], b"undo\n"), ([], b"# a comment\n"), ([], b"list_stubs\n" * 1_000)):
+            began = time.monotonic()
+            done = control("--seconds", "1", service.addr, *words, text=text)
+            took = time.monotonic() - began
+            name = f"no reply to {words} {text[:20]!r}"
+            checks.equal(name, (done.out, done.err, done.status), told)
+            checks.check(f"{name}: how soon", None if 0.9 < took < 2 else f"{took:.1f} s")
+            service.released.release()
+    with socket.create_server((HOST, 0), backlog=0) as listener:
+        addr = f"{HOST}@{listener.getsockname()[1]}"
+        waiting = []
+        for _ in range(4):
+            sock = socket.socket()
+            sock.setblocking(False)
+            sock.connect_ex(listener.getsockname())
+            waiting.append(sock)
+        time.sleep(0.2)
+        done = control("--seconds", "1", addr, "undo")
+        checks.equal("a full queue", (done.out, done.err, done.status), (b"", NO_REPLY.format(addr).encode(), 3))
+        for sock in waiting:
+            sock.close()
+    for seconds in ("0", "86401", "x"):
+        done = control("--seconds", seconds, "127.0.0.1@1", "undo")
+        checks.equal(f"--seconds {seconds}", (done.out, done.status, b"--seconds" in done.err.split(b"\n")[0]), (b"", 2, True))
+    done = control("127.0.0.1@1", "--seconds", "1", "undo")
+    checks.equal("--seconds behind the address", (done.err, done.status), (b"resolver: no service at 127.0.0.1@1\n", 1))
 
 
 def main():
@@ -167,6 +321,9 @@ def main():
             checks.make(check_held, kind)
         checks.make(check_begun_line)
         checks.make(check_operators_at_once)
+        checks.make(check_one_connection)
+        checks.make(check_typed)
+        checks.make(check_seconds)
         nothing = "error nothing_to_undo"
         checks.equal("an operator alone", alone.result(), ([nothing, nothing, "ok stopping"], (0, b"")))
     checks.end()

@@ -15,7 +15,7 @@ with_rules : (app : App) (r s : List Rule) → on_top (λ t. record t { rules = 
     ≡ on_top (λ t. record t { rules = t.rules ++ (r ++ s) }) app
 with_rules app r s = ap (λ (rules : List Rule). on_top (λ t. record t { rules = rules }) app) (append_assoc app.top.rules r s)
 
-one_added : (old new : Command) (a : Arg) (r : Rule) → AddsArg old a new → a.global ≡ false → rule_of a ≡ r → AddsRules old (r ∷ []) new
+pub one_added : (old new : Command) (a : Arg) (r : Rule) → AddsArg old a new → a.global ≡ false → rule_of a ≡ r → AddsRules old (r ∷ []) new
 one_added old new a r added local is = record {
   app = added.shape local ∙ ap (with_rule (app_of old)) is;
   globals = added.globals ∙ (ap (λ (b : Bool). (fields_of old).has_globals || b) local ∙ or_false (fields_of old).has_globals);

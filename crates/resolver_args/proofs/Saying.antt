@@ -10,9 +10,8 @@ use Rattle.clap.proofs.OnLiterals.{clap_on_literals}
 use Rattle.clap.specs.declared.error.Error.{Error}
 use Rattle.clap.specs.declared.error.kind.ErrorKind.TheVariants.{OutOfMemory}
 use Rattle.resolver_args.specs.CommandLine.{resolver_app}
-use Rattle.resolver_args.specs.Given.{LacksAddr}
 use Rattle.resolver_args.specs.Mode.{HasNumbers}
-use Rattle.resolver_args.specs.Says.{Gives, IsBad, IsUsage, LacksMode, Refuses, RefusesMode, Says}
+use Rattle.resolver_args.specs.Says.{Gives, IsBad, IsUsage, LacksControl, LacksMode, Refuses, RefusesMode, Says}
 use Rattle.resolver_args.specs.declared.fault.ArgsFault.{ArgsFault}
 use Rattle.resolver_args.specs.declared.fault.ArgsFault.TheVariants.{NoMemory, Usage, BadArguments, NotLoopback}
 use Rattle.resolver_args.specs.declared.mode.Mode.{Mode}
@@ -31,10 +30,11 @@ pub command_is : (app : App) (words : List Text) (found : ArgMatches) → app �
     → subcommand_rows_of found ≡ subcommand_of resolver_app words
 command_is app words found is matches = (matches (ap is_simple_app is ∙ is_simple_line)).1 ∙ ap (λ (a : App). subcommand_of a words) is
 
-pub no_control : (name : Text) (rows : List Row) → name ≡ codes "control" → LacksAddr rows (codes "ADDR") → LacksMode name rows
+pub no_control : (name : Text) (rows : List Row) → name ≡ codes "control" → LacksControl rows → LacksMode name rows
 no_control name rows is lacks (Script settings) given fits = let e : codes "control" ≡ codes "script" = sym is ∙ given.0 in cc
 no_control name rows is lacks (Serve service) given fits = let e : codes "control" ≡ codes "serve" = sym is ∙ given.0 in cc
-no_control name rows is lacks (Control addr line) given fits = lacks addr given.1.0
+no_control name rows is (inl lacks) (Control addr seconds line) given fits = lacks addr given.1.0
+no_control name rows is (inr lacks) (Control addr seconds line) given fits = lacks seconds fits given.1.1.0
 
 pub refuses_usage : (words : List Text) (fault : ArgsFault) (error : Error) → HasKind (fault_of resolver_app words) error
     → (fault ≡ NoMemory) ⊎ (IsUsage fault × (kind_of error ≢ OutOfMemory)) → Refuses words fault

@@ -11,7 +11,7 @@ use Rattle.clap.specs.declared.builder.value_parser.ValueParser.TheVariants.{Sig
 use Rattle.shared_book.specs.declared.kept.TheConstants.{MOST_RECORDED}
 use Rattle.history.specs.declared.limits.TheConstants.{MOST_CELLS, MOST_COMMANDS}
 use Rattle.resolver_args.specs.declared.mode.TheConstants.{MOST_WORKERS}
-use Rattle.resolver_args.specs.declared.options.TheConstants.{MOST_PORT}
+use Rattle.resolver_args.specs.declared.options.TheConstants.{MOST_PORT, MOST_SECONDS}
 
 -- The option `--name VALUE`, once at most.
 abbrev pub option_rule : Text → Rule
@@ -61,7 +61,11 @@ worker_rules = count_rule (codes "udp") (codes "1") MOST_WORKERS ∷ count_rule 
 abbrev pub record_rules : List Rule
 record_rules = count_rule (codes "record") (codes "10000") MOST_RECORDED ∷ number_rule (codes "seed") 0 4294967295 ∷ []
 
--- An address and a line. Each word after the address belongs to the line, even if it begins with a hyphen.
+-- The time that a client has patience with a service.
+abbrev pub patience_rules : List Rule
+patience_rules = count_rule (codes "seconds") (codes "10") MOST_SECONDS ∷ []
+
+-- An address and a line. Each word after the first of the line belongs to it, even if it begins with a hyphen.
 abbrev pub line_rules : List Rule
 line_rules = required (new_rule (codes "ADDR")) ∷ record (words_rule (codes "LINE")) { trailing_var_arg = true } ∷ []
 
@@ -82,7 +86,7 @@ serve_shape = record (new_shape (codes "serve")) {
 
 -- The subcommand `control`.
 abbrev pub control_shape : Shape
-control_shape = record (new_shape (codes "control")) { rules = line_rules }
+control_shape = record (new_shape (codes "control")) { rules = patience_rules ++ line_rules }
 
 -- The program: one of three subcommands, which must be there.
 abbrev pub resolver_app : App

@@ -1,5 +1,5 @@
 -- Ranges of the numbers of a mode, and loopback addresses.
-use Rattle.std.specs.Prelude.{◌≡◌, ◌≤◌, ◌+◌, [], ◌∷◌, length, slice_index}
+use Rattle.std.specs.Prelude.{◌≡◌, ◌≤◌, ◌<◌, ◌+◌, ◌^◌, [], ◌∷◌, length, slice_index}
 use Rattle.dns_text.specs.declared.addr.Ip.{Ip}
 use Rattle.dns_text.specs.declared.addr.Ip.TheVariants.{V4, V6}
 use Rattle.history.specs.Event.{AreSettings}
@@ -23,11 +23,11 @@ pub record HasCounts (service : Service) : Type 0 where
   pub some_recorded : 1 ≤ service.record_limit
   pub few_recorded : service.record_limit ≤ MOST_RECORDED
 
--- Each number of a mode is in its range.
+-- Each number of a mode is in its range. clap has checked the range of the seconds.
 abbrev pub HasNumbers : Mode → Type 0
 HasNumbers (Script settings) = AreSettings settings
 HasNumbers (Serve service) = AreSettings service.settings × HasCounts service
-HasNumbers (Control _ _) = Unit {0}
+HasNumbers (Control _ seconds _) = seconds < 2 ^ 32
 
 -- A service that can run, and that only this machine can give commands.
 abbrev pub IsService : Service → Type 0

@@ -6,7 +6,7 @@ use Rattle.clap.specs.Walk.{Row, Text}
 use Rattle.history.specs.Event.{AreSettings}
 use Rattle.history.specs.declared.event.Settings.{Settings}
 use Rattle.resolver_args.specs.CommandLine.{resolver_app}
-use Rattle.resolver_args.specs.Given.{GivesAddr, GivesAddrs, GivesLine, GivesNumber, MayGive}
+use Rattle.resolver_args.specs.Given.{GivesAddr, GivesAddrs, GivesLine, GivesNumber, LacksAddr, LacksNumber, MayGive}
 use Rattle.resolver_args.specs.Mode.{HasNumbers, IsLoopback}
 use Rattle.resolver_args.specs.declared.fault.ArgsFault.{ArgsFault}
 use Rattle.resolver_args.specs.declared.fault.ArgsFault.TheVariants.{NoMemory, Usage, BadArguments, NotLoopback}
@@ -40,8 +40,8 @@ text_of = option_map (λ line. line.bytes.items)
 abbrev pub Gives : Text → List Row → Mode → Type 0
 Gives name rows (Script settings) = (name ≡ codes "script") × GivesSettings rows settings
 Gives name rows (Serve service) = (name ≡ codes "serve") × GivesService rows service
-Gives name rows (Control addr line) =
-    (name ≡ codes "control") × (GivesAddr rows (codes "ADDR") addr × GivesLine rows (codes "LINE") (text_of line))
+Gives name rows (Control addr seconds line) = (name ≡ codes "control") × (GivesAddr rows (codes "ADDR") addr
+    × (GivesNumber rows (codes "seconds") seconds × GivesLine rows (codes "LINE") (text_of line)))
 
 -- Only this machine can give commands.
 abbrev pub IsGuarded : Mode → Type 0
@@ -82,6 +82,10 @@ LacksSettings rows = (settings : Settings) → GivesSettings rows settings → A
 -- The options and arguments have no service in range.
 abbrev pub LacksService : List Row → Type 0
 LacksService rows = (service : Service) → GivesService rows service → HasNumbers (Serve service) → ⊥
+
+-- The options and arguments have no address of a service, or no time to wait for it.
+abbrev pub LacksControl : List Row → Type 0
+LacksControl rows = LacksAddr rows (codes "ADDR") ⊎ LacksNumber 32 rows (codes "seconds")
 
 -- The subcommand gives no mode in range.
 abbrev pub LacksMode : Text → List Row → Type 0

@@ -11,7 +11,7 @@ ghost use Rattle.resolver_args.specs.declared.fault.ArgsFault.TheVariants.{NoMem
 ghost use Rattle.resolver_args.specs.Given.{GivesAddr, GivesAddrs, GivesLine, GivesNumber, rows_in};
 ghost use Rattle.resolver_args.specs.Given.{LacksAddr, LacksAddrs, LacksNumber, LacksOption, MayGive};
 ghost use Rattle.resolver_args.specs.Mode.{HasNumbers, IsLoopback};
-ghost use Rattle.resolver_args.specs.Says.{Gives, GivesService, GivesSettings, IsBad, IsGuarded, IsUsage, LacksSettings};
+ghost use Rattle.resolver_args.specs.Says.{Gives, GivesService, GivesSettings, IsBad, IsGuarded, IsUsage, LacksControl, LacksSettings};
 ghost use Rattle.resolver_args.specs.Says.{RefusedFor, Refuses, RefusesMode, RefusesService, Says, text_of};
 
 use crate::address::{addr_of, addrs_of};
@@ -178,11 +178,16 @@ fn line_in(alloc: Global, found: &ArgMatches<'_>) -> Result<Option<String>, Allo
 /// The mode that sends lines to a service.
 fn control_in(alloc: Global, found: &ArgMatches<'_>) -> Result<Mode, ArgsFault>
     ensures given { IfOk result (λ mode. Gives (codes "control") (rows_in found.now) mode × (HasNumbers mode × IsGuarded mode)) }
-    ensures fault { IfErr result (RefusedFor (LacksAddr (rows_in found.now) (codes "ADDR"))) }
+    ensures fault { IfErr result (RefusedFor (LacksControl (rows_in found.now))) }
 {
     let addr = addr_in(alloc, found, "ADDR", "ADDR")?;
+    let seconds = count_in(found, "seconds", "--seconds")?;
     let line = line_in(alloc, found)?;
-    Ok(Mode::Control { addr, line })
+    Ok(Mode::Control {
+        addr,
+        seconds,
+        line,
+    })
 }
 
 /// The mode of a subcommand with its arguments.

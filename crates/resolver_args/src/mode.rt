@@ -18,8 +18,12 @@ pub enum Mode {
     Script(Settings),
     /// Answers queries until an operator stops it.
     Serve(Service),
-    /// Sends a service one line, or each line of standard input.
-    Control { addr: Addr, line: Option<String> },
+    /// Sends a service one line, or each line of standard input, and waits for each reply for so many seconds.
+    Control {
+        addr: Addr,
+        seconds: u32,
+        line: Option<String>,
+    },
 }
 
 /// The settings of a service.

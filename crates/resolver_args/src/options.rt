@@ -5,7 +5,7 @@ ghost use Rattle.clap.specs.declared.builder.command.Command.TheViews.{out-Comma
 ghost use Rattle.clap.specs.Walk.{rule_of};
 ghost use Rattle.clap.specs.Simple.{app_of, shape_of};
 ghost use Rattle.resolver_args.specs.CommandLine.{AddsRules, option_rule, number_rule, count_rule};
-ghost use Rattle.resolver_args.specs.CommandLine.{limit_rules, server_rules, address_rules, worker_rules, record_rules};
+ghost use Rattle.resolver_args.specs.CommandLine.{limit_rules, server_rules, address_rules, worker_rules, record_rules, patience_rules, line_rules};
 ghost use Rattle.resolver_args.specs.CommandLine.{script_shape, serve_shape, control_shape, resolver_app};
 
 use crate::mode::MOST_WORKERS;
@@ -63,6 +63,12 @@ const DEFAULT_WORKERS: &str = "1";
 
 /// The default of `--record`.
 const DEFAULT_RECORD: &str = "10000";
+
+/// The default of `--seconds`. A service gets to an operator within seconds, and replies in less.
+const DEFAULT_SECONDS: &str = "10";
+
+/// The most seconds that `control` waits: a day.
+const MOST_SECONDS: u32 = 86_400;
 
 /// The greatest port.
 const MOST_PORT: u32 = 65_535;
@@ -239,10 +245,23 @@ fn serve_command<'a>(alloc: Global) -> Result<Command<'a>, AllocError>
     )
 }
 
-/// The subcommand `control`. Its help ends with these lines.
-fn control_command<'a>(alloc: Global, lines: &'a str) -> Result<Command<'a>, AllocError>
-    ensures shape { IfOk result (λ command. shape_of command ≡ control_shape) }
-    ensures local { IfOk result (λ command. (fields_of command).has_globals ≡ false) }
+/// The time that a client has patience with a service.
+fn with_patience<'a>(alloc: Global, command: Command<'a>) -> Result<Command<'a>, AllocError>
+    ensures { IfOk result (AddsRules command.entry patience_rules) }
+{
+    let seconds = count(
+        alloc,
+        "seconds",
+        DEFAULT_SECONDS,
+        MOST_SECONDS,
+        "The most seconds to wait for a connection, and then for a reply, 1 to 86400",
+    );
+    command.arg(seconds)
+}
+
+/// The address of a service, and a line for it.
+fn with_line<'a>(alloc: Global, command: Command<'a>) -> Result<Command<'a>, AllocError>
+    ensures { IfOk result (AddsRules command.entry line_rules) }
 {
     let addr = Arg::new(alloc, "ADDR")
         .help("The control address of the service: IP@PORT, or IP for port 53")
@@ -252,11 +271,19 @@ fn control_command<'a>(alloc: Global, lines: &'a str) -> Result<Command<'a>, All
         .action(ArgAction::Append)
         .num_args(0..)
         .trailing_var_arg(true);
-    Command::new(alloc, "control")
+    command.arg(addr)?.arg(line)
+}
+
+/// The subcommand `control`. Its help ends with these lines.
+fn control_command<'a>(alloc: Global, lines: &'a str) -> Result<Command<'a>, AllocError>
+    ensures shape { IfOk result (λ command. shape_of command ≡ control_shape) }
+    ensures local { IfOk result (λ command. (fields_of command).has_globals ≡ false) }
+{
+    let command = Command::new(alloc, "control")
         .about("Sends a service one line, or each line of standard input, and writes the replies")
-        .after_help(lines)
-        .arg(addr)?
-        .arg(line)
+        .after_help(lines);
+    let command = with_patience(alloc, command)?;
+    with_line(alloc, command)
 }
 
 /// The program with its subcommands. It is called `resolver`, whatever its file is called.

@@ -60,6 +60,10 @@ CannotListen addr fault = EndsWhy fault 1 (codes "resolver: cannot listen on " +
 abbrev pub HasNoService : Addr → CliFault → Type 0
 HasNoService addr fault = Ends fault 1 (codes "resolver: no service at " ++ addr_text addr)
 
+-- The service at this address did not reply in time.
+abbrev pub HasNoReply : Addr → CliFault → Type 0
+HasNoReply addr fault = Ends fault 3 (codes "resolver: no reply from " ++ addr_text addr)
+
 -- Status 2, and the lines that clap writes: what is wrong with the arguments, help, or the version.
 abbrev pub IsUsage : List ℕ → CliFault → Type 0
 IsUsage lines fault = (fault.status ≡ 2) × (octets_in fault.text ≡ lines)

@@ -1,39 +1,28 @@
 //! The mode `control`: it sends lines to a service, and writes the replies.
 //!
-//! Each line goes over a connection of its own, and the reply ends with the connection. So a client that waits at a terminal
-//! keeps no other operator out, and it need not know which replies have several lines.
+//! A line that is given as an argument has a connection of its own, and its reply ends with the connection. The lines of standard
+//! input share one connection. If the service ends it between two lines, the next line begins another.
 
-ghost use Rattle.std.specs.Prelude.{◌≡◌, ◌||◌, nat_eq, codes};
-ghost use Rattle.std.specs.List.{starts_with};
-
+use crate::conversation::converse;
 use crate::fault::CliFault;
-use dns_sockets::place_of;
-use dns_text::Addr;
+use crate::peer::Peer;
+use crate::replies::{is_refusal, is_silent};
 use std::alloc::Global;
 use std::io;
-use std::io::{BufRead, ErrorKind, Input, Read, Write};
+use std::io::{BufRead, Read, Split, Stdout, Write};
 use std::net::{Net, Shutdown, TcpStream};
-use std::time::Duration;
-
-/// The time that a service has to accept a line and to reply, in seconds. It serves one operator at a time, and waits a
-/// minute for one that is idle.
-const PATIENCE_SECONDS: u64 = 120;
-
-/// Whether a line gets no reply: it is empty, or a comment.
-fn is_silent(line: &[u8]) -> bool {
-    line.is_empty() || line[0] == b'#' || line == b"\r".as_slice()
-}
-
-/// Whether a line of a reply says that a command was not obeyed.
-fn is_refusal(line: &[u8]) -> bool
-    ensures { result ≡ (starts_with nat_eq line.now (codes "error ") || starts_with nat_eq line.now (codes "fault ")) }
-{
-    line.starts_with(b"error ") || line.starts_with(b"fault ")
-}
+use std::rt::Clock;
+use std::sync::Wait;
+use std::thread::Threads;
 
 /// Sends a line with its line feed, and returns all that the service writes until it ends the connection.
-fn exchange(alloc: Global, mut stream: TcpStream, mut line: Vec<u8>) -> io::Result<Vec<u8>> {
-    let patience = Some(Duration::from_secs(PATIENCE_SECONDS));
+fn exchange(
+    alloc: Global,
+    peer: &Peer,
+    mut stream: TcpStream,
+    mut line: Vec<u8>,
+) -> io::Result<Vec<u8>> {
+    let patience = Some(peer.patience());
     stream.set_read_timeout(patience)?;
     stream.set_write_timeout(patience)?;
     line.push(b'\n')?;
@@ -48,15 +37,12 @@ fn exchange(alloc: Global, mut stream: TcpStream, mut line: Vec<u8>) -> io::Resu
 fn reply_to<R: Net<Stream = TcpStream>>(
     rt: &R,
     alloc: Global,
-    addr: &Addr,
+    peer: &Peer,
     line: Vec<u8>,
 ) -> Result<Vec<u8>, CliFault> {
     let silent = is_silent(line.as_slice());
-    let patience = Duration::from_secs(PATIENCE_SECONDS);
-    let Ok(stream) = TcpStream::connect_timeout(rt, &place_of(addr), patience) else {
-        return Err(CliFault::no_service(alloc, addr));
-    };
-    match exchange(alloc, stream, line) {
+    let stream = peer.connect(rt, alloc)?;
+    match exchange(alloc, peer, stream, line) {
         Ok(reply) => {
             // The service ended before it replied.
             if reply.is_empty() && !silent {
@@ -64,23 +50,20 @@ fn reply_to<R: Net<Stream = TcpStream>>(
             }
             Ok(reply)
         }
-        Err(error) => Err(fault_of(&error)),
-    }
-}
-
-/// The fault of a connection that failed.
-fn fault_of(error: &io::Error) -> CliFault {
-    if error.kind() == ErrorKind::OutOfMemory {
-        CliFault::no_memory()
-    } else {
-        CliFault::failed_read()
+        Err(error) => Err(peer.fault_of(alloc, &error)),
     }
 }
 
 /// Sends a line, and writes its reply. It returns whether the line was obeyed.
-fn send_line(rt: &HostRuntime, addr: &Addr, line: Vec<u8>) -> Result<bool, CliFault> {
-    let reply = reply_to(rt, rt.alloc(), addr, line)?;
-    if rt.stdout().write_all(reply.as_slice()).is_err() {
+fn send_line<R: Net<Stream = TcpStream>>(
+    rt: &R,
+    alloc: Global,
+    peer: &Peer,
+    mut out: Stdout,
+    line: Vec<u8>,
+) -> Result<bool, CliFault> {
+    let reply = reply_to(rt, alloc, peer, line)?;
+    if out.write_all(reply.as_slice()).is_err() {
         return Err(CliFault::failed_write());
     }
     Ok(
@@ -91,23 +74,50 @@ fn send_line(rt: &HostRuntime, addr: &Addr, line: Vec<u8>) -> Result<bool, CliFa
     )
 }
 
-/// Sends each line of standard input, and writes its reply. It returns whether all of them were obeyed.
-fn send_input(rt: &HostRuntime, addr: &Addr) -> Result<bool, CliFault> {
+/// Sends each of these lines, and writes the replies. It returns whether all of them were obeyed.
+fn send_lines<R, B: BufRead + Drop>(
+    rt: &R,
+    alloc: Global,
+    peer: &Peer,
+    out: Stdout,
+    mut lines: Split<B, Global>,
+) -> Result<bool, CliFault>
+where
+    R: Threads + Wait + Clock + Sync + Net<Stream = TcpStream>,
+{
+    let mut left = None;
     let mut obeyed = true;
-    for line in rt.reader().split(rt.alloc(), b'\n') {
-        match line {
-            Ok(line) => obeyed &= send_line(rt, addr, line)?,
-            Err(error) => return Err(fault_of(&error)),
-        }
+    for _ in rt.forever() {
+        let first = match left {
+            Some(line) => line,
+            None => match lines.next() {
+                Some(Ok(line)) => line,
+                Some(Err(error)) => return Err(peer.fault_of(alloc, &error)),
+                None => break,
+            },
+        };
+        let stream = peer.connect(rt, alloc)?;
+        let outcome = converse(rt, alloc, peer, &stream, out, first, &mut lines)?;
+        obeyed &= outcome.obeyed;
+        left = outcome.left;
     }
     Ok(obeyed)
 }
 
-/// Sends the line, or each line of standard input if there is none, and writes the replies. It returns whether all of them
-/// were obeyed.
-pub(crate) fn send(rt: &HostRuntime, addr: &Addr, line: Option<String>) -> Result<bool, CliFault> {
+/// Sends the line, or each line of the input if there is none, and writes the replies. It returns whether all of them were obeyed.
+pub(crate) fn send<R, B: BufRead + Drop>(
+    rt: &R,
+    alloc: Global,
+    peer: &Peer,
+    input: B,
+    out: Stdout,
+    line: Option<String>,
+) -> Result<bool, CliFault>
+where
+    R: Threads + Wait + Clock + Sync + Net<Stream = TcpStream>,
+{
     match line {
-        Some(line) => send_line(rt, addr, line.into_bytes()),
-        None => send_input(rt, addr),
+        Some(line) => send_line(rt, alloc, peer, out, line.into_bytes()),
+        None => send_lines(rt, alloc, peer, out, input.split(alloc, b'\n')),
     }
 }

@@ -3,7 +3,7 @@
 ghost use Rattle.std.specs.Prelude.{◌≡◌, ◌++◌, ◌⊎◌, IfOk, OnOk, codes};
 ghost use Rattle.dns_text.specs.Addr.{addr_text};
 ghost use Rattle.streams.specs.Split.{with_end};
-ghost use Rattle.resolver_cli.specs.Fault.{Ends, IsNoMemory, IsBadArguments, IsNotLoopback, EndsFor, IsFailedRead, IsFailedWrite, shown, why_line, HasWhy, CannotStart, CannotListen, HasNoService};
+ghost use Rattle.resolver_cli.specs.Fault.{Ends, IsNoMemory, IsBadArguments, IsNotLoopback, EndsFor, IsFailedRead, IsFailedWrite, shown, why_line, HasWhy, CannotStart, CannotListen, HasNoService, HasNoReply};
 
 use dns_name::NoMemory;
 use dns_text::{Addr, push_addr};
@@ -12,6 +12,9 @@ use std::alloc::{AllocError, Global};
 use std::fmt::Display;
 use std::io;
 use streams::Text;
+
+/// The exit status if a service does not reply in time.
+const NO_REPLY_STATUS: u8 = 3;
 
 /// A failure that ends the program.
 #[derive(Drop)]
@@ -107,7 +110,14 @@ impl CliFault {
     pub fn no_service(alloc: Global, addr: &Addr) -> CliFault
         ensures { HasNoService addr.now result ⊎ IsNoMemory result }
     {
-        at_addr(alloc, b"resolver: no service at ", addr)
+        at_addr(alloc, 1, b"resolver: no service at ", addr)
+    }
+
+    /// The service at this address did not reply in time.
+    pub fn no_reply(alloc: Global, addr: &Addr) -> CliFault
+        ensures { HasNoReply addr.now result ⊎ IsNoMemory result }
+    {
+        at_addr(alloc, NO_REPLY_STATUS, b"resolver: no reply from ", addr)
     }
 }
 
@@ -187,13 +197,13 @@ fn line_of(alloc: Global, words: &[u8], addr: &Addr) -> Result<Vec<u8>, NoMemory
     Ok(line)
 }
 
-/// Status 1, and a line of these words and an address.
-fn at_addr(alloc: Global, words: &[u8], addr: &Addr) -> CliFault
-    ensures { Ends result 1 (words.now ++ addr_text addr.now) ⊎ IsNoMemory result }
+/// A status, and a line of these words and an address.
+fn at_addr(alloc: Global, status: u8, words: &[u8], addr: &Addr) -> CliFault
+    ensures { Ends result status (words.now ++ addr_text addr.now) ⊎ IsNoMemory result }
 {
     match line_of(alloc, words, addr) {
         Ok(line) => CliFault {
-            status: 1,
+            status,
             text: Text::Made(line),
         },
         Err(_) => CliFault::no_memory(),

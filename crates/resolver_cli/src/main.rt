@@ -6,6 +6,12 @@
 mod fault;
 // The mode `script`: lines from standard input.
 mod script;
+// The service to which a client's lines go.
+mod peer;
+// The replies that come to a client.
+mod replies;
+// The conversation of a client with a service.
+mod conversation;
 // The mode `control`: the client of a service's control socket.
 mod client;
 // The listening sockets of a service.
@@ -30,13 +36,13 @@ ghost use Rattle.resolver_args.specs.Mode.{HasNumbers};
 ghost use Rattle.resolver_args.specs.Says.{Says, IsGuarded};
 
 use client::send;
-use dns_text::Addr;
 use fault::{CliFault, end_for};
+use peer::Peer;
 use resolver_args::{Mode, read_args};
 use script::obey_input;
 use service::serve;
 use std::alloc::{AllocError, Global};
-use std::io::{ErrorKind, Write};
+use std::io::{ErrorKind, Input, Write};
 use std::process::ExitCode;
 use std::{env, io};
 
@@ -85,9 +91,9 @@ fn arguments(rt: &HostRuntime) -> Result<Mode, CliFault>
     }
 }
 
-/// Sends lines to a service. The status is 1 if one of them was not obeyed.
-fn command(rt: &HostRuntime, addr: &Addr, line: Option<String>) -> ExitCode {
-    match send(rt, addr, line) {
+/// Status 0 if all lines were obeyed, and otherwise 1; or the status and the message of the fault.
+fn end_control(rt: &HostRuntime, obeyed: Result<bool, CliFault>) -> ExitCode {
+    match obeyed {
         Ok(true) => ExitCode::SUCCESS,
         Ok(false) => ExitCode::from(1),
         Err(fault) => exit_with(rt, &fault),
@@ -112,7 +118,19 @@ fn main(rt: HostRuntime) -> ExitCode {
     match arguments(&rt) {
         Ok(Mode::Script(settings)) => end(&rt, obey_input(&rt, settings)),
         Ok(Mode::Serve(service)) => end(&rt, serve(&rt, rt.alloc(), service)),
-        Ok(Mode::Control { addr, line }) => command(&rt, &addr, line),
+        Ok(
+            Mode::Control {
+                addr,
+                seconds,
+                line,
+            },
+        ) => {
+            let peer = Peer::new(addr, seconds);
+            end_control(
+                &rt,
+                send(&rt, rt.alloc(), &peer, rt.reader(), rt.stdout(), line),
+            )
+        }
         Err(fault) => exit_with(&rt, &fault),
     }
 }

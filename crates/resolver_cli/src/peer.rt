@@ -1,0 +1,60 @@
+//! The service to which a client's lines go.
+
+use crate::fault::CliFault;
+use dns_sockets::place_of;
+use dns_text::Addr;
+use std::alloc::Global;
+use std::io;
+use std::io::ErrorKind;
+use std::net::{Net, TcpStream};
+use std::time::Duration;
+
+/// The service to which lines go.
+#[derive(Drop)]
+pub(crate) struct Peer {
+    /// The address of its control socket.
+    pub addr: Addr,
+    /// How long it may take to accept a connection, and then to reply.
+    pub seconds: u64,
+}
+
+impl Peer {
+    /// The service at an address, which has so many seconds.
+    pub fn new(addr: Addr, seconds: u32) -> Peer {
+        Peer {
+            addr,
+            seconds: u64::from(seconds),
+        }
+    }
+
+    /// The time that it has.
+    pub fn patience(&self) -> Duration {
+        Duration::from_secs(self.seconds)
+    }
+
+    /// A connection to it.
+    pub fn connect<R: Net<Stream = TcpStream>>(
+        &self,
+        rt: &R,
+        alloc: Global,
+    ) -> Result<TcpStream, CliFault> {
+        match TcpStream::connect_timeout(rt, &place_of(&self.addr), self.patience()) {
+            Ok(stream) => Ok(stream),
+            Err(error) => {
+                if error.kind() == ErrorKind::TimedOut {
+                    return Err(CliFault::no_reply(alloc, &self.addr));
+                }
+                Err(CliFault::no_service(alloc, &self.addr))
+            }
+        }
+    }
+
+    /// The fault of a connection that failed, or of the input.
+    pub fn fault_of(&self, alloc: Global, error: &io::Error) -> CliFault {
+        match error.kind() {
+            ErrorKind::OutOfMemory => CliFault::no_memory(),
+            ErrorKind::WouldBlock | ErrorKind::TimedOut => CliFault::no_reply(alloc, &self.addr),
+            _ => CliFault::failed_read(),
+        }
+    }
+}
