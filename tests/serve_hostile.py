@@ -195,6 +195,76 @@ def check_early(checks):
         checks.equal("an early reply: the query has left", until(lambda: servers.whole) and servers.whole, [question])
 
 
+# The only name server that lives in the checks below. It answers every name but those of `SINKS`.
+ALIVE = "127.0.0.9"
+
+# Addresses that are no host's. Linux sends what goes to the first of them, and to `::`, to this machine.
+NO_HOSTS = ["0.0.0.0", "0.1.2.3", "224.0.0.1", "240.0.0.1", "255.255.255.255", "::", "::ffff:0.0.0.0", "::ffff:255.255.255.255", "ff02::1"]
+
+
+def own_address():
+    """The address from which this machine sends to others, or None if it knows no way to them."""
+    with socket.socket(socket.AF_INET, socket.SOCK_DGRAM) as sock:
+        try:
+            sock.connect(("203.0.113.1", 53))
+        except OSError:
+            return None
+        return sock.getsockname()[0]
+
+
+def refers_to(targets):
+    """Refers each name of `sinkN.test.` to a server at the Nth target, and answers every other name."""
+
+    def does(asked):
+        zone = asked.question.split()[0].partition(".")[2]
+        place = zone.removeprefix("sink").removesuffix(".test.")
+        if not place.isdecimal():
+            yield good(asked)
+            return
+        target = targets[int(place)]
+        kind = "AAAA" if ":" in target else "A"
+        yield asked.response(f"| authority {zone} 60 NS ns.{zone} | additional ns.{zone} 60 {kind} {target}")
+
+    return does
+
+
+def check_never_asked(checks, how, targets, over, listens=HOST):
+    """Questions below servers that the service must not ask are SERVFAIL at once, cost few lines, and cost others nothing."""
+    how = f"{how}, over {over}"
+    hints = {ALIVE: {"*": refers_to(targets)}}
+    with NameServers(hints) as servers, Service([f"{ALIVE}@{servers.port}"], "--server-port", "{port}", listens=listens) as service:
+        with ThreadPoolExecutor(8) as pool:
+            names = [f"new{place}.test." for place in range(50)]
+            healthy = [pool.submit(service.ask, name) for name in names]
+            for place, target in enumerate(targets):
+                began = time.monotonic()
+                reply = service.ask(f"a.sink{place}.test.", "A", over).words()
+                took = time.monotonic() - began
+                checks.equal(f"a server at {target}, {how}", reply, "rcode 2")
+                checks.check(f"a server at {target}, {how}: at once", None if took < 1 else f"it took {took:.1f} s")
+            wanted = [MEANT["good"].format(name=name) for name in names]
+            checks.equal(f"new names beside, {how}", [reply.result().words() for reply in healthy], wanted)
+        checks.equal(f"{how}: stopped", service.stop(), STOPPED)
+        lines = service.log().count(b"\n")
+        most = 2 + 4 * len(targets)
+        checks.check(f"{how}: few lines in the log", None if lines <= most else f"{lines} lines, wanted {most} at most")
+
+
+def check_no_hosts(checks, over):
+    """Name servers at addresses that are no host's."""
+    check_never_asked(checks, "no host's", NO_HOSTS, over)
+
+
+def check_itself(checks, over):
+    """Name servers at the service's own address and port, whether it listens at one address or at all of them."""
+    check_never_asked(checks, "its own address", [HOST, f"::ffff:{HOST}"], over)
+    check_never_asked(checks, "loopback, of all addresses", [HOST, "127.0.0.2", "::1"], over, "0.0.0.0")
+    own = own_address()
+    if own is None:
+        return checks.skip("the machine's own address", "this machine has no other than loopback")
+    check_never_asked(checks, "the machine's address, of all addresses", [own], over, "0.0.0.0")
+
+
 def check_dead_ports(checks):
     """Hints at which nobody listens are skipped. If there are no others, the question fails."""
     zone = {"good.test. A": GOOD.format(name="good.test.")}
@@ -358,6 +428,9 @@ def main():
     checks.make(check_large, {})
     checks.make(check_large, {"SIGNALS": 1, "PIECE": 10_000})
     checks.make(check_dead_ports)
+    for over in ("udp", "tcp"):
+        checks.make(check_no_hosts, over)
+        checks.make(check_itself, over)
     checks.make(check_pipelined, {})
     checks.make(check_pipelined, {"SIGNALS": 1, "PIECE": 100})
     checks.make(check_slow_clients)

@@ -16,7 +16,7 @@ pub mod timed;
 pub mod socket_exchange;
 // The network of name servers, where no call waits.
 pub mod ready_net;
-// The service's own places, which it never asks.
+// The places that the service never asks: addresses that are no host's, and its own.
 pub mod own;
 // A query and its reply over UDP, without waiting.
 pub mod udp_line;

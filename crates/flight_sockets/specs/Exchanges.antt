@@ -8,7 +8,7 @@ use Rattle.dns_query.specs.declared.over.Over.TheVariants.{Udp as OverUdp, Tcp a
 use Rattle.dns_sockets.specs.Place.{IsPlaceOf}
 use Rattle.front_workers.specs.Framing.{framed}
 use Rattle.dns_sockets.specs.Line.{LineState, WentFrom}
-use Rattle.dns_sockets.specs.Own.{IsOwn}
+use Rattle.dns_sockets.specs.Own.{IsNoLine}
 use Rattle.flight.specs.declared.outside.Listened.{Listened}
 use Rattle.flight.specs.declared.outside.Listened.TheVariants.{Nothing, Came}
 use Rattle.flight.specs.Flight.{Sent}
@@ -62,11 +62,10 @@ abbrev pub IsQuiet : {S : Type 0} → (S → List ℕ → Type 0) → (S → Typ
 IsQuiet {S} sent drained reported_again exchange =
     exchange.asked.over ≡ OverUdp → (socket : S) × sent socket exchange.asked.query × (drained socket ⊎ reported_again socket exchange.token)
 
--- Over UDP no exchange with a server could begin: there was no socket, or one that is connected to its address failed, or the address is the service's own.
+-- Over UDP no exchange with a server could begin: the network failed, its address is no host's, a socket that is connected to it failed, or the address is the service's own.
 abbrev pub IsNotToBeHad : {S : Type 0} → Type 0 → (S → SocketAddr → Type 0) → (S → SocketAddr → Type 0) → (S → Type 0) → SocketAddr → Addr → Over → Type 0
 IsNotToBeHad {S} failed opened is_at failed' service server over =
-    over ≡ OverUdp → failed ⊎ ((socket : S) × (place : SocketAddr) × IsPlaceOf server place × opened socket place
-    × (failed' socket ⊎ ((from : SocketAddr) × is_at socket from × IsOwn service from place)))
+    over ≡ OverUdp → (place : SocketAddr) × IsPlaceOf server place × IsNoLine failed opened is_at failed' service place
 
 -- The fact holds if nothing came yet, or a reply did.
 abbrev pub OnUnbroken : Listened → Type 0 → Type 0

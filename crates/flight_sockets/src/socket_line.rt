@@ -1,7 +1,8 @@
 //! An exchange over a socket of its own.
 
-ghost use Rattle.std.specs.Prelude.{◌≡◌, length, IfOk, OnErr};
+ghost use Rattle.std.specs.Prelude.{◌≡◌, length, IfOk, OnErr, OnOk};
 ghost use Rattle.front_workers.specs.declared.limits.TheConstants.{MOST_MESSAGE};
+ghost use Rattle.dns_sockets.specs.Own.{MayAskServer};
 ghost use Rattle.flight.specs.declared.outside.Listened.TheVariants.{Nothing};
 ghost use Rattle.flight.specs.Flight.{query_to};
 ghost use Rattle.flight.specs.Told.{IsHeard};
@@ -54,9 +55,8 @@ impl<R: ReadyNet> InFlight for SocketLine<R> {
 }
 
 impl<R: ReadyNet> SocketLine<R> {
-    /// Sends a query, or begins to connect, and has the poll watch the socket. The service listens at `service`, and never
-    /// queries that address over UDP. So it never queries it over TCP either: a query over TCP follows a truncated reply over
-    /// UDP.
+    /// Sends a query, or begins to connect, and has the poll watch the socket. The service listens at `service`, and queries
+    /// neither itself nor an address that is no host's.
     pub fn open(
         rt: &R,
         alloc: Global,
@@ -69,6 +69,8 @@ impl<R: ReadyNet> SocketLine<R> {
     ) -> io::Result<SocketLine<R>>
         ensures asked { IfOk result (λ line. line.asked ≡ query_to server.now over query) }
         ensures token { IfOk result (λ line. line.token ≡ token) }
+        ensures may_ask { OnOk result (MayAskServer R.Datagrams.opened R.Datagrams.is_at R.Connection.connected R.Connection.is_at
+            over service server.now) }
         ensures failed { OnErr result (IsNotToBeHad R.failed R.Datagrams.opened R.Datagrams.is_at R.Datagrams.failed
             service server.now over) }
     {
@@ -76,7 +78,9 @@ impl<R: ReadyNet> SocketLine<R> {
         let octets = query.get().as_slice();
         let way = match over {
             Over::Udp => Way::Udp(UdpLine::begin(rt, registry, token, service, place, octets)?),
-            Over::Tcp => Way::Tcp(TcpLine::begin(rt, alloc, registry, token, place, octets)?),
+            Over::Tcp => Way::Tcp(TcpLine::begin(
+                rt, alloc, registry, token, service, place, octets,
+            )?),
         };
         Ok(SocketLine {
             server: *server,

@@ -4,6 +4,7 @@ ghost use Rattle.std.specs.Prelude.{◌≡◌, ◌⊎◌, ◌≤◌, [], false, 
 ghost use Rattle.std.specs.List.{All};
 ghost use Rattle.dns_wire.specs.declared.server.query.Asked.TheVariants.{Drop};
 ghost use Rattle.dns_wire.specs.Server.Asking.{AsksFor};
+ghost use Rattle.dns_sockets.specs.Own.{MayAskServer};
 ghost use Rattle.front_workers.specs.declared.limits.TheConstants.{MOST_MESSAGE};
 ghost use Rattle.front_workers.specs.Serves.{fault_octets};
 ghost use Rattle.flight.specs.declared.outside.Listened.TheVariants.{Nothing};
@@ -207,8 +208,8 @@ impl<'a, D: Numbered, C: Clock, R: ReadyNet + Log, S: ServiceSocket> Outside<
         over: Over,
         query: Shared<Octets>,
     ) -> Option<SocketLine<R>>
-        // As for any `Outside`. Also, the exchange is reported under the key. Over UDP there is one unless the network
-        // failed, or the server is the service itself.
+        // As for any `Outside`. Also, the exchange is reported under the key, and the service may ask that server. Over UDP
+        // there is an exchange unless the network failed, the address is no host's, or the server is the service itself.
         ensures asked { IfSome result (λ line. line.asked ≡ query_to server.now over query) }
         ensures opened { OnSome result (CountsOpened self.old.counts self.new.counts) }
         ensures unopened { IfNone result (self.new.counts ≡ self.old.counts) }
@@ -216,6 +217,8 @@ impl<'a, D: Numbered, C: Clock, R: ReadyNet + Log, S: ServiceSocket> Outside<
         ensures keeps { Keeps (λ sockets. sockets.server_port)
             (λ sockets (client : UdpClientValue) octets. IsOnItsWay S.tried sockets.waiting.items client.came.peer octets)
             self.old self.new }
+        ensures may_ask { OnSome result (MayAskServer R.Datagrams.opened R.Datagrams.is_at R.Connection.connected
+            R.Connection.is_at over self.old.listener.place server.now) }
         ensures failed { IfNone result (IsNotToBeHad R.failed R.Datagrams.opened R.Datagrams.is_at R.Datagrams.failed
             self.old.listener.place server.now over) }
     {

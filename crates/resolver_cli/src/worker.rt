@@ -135,7 +135,7 @@ where
     for number in terms.udp..terms.udp + terms.tcp {
         let own = pass_of(rt, book, pass)?;
         let ids = generator(rt, terms.seed, number)?;
-        let Ok(exchange) = SocketExchange::new(rt, alloc) else {
+        let Ok(exchange) = SocketExchange::new(rt, alloc, terms.place) else {
             return Err(CliFault::no_memory());
         };
         let worker = OverTcp {

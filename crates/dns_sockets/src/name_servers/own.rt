@@ -1,9 +1,36 @@
-//! The service's own places, which it never asks.
+//! The places that the service never asks: addresses that are no host's, and its own.
 
-ghost use Rattle.std.specs.Prelude.{◌↔◌, IsTrue};
-ghost use Rattle.dns_sockets.specs.Own.{IsHere, IsOwn};
+ghost use Rattle.std.specs.Prelude.{◌↔◌, IsTrue, OnErr, OnOk};
+ghost use Rattle.std.specs.Net.Socket.{socket_ip};
+ghost use Rattle.dns_sockets.specs.Own.{IsHere, IsNoHost, IsNoHostV4, IsNoHostV6, IsOwn};
 
-use std::net::{IpAddr, SocketAddr};
+use std::io;
+use std::io::ErrorKind;
+use std::net::{IpAddr, Ipv4Addr, Ipv6Addr, SocketAddr};
+
+fn is_no_host_v4(ip: Ipv4Addr) -> bool
+    ensures { IsTrue result ↔ IsNoHostV4 ip }
+{
+    let first = ip.octets()[0];
+    first == 0 || ip.is_multicast() || first >= 240
+}
+
+fn is_no_host_v6(ip: Ipv6Addr) -> bool
+    ensures { IsTrue result ↔ IsNoHostV6 ip }
+{
+    ip.is_unspecified() || ip.is_multicast()
+}
+
+/// Whether an address is no host's: of "this network", multicast, reserved or the limited broadcast address. Asking there would
+/// reach this machine, or many.
+pub(crate) fn is_no_host(ip: IpAddr) -> bool
+    ensures { IsTrue result ↔ IsNoHost ip }
+{
+    match ip.to_canonical() {
+        IpAddr::V4(ip) => is_no_host_v4(ip),
+        IpAddr::V6(ip) => is_no_host_v6(ip),
+    }
+}
 
 /// Whether a service that listens at the first address gets what is sent from the second to the last.
 fn is_here(listens: IpAddr, asks: IpAddr, asked: IpAddr) -> bool
@@ -21,4 +48,31 @@ pub(crate) fn is_own(service: SocketAddr, from: SocketAddr, place: SocketAddr) -
     let asks = from.ip().to_canonical();
     let asked = place.ip().to_canonical();
     place.port() == service.port() && is_here(listens, asks, asked)
+}
+
+/// The error of an exchange with a place that the service never asks.
+fn never_asked() -> io::Error {
+    io::Error::from(ErrorKind::AddrNotAvailable)
+}
+
+/// Fails if the address of a place is no host's. This is tried before there is a socket.
+pub(crate) fn want_host(place: SocketAddr) -> io::Result<()>
+    ensures host { OnOk result (¬ (IsNoHost (socket_ip place))) }
+    ensures none { OnErr result (IsNoHost (socket_ip place)) }
+{
+    if is_no_host(place.ip()) {
+        return Err(never_asked());
+    }
+    Ok(())
+}
+
+/// Fails if a service that listens at `service` would ask itself, if it sent a query from `from` to `place`.
+pub(crate) fn want_other(service: SocketAddr, from: SocketAddr, place: SocketAddr) -> io::Result<()>
+    ensures other { OnOk result (¬ (IsOwn service from place)) }
+    ensures own { OnErr result (IsOwn service from place) }
+{
+    if is_own(service, from, place) {
+        return Err(never_asked());
+    }
+    Ok(())
 }

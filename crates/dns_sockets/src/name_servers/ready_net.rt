@@ -75,11 +75,22 @@ pub trait ReadyConnection: Read + Write + Drop {
     /// The connection is to this place.
     ghost connected: { Self → SocketAddr → Type 0 };
 
+    /// Its octets leave from this place.
+    ghost is_at: { Self → SocketAddr → Type 0 };
+
     /// The poll reports what comes under this token.
     ghost reported: { Self → Token → Type 0 };
 
+    /// A call that asks for its place failed.
+    ghost failed: { Self → Type 0 };
+
     /// No fault of connecting or of the connection was known.
     ghost has_no_fault: { Self → Type 0 };
+
+    /// The place from which its octets leave.
+    fn place(&self) -> io::Result<SocketAddr>
+        ensures place { IfOk result (λ place. is_at self.now place) }
+        ensures failed { OnErr result (failed self.now) };
 
     /// An error if connecting or the connection has failed: its own.
     fn check(&self) -> io::Result<()>
@@ -163,9 +174,17 @@ impl ReadyConnection for TcpStream {
     // Nothing is known of the system's connections.
     ghost connected = { λ _ _. Unit {0} };
 
+    ghost is_at = { λ _ _. Unit {0} };
+
     ghost reported = { λ _ _. Unit {0} };
 
+    ghost failed = { λ _. Unit {0} };
+
     ghost has_no_fault = { λ _. Unit {0} };
+
+    fn place(&self) -> io::Result<SocketAddr> {
+        self.local_addr()
+    }
 
     fn check(&self) -> io::Result<()> {
         match self.take_error()? {

@@ -21,6 +21,9 @@ pub trait ServerNet {
     /// The socket is connected to this place.
     ghost opened: { Self.Datagrams → SocketAddr → Type 0 };
 
+    /// The socket's datagrams leave from this place.
+    ghost is_at: { Self.Datagrams → SocketAddr → Type 0 };
+
     /// A datagram left by the socket.
     ghost sent: { Self.Datagrams → List ℕ → Type 0 };
 
@@ -30,9 +33,16 @@ pub trait ServerNet {
     /// The connection is to this place.
     ghost connected: { Self.Connection → SocketAddr → Type 0 };
 
+    /// The connection's octets leave from this place.
+    ghost connected_at: { Self.Connection → SocketAddr → Type 0 };
+
     /// A socket at a port that the system draws.
     fn open_socket(&self, place: SocketAddr) -> io::Result<Self::Datagrams>
         ensures { IfOk result (λ socket. opened socket place) };
+
+    /// The place from which a socket's datagrams leave.
+    fn place_of_socket(&self, socket: &Self::Datagrams) -> io::Result<SocketAddr>
+        ensures { IfOk result (λ place. is_at socket.now place) };
 
     /// Sends a query to the place to which the socket is connected.
     fn send_datagram(&self, socket: &Self::Datagrams, query: &[u8]) -> io::Result<()>
@@ -51,6 +61,10 @@ pub trait ServerNet {
     /// A connection to a place. Connecting takes so long at most.
     fn open_connection(&self, place: SocketAddr, most: Duration) -> io::Result<Self::Connection>
         ensures { IfOk result (λ connection. connected connection place) };
+
+    /// The place from which a connection's octets leave.
+    fn place_of_connection(&self, connection: &Self::Connection) -> io::Result<SocketAddr>
+        ensures { IfOk result (λ place. connected_at connection.now place) };
 }
 
 impl<R: Net<Stream = TcpStream>> ServerNet for R {
@@ -61,16 +75,24 @@ impl<R: Net<Stream = TcpStream>> ServerNet for R {
     // Nothing is known of the system's network.
     ghost opened = { λ _ _. Unit {0} };
 
+    ghost is_at = { λ _ _. Unit {0} };
+
     ghost sent = { λ _ _. Unit {0} };
 
     ghost came = { λ _ _. Unit {0} };
 
     ghost connected = { λ _ _. Unit {0} };
 
+    ghost connected_at = { λ _ _. Unit {0} };
+
     fn open_socket(&self, place: SocketAddr) -> io::Result<UdpSocket> {
         let socket = bind_any(self, place)?;
         socket.connect(place)?;
         Ok(socket)
+    }
+
+    fn place_of_socket(&self, socket: &UdpSocket) -> io::Result<SocketAddr> {
+        socket.local_addr()
     }
 
     fn send_datagram(&self, socket: &UdpSocket, query: &[u8]) -> io::Result<()> {
@@ -92,5 +114,9 @@ impl<R: Net<Stream = TcpStream>> ServerNet for R {
         let stream = TcpStream::connect_timeout(self, &place, most)?;
         stream.set_nodelay(true)?;
         Ok(stream)
+    }
+
+    fn place_of_connection(&self, connection: &TcpStream) -> io::Result<SocketAddr> {
+        connection.local_addr()
     }
 }

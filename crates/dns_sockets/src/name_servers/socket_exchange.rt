@@ -7,10 +7,12 @@ ghost use Rattle.front_workers.specs.declared.limits.TheConstants.{MOST_MESSAGE}
 ghost use Rattle.dns_sockets.specs.declared.lengths.TheConstants.{MOST_FRAMED};
 ghost use Rattle.dns_sockets.specs.Asked.{ByDatagrams, ByStream, IsAskedOf};
 ghost use Rattle.dns_sockets.specs.Fits.{Fits};
+ghost use Rattle.dns_sockets.specs.Own.{MayAskAt, MayAskServer};
 
 use crate::deadline::Deadline;
 use crate::lengths::MOST_FRAMED;
 use crate::name_servers::fitting::fits;
+use crate::name_servers::own::{want_host, want_other};
 use crate::name_servers::place::place_of;
 use crate::name_servers::server_net::ServerNet;
 use crate::name_servers::timed::Timed;
@@ -35,25 +37,32 @@ const MOST_DATAGRAMS: u32 = 65_536;
 /// - Over TCP each message is behind its length in two octets (RFC 1035, section 4.2.2). The exchange fails if the first message
 ///   does not fit.
 ///
-/// Each exchange that fails is logged.
+/// An exchange with an address that is no host's, or with the service itself, fails at once. Each exchange that fails is logged.
 #[derive(Drop)]
 pub struct SocketExchange<'a, R> {
     rt: &'a R,
     alloc: Global,
+    service: SocketAddr,
     room: Vec<u8>,
     failures: u64,
     ghost whole: { vec_len room ≡ MOST_FRAMED },
 }
 
 impl<'a, R> SocketExchange<'a, R> {
-    /// A client with room for the longest message.
-    pub fn new(rt: &'a R, alloc: Global) -> Result<SocketExchange<'a, R>, NoMemory>
-        ensures { IfOk result (λ exchange. exchange.failures ≡ 0) }
+    /// A client with room for the longest message. It is part of the service that listens at `service`.
+    pub fn new(
+        rt: &'a R,
+        alloc: Global,
+        service: SocketAddr,
+    ) -> Result<SocketExchange<'a, R>, NoMemory>
+        ensures failures { IfOk result (λ exchange. exchange.failures ≡ 0) }
+        ensures service { IfOk result (λ exchange. exchange.service ≡ service) }
     {
         let room = Vec::from_elem(alloc, 0u8, MOST_FRAMED)?;
         Ok(SocketExchange {
             rt,
             alloc,
+            service,
             room,
             failures: 0,
         })
@@ -63,6 +72,7 @@ impl<'a, R> SocketExchange<'a, R> {
 /// One exchange over UDP: the number of octets at the front of the room that the reply fills.
 fn ask_udp<R: ServerNet + Clock>(
     rt: &R,
+    service: SocketAddr,
     place: SocketAddr,
     query: &[u8],
     room: &mut [u8],
@@ -71,9 +81,12 @@ fn ask_udp<R: ServerNet + Clock>(
     ensures few { IfOk result (λ count. count ≤ MOST_MESSAGE) }
     ensures fits { IfOk result (λ count. Fits query.now (take count room.new)) }
     ensures asked { IfOk result (λ count. ByDatagrams R.opened R.sent R.came place query.now (take count room.new)) }
+    ensures may_ask { OnOk result (MayAskAt R.opened R.is_at service place) }
 {
+    want_host(place)?;
     let deadline = Deadline::set(rt)?;
     let socket = rt.open_socket(place)?;
+    want_other(service, rt.place_of_socket(&socket)?, place)?;
     rt.send_datagram(&socket, query)?;
     for _ in 0..MOST_DATAGRAMS {
         match rt.take_datagram(&socket, room, deadline.left(rt)?) {
@@ -131,6 +144,7 @@ fn read_framed<S: Read>(stream: &mut S, room: &mut [u8]) -> io::Result<usize>
 /// One exchange over TCP: the number of octets at the front of the room that the reply fills.
 fn ask_tcp<R: ServerNet + Clock>(
     rt: &R,
+    service: SocketAddr,
     place: SocketAddr,
     query: &[u8],
     room: &mut [u8],
@@ -140,9 +154,12 @@ fn ask_tcp<R: ServerNet + Clock>(
     ensures fits { IfOk result (λ count. Fits query.now (take count room.new)) }
     ensures asked { IfOk result (λ count.
         ByStream R.connected R.Connection.contents R.Connection.remaining place query.now (take count room.new)) }
+    ensures may_ask { OnOk result (MayAskAt R.connected R.connected_at service place) }
 {
+    want_host(place)?;
     let deadline = Deadline::set(rt)?;
     let stream = rt.open_connection(place, deadline.left(rt)?)?;
+    want_other(service, rt.place_of_connection(&stream)?, place)?;
     let mut stream = Timed {
         rt,
         stream,
@@ -159,6 +176,7 @@ fn ask_tcp<R: ServerNet + Clock>(
 /// One exchange: the number of octets at the front of the room that the reply fills.
 fn ask_over<R: ServerNet + Clock>(
     rt: &R,
+    service: SocketAddr,
     server: &Addr,
     over: Over,
     query: &[u8],
@@ -169,23 +187,27 @@ fn ask_over<R: ServerNet + Clock>(
     ensures fits { IfOk result (λ count. Fits query.now (take count room.new)) }
     ensures asked { IfOk result (λ count. IsAskedOf R.opened R.sent R.came R.connected R.Connection.contents R.Connection.remaining
         over server.now query.now (take count room.new)) }
+    ensures may_ask { OnOk result (MayAskServer R.opened R.is_at R.connected R.connected_at over service server.now) }
 {
     let place = place_of(server);
     match over {
-        Over::Udp => ask_udp(rt, place, query, room),
-        Over::Tcp => ask_tcp(rt, place, query, room),
+        Over::Udp => ask_udp(rt, service, place, query, room),
+        Over::Tcp => ask_tcp(rt, service, place, query, room),
     }
 }
 
 impl<'a, R: ServerNet + Clock + Log> Exchange for SocketExchange<'a, R> {
-    // The reply fits the query, and came from the server's place, over the transport, behind the query.
-    ghost asks = { λ _ server over query came _. IfOk came (λ reply. (length reply ≤ MOST_MESSAGE) × Fits query reply
+    // The reply fits the query, and came from the server's place, over the transport, behind the query. The service may ask
+    // that server, and has not moved.
+    ghost asks = { λ before server over query came after. (after.service ≡ before.service)
+        × IfOk came (λ reply. (length reply ≤ MOST_MESSAGE) × Fits query reply
+        × MayAskServer R.opened R.is_at R.connected R.connected_at over before.service server
         × IsAskedOf R.opened R.sent R.came R.connected R.Connection.contents R.Connection.remaining over server query reply) };
 
     ghost failures = { λ exchange. exchange.failures };
 
     fn ask(&mut self, server: &Addr, over: Over, query: &[u8]) -> Result<Octets, DeviceFault> {
-        match ask_over(self.rt, server, over, query, &mut self.room) {
+        match ask_over(self.rt, self.service, server, over, query, &mut self.room) {
             Ok(count) => match Vec::from_slice(self.alloc, &self.room[..count]) {
                 Ok(reply) => Ok(Octets::new(reply)),
                 Err(_) => Err(DeviceFault::NoMemory),

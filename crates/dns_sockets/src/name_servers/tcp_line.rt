@@ -1,18 +1,22 @@
 //! A query and its reply over TCP, without waiting.
 
-ghost use Rattle.std.specs.Prelude.{◌≡◌, ◌↔◌, ◌<◌, ◌≤◌, [], length, IsTrue, IfOk, IfSome, IsNone, OnOk};
+ghost use Rattle.std.specs.Prelude.{◌≡◌, ◌↔◌, ◌<◌, ◌≤◌, ◌⊎◌, [], length, IsTrue, IfErr, IfOk, IfSome, IsNone, OnOk};
 ghost use Rattle.std.specs.Io.{StartsWith};
+ghost use Rattle.std.specs.IoError.{error_kind};
 ghost use Rattle.front_workers.specs.declared.limits.TheConstants.{MOST_MESSAGE};
 ghost use Rattle.front_workers.specs.Framing.{framed};
+ghost use Rattle.dns_sockets.specs.Own.{IsNoLine, MayAsk};
 ghost use Rattle.dns_sockets.specs.Line.{IsDone, Moves, WentFrom, WentOn};
 ghost use Rattle.dns_sockets.specs.Wanting.{IsWhole};
 
 use crate::name_servers::framed_query::FramedQuery;
 use crate::name_servers::framed_reply::FramedReply;
+use crate::name_servers::own::{want_host, want_other};
 use crate::name_servers::ready_net::{ReadyConnection, ReadyNet};
 use mio::{Registry, Token};
 use std::alloc::Global;
 use std::io;
+use std::io::ErrorKind;
 use std::marker::Model;
 use std::net::SocketAddr;
 
@@ -40,12 +44,14 @@ impl<S> Model for TcpLine<S> {
 
 impl<S: ReadyConnection> TcpLine<S> {
     /// Begins to connect, watched by the poll. It fails if the query is longer than a message may be, if no memory or no
-    /// descriptor is left, or if the system knows no way to the place.
+    /// descriptor is left, if the system knows no way to the place, if the address is no host's, or if the service, which listens
+    /// at `service`, would ask itself.
     pub fn begin<R: ReadyNet<Connection = S>>(
         rt: &R,
         alloc: Global,
         registry: &Registry,
         token: Token,
+        service: SocketAddr,
         place: SocketAddr,
         query: &[u8],
     ) -> io::Result<TcpLine<S>>
@@ -55,10 +61,16 @@ impl<S: ReadyConnection> TcpLine<S> {
         ensures left { IfOk result (λ line. line.left ≡ 0) }
         ensures came { IfOk result (λ line. line.came ≡ []) }
         ensures went { IfOk result (λ line. WentFrom S.contents S.remaining line.stream line) }
+        ensures may_ask { IfOk result (λ line. MayAsk S.is_at service place line.stream) }
+        ensures failed { IfErr result (λ error. (MOST_MESSAGE < length query.now) ⊎ ((error_kind error ≡ ErrorKind.OutOfMemory)
+            ⊎ IsNoLine R.failed S.connected S.is_at S.failed service place)) }
     {
+        want_host(place)?;
         let query = FramedQuery::new(alloc, query)?;
+        let stream = rt.begin_connection(registry, token, place)?;
+        want_other(service, stream.place()?, place)?;
         Ok(TcpLine {
-            stream: rt.begin_connection(registry, token, place)?,
+            stream,
             query,
             reply: FramedReply::new(alloc),
         })

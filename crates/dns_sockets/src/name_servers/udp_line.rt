@@ -4,16 +4,15 @@ ghost use Rattle.std.specs.Prelude.{◌≡◌, ◌≤◌, ◌⊎◌, length, tak
 ghost use Rattle.std.specs.declared.net.SocketAddr.{SocketAddr};
 ghost use Rattle.front_workers.specs.declared.limits.TheConstants.{MOST_MESSAGE};
 ghost use Rattle.dns_sockets.specs.Fits.{Fits};
-ghost use Rattle.dns_sockets.specs.Own.{IsNoLine, IsOwn};
+ghost use Rattle.dns_sockets.specs.Own.{IsNoLine, MayAsk};
 
 use crate::name_servers::fitting::fits;
-use crate::name_servers::own::is_own;
+use crate::name_servers::own::{want_host, want_other};
 use crate::name_servers::ready_net::{ReadyNet, ReadySocket};
 use crate::waiting::would_wait;
 use front_workers::MOST_MESSAGE;
 use mio::{Registry, Token};
 use std::io;
-use std::io::ErrorKind;
 use std::marker::Model;
 use std::net::SocketAddr;
 
@@ -35,7 +34,7 @@ impl<S> Model for UdpLine<S> {
 
 impl<S: ReadySocket> UdpLine<S> {
     /// Sends one query, in one datagram, by a new socket. It fails if no descriptor is left, if the system knows no way to the
-    /// place or cannot send, or if the service, which listens at `service`, would ask itself.
+    /// place or cannot send, if the address is no host's, or if the service, which listens at `service`, would ask itself.
     pub fn begin<R: ReadyNet<Datagrams = S>>(
         rt: &R,
         registry: &Registry,
@@ -47,13 +46,12 @@ impl<S: ReadySocket> UdpLine<S> {
         ensures opened { IfOk result (λ line. S.opened line place) }
         ensures reported { IfOk result (λ line. S.reported line token) }
         ensures sent { IfOk result (λ line. S.sent line query.now) }
-        ensures elsewhere { IfOk result (λ line. (from : SocketAddr) × S.is_at line from × ¬ (IsOwn service from place)) }
+        ensures may_ask { IfOk result (MayAsk S.is_at service place) }
         ensures failed { OnErr result (IsNoLine R.failed S.opened S.is_at S.failed service place) }
     {
+        want_host(place)?;
         let mut socket = rt.open_socket(registry, token, place)?;
-        if is_own(service, socket.place()?, place) {
-            return Err(io::Error::from(ErrorKind::AddrNotAvailable));
-        }
+        want_other(service, socket.place()?, place)?;
         socket.send_datagram(query)?;
         Ok(UdpLine { socket })
     }

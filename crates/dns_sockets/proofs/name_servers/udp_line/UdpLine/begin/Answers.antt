@@ -8,4 +8,4 @@ failing (Err e) P p = p
 pub returns-in_err-send_datagram-clause-failed : goal.returns-in_err-send_datagram-clause-failed
 returns-in_err-send_datagram-clause-failed g c =
     failing c.from_residual-in_err-send_datagram.result _
-    (inr (c.send_datagram.new.self, c.send_datagram.ensures.opened _ c.in_ok-socket.ensures.opened, inl c.in_err-send_datagram.ensures.failed))
+    (inr (inr (c.send_datagram.new.self, c.send_datagram.ensures.opened _ c.in_ok-socket.ensures.opened, inl c.in_err-send_datagram.ensures.failed)))
