@@ -1,0 +1,206 @@
+//! A cache of names, and local zones and records, by the maps of Rust's std: `maps WORD CALL SIZE COUNT` prints a number that
+//! depends on each call. The words are `cells` and `tables`.
+//! It has no flush, no undo, no journal and no limit, and one set for each name. The call `memory` prints by how many octets the
+//! process grows as it fills a map.
+use std::collections::HashMap;
+
+/// What is found about a name.
+struct Find {
+    rank: u8,
+    ttl: u32,
+    since: u64,
+    data: Vec<[u8; 4]>,
+}
+
+/// A name as on the wire.
+fn wire(text: &str) -> Vec<u8> {
+    let mut octets = Vec::with_capacity(text.len() + 1);
+    for label in text.split('.') {
+        octets.push(label.len() as u8);
+        octets.extend_from_slice(label.as_bytes());
+    }
+    octets
+}
+
+fn place_after(place: usize, places: usize) -> usize {
+    if places == 0 { 0 } else { (place + 7_919) % places }
+}
+
+// ---- cells
+
+fn find_at(place: u32) -> (Vec<u8>, Find) {
+    let [_, high, middle, low] = place.to_be_bytes();
+    let find = Find { rank: 4, ttl: 3_600, since: 0, data: vec![[192, high, middle, low]] };
+    (wire(&format!("n{place}.test.")), find)
+}
+
+fn cache_of(size: u32) -> HashMap<Vec<u8>, Find> {
+    let mut cache = HashMap::new();
+    for place in 0..size {
+        let (name, find) = find_at(place);
+        cache.insert(name, find);
+    }
+    cache
+}
+
+/// The find of a name if it is alive: its rank, the seconds left and the last octet of its address.
+fn look(cache: &HashMap<Vec<u8>, Find>, name: &[u8], moment: u64) -> u32 {
+    match cache.get(name) {
+        Some(find) if moment.saturating_sub(find.since) < u64::from(find.ttl) => {
+            let left = find.ttl - (moment - find.since) as u32;
+            left + u32::from(find.rank) + find.data.first().map_or(0, |octets| u32::from(octets[3]))
+        }
+        _ => 0,
+    }
+}
+
+fn cells(call: &str, size: u32, count: u32) -> u32 {
+    match call {
+        "fill" => (0..count).fold(0, |sum: u32, _| sum.wrapping_add(cache_of(size).len() as u32 % 65_536)),
+        "look" => {
+            let cache = cache_of(size);
+            let names: Vec<Vec<u8>> = (0..size).map(|place| find_at(place).0).collect();
+            let (mut sum, mut place) = (0u32, 0);
+            for _ in 0..count {
+                place = place_after(place, names.len());
+                sum = sum.wrapping_add(look(&cache, &names[place], 0));
+            }
+            sum
+        }
+        "memory" => growth(|| cache_of(size)),
+        _ => panic!("there is no such call"),
+    }
+}
+
+// ---- tables: things in order, with an index by name
+
+/// A list of named things in the order in which they came, with the places of each name.
+struct Ordered<T> {
+    list: Vec<T>,
+    places: HashMap<Vec<u8>, Vec<u32>>,
+}
+
+impl<T> Ordered<T> {
+    fn new() -> Ordered<T> {
+        Ordered { list: Vec::new(), places: HashMap::new() }
+    }
+
+    fn push(&mut self, name: Vec<u8>, thing: T) {
+        self.places.entry(name).or_default().push(self.list.len() as u32);
+        self.list.push(thing);
+    }
+}
+
+/// A zone answers from its records, or it refuses each question.
+const STATIC: u8 = 2;
+
+struct Record {
+    owner: Vec<u8>,
+    kind: u16,
+    ttl: u32,
+    data: [u8; 4],
+}
+
+struct Tables {
+    /// The type of each zone.
+    zones: Ordered<u8>,
+    records: Ordered<Record>,
+}
+
+fn last_zone(size: u32) -> u32 {
+    (size / 16).max(2) - 1
+}
+
+fn owner_at(place: u32, size: u32) -> String {
+    let zone = if place < size / 100 { 0 } else { 1 + place % last_zone(size) };
+    format!("n{place}.z{zone}.test.")
+}
+
+fn tables_of(size: u32) -> Tables {
+    let mut tables = Tables { zones: Ordered::new(), records: Ordered::new() };
+    for zone in 0..=last_zone(size) {
+        tables.zones.push(wire(&format!("z{zone}.test.")), STATIC);
+    }
+    for place in 0..size {
+        let owner = wire(&owner_at(place, size));
+        let [_, _, middle, low] = place.to_be_bytes();
+        tables.records.push(owner.clone(), Record { owner, kind: 1, ttl: 60, data: [192, 0, middle, low] });
+    }
+    tables
+}
+
+/// The type of the zone that is closest to a name: one look-up a label.
+fn zone_of(tables: &Tables, mut name: &[u8]) -> Option<u8> {
+    loop {
+        if let Some(places) = tables.zones.places.get(name) {
+            return Some(tables.zones.list[places[0] as usize]);
+        }
+        match name.first() {
+            Some(&length) if length > 0 => name = &name[1 + usize::from(length)..],
+            _ => return None,
+        }
+    }
+}
+
+/// The TTL and the last octet of the first address of a name in a zone that answers.
+fn answer(tables: &Tables, name: &[u8]) -> u32 {
+    if zone_of(tables, name) != Some(STATIC) {
+        return 0;
+    }
+    let Some(places) = tables.records.places.get(name) else {
+        return 0;
+    };
+    let records = places.iter().map(|place| &tables.records.list[*place as usize]);
+    match records.into_iter().find(|record| record.kind == 1 && record.owner == name) {
+        Some(record) => record.ttl + u32::from(record.data[3]),
+        None => 0,
+    }
+}
+
+fn tables(call: &str, size: u32, count: u32) -> u32 {
+    match call {
+        "fill" => (0..count).fold(0, |sum: u32, _| sum.wrapping_add(tables_of(size).records.list.len() as u32 % 65_536)),
+        "answer" => {
+            let tables = tables_of(size);
+            let names: Vec<Vec<u8>> = (0..size).map(|place| wire(&owner_at(place, size))).collect();
+            let (mut sum, mut place) = (0u32, 0);
+            for _ in 0..count {
+                place = place_after(place, names.len());
+                sum = sum.wrapping_add(answer(&tables, &names[place]));
+            }
+            sum
+        }
+        "memory" => growth(|| tables_of(size)),
+        _ => panic!("there is no such call"),
+    }
+}
+
+/// The octets that the process has in memory.
+fn resident() -> u32 {
+    let status = std::fs::read_to_string("/proc/self/status").unwrap();
+    let line = status.lines().find(|line| line.starts_with("VmRSS:")).unwrap();
+    line.split_whitespace().nth(1).unwrap().parse::<u32>().unwrap() * 1_024
+}
+
+/// By how many octets the process grows.
+fn growth<T>(make: impl FnOnce() -> T) -> u32 {
+    let before = resident();
+    let made = make();
+    let grown = resident() - before;
+    drop(made);
+    grown
+}
+
+fn main() {
+    let words: Vec<String> = std::env::args().collect();
+    let [_, word, call, size, count] = &words[..] else {
+        panic!("maps WORD CALL SIZE COUNT");
+    };
+    let (size, count) = (size.parse().unwrap(), count.parse().unwrap());
+    let told = match word.as_str() {
+        "cells" => cells(call, size, count),
+        "tables" => tables(call, size, count),
+        _ => panic!("there is no such word"),
+    };
+    println!("{call} {told}");
+}
