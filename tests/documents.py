@@ -58,11 +58,11 @@ def sources(folder):
 
 
 def defined(folder="crates"):
-    """The names that code declares in its files below a folder, and those of definitions in specs/."""
+    """The names that code declares in its files below a folder, with those of its clauses, and those of definitions in specs/."""
     names = set()
     for name, text in sources(folder):
         if name.endswith(".rt"):
-            names |= set(re.findall(r"\b(?:fn|struct|enum|trait|type|const|mod) (\w+)", text))
+            names |= set(re.findall(r"\b(?:fn|struct|enum|trait|type|const|mod|ensures) (\w+)", text))
             names |= set(re.findall(r"^    ([A-Z]\w*)\b", text, re.MULTILINE))
         else:
             names |= set(re.findall(r"\bpub (?:record |data )?(\w+)", text))
