@@ -6,10 +6,14 @@ import re
 from lib.checks import Checks, difference, short
 from lib.made_rows import every_octet
 from lib.programs import BOOKS, CALLS, PLAY, RESOLVER, TABLES, read, run, scripts
+from lib.refusing import LOST, NO_MEMORY, SHOWING, Replay, replies_to
 from lib.rows import ROWS, call, read_rows
 
 # No run and no call here makes more allocations than this.
 MOST = 100_000
+
+# The number of the last allocation of each script, which was refused too.
+LAST = {}
 
 
 def refusals(done):
@@ -17,10 +21,6 @@ def refusals(done):
 
 
 # ---- scripts: one allocation of the run is refused
-
-NO_MEMORY = {b"error no_memory", b"fault no_memory"}
-LOST = b"fault reply_lost"
-
 
 def replied_lines(text):
     """The lines that get a reply."""
@@ -30,33 +30,13 @@ def replied_lines(text):
     return [line for line in lines if line.rstrip(b"\r") and not line.startswith(b"#")]
 
 
-# A list has one line for each item, up to this line.
-LISTS = (b"list_local_zones", b"list_local_data", b"list_stubs", b"list_commands")
-LIST_END = b"end"
-
-
-def replies_to(lines, told):
-    """The reply to each line, or `None` if their number is wrong. A list is one reply, and any other reply is one line."""
-    replies = []
-    rest = told.split(b"\n")[:-1]
-    for line in lines:
-        size = 1
-        if line in LISTS and rest and not rest[0].startswith((b"error ", b"fault ")):
-            size = rest.index(LIST_END) + 1 if LIST_END in rest else 0
-        if not 0 < size <= len(rest):
-            return None
-        replies.append(b"\n".join(rest[:size]))
-        rest = rest[size:]
-    return None if rest else replies
-
-
-def fault_of_script(command, lines, done, start):
+def fault_of_script(lines, done, starts, replay):
     """What is wrong with a run of a script in which an allocation was refused.
 
     Either it was refused at the start: then there is no reply, and the status and the message say so. Or the script ran to its
     end. Then lines that got no memory had no effect, and lines whose reply was lost took effect.
     """
-    if not done.out and (done.status, done.err) == start:
+    if not done.out and (done.status, done.err) in starts:
         return None
     if done.status != 0:
         return f"status {done.status}, {done.err!r}"
@@ -67,14 +47,32 @@ def fault_of_script(command, lines, done, start):
     if wants > refusals(done):
         return f"{wants} lines want memory, {refusals(done)} allocations were refused"
     kept = [(line, reply) for line, reply in zip(lines, replies) if reply not in NO_MEMORY]
-    again = run(command, b"".join(line + b"\n" for line, _ in kept))
-    wanted = replies_to([line for line, _ in kept], again.out)
+    wanted = replay([line for line, _ in kept])
     if wanted is None:
-        return f"{again.out!r} are not the replies to {len(kept)} lines"
+        return f"the replay of {len(kept)} lines breaks off"
     for (line, reply), want in zip(kept, wanted):
+        if reply == LOST and not line.startswith(SHOWING):
+            return f"the reply to {line[:60]!r} is lost, and takes no memory"
         if reply not in (LOST, want):
             return f"{line[:60]!r} is answered {reply!r}, without the lines that found no memory {want!r}"
     return None
+
+
+# The books, each with its program, and the status and message with which that ends if there is no memory at the start.
+BOTH = (
+    ("", RESOLVER, {(1, b"resolver: no memory\n")}),
+    (" by replay", PLAY, {(1, b""), (3, b"")}),
+)
+
+
+def check_each_script(checks):
+    """Each script over both books. The replies must be those of the book that replays its history."""
+    for name, arguments, text, _ in scripts():
+        # That book counts each admission as a cell. So a script about room is compared with its own program.
+        about_room = "/room_" in name
+        replay = Replay([RESOLVER if about_room else PLAY, "script", *arguments])
+        for book, program, starts in BOTH[:1] if about_room else BOTH:
+            check_script(checks, name + book, [program, "script", *arguments], text, starts, replay)
 
 
 # Lines of control, which end at the end of the input.
@@ -95,14 +93,83 @@ list_stubs
 """
 
 
-def check_script(checks, name, command, text, start):
+def check_script(checks, name, command, text, starts, replay):
     lines = replied_lines(text)
     for nth in range(1, MOST):
         done = run(command, text, preload="refuse", REFUSE_NTH=nth)
         if not refusals(done):
             break
-        checks.check(f"{name}, allocation {nth} refused", fault_of_script(command, lines, done, start))
+        checks.check(f"{name}, allocation {nth} refused", fault_of_script(lines, done, starts, replay))
     checks.check(f"{name}, allocations refused", None if nth > 1 else "none was")
+    LAST[name] = nth - 1
+
+
+# ---- a flush of cached data, after which little takes memory
+
+# A set and the denial of a name are cached and flushed. Then come sweeps, undos, redos, and newer finds of the same.
+HELD_TEXT = b"""admit 4 a. 60 A 192.0.2.1
+noname n. 60 . ns. host. 1 2 3 4 300
+flush_type a. A
+flush n.
+sweep
+undo
+redo
+undo
+undo
+redo
+redo
+admit 4 a. 60 A 192.0.2.2
+noname n. 60 . ns. host. 1 2 3 4 300
+undo
+admit 4 a. 60 A 192.0.2.3
+noname n. 60 . ns. host. 1 2 3 4 300
+undo
+admit 4 a. 60 A 192.0.2.4
+look a. A
+look n. A
+redo
+redo
+look n. TXT
+admit 4 b. 60 A 192.0.2.5
+look b. A
+"""
+FLUSHES, TURNS, NEWER, FRESH = slice(2, 4), slice(4, 11), (11, 12, 14, 15, 17), 23
+
+
+def check_ways_back(checks):
+    """After the two flushes every allocation is refused. Sweeps, undos and redos take none."""
+    lines = HELD_TEXT.splitlines()[: TURNS.stop]
+    done = run([RESOLVER, "script"], b"".join(line + b"\n" for line in lines), preload="refuse", REFUSE_AFTER=FLUSHES.stop)
+    wanted = b"taken,taken,ok 1,ok 2,swept,undone 2,redone 2,undone 2,undone 1,redone 1,redone 2".split(b",")
+    checks.equal("without memory after two flushes", (done.out.splitlines(), done.status), (wanted, 0))
+    lost = run([RESOLVER, "script"], HELD_TEXT, preload="refuse", REFUSE_AFTER=FLUSHES.stop).out.splitlines()
+    is_refused = lost[NEWER[0]] == b"error no_memory" and lost[FRESH] == b"error no_memory"
+    checks.check("without memory a line with data is not read", None if is_refused else f"{lost}")
+
+
+def check_newer_finds(checks):
+    """A newer find of a cached pair needs memory to be read, and none to be cached. A find of another name needs both."""
+    lines = replied_lines(HELD_TEXT)
+    wants = set()
+    for nth in range(1, MOST):
+        done = run([RESOLVER, "script"], HELD_TEXT, preload="refuse", REFUSE_NTH=nth)
+        if not refusals(done):
+            break
+        replies = replies_to(lines, done.out)
+        if replies:
+            wants.update((place, replies[place]) for place in (*NEWER, FRESH) if replies[place] in NO_MEMORY)
+    for place in NEWER:
+        found = {reply for at, reply in wants if at == place}
+        checks.equal(f"line {place + 1} without memory", found, {b"error no_memory"})
+    checks.equal("a fresh name without memory", {reply for at, reply in wants if at == FRESH}, NO_MEMORY)
+
+
+def check_held_set(checks):
+    replay = Replay([PLAY, "script"])
+    for book, program, starts in BOTH:
+        check_script(checks, f"a flushed set{book}", [program, "script"], HELD_TEXT, starts, replay)
+    check_ways_back(checks)
+    check_newer_finds(checks)
 
 
 # ---- rows: one allocation of each call is refused in one run
@@ -245,9 +312,10 @@ def check_counts(checks):
 
 def main():
     checks = Checks()
-    for name, arguments, text, _ in scripts():
-        check_script(checks, name, [RESOLVER, "script"] + arguments, text, (1, b"resolver: no memory\n"))
-    check_script(checks, "control", [PLAY, "control"], CONTROL_TEXT, (3, b""))
+    check_each_script(checks)
+    control = [PLAY, "control"]
+    check_script(checks, "control", control, CONTROL_TEXT, {(3, b"")}, Replay(control))
+    check_held_set(checks)
     for file in sorted(os.listdir(ROWS)):
         check_rows(checks, file, read_rows(os.path.join(ROWS, file))[0])
     check_rows(checks, "every octet", list(every_octet()))
@@ -257,6 +325,8 @@ def main():
     check_steps(checks)
     check_drawn(checks)
     check_counts(checks)
+    runs, last = sum(LAST.values()), max(LAST, key=LAST.get)
+    print(f"{runs} runs of {len(LAST)} scripts; the longest has {LAST[last]} allocations: {last}")
     checks.end()
 
 

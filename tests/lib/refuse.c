@@ -1,12 +1,23 @@
 /* Refuses allocations. Preloaded into a finished program, it counts the calls of malloc, realloc, calloc, posix_memalign
-   and aligned_alloc that ask for more. REFUSE_NTH=N fails the Nth of the run. REFUSE_EACH=N fails the Nth after each write
-   to standard output, and none before the first write. On the file descriptor TELL it writes a line "refused" for each,
-   and at the end "largest N", the largest allocation after the first write. No program is linked with it. */
+   and aligned_alloc that ask for more. The environment says which of them fail:
+
+   REFUSE_NTH=N     the Nth of the run
+   REFUSE_EACH=N    the Nth after each write to standard output, and none before the first write
+   REFUSE_EVERY=N   after the first write, every Nth
+   REFUSE_SIZES=N   after the first write, the first of each size, from N octets on
+   REFUSE_AFTER=N   all after the Nth write
+   REFUSE_SHARED=F  those that the file F says, which a test maps and changes while the program runs: struct shared below
+
+   On the file descriptor TELL it writes a line "refused" for each of the first two kinds. At the end it writes "refusals N" and
+   "made N", the numbers of failed and of all allocations, and "largest N", the largest allocation after the first write. No
+   program is linked with it. */
 #define _GNU_SOURCE
 #include <errno.h>
+#include <fcntl.h>
 #include <stddef.h>
 #include <stdio.h>
 #include <stdlib.h>
+#include <sys/mman.h>
 #include <sys/syscall.h>
 #include <unistd.h>
 
@@ -15,14 +26,25 @@ extern void *__libc_realloc(void *, size_t);
 extern void *__libc_calloc(size_t, size_t);
 extern void *__libc_memalign(size_t, size_t);
 
-static long left;
-static long each;
-static int teller = -1;
-static int written;
-static size_t largest;
+/* tests/lib/refusing.py has the same numbers. */
+struct shared {
+    long left;    /* counts down; the allocation that makes it 0 fails */
+    long every;   /* one allocation in so many fails, or none if it is 0 */
+    long made;    /* the number of allocations */
+    long refused; /* the number of those that failed */
+};
 
-static void tell(const char *text, size_t len) {
-    if (teller >= 0) syscall(SYS_write, teller, text, len);
+enum { MOST_SIZES = 4096 };
+
+static long left, each, every, least_size, after, writes;
+static long made, refusals, largest;
+static int teller = -1;
+static size_t sizes[MOST_SIZES];
+static int seen_sizes;
+static struct shared *shared;
+
+static void tell(const char *text, int len) {
+    if (teller >= 0) syscall(SYS_write, teller, text, (size_t)len);
 }
 
 static long number(const char *name) {
@@ -31,14 +53,24 @@ static long number(const char *name) {
 }
 
 __attribute__((constructor)) static void start(void) {
-    left = number("REFUSE_NTH");
-    each = number("REFUSE_EACH");
+    const char *path = getenv("REFUSE_SHARED");
+    int file = path ? open(path, O_RDWR) : -1;
+    if (file >= 0) {
+        void *mapped = mmap(NULL, sizeof *shared, PROT_READ | PROT_WRITE, MAP_SHARED, file, 0);
+        if (mapped != MAP_FAILED) shared = mapped;
+        close(file);
+    }
     teller = getenv("TELL") ? (int)number("TELL") : -1;
+    each = number("REFUSE_EACH");
+    every = number("REFUSE_EVERY");
+    least_size = number("REFUSE_SIZES");
+    after = number("REFUSE_AFTER");
+    left = number("REFUSE_NTH");
 }
 
 __attribute__((destructor)) static void end(void) {
-    char text[64];
-    tell(text, (size_t)snprintf(text, sizeof text, "largest %zu\n", largest));
+    char text[96];
+    tell(text, snprintf(text, sizeof text, "refusals %ld\nmade %ld\nlargest %ld\n", refusals, made, largest));
 }
 
 /* A program with threads ends by this call, which runs no destructor. */
@@ -47,10 +79,37 @@ __attribute__((noreturn)) void _exit(int status) {
     for (;;) syscall(SYS_exit_group, status);
 }
 
+/* Whether this allocation makes a count 0. */
+static int is_last(long *count) {
+    return __atomic_load_n(count, __ATOMIC_RELAXED) > 0 && __atomic_sub_fetch(count, 1, __ATOMIC_RELAXED) == 0;
+}
+
+static int is_new_size(size_t size) {
+    for (int at = 0; at < seen_sizes; at++)
+        if (sizes[at] == size) return 0;
+    if (seen_sizes == MOST_SIZES) return 0;
+    sizes[seen_sizes++] = size;
+    return 1;
+}
+
+static int shared_refuses(void) {
+    if (!shared) return 0;
+    long place = __atomic_add_fetch(&shared->made, 1, __ATOMIC_RELAXED);
+    long one_in = __atomic_load_n(&shared->every, __ATOMIC_RELAXED);
+    int fails = is_last(&shared->left) || (one_in && place % one_in == 0);
+    if (fails) __atomic_add_fetch(&shared->refused, 1, __ATOMIC_RELAXED);
+    return fails;
+}
+
 static int refused(size_t size) {
-    if (written && size > largest) largest = size;
-    if (left <= 0 || --left != 0) return 0;
-    tell("refused\n", 8);
+    long place = __atomic_add_fetch(&made, 1, __ATOMIC_RELAXED);
+    if (writes && (long)size > largest) largest = (long)size;
+    int told = is_last(&left);
+    int fails = told || shared_refuses() || (every && writes && place % every == 0) || (after && writes >= after) ||
+                (least_size && writes && (long)size >= least_size && is_new_size(size));
+    if (!fails) return 0;
+    __atomic_add_fetch(&refusals, 1, __ATOMIC_RELAXED);
+    if (told) tell("refused\n", 8);
     errno = ENOMEM;
     return 1;
 }
@@ -60,16 +119,16 @@ void *realloc(void *block, size_t size) { return refused(size) ? NULL : __libc_r
 void *calloc(size_t count, size_t size) { return refused(count * size) ? NULL : __libc_calloc(count, size); }
 int posix_memalign(void **block, size_t alignment, size_t size) {
     if (refused(size)) return ENOMEM;
-    void *made = __libc_memalign(alignment, size);
-    if (!made) return ENOMEM;
-    *block = made;
+    void *made_block = __libc_memalign(alignment, size);
+    if (!made_block) return ENOMEM;
+    *block = made_block;
     return 0;
 }
 void *aligned_alloc(size_t alignment, size_t size) { return refused(size) ? NULL : __libc_memalign(alignment, size); }
 
 ssize_t write(int file, const void *text, size_t len) {
     if (file == STDOUT_FILENO) {
-        written = 1;
+        writes++;
         if (each) left = each;
     }
     return syscall(SYS_write, file, text, len);
