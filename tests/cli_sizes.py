@@ -69,6 +69,19 @@ def many_strings():
         yield f"look {name} TXT", f"found 4 60 {name} TXT {text}"
 
 
+def longest_lines():
+    """Lines of 1,024 octets are obeyed, and one octet more is too much."""
+    for line, told in (("admit 4 a. 60 TXT", "taken"), ("local_data b. 60 TXT", "ok 1")):
+        strings = ["x" * 255] * 3
+        strings.append("y" * (1_024 - len(" ".join([line, *(f'"{string}"' for string in strings), '""']))))
+        text = " ".join(f'"{string}"' for string in strings)
+        assert len(f"{line} {text}") == 1_024
+        yield f"{line} {text}", told
+        yield f"{line} {text} ", "error too_long"
+        name = line.split()[-3]
+        yield f"look {name} TXT", f"found 4 60 a. TXT {text}" if name == "a." else f"local 60 b. TXT {text}"
+
+
 def many_data():
     """Sets of 40 data, of which one occurs twice and is kept once."""
     addresses = [address(place) for place in range(40)]
@@ -179,6 +192,30 @@ def records_taken_back():
     yield "list_local_data", "\n".join(records[:-1] + ["end"])
 
 
+MILLION = 1_000_000
+
+
+def full_cells():
+    """A million names and no more, in the largest cache. A flush hides them all, and the way back shows them; then they expire."""
+    for place in range(MILLION):
+        yield f"admit 4 n{place}.test. 60 A {address(place)}", "taken"
+    yield "admit 4 more.test. 60 A 192.0.2.1", f"fault full {MILLION}"
+    yield "admit 4 n7.test. 60 A 192.0.2.7", "taken"
+    for verb in ("flush_zone test.", "undo", "redo", "undo"):
+        yield verb, {"flush_zone test.": "ok 1", "undo": "undone 1", "redo": "redone 1"}[verb]
+        for place in range(8, MILLION, 9_973):
+            shown = f"found 4 60 n{place}.test. A {address(place)}" if verb == "undo" else "unknown"
+            yield f"look n{place}.test. A", shown
+    yield "look n7.test. A", "found 4 60 n7.test. A 192.0.2.7"
+    yield "sweep", "swept"
+    yield "admit 4 more.test. 60 A 192.0.2.1", f"fault full {MILLION}"
+    yield "at 60", "ok"
+    yield "sweep", "swept"
+    yield "admit 4 more.test. 60 A 192.0.2.1", "taken"
+    yield "look more.test. A", "found 4 60 more.test. A 192.0.2.1"
+    yield "look n8.test. A", "unknown"
+
+
 def names_swept():
     """100 times 1,000 new names, each alive for a second, in a cache of 1,000."""
     for second in range(100):
@@ -222,6 +259,7 @@ def main():
     check(checks, admissions)
     check(checks, admissions_of_one_name)
     check(checks, many_strings)
+    check(checks, longest_lines)
     check(checks, many_data)
     check(checks, escaped_names)
     check(checks, flushed_and_undone_again)
@@ -229,6 +267,7 @@ def main():
     check(checks, full_stubs)
     check(checks, full_records)
     check(checks, records_taken_back)
+    check(checks, full_cells, "--cells", str(MILLION))
     check_memory(checks, names_swept, 32_768, "--cells", "1000")
     checks.end()
 
