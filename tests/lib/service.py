@@ -140,15 +140,17 @@ class NotReady(RuntimeError):
 class Service:
     """A service that is ready, until it is stopped. At the end of a `with` it is killed if it still runs."""
 
-    def __init__(self, hints, *options, host=HOST, listens=None, environment=None, most_descriptors=None, program=RESOLVER, prefix=()):
-        """It gets queries and lines at `host`, and listens there, or at `listens`. In the options `{port}` is the port of queries. A
-        prefix is a command that starts it."""
+    def __init__(
+        self, hints, *options, host=HOST, listens=None, environment=None, most_descriptors=None, program=RESOLVER, prefix=(), ports=None,
+    ):
+        """It gets queries and lines at `host`, and listens there, or at `listens`; its two ports are given, or free ones. In the options
+        `{port}` is the port of queries. A prefix is a command that starts it."""
         self.host, self.listens = host, listens or host
         self.command = [*prefix, program, "serve"]
         if most_descriptors:
             self.command = ["prlimit", f"--nofile={most_descriptors}", *self.command]
         for _ in range(20):
-            self.port, self.control_port = free_port(host), free_port(host)
+            self.port, self.control_port = ports or (free_port(host), free_port(host))
             self.errors = tempfile.TemporaryFile()
             self._start([*(word.format(port=self.port) for word in options), *hints], environment or {})
             if self._is_ready():
