@@ -12,7 +12,7 @@ import time
 
 from lib.checks import Checks, short
 from lib.nameserver import NameServers
-from lib.programs import PLAY, RESOLVER, run
+from lib.programs import RESOLVER, run
 from lib.refusing import LOST, NO_MEMORY, SHOWING, Refusing, Replay
 from lib.replies import reply_in
 from lib.service import HOST, STOPPED, Service, free_port, query
@@ -88,8 +88,8 @@ def serving(servers, *options, **settings):
 
 
 def replaying(servers, *options):
-    """The book that replays its history, with the settings of such a service."""
-    return Replay([PLAY, "script", "--server-port", str(servers.port), *options, f"{ROOT}@{servers.port}"])
+    """The script program with memory, with the settings of such a service."""
+    return Replay([RESOLVER, "script", "--server-port", str(servers.port), *options, f"{ROOT}@{servers.port}"])
 
 
 # ---- clients
