@@ -15,7 +15,9 @@ CLOSED = b"resolver: control connection closed: it begins as no command does"
 NO_REPLY = "resolver: no reply from {}\n"
 
 # How long an operator waits behind whoever holds the socket: a second of the one whose turn it is, and what a loaded machine adds.
+# Of two hundred idle ones, 32 wait in the service, and give up their places a second later.
 WAIT_SECONDS = 3
+CROWD_SECONDS = 12
 
 LINES = b"local_zone a. static\nstop\n"
 STRANGERS = {
@@ -112,7 +114,8 @@ def check_held(checks, kind):
             checks.equal(f"{kind}: {line}", service.obey(line), [wanted])
             took = time.monotonic() - began
             print(f"{line} behind {kind}: {took:.1f} s")
-            checks.check(f"{kind}: {line}, how soon", None if took < WAIT_SECONDS else f"{took:.1f} s")
+            most = CROWD_SECONDS if kind == "two hundred idle" else WAIT_SECONDS
+            checks.check(f"{kind}: {line}, how soon", None if took < most else f"{took:.1f} s")
         checks.equal(f"{kind}: stopped", service.wait(), (0, b""))
         ending.set()
         if dripping:
@@ -206,6 +209,13 @@ def answer_one(service, sock, file):
         service.answer(sock)
 
 
+def answer_late(service, sock, file):
+    """It answers the first line once the client has sent all."""
+    if file.readline():
+        time.sleep(0.5)
+        service.answer(sock)
+
+
 def answer_none(service, _sock, file):
     file.read()
     service.released.acquire(timeout=10)
@@ -263,9 +273,10 @@ def check_typed(checks):
             time.sleep(0.3)
         checks.equal("ended behind each line", typist.end(), (b"", b"", 0))
         checks.equal("ended behind each line: connections", service.accepted, 3)
-        # Of lines that were sent and not replied to nobody knows whether they were obeyed.
+    # Of lines that were sent and not replied to nobody knows whether they were obeyed.
+    with FakeService(answer_late) as service:
         done = control(service.addr, text=b"undo\nundo\n")
-        checks.equal("ended behind the first of two lines", (done.out, done.err, done.status), (b"ok 4\n", b"resolver: read failed\n", 1))
+        checks.equal("ended behind the first of two lines", (done.out, done.err, done.status), (b"ok 1\n", b"resolver: read failed\n", 1))
     with Service(["192.0.2.1"]) as service:
         typist = Typist(f"{HOST}@{service.control_port}", "--seconds", "5")
         checks.equal("an idle client", typist.type(b"local_zone a. static"), b"ok 1\n")

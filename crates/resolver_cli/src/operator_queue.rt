@@ -3,13 +3,16 @@
 ghost use Rattle.std.specs.Prelude.{◌<◌, vec_len, IfSome};
 
 use crate::first_octet::begins_line;
+use crate::operator_turn::TURN_SECONDS;
 use dns_sockets::would_wait;
 use std::alloc::Global;
 use std::io;
 use std::net::{TcpListener, TcpStream};
+use std::rt::Clock;
+use std::time::Instant;
 
 /// The most connections that wait here. More wait in the system's own queue.
-const MOST_WAITING: usize = 16;
+const MOST_WAITING: usize = 32;
 
 /// The most connections that are accepted at once, so that a crowd of them delays no line for long.
 const MOST_ACCEPTED: u32 = 256;
@@ -33,17 +36,36 @@ fn is_ready(stream: &TcpStream) -> bool {
     }
 }
 
-/// The operators that wait for their turn, in the order in which they came.
+/// A connection that waits for its turn, and since when.
 #[derive(Drop)]
-pub(crate) struct OperatorQueue<'a> {
-    listener: &'a TcpListener,
-    waiting: Vec<TcpStream>,
+struct Waiting {
+    stream: TcpStream,
+    since: Instant,
 }
 
-impl<'a> OperatorQueue<'a> {
+impl Waiting {
+    /// Whether it has sent no whole line, for as long as an operator may complete none.
+    fn is_idle<R: Clock>(&self, rt: &R) -> bool {
+        match self.since.elapsed(rt) {
+            Ok(passed) => passed.as_secs() >= TURN_SECONDS && !is_ready(&self.stream),
+            Err(_) => false,
+        }
+    }
+}
+
+/// The operators that wait for their turn, in the order in which they came.
+#[derive(Drop)]
+pub(crate) struct OperatorQueue<'a, R: Clock> {
+    rt: &'a R,
+    listener: &'a TcpListener,
+    waiting: Vec<Waiting>,
+}
+
+impl<'a, R: Clock> OperatorQueue<'a, R> {
     /// The queue of a listener, in which nobody waits.
-    pub fn new(alloc: Global, listener: &'a TcpListener) -> OperatorQueue<'a> {
+    pub fn new(rt: &'a R, alloc: Global, listener: &'a TcpListener) -> OperatorQueue<'a, R> {
         OperatorQueue {
+            rt,
             listener,
             waiting: Vec::new(alloc),
         }
@@ -63,34 +85,47 @@ impl<'a> OperatorQueue<'a> {
         }
     }
 
-    /// The place of the first connection that is ready, or of the first that is not.
-    fn first(&self, ready: bool) -> Option<usize>
+    /// The place of the first connection that is ready.
+    fn first_ready(&self) -> Option<usize>
         ensures { IfSome result (λ place. place < vec_len self.now.waiting) }
     {
-        for (place, stream) in self.waiting.iter().enumerate() {
-            if is_ready(stream) == ready {
+        for (place, waiting) in self.waiting.iter().enumerate() {
+            if is_ready(&waiting.stream) {
                 return Some(place);
             }
         }
         None
     }
 
-    /// Takes in a connection if one has come in. If the queue is full, the first that is not ready gives up its place. Returns
-    /// whether one was taken in.
+    /// The place of the first connection that is idle.
+    fn first_idle(&self) -> Option<usize>
+        ensures { IfSome result (λ place. place < vec_len self.now.waiting) }
+    {
+        for (place, waiting) in self.waiting.iter().enumerate() {
+            if waiting.is_idle(self.rt) {
+                return Some(place);
+            }
+        }
+        None
+    }
+
+    /// Takes in a connection if one has come in. If the queue is full, the first that is idle gives up its place, and if none is,
+    /// the connection waits outside. Returns whether one was taken in.
     fn take_one(&mut self) -> io::Result<bool> {
         let is_full = self.waiting.len() >= MOST_WAITING;
-        let idle = if is_full { self.first(false) } else { None };
+        let idle = if is_full { self.first_idle() } else { None };
         if is_full && idle.is_none() {
             return Ok(false);
         }
         let Some(stream) = self.accept_now()? else {
             return Ok(false);
         };
+        let since = Instant::now(self.rt)?;
         if let (true, Some(place)) = (is_full, idle) {
             drop(self.waiting.remove(place));
         }
         // If there is no memory for its place, it is closed.
-        let _ = self.waiting.push(stream);
+        let _ = self.waiting.push(Waiting { stream, since });
         Ok(true)
     }
 
@@ -112,7 +147,11 @@ impl<'a> OperatorQueue<'a> {
             let (stream, _) = self.listener.accept()?;
             return Ok(stream);
         }
-        let place = self.first(true).unwrap_or(0);
-        Ok(self.waiting.remove(place))
+        let place = self.first_ready().unwrap_or(0);
+        let Waiting {
+            stream,
+            since: _since,
+        } = self.waiting.remove(place);
+        Ok(stream)
     }
 }

@@ -15,7 +15,7 @@ use std::rt::Clock;
 use std::time::{Duration, Instant};
 
 /// How long an operator may complete no line while another waits, in seconds.
-const TURN_SECONDS: u64 = 1;
+pub(crate) const TURN_SECONDS: u64 = 1;
 
 /// How long an operator may complete no line if nobody waits, in seconds.
 const PATIENCE_SECONDS: u64 = 60;
@@ -45,7 +45,7 @@ fn patience(another_waits: bool) -> u64
 pub(crate) struct Turn<'a, 'q, R: Clock + Log> {
     rt: &'a R,
     stream: &'a TcpStream,
-    queue: RefCell<&'a mut OperatorQueue<'q>>,
+    queue: RefCell<&'a mut OperatorQueue<'q, R>>,
     /// Since when the operator has completed no line.
     since: Cell<Instant>,
     /// Whether the operator has sent an octet.
@@ -59,7 +59,7 @@ impl<'a, 'q, R: Clock + Log> Turn<'a, 'q, R> {
     pub fn new(
         rt: &'a R,
         stream: &'a TcpStream,
-        queue: &'a mut OperatorQueue<'q>,
+        queue: &'a mut OperatorQueue<'q, R>,
     ) -> io::Result<Turn<'a, 'q, R>> {
         let glance = Some(Duration::from_millis(GLANCE_MILLISECONDS));
         stream.set_read_timeout(glance)?;

@@ -24,7 +24,7 @@ fn obey_operator<'a, 'q, L: CallLedger, R: Wait + Clock + Log>(
     desk: &mut Seat<'_, ShelfBook, L, R>,
     clock: &mut MonotonicClock<'_, R>,
     stream: &'a TcpStream,
-    queue: &'a mut OperatorQueue<'q>,
+    queue: &'a mut OperatorQueue<'q, R>,
 ) -> bool {
     let Ok(turn) = Turn::new(rt, stream, queue) else {
         warn!(rt; "{DEVICE_FAULT}");
@@ -47,7 +47,7 @@ pub(crate) fn obey_operators<L: CallLedger, R: Wait + Clock + Log>(
     mut desk: Seat<'_, ShelfBook, L, R>,
 ) {
     let mut clock = MonotonicClock::new(rt, lent.terms.start);
-    let mut queue = OperatorQueue::new(alloc, &lent.sockets.control);
+    let mut queue = OperatorQueue::new(rt, alloc, &lent.sockets.control);
     for _ in rt.forever() {
         match queue.next() {
             Ok(stream) => {
