@@ -13,7 +13,7 @@ from lib.behaviours import EXCHANGE, REPLIED, RIGHT, WRONG, Lies, address, answe
 from lib.checks import Checks
 from lib.crowds import Crowd, LateServer, waiting_at
 from lib.programs import RESOLVER, library
-from lib.service import CANNOT_LISTEN, HOST, STOPPED, Service, free_port, until
+from lib.service import CANNOT_LISTEN, HOST, IN_USE, STOPPED, Service, free_port, until
 
 HELD = "aa | answer held.test. A 192.0.2.1"
 STARTED = b"resolver: started"
@@ -393,7 +393,7 @@ def check_second(checks):
     """A second service cannot listen at the same address, though each worker has a socket of its own at the port."""
     with Service(["192.0.2.1"], "--udp", "4") as service:
         used = f"{HOST}@{service.port}"
-        refused = (False, CANNOT_LISTEN + used.encode() + b"\n")
+        refused = (False, CANNOT_LISTEN + used.encode() + IN_USE)
         for workers in ("1", "4"):
             checks.equal(f"a second service of {workers} workers", ends_of([start_at(used, workers)]), [refused])
         checks.equal("with a second service: stopped", service.stop(), STOPPED)
@@ -405,7 +405,7 @@ def check_second(checks):
     with socket.socket(socket.AF_INET, socket.SOCK_DGRAM) as sock:
         sock.setsockopt(socket.SOL_SOCKET, socket.SO_REUSEPORT, 1)
         sock.bind((HOST, int(used.split("@")[1])))
-        refused = (False, CANNOT_LISTEN + used.encode() + b"\n")
+        refused = (False, CANNOT_LISTEN + used.encode() + IN_USE)
         checks.equal("a port that another would share", ends_of([start_at(used, "2")]), [refused])
 
 

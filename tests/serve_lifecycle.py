@@ -10,7 +10,7 @@ from concurrent.futures import ThreadPoolExecutor
 from lib.checks import Checks
 from lib.nameserver import NameServers, bound
 from lib.programs import RESOLVER, library, run
-from lib.service import CANNOT_LISTEN, HOST, STOPPED, NotReady, Service, free_port, query, until
+from lib.service import CANNOT_LISTEN, HOST, IN_USE, STOPPED, NotReady, Service, free_port, query, until
 
 FORM = "not an IP address; the form is IP@PORT, or IP for port 53"
 MANY = "too many workers; the most are 16 together"
@@ -86,7 +86,6 @@ def check_addresses(checks):
 
 def check_binding(checks):
     """A port in use, over UDP or TCP, for questions or for control; and an address of another machine. Each says why."""
-    in_use = b"\nresolver: Address already in use (os error 98)\n"
     free = f"{HOST}@{free_port()}"
     for kind, name in ((socket.SOCK_DGRAM, "UDP"), (socket.SOCK_STREAM, "TCP")):
         port = free_port()
@@ -95,7 +94,7 @@ def check_binding(checks):
                 sock.listen()
             used = f"{HOST}@{port}"
             done = serve("--listen", used, "--control", free, "192.0.2.1")
-            wanted = (1, b"", CANNOT_LISTEN + used.encode() + in_use)
+            wanted = (1, b"", CANNOT_LISTEN + used.encode() + IN_USE)
             checks.equal(f"listen in use over {name}", (done.status, done.out, done.err), wanted)
             if kind == socket.SOCK_STREAM:
                 done = serve("--listen", free, "--control", used, "192.0.2.1")
@@ -106,7 +105,7 @@ def check_binding(checks):
     with Service(["192.0.2.1"]) as service:
         used = f"{HOST}@{service.port}"
         done = serve("--listen", used, "--control", free, "192.0.2.1")
-        checks.equal("a second service", (done.status, done.err), (1, CANNOT_LISTEN + used.encode() + in_use))
+        checks.equal("a second service", (done.status, done.err), (1, CANNOT_LISTEN + used.encode() + IN_USE))
         checks.equal("with a second service: stopped", service.stop(), STOPPED)
 
 

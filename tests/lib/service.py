@@ -17,6 +17,7 @@ from lib.replies import reply_in
 
 HOST = "127.0.0.1"
 CANNOT_LISTEN = b"resolver: cannot listen on "
+IN_USE = b"\nresolver: Address already in use (os error 98)\n"
 
 
 def free_port(host=HOST):
