@@ -2,7 +2,7 @@
 """Measures the gate, and writes the table of docs/TIMES.md.
 
     docs/times.py --run LOG COMMAND..   runs a command, as `rt ci` or ./check, and keeps in LOG each line with its second
-    docs/times.py LOG..                 writes the table from such logs, or from bare logs of `rt ci`, which have no seconds
+    docs/times.py LOG..                 writes the table from such logs, of ./build too, or from bare logs of `rt ci`, which have no seconds
     docs/times.py --check               fails if the table has not a row for each crate of crates.txt, and for no other
 
 A crate that no log names keeps its row.
@@ -49,6 +49,8 @@ def read_log(path):
                 functions.setdefault(crate, int(found[1]))
             elif (proved := re.match(r"rt: (\w+) proved$", text)) and stamp:
                 seconds[proved[1]] = int(stamp)
+            elif built := re.match(r"build: \d+ of \d+, after (\d+) min (\d+) s: (\w+) proved$", text):
+                seconds[built[3]] = 60 * int(built[1]) + int(built[2])
             elif text.startswith(MINUTES):
                 minutes = text.split()[-1]
     return functions, seconds, minutes
@@ -77,8 +79,9 @@ def written(text, logs):
     begins, ends, rows = table_in(text)
     for path in logs:
         functions, seconds, minutes = read_log(path)
-        for crate, count in functions.items():
-            rows[crate] = [str(count), "", f"{seconds[crate] / 60:.0f} min" if crate in seconds else ""]
+        for crate in {*functions, *seconds}:
+            count, _, after = rows.get(crate, ["", "", ""])
+            rows[crate] = [str(functions.get(crate, count)), "", f"{seconds[crate] / 60:.0f} min" if crate in seconds else after]
         if minutes:
             text = re.sub(rf"{MINUTES} \d+", f"{MINUTES} {minutes}", text)
     lines = []
