@@ -176,8 +176,10 @@ class Operator:
     """An operator, with the lines so far and their replies."""
 
     def __init__(self, service):
+        """Its turn has begun: a connection that waits for its turn is closed if there is no memory for its place."""
         self.control = service.control()
         self.told = []
+        self.obey("list_stubs")
 
     def obey(self, line):
         """Whether a line gets no memory, or no reply."""
