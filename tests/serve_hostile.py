@@ -198,7 +198,7 @@ def check_early(checks):
 # The only name server that lives in the checks below. It answers every name but those of `SINKS`.
 ALIVE = "127.0.0.9"
 
-# Addresses that are no host's. Linux sends what goes to the first of them, and to `::`, to this machine.
+# Addresses that belong to no host. Linux sends what goes to the first of them, and to `::`, to this machine.
 NO_HOSTS = ["0.0.0.0", "0.1.2.3", "224.0.0.1", "240.0.0.1", "255.255.255.255", "::", "::ffff:0.0.0.0", "::ffff:255.255.255.255", "ff02::1"]
 
 
@@ -251,8 +251,8 @@ def check_never_asked(checks, how, targets, over, listens=HOST):
 
 
 def check_no_hosts(checks, over):
-    """Name servers at addresses that are no host's."""
-    check_never_asked(checks, "no host's", NO_HOSTS, over)
+    """Name servers at addresses that belong to no host."""
+    check_never_asked(checks, "of no host", NO_HOSTS, over)
 
 
 def check_itself(checks, over):

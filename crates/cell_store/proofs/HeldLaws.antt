@@ -124,7 +124,7 @@ left_more first middle last before after name = split (get name_eq last name) (a
     split None is = tt
     split (Some cells) is = subst (λ (o : Option OwnerCells). IfSome o (λ own. get name_eq first name ≡ Some own)) is (before name)
 
--- ---- the names behind the gap
+-- ---- the names after the gap
 
 get_set : {X : Type 0} (xs : List X) (p n i : ℕ) (x : X) (P : X → Type 0) → p ≤ i → (i ≡ p → i < n → P x) → (p < i → i < n → IfSome (slice_get xs i) P)
     → IfSome (slice_get (take n (slice_set xs p x)) i) P

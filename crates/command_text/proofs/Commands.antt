@@ -36,7 +36,7 @@ use Rattle.command_text.proofs.AddrWords.{first-addr, addrs-again}
 
 -- ---- what the first word of a line commands
 
--- The word stands first in a line, and commands this.
+-- The word is first in a line, and commands this.
 record Commands (word : List ℕ) (verb : Verb) : Type 0 where
   loud : (rest : List ℕ) → is_silent (word ++ 32 ∷ rest) ≡ false
   first : (rest : List ℕ) → next_word (word ++ 32 ∷ rest) ≡ Some (word, 32 ∷ rest)

@@ -2,7 +2,7 @@
 use Rattle.std.proofs.Common.{◌≡◌, ℕ, ◌<◌, Bool, List, [], ◌∷◌, length, take, inl, inr, refl, sym, ◌∙◌, ap, subst, Result, IsTrue}
 use Rattle.std.proofs.lemmas.Bool.{lt-ltb}
 use Rattle.streams.specs.declared.held_line.TheConstants.{LONGEST_LINE}
-use Rattle.streams.specs.Split.{Heard}
+use Rattle.streams.specs.Split.{IsLineHeard}
 use Rattle.history.specs.declared.event.Settings.{Settings}
 use Rattle.command_text.specs.declared.line.Line.{Line}
 use Rattle.command_text.specs.declared.fault.LineFault.{LineFault}
@@ -27,21 +27,21 @@ long channel xs ys s p q = (
   rw (lt-ltb LONGEST_LINE (length xs) p, lt-ltb LONGEST_LINE (length ys) q) refl,
 )
 
-heard-same : (channel : Channel) (line whole : List ℕ) → Heard line whole → Same channel line whole
+heard-same : (channel : Channel) (line whole : List ℕ) → IsLineHeard line whole → Same channel line whole
 heard-same channel line whole h = elim h [
   | inl e ↦ (ap (λ (l : List ℕ). says channel l) e, ap (λ (l : List ℕ). takes_memory channel l) e)
   | inr p ↦ long channel line whole (sym (silent-first line) ∙ ap (λ (l : List ℕ). is_silent l) p.2 ∙ silent-first whole) p.0 p.1
 ]
 
 -- What a line of a script is told is what the whole of it is told.
-pub obeys-heard : (settings : Settings) (place next : Place) (text line whole : List ℕ) → Heard line whole → Obeys settings place line text next → Obeys settings place whole text next
+pub obeys-heard : (settings : Settings) (place next : Place) (text line whole : List ℕ) → IsLineHeard line whole → Obeys settings place line text next → Obeys settings place whole text next
 obeys-heard settings place next text line whole heard o =
     let same = heard-same Script line whole heard in
     let second = subst (λ (r : Result Line LineFault). DoesUnless settings place r (takes_memory Script line) text next) same.0 o in
     subst (λ (b : Bool). DoesUnless settings place (says Script whole) b text next) same.1 second
 
 -- Nor is one of control told anything else.
-pub controls-heard : (C D : Type 0) (ticks : Ticks C) (calls : Calls D) (clock clock' : C) (desk desk' : D) (text line whole : List ℕ) (ends : Bool) → Heard line whole
+pub controls-heard : (C D : Type 0) (ticks : Ticks C) (calls : Calls D) (clock clock' : C) (desk desk' : D) (text line whole : List ℕ) (ends : Bool) → IsLineHeard line whole
     → Controls ticks calls clock desk line text ends clock' desk' → Controls ticks calls clock desk whole text ends clock' desk'
 controls-heard C D ticks calls clock clock' desk desk' text line whole ends heard o =
     let same = heard-same Control line whole heard in

@@ -29,7 +29,7 @@ settings-partly : (B : Type 0) (stands : B → List Event → Type 0) (settings 
     → Partly (paired (Scripted stands settings)) IsFront o lines text next → settings next.1 ≡ settings o.1
 settings-partly B stands settings o next lines text t = t.last.1 ∙ settings-kept B stands settings o t.mid t.before t.told t.first
 
--- a place where the book stands, whose settings are these
+-- a place that the book represents, whose settings are these
 abbrev StandsAt : {B : Type 0} → (B → List Event → Type 0) → (B → Settings) → Settings → ℕ × B → Place → Type 0
 StandsAt stands settings kept o place = stands o.1 place.history × (place.moment ≡ o.0) × (settings o.1 ≡ kept)
 

@@ -17,7 +17,7 @@ words-step : (c : ℕ) (text : List ℕ) (o : Option Within) → (o ≡ None →
 words-step c text None b more = ap (λ (ws : List (List ℕ)). [] ∷ ws) (sym (words-blank c text (b refl)))
 words-step c text (Some w) b more = ap (λ (ws : List (List ℕ)). onto (c ∷ []) ws) (more w)
 
--- a word that has begun, and those behind it
+-- a word that has begun, and those after it
 words-open : (text : List ℕ) (w : Within) → words_from (Some w) text ≡ (cut_word w text).0 ∷ words_of (cut_word w text).1
 unfolding cut_word words_from
 words-open [] w = refl

@@ -53,8 +53,8 @@ Does settings place (Ok Stop) text next = (text ≡ line_fault_text Unknown) × 
 Does settings place (Err fault) text next = (text ≡ line_fault_text fault) × (next ≡ place)
 
 -- From whatever history the book stands for before, `goes` leads to one that it stands for afterwards, at the moment after.
-abbrev pub GoesOn : {B : Type 0} → (B → List Event → Type 0) → B → ℕ → B → ℕ → (Place → Place → Type 0) → Type 0
-GoesOn stands_for book moment after_book after_moment goes =
+abbrev pub GoesByHistory : {B : Type 0} → (B → List Event → Type 0) → B → ℕ → B → ℕ → (Place → Place → Type 0) → Type 0
+GoesByHistory stands_for book moment after_book after_moment goes =
     (place : Place) → stands_for book place.history → place.moment ≡ moment → (next : Place)
     × goes place next × stands_for after_book next.history × (next.moment ≡ after_moment)
 

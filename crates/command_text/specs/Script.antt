@@ -6,7 +6,7 @@ use Rattle.streams.specs.declared.fault.ScriptFault.{ScriptFault}
 use Rattle.streams.specs.Transcript.{Obeying}
 use Rattle.history.specs.declared.event.Settings.{Settings}
 use Rattle.history.specs.declared.event.Event.{Event}
-use Rattle.command_text.specs.Obeying.{Place, GoesOn, Obeys}
+use Rattle.command_text.specs.Obeying.{Place, GoesByHistory, Obeys}
 
 -- A script begins at moment 0.
 abbrev pub start_at : List Event → Place
@@ -24,5 +24,5 @@ obeying settings place line text ends next = Obeys settings place line text next
 -- A line is obeyed at a book whatever history it stands for, its settings stay, and the line never stops the script.
 abbrev pub Scripted : {B : Type 0} → (B → List Event → Type 0) → (B → Settings) → ℕ → B → List ℕ → List ℕ → Bool → ℕ → B → Type 0
 Scripted stands_for settings moment book line text ends after_moment after_book =
-    GoesOn stands_for book moment after_book after_moment (λ place next. Obeys (settings book) place line text next)
+    GoesByHistory stands_for book moment after_book after_moment (λ place next. Obeys (settings book) place line text next)
     × (settings after_book ≡ settings book) × (ends ≡ false)

@@ -7,7 +7,7 @@ ghost use Rattle.history.specs.declared.event.Event.{Event};
 ghost use Rattle.command_text.specs.declared.line.Line.TheVariants.{At, Admit, Deny, Request as RequestLine};
 ghost use Rattle.command_text.specs.Admission.{IsFindOf};
 ghost use Rattle.command_text.specs.Denial.{IsDenialOf};
-ghost use Rattle.command_text.specs.Obeying.{Place, Asks, Does, GoesOn, Obeys};
+ghost use Rattle.command_text.specs.Obeying.{Place, Asks, Does, GoesByHistory, Obeys};
 
 use crate::admission::Admission;
 use crate::denial::Denial;
@@ -48,7 +48,7 @@ fn share_find(alloc: Global, admission: Admission) -> Result<SharedFind, AllocEr
 }
 
 fn obey_admit<B: Book>(alloc: Global, book: &mut B, moment: u64, admission: Admission) -> Text
-    ensures does { GoesOn B.stands_for book.old moment book.new moment
+    ensures does { GoesByHistory B.stands_for book.old moment book.new moment
         (λ place next. Does (B.settings book.old) place (Ok (Admit admission)) (octets_in result) next) }
     ensures settings { B.settings book.new ≡ B.settings book.old }
 {
@@ -65,7 +65,7 @@ fn share_denial(alloc: Global, denial: Denial) -> Result<SharedFind, AllocError>
 }
 
 fn obey_deny<B: Book>(alloc: Global, book: &mut B, moment: u64, denial: Denial) -> Text
-    ensures does { GoesOn B.stands_for book.old moment book.new moment
+    ensures does { GoesByHistory B.stands_for book.old moment book.new moment
         (λ place next. Does (B.settings book.old) place (Ok (Deny denial)) (octets_in result) next) }
     ensures settings { B.settings book.new ≡ B.settings book.old }
 {
@@ -76,7 +76,7 @@ fn obey_deny<B: Book>(alloc: Global, book: &mut B, moment: u64, denial: Denial) 
 }
 
 fn obey_request<B: Book>(alloc: Global, book: &mut B, moment: u64, request: Request) -> Text
-    ensures does { GoesOn B.stands_for book.old moment book.new moment
+    ensures does { GoesByHistory B.stands_for book.old moment book.new moment
         (λ place next. Does (B.settings book.old) place (Ok (RequestLine request)) (octets_in result) next) }
     ensures settings { B.settings book.new ≡ B.settings book.old }
 {
@@ -85,7 +85,7 @@ fn obey_request<B: Book>(alloc: Global, book: &mut B, moment: u64, request: Requ
 
 /// Obeys a line that was read.
 fn obey_line<B: Book>(alloc: Global, book: &mut B, moment: &mut u64, line: Line) -> Text
-    ensures does { GoesOn B.stands_for book.old moment.old book.new moment.new
+    ensures does { GoesByHistory B.stands_for book.old moment.old book.new moment.new
         (λ place next. Does (B.settings book.old) place (Ok line) (octets_in result) next) }
     ensures settings { B.settings book.new ≡ B.settings book.old }
 {
@@ -102,7 +102,7 @@ fn obey_line<B: Book>(alloc: Global, book: &mut B, moment: &mut u64, line: Line)
 
 /// Obeys a script line and returns the reply. The moment is that of the events of the lines to come.
 pub(crate) fn obey<B: Book>(alloc: Global, book: &mut B, moment: &mut u64, line: &[u8]) -> Text
-    ensures obeys { GoesOn B.stands_for book.old moment.old book.new moment.new
+    ensures obeys { GoesByHistory B.stands_for book.old moment.old book.new moment.new
         (λ place next. Obeys (B.settings book.old) place line.now (octets_in result) next) }
     ensures settings { B.settings book.new ≡ B.settings book.old }
 {

@@ -119,7 +119,7 @@ asc_drop zero xs h = h
 asc_drop (suc n) [] h = tt
 asc_drop (suc n) (x ∷ xs) h = asc_drop n xs h.1
 
--- what is behind differs from what is before
+-- what is after differs from what is before
 pub asc_apart : (n : ℕ) (xs : List ℕ) → AreAscending xs → AllByRecursion (λ u. AllByRecursion (λ v. v ≢ u) (drop n xs)) (take n xs)
 asc_apart zero xs h = tt
 asc_apart (suc n) [] h = tt

@@ -36,7 +36,7 @@ fn soa_of(find: &Find) -> Option<&Record> {
     }
 }
 
-/// `nodata` or `noname`, the rank, the TTL, the name and type denied, and the SOA record behind a bar.
+/// `nodata` or `noname`, the rank, the TTL, the name and type denied, and the SOA record after a bar.
 pub fn denial_words(alloc: Global, find: &Find) -> Result<Vec<u8>, NoMemory> {
     let word = match find.body {
         Body::NoData(_) => "nodata",

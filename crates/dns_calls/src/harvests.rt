@@ -9,7 +9,7 @@ use harvest::{Harvest, PassingSet, harvest};
 use ranked::{Body, Find};
 use std::alloc::Global;
 
-/// Writes data, each behind a blank, with commas between them.
+/// Writes data, each after a blank, with commas between them.
 fn push_each(data: &[Data], out: &mut Vec<u8>) -> Result<(), NoMemory> {
     let mut mark = b" ".as_slice();
     for datum in data {
@@ -45,7 +45,7 @@ pub fn passing_words(alloc: Global, set: &PassingSet) -> Result<Vec<u8>, NoMemor
     Ok(told)
 }
 
-/// Writes a part behind a slash, unless it is the first.
+/// Writes a part after a slash, unless it is the first.
 fn push_part(part: &[u8], out: &mut Vec<u8>) -> Result<(), NoMemory> {
     if !out.is_empty() {
         out.extend_from_slice(b" / ")?;

@@ -78,7 +78,7 @@ fn denied_words(
     Ok(told)
 }
 
-/// `refers`, the zone, the addresses, and behind a bar the servers without an address.
+/// `refers`, the zone, the addresses, and after a bar the servers without an address.
 fn referral_words(alloc: Global, referral: &Referral) -> Result<Vec<u8>, NoMemory> {
     let mut told = Vec::from_slice(alloc, b"refers ")?;
     referral.zone.push_text(&mut told)?;

@@ -1,4 +1,4 @@
-//! A message in words: its header, questions and records, each behind a bar.
+//! A message in words: its header, questions and records, each after a bar.
 
 use dns_name::NoMemory;
 use dns_text::{Question, Record, push_data, push_type};
@@ -57,7 +57,7 @@ pub fn push_record(
     push_data(&record.body, out)
 }
 
-/// Writes each record of a section behind a bar and the section's name.
+/// Writes each record of a section after a bar and the section's name.
 fn push_section(
     alloc: Global,
     section: &[u8],

@@ -141,7 +141,7 @@ record Reads (part text : List ℕ) (labels : Labels) : Type 0 where
   whole : labels ≡ map to_ascii_lowercase (part ++ octets) ∷ more
   text_is : text ≡ join_with_byte 46 (concat pieces ∷ texts) ++ tail
 
--- nothing is left to read behind the last dot
+-- nothing is left to read after the last dot
 record IsOver (part text : List ℕ) (labels : Labels) : Type 0 where
   no_part : part ≡ []
   no_text : text ≡ []

@@ -18,7 +18,7 @@ decimal_in x (y ∷ []) = None
 decimal_in x (y ∷ z ∷ text) =
     if is_ascii_digit y then (if is_ascii_digit z then (if nat_lt (decimal x y z) 256 then Some (decimal x y z, 4) else None) else None) else None
 
--- the octet that an escape stands for, from the text behind its backslash; and how many octets the escape takes
+-- the octet that an escape stands for, from the text after its backslash; and how many octets the escape takes
 abbrev pub escape_in : List ℕ → Option (ℕ × ℕ)
 escape_in [] = None
 escape_in (x ∷ text) = if is_ascii_digit x then decimal_in x text else if is_ascii_graphic x then Some (x, 2) else None
@@ -45,7 +45,7 @@ labels_at_end before (b ∷ part) = Ok (before ++ map to_ascii_lowercase (b ∷ 
 labels_at_end (label ∷ before) [] = Ok (label ∷ before)
 labels_at_end [] [] = Err EmptyLabel
 
--- the labels of the rest of a text, behind `before` and `part`; `skip` octets of its front belong to the atom before it
+-- the labels of the rest of a text, after `before` and `part`; `skip` octets of its front belong to the atom before it
 unfoldable pub read : Labels → List ℕ → ℕ → List ℕ → Result Labels NameFault
 read before part skip [] = labels_at_end before part
 read before part (suc skip) (c ∷ text) = read before part skip text

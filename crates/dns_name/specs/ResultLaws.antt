@@ -7,7 +7,7 @@ use Rattle.dns_name.specs.Results.{◌>>=◌, or_fault, GivesBut}
 pub some_same : {A : Type 0} {x y : A} → Some x ≡ Some y → x ≡ y
 some_same e = cc
 
--- ---- one step behind another
+-- ---- one step after another
 
 -- if a sequence of two steps succeeds, the first does, and the second on its value
 pub bound_ok : {A B E : Type 0} (r : Result A E) (f : A → Result B E) (y : B) → r >>= f ≡ Ok y → (x : A) × ((r ≡ Ok x) × (f x ≡ Ok y))

@@ -21,14 +21,14 @@ use Rattle.dns_name.specs.Text.{decimal, IsOctetText, itself, quoted, numbered, 
 
 -- ---- one atom after another
 
--- skipping octets is reading the text behind them
+-- skipping octets is reading the text after them
 pub read-skip : (before : Labels) (part : List ℕ) (skip : ℕ) (text : List ℕ) → read before part skip text ≡ read before part 0 (drop skip text)
 unfolding read
 read-skip before part zero text = refl
 read-skip before part (suc skip) [] = refl
 read-skip before part (suc skip) (c ∷ text) = read-skip before part skip text
 
--- one dot or octet of a label is read, then the text behind it
+-- one dot or octet of a label is read, then the text after it
 pub read_step : (before : Labels) (part text : List ℕ) (atom : Atom) (k : ℕ) (next : Labels × List ℕ) → 0 < length text → 0 < k → atom_at text ≡ Some (atom, k) → after_atom before part atom ≡ Ok next → read before part 0 text ≡ read next.0 next.1 0 (drop k text)
 unfolding read
 read_step before part [] atom k next some more here e = absurd (omega arith)
@@ -118,7 +118,7 @@ read_octets before text label rest h one room =
 dot_ends : (before : Labels) (part : List ℕ) → 0 < length part → after_atom before part Dot ≡ Ok (before ++ map to_ascii_lowercase part ∷ [], [])
 dot_ends before part some = rw (ne_eqb (length part) 0 (λ e. omega arith)) refl
 
--- the text of a label with a dot behind it is read as that label
+-- the text of a label with a dot after it is read as that label
 pub read_label_dot : (before : Labels) (text label rest : List ℕ) → IsLabelText text label → IsLabel label → wire_len_with before (length label) ≤ MAX_NAME_OCTETS → read before [] 0 (text ++ 46 ∷ rest) ≡ read (before ++ label ∷ []) [] 0 rest
 read_label_dot before text label rest h one room =
     let dot : List ℕ = 46 ∷ rest in
@@ -134,7 +134,7 @@ ended_dot : (before : Labels) (label : List ℕ) → labels_at_end (before ++ la
 ended_dot [] label = refl
 ended_dot (l ∷ before) label = refl
 
--- the last label has a dot behind it or nothing
+-- the last label has a dot after it or nothing
 abbrev pub IsLastDot : List ℕ → Type 0
 IsLastDot tail = (tail ≡ []) ⊎ (tail ≡ 46 ∷ [])
 

@@ -3,7 +3,7 @@
 ghost use Rattle.std.specs.Prelude.{◌≡◌, ◌+◌, ◌<◌, ◌≤◌, length, IfSome};
 ghost use Rattle.dns_name.specs.Reading.{escape_in};
 
-/// The octet of an escape, from the text behind its backslash, and how many octets of text the escape takes, with the
+/// The octet of an escape, from the text after its backslash, and how many octets of text the escape takes, with the
 /// backslash. Three digits are the octet's number; any other printable octet is itself (RFC 1035, section 5.1). None if
 /// the escape is unfinished, above 255 or not printable.
 pub fn read_escape(text: &[u8]) -> Option<(u8, usize)>

@@ -29,7 +29,7 @@ use std::marker::Model;
 /// octets. If there are too many copies to count, `clone` returns `NoMemory`.
 #[derive(Drop)]
 pub struct Name {
-    // The labels from the root, each behind its length: those of a zone are a prefix.
+    // The labels from the root, each preceded by its length: those of a zone are a prefix.
     octets: NameOctets,
 }
 
@@ -103,7 +103,7 @@ impl Name {
         }
     }
 
-    /// The labels, the one next to the root first, each behind its length. It takes no memory.
+    /// The labels, the one next to the root first, each preceded by its length. It takes no memory.
     pub fn octets(&self) -> &[u8]
         ensures value { result.now ≡ octets_of self.now }
         ensures spelled { IsOctets result.now }
@@ -121,7 +121,7 @@ impl Name {
         self.octets().len() + 1
     }
 
-    /// Writes the labels behind what `out` holds, each behind its length, as in a message but
+    /// Writes the labels after what `out` holds, each preceded by its length, as in a message but
     /// without the zero octet that ends a name (RFC 1035, section 3.1). If memory runs out, some of
     /// them may have been written.
     pub fn push_spelled(&self, out: &mut Vec<u8>) -> Result<(), NoMemory>
@@ -194,7 +194,7 @@ pub(crate) fn split_label(octets: &[u8]) -> Option<(&[u8], &[u8])>
     Some(rest.split_at(*n as usize))
 }
 
-/// Writes the labels that a run of octets spells, the last one first, each behind its length.
+/// Writes the labels that a run of octets spells, the last one first, each preceded by its length.
 fn push_labels(octets: &[u8], out: &mut Vec<u8>) -> Result<(), NoMemory>
     requires { IsOctets octets.now }
     ensures { OnOk result (out.new.items ≡ out.old.items ++ spelled (labels_of octets.now)) }

@@ -8,7 +8,7 @@ use Rattle.std.specs.Io.KnownBytes.{Appends, Consumes}
 use Rattle.streams.specs.Laws.{Appends-then, Consumes-same, Consumes-then}
 use Rattle.dns_sockets.specs.Line.{LineState, WentFrom}
 
--- So many octets more are written, and so all from there on to behind them.
+-- So many octets more are written, and so all from there on to after them.
 pub written_on : (u v w : Option (List ℕ)) (octets : List ℕ) (from left count : ℕ) → from ≤ left → left ≤ length octets
     → Appends u v (slice_range octets from left) → Appends v w (take count (take (length octets - left) (drop left octets)))
     → Appends u w (slice_range octets from (left + count))

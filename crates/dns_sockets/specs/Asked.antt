@@ -15,7 +15,7 @@ pub record ByDatagrams {S : Type 0} (opened : S → SocketAddr → Type 0) (sent
   pub asked : sent socket query
   pub told : came socket reply
 
--- The query was written behind its length to a connection to the place, and the reply was then read from it behind its own length (RFC 1035, section 4.2.2).
+-- The query was written preceded by its length to a connection to the place, and the reply was then read from it after its own length (RFC 1035, section 4.2.2).
 pub record ByStream {C : Type 0} (connected : C → SocketAddr → Type 0) (contents remaining : C → Option (List ℕ)) (place : SocketAddr) (query reply : List ℕ) : Type 0 where
   pub fresh : C
   pub written : C

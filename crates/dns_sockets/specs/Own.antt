@@ -15,15 +15,15 @@ use Rattle.dns_sockets.specs.Place.{IsPlaceOf}
 abbrev pub StandsFor : IpAddr → IpAddr → Type 0
 StandsFor ip plain = MatchIp ip (λ _. plain ≡ ip) (λ mapped. IsCanonicalOf mapped plain)
 
--- An IPv4 address that is no host's: of "this network", 0.0.0.0/8 (RFC 1122, section 3.2.1.3); multicast, 224.0.0.0/4 (RFC 1112, section 4); or reserved, 240.0.0.0/4 (the same), with the limited broadcast address.
+-- An IPv4 address that belongs to no host: of "this network", 0.0.0.0/8 (RFC 1122, section 3.2.1.3); multicast, 224.0.0.0/4 (RFC 1112, section 4); or reserved, 240.0.0.0/4 (the same), with the limited broadcast address.
 abbrev pub IsNoHostV4 : Ipv4Addr → Type 0
 IsNoHostV4 ip = HasPrefix (ipv4_octets ip) (0 ∷ []) ⊎ (IsMulticastV4 ip ⊎ (240 ≤ slice_index (ipv4_octets ip) 0))
 
--- An IPv6 address that is no host's: the unspecified address (RFC 4291, section 2.5.2), or multicast, ff00::/8 (section 2.7).
+-- An IPv6 address that belongs to no host: the unspecified address (RFC 4291, section 2.5.2), or multicast, ff00::/8 (section 2.7).
 abbrev pub IsNoHostV6 : Ipv6Addr → Type 0
 IsNoHostV6 ip = IsUnspecifiedV6 ip ⊎ IsMulticastV6 ip
 
--- An IP address that is no host's, as the address for which it stands.
+-- An address that belongs to no host: unspecified, multicast, reserved or broadcast.
 abbrev pub IsNoHost : IpAddr → Type 0
 IsNoHost ip = (plain : IpAddr) × StandsFor ip plain × MatchIp plain IsNoHostV4 IsNoHostV6
 
@@ -42,11 +42,11 @@ pub record IsOwn (service from place : SocketAddr) : Type 0 where
   pub is_asked : StandsFor (socket_ip place) asked
   pub here : IsHere listens asks asked
 
--- The service may ask at this place by this socket, of which the relation gives the place from which it sends: the address is a host's, and the service would not ask itself.
+-- The service may ask at this place by this socket, of which the relation gives the place from which it sends: the address belongs to a host, and the service would not ask itself.
 abbrev pub MayAsk : {S : Type 0} → (S → SocketAddr → Type 0) → SocketAddr → SocketAddr → S → Type 0
 MayAsk is_at service place socket = ¬ (IsNoHost (socket_ip place)) × ((from : SocketAddr) × is_at socket from × ¬ (IsOwn service from place))
 
--- No exchange with this place could begin: the network failed, the address is no host's, a socket that is connected to the place failed, or the service would ask itself.
+-- No exchange with this place could begin: the network failed, the address belongs to no host, a socket that is connected to the place failed, or the service would ask itself.
 abbrev pub IsNoLine : {S : Type 0} → Type 0 → (S → SocketAddr → Type 0) → (S → SocketAddr → Type 0) → (S → Type 0) → SocketAddr → SocketAddr → Type 0
 IsNoLine {S} failed opened is_at failed' service place =
     failed ⊎ (IsNoHost (socket_ip place) ⊎ ((socket : S) × opened socket place × (failed' socket ⊎ ((from : SocketAddr) × is_at socket from × IsOwn service from place))))

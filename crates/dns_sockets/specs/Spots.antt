@@ -1,4 +1,4 @@
--- The places of a connection's octets, whose messages are each behind a length in two octets (RFC 1035, section 4.2.2).
+-- The places of a connection's octets, whose messages are each preceded by a length in two octets (RFC 1035, section 4.2.2).
 use Rattle.std.specs.Prelude.{◌≢◌, ℕ, ◌+◌, ◌-◌, ◌*◌, ◌<◌, ◌==◌, List, length, take, fold, if◌then◌else◌}
 use Rattle.dns_sockets.specs.declared.clients.spot.Spot.{Spot}
 use Rattle.dns_sockets.specs.declared.clients.spot.Spot.TheVariants.{Beginning, Length, Inside}
@@ -7,16 +7,16 @@ use Rattle.dns_sockets.specs.declared.clients.spot.Spot.TheVariants.{Beginning, 
 abbrev pub spot_inside : ℕ → Spot
 spot_inside left = if left == 0 then Beginning else Inside left
 
--- the place of the next octet, behind this one
+-- the place of the next octet, after this one
 abbrev pub spot_behind : Spot → ℕ → Spot
 spot_behind Beginning octet = Length octet
 spot_behind (Length first) octet = spot_inside (first * 256 + octet)
 spot_behind (Inside left) octet = spot_inside (left - 1)
 
--- the place of the next octet, behind all of these
+-- the place of the next octet, after all of these
 abbrev pub spot_after : Spot → List ℕ → Spot
 spot_after spot octets = fold spot_behind spot octets
 
--- No message begins behind the first of these octets and before their end.
+-- No message begins after the first of these octets and before their end.
 abbrev pub IsOfOneMessage : Spot → List ℕ → Type 0
 IsOfOneMessage spot octets = (k : ℕ) → 0 < k → k < length octets → spot_after spot (take k octets) ≢ Beginning

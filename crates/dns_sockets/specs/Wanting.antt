@@ -1,4 +1,4 @@
--- The octets that a message behind its length still lacks (RFC 1035, section 4.2.2).
+-- The octets that a message preceded by its length still lacks (RFC 1035, section 4.2.2).
 use Rattle.std.specs.Prelude.{◌≡◌, ℕ, ◌+◌, ◌-◌, ◌*◌, List, [], ◌∷◌, length}
 use Rattle.front_workers.specs.Framing.{framed, HasLength}
 
@@ -12,6 +12,6 @@ framed_size (high ∷ low ∷ message) = 2 + (high * 256 + low)
 abbrev pub octets_wanting : List ℕ → ℕ
 octets_wanting came = framed_size came - length came
 
--- The octets are a whole message behind its length.
-abbrev pub IsWhole : List ℕ → Type 0
-IsWhole came = (message : List ℕ) × HasLength message × (came ≡ framed message)
+-- The octets are a whole message preceded by its length.
+abbrev pub IsWholeFrame : List ℕ → Type 0
+IsWholeFrame came = (message : List ℕ) × HasLength message × (came ≡ framed message)

@@ -2,5 +2,5 @@
 
 use front_workers::MOST_MESSAGE;
 
-/// The octets of the longest message behind its length.
+/// The octets of the longest message preceded by its length.
 pub(crate) const MOST_FRAMED: usize = 2 + MOST_MESSAGE;

@@ -16,13 +16,13 @@ pub mod timed;
 pub mod socket_exchange;
 // The network of name servers, where no call waits.
 pub mod ready_net;
-// The places that the service never asks: addresses that are no host's, and its own.
+// The places that the service never asks: addresses that belong to no host, and its own.
 pub mod own;
 // A query and its reply over UDP, without waiting.
 pub mod udp_line;
-// A query behind its length, and the count of octets that have left.
+// A query preceded by its length, and the count of octets that have left.
 pub mod framed_query;
-// The octets of a reply that have come, behind its length.
+// The octets of a reply that have come, preceded by its length.
 pub mod framed_reply;
 // A query and its reply over TCP, without waiting.
 pub mod tcp_line;

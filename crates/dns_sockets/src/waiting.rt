@@ -7,7 +7,7 @@ ghost use Rattle.dns_sockets.specs.Failures.{IsFailure};
 use std::io;
 use std::io::ErrorKind;
 
-/// The most calls for one message behind its length: more than it has octets, of which a call moves one at least. An exchange
+/// The most calls for one message preceded by its length: more than it has octets, of which a call moves one at least. An exchange
 /// fails beyond them, since signals keep ending its calls.
 pub(crate) const MOST_CALLS: u32 = 70_000;
 

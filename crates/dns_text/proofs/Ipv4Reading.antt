@@ -45,7 +45,7 @@ octet_read [] n h = number_read 255 [] n h.number
 octet_read (c ∷ []) n h = number_read 255 (c ∷ []) n h.number
 octet_read (c ∷ d ∷ word) n h = rw (not_zero c d word h.short) (number_read 255 (c ∷ d ∷ word) n h.number)
 
--- ---- what stands on both sides of a dot
+-- ---- what is on both sides of a dot
 
 onto_parts : (c octet : ℕ) (text : List ℕ) (o : Option (List ℕ × List ℕ)) (parts : List ℕ × List ℕ) → option_map (with_first c) o ≡ Some parts → ((p : List ℕ × List ℕ) → o ≡ Some p → text ≡ p.0 ++ octet ∷ p.1) → c ∷ text ≡ parts.0 ++ octet ∷ parts.1
 onto_parts c octet text None parts e more = absurd cc

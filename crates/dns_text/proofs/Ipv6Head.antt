@@ -59,7 +59,7 @@ no_gap_in (c ∷ d ∷ word) e =
     let parts = and_parts _ _ e in
     gap_step c d word (not-true _ parts.0) ∙ ap (option_map (with_first c)) (no_gap_in (d ∷ word) parts.1)
 
--- ---- what stands on both sides of a colon
+-- ---- what is on both sides of a colon
 
 record Cut (text word after : List ℕ) : Type 0 where
   pub is : text ≡ word ++ 58 ∷ after
@@ -94,7 +94,7 @@ ended octets = Some (octets, None)
 abbrev pub cut_off : List ℕ → List ℕ → Option (List ℕ × Option (List ℕ))
 cut_off back octets = Some (octets, Some back)
 
--- what stands behind the colon after a group
+-- what is after the colon after a group
 abbrev pub head_next : List ℕ → Option (List ℕ) → List ℕ → Option (List ℕ × Option (List ℕ))
 head_next after None octets = head_after octets after
 head_next after (Some back) octets = cut_off back octets

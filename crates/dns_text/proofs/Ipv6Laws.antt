@@ -106,7 +106,7 @@ hex_some : (n : ℕ) → 0 < length (hex n)
 unfolding hex
 hex_some n = omega (arith, few_zeros n, length-drop (leading_zero_digits n) (digit_char (n / 4096) ∷ digit_char (n / 256 % 16) ∷ digit_char (n / 16 % 16) ∷ digit_char (n % 16) ∷ []))
 
--- ---- no gap stands in groups
+-- ---- no gap is in groups
 
 skip_other : (c : ℕ) (text : List ℕ) → is_colon c ≡ false → cut_at_gap text ≡ None → cut_at_gap (c ∷ text) ≡ None
 skip_other c [] e none = refl

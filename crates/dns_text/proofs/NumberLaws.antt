@@ -12,7 +12,7 @@ use Rattle.std.proofs.lemmas.Fmt.{digits_decimal, digits_value-decimal, decimal_
 use Rattle.std.specs.Prelude.{decimal}
 use Rattle.dns_text.specs.Number.{no_more_than, is_digits, number_in, short_number_in, digits_in}
 
--- the number that digits stand for behind those of n
+-- the number that digits stand for after those of n
 pub number_after : ℕ → ℕ → List ℕ → Option ℕ
 number_after most n word = if all_ascii_digits word then no_more_than most (digits_value_after 10 n word) else None
 

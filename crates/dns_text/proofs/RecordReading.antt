@@ -23,7 +23,7 @@ use Rattle.dns_text.proofs.DataReading.{data_in_found, data_in_read}
 
 -- ---- words that are no type
 
--- no type's name begins with a digit or what stands before the digits
+-- no type's name begins with a digit or what is before the digits
 no_name : (n : ℕ) (word : List ℕ) → n < 58 → is_none (by_name (n ∷ word) types) ≡ true
 unfolding by_name
 no_name n word low = agree_below_at (λ c. is_none (by_name (c ∷ word) types)) (λ _. true) 58 n refl low
@@ -95,14 +95,14 @@ type_no_class word kind e = elim (cases_Bool (is_class word)) [
 abbrev First : Type 0
 First = Option (List ℕ × List ℕ)
 
--- From a first word, over these words, to what stands behind them.
-abbrev Leads : First → List (List ℕ) → First → Type 0
-Leads first [] last = first ≡ last
-Leads first (word ∷ words) last = (rest : List ℕ) × (first ≡ Some (word, rest)) × Leads (next_word rest) words last
+-- From a first word, over these words, to what is after them.
+abbrev WordsLead : First → List (List ℕ) → First → Type 0
+WordsLead first [] last = first ≡ last
+WordsLead first (word ∷ words) last = (rest : List ℕ) × (first ≡ Some (word, rest)) × WordsLead (next_word rest) words last
 
 abbrev IsTtlAt : First → Option ℕ → First → Type 0
 IsTtlAt first None last = first ≡ last
-IsTtlAt first (Some n) last = (word : List ℕ) × IsNumberText MOST_TTL word n × Leads first (word ∷ []) last
+IsTtlAt first (Some n) last = (word : List ℕ) × IsNumberText MOST_TTL word n × WordsLead first (word ∷ []) last
 
 ok_same : {X : Type 0} {x y : X} → (let r : Result X TextFault = Ok x in r) ≡ Ok y → x ≡ y
 ok_same e = cc
@@ -121,7 +121,7 @@ ttl_found (Some f) found e = elim (cases_Bool (is_digits f.0)) [
 ]
 
 abbrev IsClassAt : First → First → Type 0
-IsClassAt first last = (first ≡ last) ⊎ ((word : List ℕ) × (is_class word ≡ true) × Leads first (word ∷ []) last)
+IsClassAt first last = (first ≡ last) ⊎ ((word : List ℕ) × (is_class word ≡ true) × WordsLead first (word ∷ []) last)
 
 class_found : (first : First) → IsClassAt first (after_class first)
 class_found None = inl refl
@@ -130,19 +130,19 @@ class_found (Some f) = elim (cases_Bool (is_class f.0)) [
   | inr other ↦ rw other (inl refl)
 ]
 
--- what stands between the name and the type
+-- what is between the name and the type
 record Middle (first : First) (found : ℕ × First) : Type 0 where
   pub words : List (List ℕ)
-  pub leads : Leads first words found.1
+  pub leads : WordsLead first words found.1
   pub ttl_and_class : AreTtlAndClass words found.0
 
 -- a time to live, and then perhaps a class
-behind_ttl : (first middle last : First) (n : ℕ) (word : List ℕ) → IsNumberText MOST_TTL word n → Leads first (word ∷ []) middle → IsClassAt middle last → Middle first (n, last)
+behind_ttl : (first middle last : First) (n : ℕ) (word : List ℕ) → IsNumberText MOST_TTL word n → WordsLead first (word ∷ []) middle → IsClassAt middle last → Middle first (n, last)
 behind_ttl first middle last n word number leads (inl none) = record { words = word ∷ []; leads = (leads.0, leads.1, leads.2 ∙ none); ttl_and_class = ttl_alone number }
 behind_ttl first middle last n word number leads (inr named_class) =
     record {
       words = word ∷ named_class.0 ∷ [];
-      leads = (leads.0, leads.1, subst (λ (f : First). Leads f (named_class.0 ∷ []) last) (sym leads.2) named_class.2);
+      leads = (leads.0, leads.1, subst (λ (f : First). WordsLead f (named_class.0 ∷ []) last) (sym leads.2) named_class.2);
       ttl_and_class = ttl_first number named_class.1;
     }
 
@@ -150,13 +150,13 @@ behind_ttl first middle last n word number leads (inr named_class) =
 behind_class : (first middle last : First) (o : Option ℕ) → IsClassAt first middle → IsTtlAt middle o last → Middle first (unwrap_or o 3600, last)
 behind_class first middle last None (inl none) same = record { words = []; leads = none ∙ same; ttl_and_class = neither }
 behind_class first middle last (Some n) (inl none) number =
-    record { words = number.0 ∷ []; leads = subst (λ (f : First). Leads f (number.0 ∷ []) last) (sym none) number.2; ttl_and_class = ttl_alone number.1 }
+    record { words = number.0 ∷ []; leads = subst (λ (f : First). WordsLead f (number.0 ∷ []) last) (sym none) number.2; ttl_and_class = ttl_alone number.1 }
 behind_class first middle last None (inr named_class) same =
     record { words = named_class.0 ∷ []; leads = (named_class.2.0, named_class.2.1, named_class.2.2 ∙ same); ttl_and_class = class_alone named_class.1 }
 behind_class first middle last (Some n) (inr named_class) number =
     record {
       words = named_class.0 ∷ number.0 ∷ [];
-      leads = (named_class.2.0, named_class.2.1, subst (λ (f : First). Leads f (number.0 ∷ []) last) (sym named_class.2.2) number.2);
+      leads = (named_class.2.0, named_class.2.1, subst (λ (f : First). WordsLead f (number.0 ∷ []) last) (sym named_class.2.2) number.2);
       ttl_and_class = class_first named_class.1 number.1;
     }
 
@@ -175,7 +175,7 @@ ttl_and_class_found first found e =
     let one = bound_ok (ttl_at first) (λ before. with_ttl before.0 (after_class before.1)) found e in
     middle_found first one.0.0 one.0.1 found (ttl_found first one.0 one.1.0) one.1.1
 
--- ---- what stands is read
+-- ---- what is there is read
 
 ttl_there : (word rest : List ℕ) (n : ℕ) → IsNumberText MOST_TTL word n → ttl_at (Some (word, rest)) ≡ Ok (Some n, next_word rest)
 ttl_there word rest n h = rw (numeral_is_digits word h.numeral) (rw (number_read MOST_TTL word n h) refl)
@@ -196,11 +196,11 @@ number_no_class word n h = elim (cases_Bool (is_class word)) [
   | inr other ↦ other
 ]
 
--- no time to live stands before the type, with or without a class before it
+-- no time to live is before the type, with or without a class before it
 ttl_last : (word rest : List ℕ) → is_digits word ≡ false → with_ttl None (Some (word, rest)) ≡ Ok (3600, Some (word, rest))
 ttl_last word rest e = rw (ttl_absent word rest e) refl
 
-ttl_and_class_read : (first : First) (words : List (List ℕ)) (n : ℕ) (word rest : List ℕ) → AreTtlAndClass words n → Leads first words (Some (word, rest)) → is_digits word ≡ false → is_class word ≡ false → ttl_and_class first ≡ Ok (n, Some (word, rest))
+ttl_and_class_read : (first : First) (words : List (List ℕ)) (n : ℕ) (word rest : List ℕ) → AreTtlAndClass words n → WordsLead first words (Some (word, rest)) → is_digits word ≡ false → is_class word ≡ false → ttl_and_class first ≡ Ok (n, Some (word, rest))
 unfolding ttl_and_class
 ttl_and_class_read first [] n word rest neither leads plain other =
     rw leads (rw (ttl_absent word rest plain) (rw (class_absent word rest other) (ttl_last word rest plain)))
@@ -219,11 +219,11 @@ ttl_and_class_read first (one ∷ two ∷ three ∷ words) n word rest h leads p
 -- ---- a whole record
 
 -- the words of a text from its first word
-begins_leads : (text : List ℕ) (words : List (List ℕ)) (word rest : List ℕ) → BeginsWithWords text (words ++ word ∷ []) rest → Leads (next_word text) words (Some (word, rest))
+begins_leads : (text : List ℕ) (words : List (List ℕ)) (word rest : List ℕ) → BeginsWithWords text (words ++ word ∷ []) rest → WordsLead (next_word text) words (Some (word, rest))
 begins_leads text [] word rest h = h.1 ∙ ap (λ (r : List ℕ). let o : First = Some (word, r) in o) h.2
 begins_leads text (one ∷ words) word rest h = (h.0, h.1, begins_leads h.0 words word rest h.2)
 
-leads_begins : (text : List ℕ) (words : List (List ℕ)) (word rest : List ℕ) → Leads (next_word text) words (Some (word, rest)) → BeginsWithWords text (words ++ word ∷ []) rest
+leads_begins : (text : List ℕ) (words : List (List ℕ)) (word rest : List ℕ) → WordsLead (next_word text) words (Some (word, rest)) → BeginsWithWords text (words ++ word ∷ []) rest
 leads_begins text [] word rest h = (rest, h, refl)
 leads_begins text (one ∷ words) word rest h = (h.0, h.1, leads_begins h.0 words word rest h.2)
 
@@ -239,7 +239,7 @@ record_found law text r e =
     let same : record { owner = b.0; kind = f.0; ttl = c.0.0; body = g.0 } ≡ r = ok_same g.1.1 in
     let middle = ttl_and_class_found (next_word a.0.1) c.0 c.1.0 in
     let behind : c.0.1 ≡ Some (d.0.0, d.0.1) = or_fault-ok BadType c.0.1 d.0 d.1.0 in
-    let leads : Leads (next_word a.0.1) middle.words (Some (d.0.0, d.0.1)) = subst (λ (f : First). Leads (next_word a.0.1) middle.words f) behind middle.leads in
+    let leads : WordsLead (next_word a.0.1) middle.words (Some (d.0.0, d.0.1)) = subst (λ (f : First). WordsLead (next_word a.0.1) middle.words f) behind middle.leads in
     subst (λ (r : Record). IsRecordText text r) same (record {
       name = a.0.0;
       middle = middle.words;

@@ -198,7 +198,7 @@ string_read word octets h =
 
 -- ---- one string after another
 
--- strings of words behind others
+-- strings of words after others
 record Strings (before : List (List ℕ)) (text : List ℕ) (strings : List (List ℕ)) : Type 0 where
   pub words : List (List ℕ)
   pub more : List (List ℕ)

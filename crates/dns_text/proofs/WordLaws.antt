@@ -1,4 +1,4 @@
--- Words that stand in a text.
+-- Words that are in a text.
 use Rattle.std.proofs.Common.{◌≡◌, ℕ, ◌<◌, Bool, true, false, List, [], ◌∷◌, ◌++◌, length, Option, Some, None, refl, sym, ap, ◌∙◌, arith, inl, inr, length-append, ◌≢◌}
 use Rattle.std.specs.Prelude.{◌&&◌, ◌⊎◌, not, ◌==◌, option_map, IfSome}
 use Rattle.std.specs.Borrow.{Bor}
@@ -12,7 +12,7 @@ use Rattle.dns_text.specs.declared.word.Within.{Within}
 use Rattle.dns_text.specs.declared.word.Within.TheVariants.{Plain}
 use Rattle.dns_text.specs.Word.{is_blank, after_octet, goes_on, with_first, cut_word, next_word, only_word}
 
--- where a word stands after some octets, none of which ends it
+-- where a word is after some octets, none of which ends it
 abbrev pub then_octets : Option Within → (Within → Option Within) → Option Within
 then_octets None go = None
 then_octets (Some within) go = go within

@@ -139,11 +139,11 @@ ReadsData = (kind : ℕ) (text : List ℕ) (body : Data) → (data_in kind text 
 
 -- ---- writing
 
--- a number behind a blank
+-- a number after a blank
 abbrev pub blank_number : ℕ → List ℕ
 blank_number n = 32 ∷ decimal n
 
--- serial, refresh, retry, expire and minimum, each behind a blank
+-- serial, refresh, retry, expire and minimum, each after a blank
 abbrev pub soa_numbers_text : ℕ → ℕ → ℕ → ℕ → ℕ → List ℕ
 soa_numbers_text serial refresh retry expire minimum = blank_number serial ++ blank_number refresh ++ blank_number retry ++ blank_number expire ++ blank_number minimum
 

@@ -72,15 +72,15 @@ group_in (b ∷ c ∷ d ∷ []) = four_in 48 b c d
 group_in (a ∷ b ∷ c ∷ d ∷ []) = four_in a b c d
 group_in (a ∷ b ∷ c ∷ d ∷ e ∷ word) = None
 
--- the octets with those of a group behind them, if the address has room: it has sixteen octets
+-- the octets with those of a group after them, if the address has room: it has sixteen octets
 abbrev pub with_group : List ℕ → ℕ → Option (List ℕ)
 with_group octets group = if nat_lt 14 (length octets) then None else Some (octets ++ (group / 256) ∷ (group % 256) ∷ [])
 
--- the octets with those of a group's word behind them
+-- the octets with those of a group's word after them
 abbrev pub with_word : List ℕ → List ℕ → Option (List ℕ)
 with_word octets word = group_in word >>= with_group octets
 
--- the octets before, with those of each group's word behind them
+-- the octets before, with those of each group's word after them
 unfoldable pub octets_after : List ℕ → List (List ℕ) → Option (List ℕ)
 octets_after before [] = Some before
 octets_after before (word ∷ words) = with_word before word >>= λ octets. octets_after octets words
@@ -108,18 +108,18 @@ cut_at_gap [] = None
 cut_at_gap (a ∷ []) = None
 cut_at_gap (a ∷ b ∷ text) = if a == 58 && b == 58 then Some ([], text) else option_map (with_first a) (cut_at_gap (b ∷ text))
 
--- the text behind a colon at its front
+-- the text after a colon at its front
 abbrev pub behind_colon : List ℕ → Option (List ℕ)
 behind_colon [] = None
 behind_colon (c ∷ text) = if c == 58 then Some text else None
 
--- the text behind a `::` at its front
+-- the text after a `::` at its front
 abbrev pub behind_gap : List ℕ → Option (List ℕ)
 behind_gap [] = None
 behind_gap (a ∷ []) = None
 behind_gap (a ∷ b ∷ text) = if a == 58 && b == 58 then Some text else None
 
--- the octets of one group or more behind those before, and the text behind the first `::`, if the groups end at one
+-- the octets of one group or more after those before, and the text after the first `::`, if the groups end at one
 abbrev pub by_gap : List ℕ → List ℕ → Option (List ℕ × List ℕ) → Option (List ℕ × Option (List ℕ))
 by_gap before text None = octets_after before (slice_split is_colon text) >>= λ octets. Some (octets, None)
 by_gap before text (Some parts) = octets_after before (slice_split is_colon parts.0) >>= λ octets. Some (octets, Some parts.1)
@@ -136,7 +136,7 @@ with_zeros head tail = if nat_lt 14 (length head + length tail) then None else S
 abbrev pub whole_address : List ℕ → Option (List ℕ)
 whole_address octets = if length octets == 16 then Some octets else None
 
--- the address of the groups before `::`, if the text has one, and of the groups behind it
+-- the address of the groups before `::`, if the text has one, and of the groups after it
 abbrev pub address_of : List ℕ → Option (List ℕ) → Option (List ℕ)
 address_of head None = whole_address head
 address_of head (Some back) = groups_in back >>= with_zeros head

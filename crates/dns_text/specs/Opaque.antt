@@ -45,7 +45,7 @@ or_nothing (Some first) = unless_more first.0 (next_word first.1)
 abbrev pub word_or_nothing : List ℕ → Option (List ℕ)
 word_or_nothing text = or_nothing (next_word text)
 
--- the text behind the mark `\#`
+-- the text after the mark `\#`
 abbrev pub behind_mark : List ℕ → List ℕ → Option (List ℕ)
 behind_mark word rest = if bytes_eq word (codes "\\#") then Some rest else None
 

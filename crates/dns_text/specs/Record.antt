@@ -50,22 +50,22 @@ pub record IsRecordText (text : List ℕ) (r : Record) : Type 0 where
 abbrev pub first_now : Option (Bor (List ℕ) × Bor (List ℕ)) → Option (List ℕ × List ℕ)
 first_now first = option_map (λ w. (w.0.now, w.1.now)) first
 
--- the TTL, if the first word is digits, and the first word behind it
+-- the TTL, if the first word is digits, and the first word after it
 abbrev pub ttl_at : Option (List ℕ × List ℕ) → Result (Option ℕ × Option (List ℕ × List ℕ)) TextFault
 ttl_at None = Ok (None, None)
 ttl_at (Some first) = if is_digits first.0 then (or_fault BadTtl (number_in MOST_TTL first.0) >>= λ n. Ok (Some n, next_word first.1)) else Ok (None, Some first)
 
--- the first word behind the class IN, if the first word is the class; else the first word
+-- the first word after the class IN, if the first word is the class; else the first word
 abbrev pub after_class : Option (List ℕ × List ℕ) → Option (List ℕ × List ℕ)
 after_class None = None
 after_class (Some first) = if is_class first.0 then next_word first.1 else Some first
 
--- the TTL before the class, or else the TTL behind it, or else an hour
+-- the TTL before the class, or else the TTL after it, or else an hour
 abbrev pub with_ttl : Option ℕ → Option (List ℕ × List ℕ) → Result (ℕ × Option (List ℕ × List ℕ)) TextFault
 with_ttl (Some ttl) first = Ok (ttl, first)
 with_ttl None first = ttl_at first >>= λ behind. Ok (unwrap_or behind.0 DEFAULT_TTL, behind.1)
 
--- [TTL] [IN] in either order: the TTL, and the first word behind both
+-- [TTL] [IN] in either order: the TTL, and the first word after both
 unfoldable pub ttl_and_class : Option (List ℕ × List ℕ) → Result (ℕ × Option (List ℕ × List ℕ)) TextFault
 ttl_and_class first = ttl_at first >>= λ before. with_ttl before.0 (after_class before.1)
 

@@ -11,7 +11,7 @@ use Rattle.dns_text.specs.Word.{next_word, AreWords}
 -- ---- what a text stands for
 
 -- An octet of a string is written in one of three ways. An octet other than a quote (34) and a backslash (92) may be
--- written as itself. A printable octet other than a digit may be written behind a backslash. Any octet may be written as
+-- written as itself. A printable octet other than a digit may be written after a backslash. Any octet may be written as
 -- a backslash and the three digits of its number.
 pub data IsStringOctet (text : List ℕ) (octet : ℕ) : Type 0 where
   itself : octet ≢ 34 → octet ≢ 92 → text ≡ octet ∷ [] → IsStringOctet text octet
@@ -54,7 +54,7 @@ octets_after before zero (c ∷ text) = do
   more ← with_octet before octet.0
   octets_after more (octet.1 - 1) text
 
--- The text, behind the octets before, is not that of a string.
+-- The text, after the octets before, is not that of a string.
 abbrev pub IsNoString : List ℕ → List ℕ → Type 0
 IsNoString before text = octets_after before 0 text ≡ None
 
@@ -77,7 +77,7 @@ inside_quotes (c ∷ word) = if c == 34 then before_last_quote word else Some (c
 unfoldable pub string_in : List ℕ → Option (List ℕ)
 string_in word = inside_quotes word >>= octets_after [] 0
 
--- the strings before and that of the first word, then those of the text behind it; or the strings before at the end
+-- the strings before and that of the first word, then those of the text after it; or the strings before at the end
 abbrev pub then_string : List (List ℕ) → (List (List ℕ) → List ℕ → Option (List (List ℕ))) → Option (List ℕ × List ℕ) → Option (List (List ℕ))
 then_string before go None = Some before
 then_string before go (Some first) = string_in first.0 >>= λ octets. go (before ++ octets ∷ []) first.1
@@ -102,7 +102,7 @@ ReadsStrings = (text : List ℕ) (strings : List (List ℕ)) → (strings_in tex
 
 -- ---- writing
 
--- an octet of a string in quotes as text: itself, behind a backslash, or as its number
+-- an octet of a string in quotes as text: itself, after a backslash, or as its number
 abbrev pub quoted_octet : ℕ → List ℕ
 quoted_octet b =
     if b == 34 || b == 92 then 92 ∷ b ∷ [] else if nat_lt 31 b && nat_lt b 127 then b ∷ [] else

@@ -20,12 +20,12 @@ after_octet Quotes c = if c == 92 then Some QuotedEscape else if c == 34 then So
 abbrev pub with_first : ℕ → List ℕ × List ℕ → List ℕ × List ℕ
 with_first c r = (c ∷ r.0, r.1)
 
--- the end of a word; or the octet, and the rest of the word behind it
+-- the end of a word; or the octet, and the rest of the word after it
 abbrev pub goes_on : ℕ → List ℕ → (Within → List ℕ × List ℕ) → Option Within → List ℕ × List ℕ
 goes_on c text go None = ([], c ∷ text)
 goes_on c text go (Some within) = with_first c (go within)
 
--- the rest of a word at the front of a text, and the text from the blank behind it on
+-- the rest of a word at the front of a text, and the text from the blank after it on
 unfoldable pub cut_word : Within → List ℕ → List ℕ × List ℕ
 cut_word within [] = ([], [])
 cut_word within (c ∷ text) = goes_on c text (λ w. cut_word w text) (after_octet within c)
@@ -49,7 +49,7 @@ abbrev pub AreWords : List ℕ → List (List ℕ) → Type 0
 AreWords text [] = next_word text ≡ None
 AreWords text (word ∷ words) = (rest : List ℕ) × (next_word text ≡ Some (word, rest)) × AreWords rest words
 
--- The first words of a text are these, and the rest is behind them.
+-- The first words of a text are these, and the rest is after them.
 abbrev pub BeginsWithWords : List ℕ → List (List ℕ) → List ℕ → Type 0
 BeginsWithWords text [] rest = text ≡ rest
 BeginsWithWords text (word ∷ words) rest = (after : List ℕ) × (next_word text ≡ Some (word, after)) × BeginsWithWords after words rest

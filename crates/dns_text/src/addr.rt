@@ -74,7 +74,7 @@ fn push_ip(ip: &Ip, out: &mut Vec<u8>) -> Result<(), NoMemory>
     }
 }
 
-/// Writes an address with its port behind what `out` holds. If memory runs out, a part of the text may have been written.
+/// Writes an address with its port after what `out` holds. If memory runs out, a part of the text may have been written.
 pub fn push_addr(addr: &Addr, out: &mut Vec<u8>) -> Result<(), NoMemory>
     ensures text { OnOk result (out.new.items ≡ out.old.items ++ addr_text addr.now) }
     ensures again { OnOk result (0 < addr.now.port → addr_in (addr_text addr.now) ≡ Some addr.now) }

@@ -124,7 +124,7 @@ pub fn read_data(alloc: Global, kind: u16, text: &[u8]) -> Result<Data, TextFaul
     parse_data(alloc, kind, text)
 }
 
-/// Writes a number behind a blank.
+/// Writes a number after a blank.
 fn push_blank_number(n: u64, out: &mut Vec<u8>) -> Result<(), NoMemory>
     ensures { OnOk result (out.new.items ≡ out.old.items ++ blank_number n) }
 {
@@ -142,7 +142,7 @@ fn push_names(first: &Name, second: &Name, out: &mut Vec<u8>) -> Result<(), NoMe
     push_name(second, out)
 }
 
-/// Writes the numbers of SOA data, each behind a blank.
+/// Writes the numbers of SOA data, each after a blank.
 fn push_soa_numbers(
     serial: u32,
     refresh: u32,
@@ -189,7 +189,7 @@ fn push_srv(
     push_name(target, out)
 }
 
-/// Writes data behind what `out` holds. If memory runs out, a part of the text may have been written.
+/// Writes data after what `out` holds. If memory runs out, a part of the text may have been written.
 #[tactic(auto, unfolding(crate::specs::Data::data_text))]
 pub fn push_data(body: &Data, out: &mut Vec<u8>) -> Result<(), NoMemory>
     ensures text { OnOk result (out.new.items ≡ out.old.items ++ data_text body.now) }

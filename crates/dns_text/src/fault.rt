@@ -13,7 +13,7 @@ pub enum TextFault {
     #[error("the name is missing or not a name")]
     BadName,
     /// The TTL is above 2147483647 (RFC 2181, section 8).
-    #[error("the time to live is above 2147483647")]
+    #[error("the TTL is above 2147483647")]
     BadTtl,
     /// The type is missing, unknown, or one that records may not have.
     #[error("the type is missing, unknown or not one of a record")]

@@ -12,7 +12,7 @@ use arrayvec::ArrayVec;
 use dns_name::NoMemory;
 
 /// The octets of an address, or of some groups of one.
-type Octets = ArrayVec<u8, 16>;
+type GroupOctets = ArrayVec<u8, 16>;
 
 /// The number of a hexadecimal digit.
 fn read_hex(digit: u8) -> Option<u16>
@@ -49,7 +49,7 @@ fn read_group(word: &[u8]) -> Option<u16>
 }
 
 /// Adds the octets of a group, if there is room for them.
-fn add_group(group: u16, octets: &mut Octets) -> Option<()>
+fn add_group(group: u16, octets: &mut GroupOctets) -> Option<()>
     ensures { option_map (λ _. octets.new.items) result ≡ with_group octets.old.items group }
 {
     if octets.len() > 14 {
@@ -61,13 +61,13 @@ fn add_group(group: u16, octets: &mut Octets) -> Option<()>
 }
 
 /// Adds the octets of a group's word, if it is a group and there is room for them.
-fn add_word(word: &[u8], octets: &mut Octets) -> Option<()>
+fn add_word(word: &[u8], octets: &mut GroupOctets) -> Option<()>
     ensures { option_map (λ _. octets.new.items) result ≡ with_word octets.old.items word.now }
 {
     add_group(read_group(word)?, octets)
 }
 
-/// The first group of a text and the rest behind its colon; none if it is the only group.
+/// The first group of a text and the rest after its colon; none if it is the only group.
 fn cut_at_colon(text: &[u8]) -> Option<(&[u8], &[u8])>
     ensures cut { MatchOption result (IsOneGroup text.now) (λ r. BeginsWithGroup text.now r.0.now r.1.now) }
     ensures less { IfSome result (λ r. length r.1.now < length text.now) }
@@ -77,10 +77,10 @@ fn cut_at_colon(text: &[u8]) -> Option<(&[u8], &[u8])>
 
 /// The octets of groups with a colon between each two.
 #[tactic(auto, unfolding(crate::specs::Ipv6::octets_after))]
-fn read_some_groups(text: &[u8]) -> Option<Octets>
+fn read_some_groups(text: &[u8]) -> Option<GroupOctets>
     ensures { option_map (λ v. v.items) result ≡ octets_after [] (slice_split is_colon text.now) }
 {
-    let mut octets: Octets = ArrayVec::new();
+    let mut octets: GroupOctets = ArrayVec::new();
     let mut rest = text;
     while let Some((word, after)) = cut_at_colon(rest) {
         add_word(word, &mut octets)?;
@@ -92,7 +92,7 @@ fn read_some_groups(text: &[u8]) -> Option<Octets>
 
 /// The octets of groups with a colon between each two, or of no group.
 #[tactic(auto, unfolding(crate::specs::Ipv6::groups_in))]
-fn read_groups(text: &[u8]) -> Option<Octets>
+fn read_groups(text: &[u8]) -> Option<GroupOctets>
     ensures { option_map (λ v. v.items) result ≡ groups_in text.now }
 {
     match text {
@@ -101,7 +101,7 @@ fn read_groups(text: &[u8]) -> Option<Octets>
     }
 }
 
-/// The text behind a colon at its front.
+/// The text after a colon at its front.
 fn behind_colon(text: &[u8]) -> Option<&[u8]>
     ensures { option_map (λ back. back.now) result ≡ behind_colon text.now }
 {
@@ -111,7 +111,7 @@ fn behind_colon(text: &[u8]) -> Option<&[u8]>
     }
 }
 
-/// The text behind a `::` at its front.
+/// The text after a `::` at its front.
 fn behind_gap(text: &[u8]) -> Option<&[u8]>
     ensures { option_map (λ back. back.now) result ≡ behind_gap text.now }
 {
@@ -121,11 +121,11 @@ fn behind_gap(text: &[u8]) -> Option<&[u8]>
     }
 }
 
-/// The octets of one group or more up to the first `::`, and the text behind it, if there is one.
-fn read_head(text: &[u8]) -> Option<(Octets, Option<&[u8]>)>
+/// The octets of one group or more up to the first `::`, and the text after it, if there is one.
+fn read_head(text: &[u8]) -> Option<(GroupOctets, Option<&[u8]>)>
     ensures { option_map (λ r. (r.0.items, option_map (λ back. back.now) r.1)) result ≡ head_after [] text.now }
 {
-    let mut octets: Octets = ArrayVec::new();
+    let mut octets: GroupOctets = ArrayVec::new();
     let mut rest = text;
     while let Some((word, after)) = cut_at(b':', rest) {
         add_word(word, &mut octets)?;
@@ -147,7 +147,7 @@ fn zeros(n: usize) -> &'static [u8]
 }
 
 /// The address of these octets around `::`, which stands for one group of zero or more.
-fn fill_gap(mut octets: Octets, tail: &[u8]) -> Option<[u8; 16]>
+fn fill_gap(mut octets: GroupOctets, tail: &[u8]) -> Option<[u8; 16]>
     ensures { result ≡ with_zeros octets.items tail.now }
 {
     let known = octets.len() + tail.len();
@@ -159,8 +159,8 @@ fn fill_gap(mut octets: Octets, tail: &[u8]) -> Option<[u8; 16]>
     octets.into_inner().ok()
 }
 
-/// The address of the groups before `::`, if the text has one, and of the groups behind it.
-fn address_of(head: Octets, back: Option<&[u8]>) -> Option<[u8; 16]>
+/// The address of the groups before `::`, if the text has one, and of the groups after it.
+fn address_of(head: GroupOctets, back: Option<&[u8]>) -> Option<[u8; 16]>
     ensures { result ≡ address_of head.items (option_map (λ back. back.now) back.entry) }
 {
     match back {

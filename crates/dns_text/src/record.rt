@@ -1,19 +1,30 @@
 //! Questions and records.
 
-ghost use Rattle.std.specs.Prelude.{◌≡◌, true};
+ghost use Rattle.std.specs.Prelude.{◌≡◌, true, IfOk};
 ghost use Rattle.dns_text.specs.declared.record.Data.{Data};
 ghost use Rattle.dns_text.specs.declared.record.Question.{Question};
 ghost use Rattle.dns_text.specs.declared.record.Record.{Record};
 
 use crate::items::{Items, Octets};
 use crate::ttl::Ttl;
-use dns_name::Name;
+use dns_name::{Name, NoMemory};
 
 /// A name and a type (RFC 1035, section 4.1.2).
 #[derive(Drop, PartialEq)]
 pub struct Question {
     pub owner: Name,
     pub kind: u16,
+}
+
+impl Clone for Question {
+    fn clone(&self) -> Result<Question, NoMemory>
+        ensures { IfOk result (λ copy. copy ≡ self.now) }
+    {
+        Ok(Question {
+            owner: self.owner.clone()?,
+            kind: self.kind,
+        })
+    }
 }
 
 /// The data of a record (RFC 1035, section 3.3).

@@ -26,7 +26,7 @@ pub(crate) const DEFAULT_TTL: u32 = 3600;
 /// The first word of a text and the text after it, if there is a word.
 type First<'a> = Option<(&'a [u8], &'a [u8])>;
 
-/// The TTL, if the first word is digits, and the first word behind it.
+/// The TTL, if the first word is digits, and the first word after it.
 fn read_ttl(first: First<'_>) -> Result<(Option<u32>, First<'_>), TextFault>
     ensures value { result_map (λ r. (r.0, first_now r.1)) result ≡ ttl_at (first_now first.entry) }
     ensures range { IfOk result (λ r. IfSome r.0 (λ ttl. ttl < 2 ^ 31)) }
@@ -41,7 +41,7 @@ fn read_ttl(first: First<'_>) -> Result<(Option<u32>, First<'_>), TextFault>
     Ok((Some(ttl as u32), next_word(rest)))
 }
 
-/// The first word behind the class, if the first word is the class; else the first word.
+/// The first word after the class, if the first word is the class; else the first word.
 fn skip_class(first: First<'_>) -> First<'_>
     ensures { first_now result ≡ after_class (first_now first.entry) }
 {
@@ -51,7 +51,7 @@ fn skip_class(first: First<'_>) -> First<'_>
     }
 }
 
-/// The TTL of a record, and the first word behind TTL and class. Both may be left out, and they may be in either order.
+/// The TTL of a record, and the first word after TTL and class. Both may be left out, and they may be in either order.
 #[tactic(auto, unfolding(crate::specs::Record::ttl_and_class))]
 fn read_ttl_and_class(first: First<'_>) -> Result<(u32, First<'_>), TextFault>
     ensures value { result_map (λ r. (r.0, first_now r.1)) result ≡ ttl_and_class (first_now first.entry) }
@@ -100,7 +100,7 @@ pub fn read_record(alloc: Global, text: &[u8]) -> Result<Record, TextFault>
     parse_record(alloc, text)
 }
 
-/// Writes a record behind what `out` holds, as `NAME TTL TYPE DATA`. If memory runs out, a part of the text may have been written.
+/// Writes a record after what `out` holds, as `NAME TTL TYPE DATA`. If memory runs out, a part of the text may have been written.
 pub fn push_record(r: &Record, out: &mut Vec<u8>) -> Result<(), NoMemory>
     requires { HasForm r.now.kind r.now.body }
     ensures text { OnOk result (out.new.items ≡ out.old.items ++ record_text r.now) }

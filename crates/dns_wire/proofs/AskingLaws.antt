@@ -29,7 +29,7 @@ use Rattle.dns_name.specs.ListLaws.{all-take, all-drop, octet_of}
 use Rattle.dns_wire.proofs.Ranges.{u16_range}
 use Rattle.dns_wire.proofs.WalkLaws.{read_by}
 
--- What walking a message of one question comes to: its name, and the end behind all records.
+-- What walking a message of one question comes to: its name, and the end after all records.
 pub record Parts (m : List ℕ) (labels : Labels) (at : ℕ) : Type 0 where
   pub name : name_read m 12 ≡ Ok (labels, at)
   pub room : at + 4 ≤ length m
@@ -74,7 +74,7 @@ other_place o at other e not h = not (let f : Some other ≡ Some at = sym e ∙
 pub malformed_name : {m : List ℕ} {fault : WireFault} → question_count m ≡ 1 → Err fault ≡ name_read m 12 → IsMalformed m
 malformed_name {m} {fault} one e = malformed_by one (λ labels at p. no_place (place_after (name_read m 12)) at (ap (λ r. place_after r) (sym e)) (ap (λ r. place_after r) p.name))
 
--- A name that doesn't stand, or has a pointer, is malformed.
+-- A name that is not there, or has a pointer, is malformed.
 pub malformed_whole : {m : List ℕ} → 12 ≤ length m → question_count m ≡ 1 → ((fault : WireFault) × UnspelledName m 12 fault) ⊎ HasPointer m 12 → IsMalformed m
 malformed_whole {m} header one (inl h) = malformed_name one (sym (name_read-unspelled m 12 h.0 header h.1))
 malformed_whole header one (inr h) = pointer h
@@ -161,7 +161,7 @@ asks_question h = record { one = h.one; message = h.message; spelled = h.spelled
 pub question_begins : {m : List ℕ} {labels : Labels} {at : ℕ} → AsksName m labels at → 12 < at
 question_begins h = (name_whole h.owner.stands h.whole).before
 
--- The octets of a question stand from the header to the place after it.
+-- The octets of a question are from the header to the place after it.
 pub question_stands : {m : List ℕ} {labels : Labels} {at : ℕ} → AreOctets m → AsksName m labels at → u16_at m (at + 2) ≡ 1
     → IsQuestionOctets (drop 12 (take (at + 4) m)) (record { owner = labels; kind = u16_at m at })
 unfolding u16_at

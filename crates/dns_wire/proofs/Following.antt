@@ -9,7 +9,7 @@ use Rattle.dns_name.specs.Octets.{length-spelled_push}
 use Rattle.dns_wire.specs.declared.read.place.Next.TheVariants.{Finish, Label, Pointer}
 use Rattle.dns_wire.specs.declared.fault.WireFault.{WireFault}
 use Rattle.dns_wire.specs.declared.fault.WireFault.TheVariants.{Short}
-use Rattle.dns_wire.specs.Read.Chains.{Leads, there, back}
+use Rattle.dns_wire.specs.Read.Chains.{PointersLead, there, back}
 use Rattle.dns_wire.specs.Read.Place.{next_at, label_at}
 use Rattle.dns_wire.specs.Read.Name.{NameAt, finish, label, pointer, NameFails, after_label, after_pointer}
 
@@ -43,16 +43,16 @@ reads_pointer {at = at} h to here before =
       fault = λ fault found. h.fault fault (after_pointer here before found);
     }
 
--- Pointers that lead on from behind one are followed by one step.
-pub reads_leads : {m first : List ℕ} {ending : WireFault} {start : ℕ} {labels : Labels} {to end after : ℕ} → Leads m to end → Reads m first ending start labels m Short to to (Some after) → Reads m first ending start labels m Short end end (Some after)
+-- Pointers that lead on from after one are followed by one step.
+pub reads_leads : {m first : List ℕ} {ending : WireFault} {start : ℕ} {labels : Labels} {to end after : ℕ} → PointersLead m to end → Reads m first ending start labels m Short to to (Some after) → Reads m first ending start labels m Short end end (Some after)
 reads_leads (there is) h = rw is h
 reads_leads (back {to = next} here before rest) h = reads_leads rest (reads_pointer h next here before)
 
-pub leads_back : {m : List ℕ} {at end : ℕ} → Leads m at end → end ≤ at
+pub leads_back : {m : List ℕ} {at end : ℕ} → PointersLead m at end → end ≤ at
 leads_back (there is) = omega arith
 leads_back (back here before rest) = omega (arith, leads_back rest)
 
--- what a front ends with behind a pointer, or before one
+-- what a front ends with after a pointer, or before one
 abbrev pub ending_of : WireFault → Option ℕ → WireFault
 ending_of ending None = ending
 ending_of ending (Some after) = Short

@@ -61,7 +61,7 @@ records_within {m} within h = section_within (length m) (RecordAt m) (RecordFail
 pub records_match : (m : List ℕ) (count at : ℕ) → at ≤ length m → MatchResult (records_read m count at) (λ x. RecordsAt m count at x.0 x.1) (λ e. RecordsFail m count at e)
 records_match m count at within = section_read-match (length m) (RecordAt m) (RecordFails m) (λ i. record_read m i) (record_reader m) count at within
 
--- ---- what stands is read, and the first fault is told
+-- ---- what is there is read, and the first fault is told
 
 sections_stand : {m : List ℕ} {v : Message} {after : ℕ} → MessageAt m v after → sections_read m ≡ Ok (v, after)
 unfolding sections_read
@@ -95,7 +95,7 @@ message_read-fails {m} (bad_additional header q a u h) =
 message_read-fails {m} (trailing {after = after} h more) =
     rw (le-ltb (length m) 12 h.header, sections_stand h, ne_eqb after (length m) (λ e. omega arith)) refl
 
--- ---- what is read stands, and a fault is the first
+-- ---- what is read is there, and a fault is the first
 
 abbrev pub Found : List ℕ → Result (Message × ℕ) WireFault → Type 0
 Found m r = MatchResult r (λ x. MessageAt m x.0 x.1) (λ e. MessageFails m e)

@@ -1,4 +1,4 @@
--- Reading a name gives the name that stands there, and the first fault where none does.
+-- Reading a name gives the name that is there, and the first fault where none does.
 use Rattle.std.proofs.Common.{◌≡◌, ℕ, zero, suc, ◌+◌, ◌-◌, ◌*◌, ◌<◌, ◌≤◌, List, ◌∷◌, length, take, drop, Option, Some, None, Result, Ok, Err, refl, inl, inr, eqb, ltb, arith, length-append}
 use Rattle.std.specs.Prelude.{slice_get, MatchResult, MatchOption, IfOk, IfSome}
 use Rattle.std.proofs.lemmas.Option.{slice_get_within}
@@ -83,7 +83,7 @@ after_within {front = front} {at = at} (finish here is) = omega (arith, (next_wi
 after_within (label here inside rest) = after_within rest
 after_within {front = front} {at = at} (pointer {to = to} here before is rest) = omega (arith, (next_within front at (slice_get front at) refl).1 to here)
 
--- ---- reading gives what stands, and the first fault where nothing does
+-- ---- reading gives what is there, and the first fault where nothing does
 
 pub record Stands (m front : List ℕ) (used at run : ℕ) (x : Labels × ℕ) : Type 0 where
   pub stands : NameAt m front at run x.1 x.0
@@ -97,7 +97,7 @@ Matches m front ending start used at run r = MatchResult r (λ x. Stands m front
 abbrev pub Goes : List ℕ → List ℕ → WireFault → ℕ → ℕ → (ℕ → ℕ → ℕ → Result (Labels × ℕ) WireFault) → Type 0
 Goes m front ending start steps go = (u a r : ℕ) → u < MAX_NAME_OCTETS → r ≤ a → a ≤ length front → steps_left m a r < steps → Matches m front ending start u a r (go u a r)
 
--- what is known of reading on behind a pointer
+-- what is known of reading on after a pointer
 abbrev pub Jumps : List ℕ → ℕ → ℕ → (ℕ → ℕ → Result (Labels × ℕ) WireFault) → Type 0
 Jumps m start steps jump = (u to : ℕ) → u < MAX_NAME_OCTETS → to ≤ length m → steps_left m to to < steps → Matches m m Short start u to to (jump u to)
 
@@ -155,7 +155,7 @@ name_read_in-match m front ending at within part =
     (λ x h. record { stands = h.stands; short = omega (arith, h.short) })
     (λ e h. h)
 
--- what stands is read
+-- what is there is read
 pub name_read_in-spelled : (m front : List ℕ) (ending : WireFault) (at after : ℕ) (labels : Labels) → at ≤ length front → length front ≤ length m → SpelledIn m front at after labels → name_read_in m front ending at ≡ Ok (labels, after)
 unfolding name_read_in
 name_read_in-spelled m front ending at after labels within part h = name_in-found (suc (steps_left m at at)) ending at 0 h.stands (omega arith) (omega arith) within part (omega (arith, h.short))

@@ -1,4 +1,4 @@
--- A name without a pointer stands whole.
+-- A name without a pointer is whole.
 use Rattle.std.proofs.Common.{◌≡◌, ℕ, suc, ◌+◌, ◌-◌, ◌<◌, List, [], ◌∷◌, ◌++◌, length, take, drop, map, Option, Some, None, refl, sym, ap, ◌∙◌, append_assoc, inl, inr, eqb, ltb, arith}
 use Rattle.std.specs.Prelude.{slice_get}
 use Rattle.std.specs.Char.{to_ascii_lowercase}
@@ -14,9 +14,9 @@ use Rattle.dns_wire.specs.Read.Place.{next_at, next_by, pointer_by, label_at}
 use Rattle.dns_wire.specs.Read.Name.{NameAt, finish, label, pointer}
 use Rattle.dns_wire.specs.Write.Name.{name_octets}
 
--- ---- what the octet at a place is, by what stands there
+-- ---- what the octet at a place is, by what is there
 
--- where a label stands, its length
+-- where a label is there, its length
 pub label_octet : (m : List ℕ) (at n : ℕ) (o : Option ℕ) → next_by m at o ≡ Label n → (o ≡ Some n) × (n < 64)
 label_octet m at n None h = absurd cc
 label_octet m at n (Some k) h =
@@ -57,13 +57,13 @@ finish_octet m at (Some k) h =
     no_finish k None h = absurd cc
     no_finish k (Some low) h = absurd cc
 
--- what stands from a place on begins with its octet
+-- what is from a place on begins with its octet
 octet_front : (m : List ℕ) (at b : ℕ) → slice_get m at ≡ Some b → drop at m ≡ b ∷ drop (at + 1) m
 octet_front m at b h =
     let next : suc at ≡ at + 1 = omega arith in
     drop-cons m at b (slice_get_within m at b h) ∙ rw (get_or_from_slice_get m at b b h, next) refl
 
--- ---- a pointer stands at a place, or behind a label there
+-- ---- a pointer is at a place, or after a label there
 
 pub pointer_behind : (m : List ℕ) (at n : ℕ) → next_at m at ≡ Label n → HasPointer m at → HasPointer m (at + 1 + n)
 pointer_behind m at n e (here {to = to} h) = absurd (let f : Label n ≡ Pointer to = sym e ∙ h in cc)
@@ -76,7 +76,7 @@ pub no_pointer : (m : List ℕ) (at : ℕ) (next : Next) → next_at m at ≡ ne
 no_pointer m at next e not_label not_pointer (here {to = to} h) = not_pointer to (sym e ∙ h)
 no_pointer m at next e not_label not_pointer (behind_label {n = n} h rest) = not_label n (sym e ∙ h)
 
--- where a name ends, no pointer stands
+-- where a name ends, no pointer is there
 pub ends_whole : (m : List ℕ) (at : ℕ) → next_at m at ≡ Finish → ¬ (HasPointer m at)
 ends_whole m at e h = no_pointer m at Finish e (λ n is. (cc)) (λ to is. (cc)) h
 

@@ -1,4 +1,4 @@
--- Reading a question gives the one that stands there, and the first fault where none does.
+-- Reading a question gives the one that is there, and the first fault where none does.
 use Rattle.std.proofs.Common.{◌≡◌, ℕ, ◌+◌, ◌≤◌, List, length, Result, Ok, Err, refl, inl, inr, ltb, arith}
 use Rattle.std.specs.Prelude.{MatchResult}
 use Rattle.std.proofs.lemmas.Bool.{cases_Bool, le-ltb, lt-ltb, ltb-true, ltb-false}
@@ -11,7 +11,7 @@ use Rattle.dns_wire.specs.Read.Question.{QuestionAt, QuestionFails, bad_owner, s
 use Rattle.dns_name.specs.Results.{◌>>=◌}
 use Rattle.dns_wire.proofs.NameLaws.{name_read-match, name_read-spelled, name_read-unspelled}
 
--- what stands is read
+-- what is there is read
 pub question_read-stands : {m : List ℕ} {at after : ℕ} {q : Classed Question} → at ≤ length m → QuestionAt m at q after → question_read m at ≡ Ok (q, after)
 unfolding question_read
 question_read-stands {m} {at} {after} {q} within h =
@@ -33,7 +33,7 @@ behind_match m at (Ok x) h =
       | inr enough ↦ rw enough (record { fixed = x.1; owner = h; kind = refl; class = refl; ends = refl; within = ltb-false (length m) (x.1 + 4) enough })
     ]
 
--- what is read stands, and a fault is the first
+-- what is read is there, and a fault is the first
 pub question_read-match : (m : List ℕ) (at : ℕ) → at ≤ length m → MatchResult (question_read m at) (λ x. QuestionAt m at x.0 x.1) (λ e. QuestionFails m at e)
 unfolding question_read
 question_read-match m at within = behind_match m at (name_read m at) (name_read-match m at within)

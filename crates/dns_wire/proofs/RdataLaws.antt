@@ -1,4 +1,4 @@
--- Reading RDATA gives the data that stands there, and the first fault where none does.
+-- Reading RDATA gives the data that is there, and the first fault where none does.
 use Rattle.std.proofs.Common.{◌≡◌, ◌⊎◌, true, ℕ, suc, ◌+◌, ◌≤◌, List, [], ◌∷◌, length, drop, Option, Some, None, Result, Ok, Err, refl, sym, ap, subst, ◌∙◌, inl, inr, ltb, eqb, eq-eqb, arith}
 use Rattle.std.specs.Prelude.{MatchResult}
 use Rattle.std.proofs.lemmas.Bool.{cases_Bool, le-ltb, ltb-false, eqb-true}
@@ -17,7 +17,7 @@ use Rattle.dns_wire.proofs.NameLaws.{name_read_in-match, name_read_in-spelled, n
 use Rattle.dns_name.specs.ResultLaws.{match_weaker}
 use Rattle.dns_wire.proofs.StringLaws.{strings_spelled, strings_found}
 
--- ---- what stands is read
+-- ---- what is there is read
 
 module _ (m front : List ℕ) (at : ℕ) (part : length front ≤ length m) where
   data_name_read-spelled : (place after : ℕ) (labels : Labels) → place ≤ length front → SpelledIn m front place after labels → data_name_read m front at place ≡ Ok (labels, after)
@@ -64,7 +64,7 @@ name_told {m} {front} {at} {fault = fault} part within (target {place = place} i
     let e = rw is at (data_name_read-fails m front at part place fault room h) in
     rw (le-ltb (length front) (at + 6) (omega arith), e) refl
 
--- ---- what is read stands, and a fault is told for its reason
+-- ---- what is read is there, and a fault is told for its reason
 
 -- The reason for a fault: the form isn't there, or a name is none.
 abbrev pub Reason : List ℕ → List ℕ → ℕ → Form → WireFault → Type 0
@@ -118,7 +118,7 @@ module _ (m front : List ℕ) (at : ℕ) (part : length front ≤ length m) wher
             rw enough (reads_last FormSrv (at + 6) (λ name. Srv (u16_at front at) (u16_at front (at + 2)) (u16_at front (at + 4)) name) (λ x h. service room refl refl refl h) (data_name_read m front at (at + 6)) (reads_name FormSrv (at + 6) room (target refl room)))
       ]
 
-  -- the start of authority behind its first name, and behind both
+  -- the start of authority after its first name, and after both
   abbrev soa_numbers : Labels → Labels × ℕ → Result Data WireFault
   soa_numbers primary mailbox =
       ending front at (mailbox.1 + 20) (Soa primary mailbox.0 (u32_at front mailbox.1) (u32_at front (mailbox.1 + 4)) (u32_at front (mailbox.1 + 8)) (u32_at front (mailbox.1 + 12)) (u32_at front (mailbox.1 + 16)))

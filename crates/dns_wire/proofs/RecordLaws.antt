@@ -1,4 +1,4 @@
--- Reading a record gives the one that stands there, and the first fault where none does.
+-- Reading a record gives the one that is there, and the first fault where none does.
 use Rattle.std.proofs.Common.{◌≡◌, ℕ, ◌≤◌, List, length, take, Result, Ok, Err, refl, inl, inr, ltb, arith}
 use Rattle.std.specs.Prelude.{MatchResult}
 use Rattle.std.proofs.lemmas.Bool.{cases_Bool, le-ltb, lt-ltb, ltb-true, ltb-false}
@@ -23,7 +23,7 @@ begin_within m fixed within = omega (arith, length-take (data_end m fixed) m)
 part_of : (m : List ℕ) (end : ℕ) → length (take end m) ≤ length m
 part_of m end = omega (arith, length-take end m)
 
--- what stands is read
+-- what is there is read
 pub record_read-stands : {m : List ℕ} {at after : ℕ} {r : Classed Record} → at ≤ length m → RecordAt m at r after → record_read m at ≡ Ok (r, after)
 unfolding record_read
 record_read-stands {m} {at} {after} {r} within h =
@@ -62,7 +62,7 @@ behind_match m at (Ok x) h =
       ]
     ]
 
--- what is read stands, and a fault is the first
+-- what is read is there, and a fault is the first
 pub record_read-match : (m : List ℕ) (at : ℕ) → at ≤ length m → MatchResult (record_read m at) (λ x. RecordAt m at x.0 x.1) (λ e. RecordFails m at e)
 unfolding record_read
 record_read-match m at within = behind_match m at (name_read m at) (name_read-match m at within)

@@ -1,4 +1,4 @@
--- Reading a section gives the items that stand there, and the first fault where one doesn't.
+-- Reading a section gives the items that are there, and the first fault where one doesn't.
 use Rattle.std.proofs.Common.{◌≡◌, ℕ, zero, suc, ◌≤◌, List, [], ◌∷◌, ◌++◌, Result, Ok, Err, refl, sym, ◌∙◌, append_assoc, arith}
 use Rattle.std.specs.Prelude.{MatchResult}
 use Rattle.std.proofs.lemmas.List.{append-nil}
@@ -6,7 +6,7 @@ use Rattle.dns_wire.specs.declared.fault.WireFault.{WireFault}
 use Rattle.dns_name.specs.Results.{◌>>=◌}
 use Rattle.dns_wire.specs.Read.Section.{SectionAt, no_items, one_more, SectionFails, here, later, section_after, section_read}
 
--- A reader of an item that keeps to the octets: it gives what stands, and the first fault where nothing does.
+-- A reader of an item that keeps to the octets: it gives what is there, and the first fault where nothing does.
 pub record IsReader {A : Type 0} (end : ℕ) (item_at : ℕ → A → ℕ → Type 0) (item_fails : ℕ → WireFault → Type 0) (read : ℕ → Result (A × ℕ) WireFault) : Type 0 where
   pub stands : (at after : ℕ) (item : A) → at ≤ end → item_at at item after → read at ≡ Ok (item, after)
   pub fails : (at : ℕ) (fault : WireFault) → at ≤ end → item_fails at fault → read at ≡ Err fault
@@ -32,7 +32,7 @@ module _ {A : Type 0} (end : ℕ) (item_at : ℕ → A → ℕ → Type 0) (item
       let more = after_fails (before ++ item ∷ []) (reader.within at next item one) rest in
       rw (reader.stands at next item within one, more) refl
 
-  -- what stands is read
+  -- what is there is read
   pub section_read-stands : {count at after : ℕ} {items : List A} → at ≤ end → SectionAt item_at count at items after → section_read read count at ≡ Ok (items, after)
   section_read-stands within h = after_stands [] within h
 
@@ -40,7 +40,7 @@ module _ {A : Type 0} (end : ℕ) (item_at : ℕ → A → ℕ → Type 0) (item
   pub section_read-fails : {count at : ℕ} {fault : WireFault} → at ≤ end → SectionFails item_at item_fails count at fault → section_read read count at ≡ Err fault
   section_read-fails within h = after_fails [] within h
 
-  -- the items behind those before
+  -- the items after those before
   pub record Adds (before : List A) (count at : ℕ) (x : List A × ℕ) : Type 0 where
     pub items : List A
     pub is : x.0 ≡ before ++ items
@@ -64,6 +64,6 @@ module _ {A : Type 0} (end : ℕ) (item_at : ℕ → A → ℕ → Type 0) (item
   nothing_before count at (Ok y) h = rw h.is h.stands
   nothing_before count at (Err e) h = h
 
-  -- what is read stands, and a fault is the first
+  -- what is read is there, and a fault is the first
   pub section_read-match : (count at : ℕ) → at ≤ end → MatchResult (section_read read count at) (λ y. SectionAt item_at count at y.0 y.1) (λ e. SectionFails item_at item_fails count at e)
   section_read-match count at within = nothing_before count at (section_after read [] count at) (after_match [] count at within)

@@ -1,4 +1,4 @@
--- Strings behind their lengths.
+-- Strings preceded by their lengths.
 use Rattle.std.proofs.Common.{◌≡◌, ℕ, zero, suc, ◌<◌, ◌≤◌, List, [], ◌∷◌, ◌++◌, length, take, drop, Option, Some, None, Ok, Err, refl, sym, ap, ◌∙◌, append_assoc, inl, inr, ltb, arith, length-append, length-drop}
 use Rattle.std.specs.List.{flat_map}
 use Rattle.std.proofs.lemmas.Bool.{cases_Bool, le-ltb, ltb-false}
@@ -87,7 +87,7 @@ first_string-is (n ∷ octets) x h =
           rw (← f, long) (ap (λ (o : List ℕ). n ∷ o) (sym (take-append-drop n octets)))
     ]
 
--- strings that were found behind those before
+-- strings that were found after those before
 record Finds (before : List (List ℕ)) (octets : List ℕ) (strings : List (List ℕ)) : Type 0 where
   found : List (List ℕ)
   is : strings ≡ before ++ found

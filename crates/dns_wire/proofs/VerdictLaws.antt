@@ -21,7 +21,7 @@ well_formed (other_count not) h = not h.one
 well_formed (no_message none) h = none h.message h.spelled
 well_formed (pointer p) h = h.whole p
 
--- One question stands there, and it ends at one place.
+-- One question is there, and it ends at one place.
 record Same (q r : Classed Question) (after end : ℕ) : Type 0 where
   question : q ≡ r
   place : after ≡ end

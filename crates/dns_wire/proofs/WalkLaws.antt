@@ -44,7 +44,7 @@ module _ (m front : List ℕ) (at : ℕ) where
         | inr enough ↦ rw enough (sym (ok_name (λ name. Srv (u16_at front at) (u16_at front (at + 2)) (u16_at front (at + 4)) name) (data_name_read m front at (at + 6))))
       ]
 
-  -- the start of authority behind its first name, and behind both
+  -- the start of authority after its first name, and after both
   abbrev soa_numbers : Labels → Labels × ℕ → Result Data WireFault
   soa_numbers primary mailbox =
       ending front at (mailbox.1 + 20) (Soa primary mailbox.0 (u32_at front mailbox.1) (u32_at front (mailbox.1 + 4)) (u32_at front (mailbox.1 + 8)) (u32_at front (mailbox.1 + 12)) (u32_at front (mailbox.1 + 16)))

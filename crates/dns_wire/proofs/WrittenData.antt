@@ -1,4 +1,4 @@
--- Numbers and data that are written at a place of a message stand there.
+-- Numbers and data that are written at a place of a message are there.
 use Rattle.std.proofs.Common.{◌≡◌, ℕ, ◌+◌, ◌^◌, ◌<◌, List, [], ◌∷◌, ◌++◌, length, take, drop, refl, sym, ap, subst, ◌∙◌, append_assoc, arith, length-append}
 use Rattle.std.specs.Int.{w16, w32, from_be_bytes}
 use Rattle.std.proofs.lemmas.List.{append-nil, take_at}
@@ -25,7 +25,7 @@ pub u32_written : (m : List ℕ) (at n : ℕ) → n < 2 ^ 32 → StandsAt m at (
 unfolding u32_at
 u32_written m at n small h = sym (ap (λ (o : List ℕ). from_be_bytes w32 (take 4 o)) h.1 ∙ ap (from_be_bytes w32) (take_at (u32_octets n) h.0 4 refl) ∙ from_be_bytes-to_be_bytes_4 n small)
 
--- a number behind others
+-- a number after others
 pub u16_behind : (m : List ℕ) (at : ℕ) (front : List ℕ) (n : ℕ) (more : List ℕ) → n < 2 ^ 16 → StandsAt m at (front ++ (u16_octets n ++ more)) → n ≡ u16_at m (at + length front)
 u16_behind m at front n more small h = u16_written m (at + length front) n small (stands_first m (at + length front) (u16_octets n) more (stands_second m at front (u16_octets n ++ more) h))
 
@@ -50,7 +50,7 @@ last_name message m at place front name h is fits =
 regroup : (a b c d e f g : List ℕ) → a ++ b ++ c ++ d ++ e ++ f ++ g ≡ (a ++ b) ++ (c ++ d ++ e ++ f ++ g)
 regroup a b c d e f g = simp append_assoc
 
--- Data that is written at the end of a message's front stands there.
+-- Data that is written at the end of a message's front is there.
 pub data_written : (message m : List ℕ) (at : ℕ) (form : Form) (body : Data) → IsOfForm form body → IsData body → EndsAt m at (data_octets body) → DataAt message m at form body
 unfolding data_octets
 data_written message m at form (A octets) is fits h = rw is.same (ipv4 h.are is.sized)

@@ -21,7 +21,7 @@ use Rattle.dns_wire.specs.Write.Question.{question_octets, first_name, in_class_
 use Rattle.dns_wire.specs.Write.Record.{records_octets}
 use Rattle.dns_wire.specs.Write.Message.{octets_with, message_octets, IsTooLong}
 use Rattle.dns_wire.proofs.MessageLaws.{spelled_once}
-use Rattle.dns_wire.proofs.WrittenSize.{Fits, all_fits, length-octets_with, many_questions, as_long}
+use Rattle.dns_wire.proofs.WrittenSize.{HasRoomForAll, all_fits, length-octets_with, many_questions, as_long}
 use Rattle.dns_wire.proofs.WrittenName.{StandsAt, stands_first, stands_second}
 use Rattle.dns_wire.proofs.WrittenHead.{flags_small, flags_written}
 use Rattle.dns_wire.proofs.WrittenRecord.{cased_question, questions_written, FirstAt, no_question, first, later, records_written}
@@ -39,7 +39,7 @@ record Heads (m : List ℕ) (v : Message) : Type 0 where
 count : (n : ℕ) → n ≤ 65535 → n ≡ from_be_bytes w16 (u16_octets n)
 count n few = sym (from_be_bytes-to_be_bytes_2 n (omega arith))
 
-header_written : (questions : List ℕ) (v : Message) → IsWellFormed v → Fits v → Heads (octets_with questions v) v
+header_written : (questions : List ℕ) (v : Message) → IsWellFormed v → HasRoomForAll v → Heads (octets_with questions v) v
 unfolding octets_with header_octets u16_at
 header_written questions v fits short = record {
   head = sym (rw (sym (count v.head.id (omega (arith, fits.head.id))), sym (count (flags_of v.head) (omega (arith, flags_small v.head fits.head)))) (flags_written v.head fits.head));
@@ -72,8 +72,8 @@ first_named : {m : List ℕ} {count at after : ℕ} {questions : List (Classed Q
 first_named (no_items h) behind = no_question
 first_named (one_more {items = more} one rest) behind = first (omega arith) one.owner.stands
 
--- Where the questions stand, the message does.
-behind_questions : (questions : List ℕ) (v : Message) → IsWellFormed v → Fits v → length (octets_with questions v) ≡ length (message_octets v) → length v.questions ≤ length questions
+-- Where the questions are right, the message is.
+behind_questions : (questions : List ℕ) (v : Message) → IsWellFormed v → HasRoomForAll v → length (octets_with questions v) ≡ length (message_octets v) → length v.questions ≤ length questions
     → QuestionsAt (octets_with questions v) (length v.questions) 12 v.questions (12 + length questions) → SpelledMessage (octets_with questions v) v
 behind_questions questions v fits short same many stands =
     let m = octets_with questions v in

@@ -1,4 +1,4 @@
--- A name that is written at a place of a message's front, in whatever case, stands there.
+-- A name that is written at a place of a message's front, in whatever case, is there.
 use Rattle.std.proofs.Common.{◌≡◌, ℕ, ◌+◌, ◌<◌, ◌≤◌, ltb, List, [], ◌∷◌, ◌++◌, length, take, drop, get_or, map, Some, refl, sym, ap, subst, ◌∙◌, append_assoc, inl, inr, arith, length-append}
 use Rattle.std.specs.Prelude.{slice_get}
 use Rattle.std.specs.Char.{to_ascii_lowercase}
@@ -15,7 +15,7 @@ use Rattle.dns_wire.specs.Write.Name.{name_octets}
 
 -- ---- octets at a place
 
--- These octets stand at this place of a message.
+-- These octets are at this place of a message.
 abbrev pub StandsAt : List ℕ → ℕ → List ℕ → Type 0
 StandsAt m at octets = (rest : List ℕ) × (drop at m ≡ octets ++ rest)
 

@@ -1,4 +1,4 @@
--- Questions and records that are written at a place of a message stand there.
+-- Questions and records that are written at a place of a message are there.
 use Rattle.std.proofs.Common.{◌≡◌, ℕ, ◌+◌, ◌<◌, ◌≤◌, List, [], ◌∷◌, ◌++◌, length, take, map, Option, Some, None, refl, sym, ap, subst, ◌∙◌, append_assoc, inl, inr, arith, length-append}
 use Rattle.std.specs.Char.{to_ascii_lowercase}
 use Rattle.std.specs.List.{flat_map, AllByRecursion}
@@ -58,7 +58,7 @@ questions_written m at (q ∷ questions) fits h =
 
 -- ---- records
 
--- The first question's name, if there is one, stands behind the header, and the place is behind it.
+-- The first question's name, if there is one, is after the header, and the place is after it.
 pub data FirstAt (m : List ℕ) (at : ℕ) : Option Labels → Type 0 where
   no_question : FirstAt m at None
   first : {name : Labels} {end : ℕ} → 12 < at → NameAt m m 12 12 end name → FirstAt m at (Some name)
@@ -85,7 +85,7 @@ owner_written m at (Some name) owner fits (first {end = end} behind stands) h =
           rw is (whole_name m m at owner fits (subst (StandsAt m at) is h))
     ]
 
--- what stands at a place, as the end of the front that ends with it
+-- what is at a place, as the end of the front that ends with it
 front_ends : (m : List ℕ) (at : ℕ) (octets : List ℕ) → at + length octets ≤ length m → StandsAt m at octets → EndsAt (take (at + length octets) m) at octets
 front_ends m at octets within h = record {
   are = drop-take at (length octets) m ∙ ap (take (length octets)) h.1 ∙ take_at octets h.0 (length octets) refl;

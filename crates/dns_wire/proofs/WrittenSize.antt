@@ -43,7 +43,7 @@ as_many {n} {k} e =
     ]
 
 -- A message that isn't too long has a place for all of it.
-pub record Fits (v : Message) : Type 0 where
+pub record HasRoomForAll (v : Message) : Type 0 where
   pub octets : length (message_octets v) ≤ 65535
   pub questions : length v.questions ≤ 65535
   pub answer : length v.answer ≤ 65535
@@ -56,7 +56,7 @@ no_more n h = elim (cases_Bool (ltb 65535 n)) [
   | inr fits ↦ ltb-false 65535 n fits
 ]
 
-pub all_fits : (v : Message) → ¬ (IsTooLong v) → Fits v
+pub all_fits : (v : Message) → ¬ (IsTooLong v) → HasRoomForAll v
 all_fits v h = record {
   octets = no_more _ (λ over. h (inl over));
   questions = no_more _ (λ over. h (inr (inl over)));

@@ -132,7 +132,7 @@ impl Section for Items<Classed<Record>> {
     }
 }
 
-/// The sections of a message behind its questions. Contracts see the records of each.
+/// The sections of a message after its questions. Contracts see the records of each.
 #[derive(Drop)]
 pub(crate) struct Sections<'a, A: Section, B: Section, C: Section> {
     pub answer: &'a A,

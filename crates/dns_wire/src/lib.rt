@@ -24,7 +24,7 @@ mod server;
 
 pub use fault::WireFault;
 pub use lent::{LentRecord, NoRecords, Section};
-pub use limits::{HEADER_OCTETS, MOST_OCTETS, limits_law};
+pub use limits::{HEADER_OCTETS, MOST_OCTETS, MOST_UDP_OCTETS, limits_law};
 pub use message::{CLASS_IN, Classed, Head, Message};
 pub use opcode::Opcode;
 pub use rcode::Rcode;

@@ -23,7 +23,7 @@ begins now old new before after since same is vacant updates more now_is begun l
       limit = limit;
     }
 
--- So it stands behind those that began before.
+-- So it is after those that began before.
 pub begun_behind : (before after : List Wait) (last : Wait) (begun : List ℕ) → after ≡ before ++ last ∷ [] → map (λ wait. wait.since) before ≡ begun → map (λ wait. wait.since) after ≡ begun ++ last.since ∷ []
 begun_behind before after last begun is were = ap (map (λ (wait : Wait). wait.since)) is ∙ map-append (λ (wait : Wait). wait.since) before (last ∷ []) ∙ ap (λ (list : List ℕ). list ++ last.since ∷ []) were
 

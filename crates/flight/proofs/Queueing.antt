@@ -19,7 +19,7 @@ or_right a b is = grind arith
 abbrev is_wait : ℕ → ℕ → Wait → Bool
 is_wait key since wait = (wait.key == key) && (wait.since == since)
 
--- The last one stands in the queue.
+-- The last one is in the queue.
 queued_last : (waits : List Wait) (key since : ℕ) → IsTrue (is_queued (waits ++ record { key = key; since = since } ∷ []) key since)
 queued_last [] key since = or_left ((key == key) && (since == since)) false (and_from (key == key) (since == since) (eq-eqb key key refl) (eq-eqb since since refl))
 queued_last (wait ∷ waits) key since = or_right (is_wait key since wait) (is_queued (waits ++ record { key = key; since = since } ∷ []) key since) (queued_last waits key since)
@@ -33,7 +33,7 @@ queued_before (wait ∷ waits) last key since is =
       | inr later ↦ or_right (is_wait key since wait) (is_queued (waits ++ last ∷ []) key since) (queued_before waits last key since later)
     ]
 
--- What is not the first stands behind it.
+-- What is not the first is after it.
 queued_behind : (wait : Wait) (waits : List Wait) (key since : ℕ) → ¬ ((wait.key ≡ key) × (wait.since ≡ since)) → IsTrue (is_queued (wait ∷ waits) key since) → IsTrue (is_queued waits key since)
 queued_behind wait waits key since other is =
     elim (or_cases (is_wait key since wait) (is_queued waits key since) is) [
@@ -54,14 +54,14 @@ first_of (first ∷ rest) wait some is = record { rest = rest; is = ap (λ (at :
 pub left_behind : (waits behind : List Wait) (wait : Wait) → FirstIs waits wait → behind ≡ drop 1 waits → waits ≡ wait ∷ behind
 left_behind waits behind wait first is = first.is ∙ ap (λ (rest : List Wait). wait ∷ rest) (sym (is ∙ ap (drop 1) first.is))
 
--- None is under way where none stands under any key.
+-- None is under way where none is under any key.
 pub none_under_way : (exchanges : List (Option ℕ)) → ((key since : ℕ) → ¬ (get_or exchanges key None ≡ Some since)) → count_by is_some exchanges ≡ 0
 none_under_way [] none = refl
 none_under_way (None ∷ rest) none = omega (arith, none_under_way rest (λ key since is. none (suc key) since is), sum_by-cons (λ o. cond (is_some o) 1 0) None rest)
 none_under_way (Some since ∷ rest) none = absurd (none 0 since refl)
 
 module _ (exchanges : List (Option ℕ)) (waits : List Wait) (latest : ℕ) (queue : IsQueue exchanges waits latest) where
-  -- Where none stands in the queue, none is under way.
+  -- Where none is in the queue, none is under way.
   pub none_queued : waits ≡ [] → (key since : ℕ) → ¬ (get_or exchanges key None ≡ Some since)
   none_queued is key since here =
       let stands : IsTrue (is_queued [] key since) = rw is at (queue.queued key since here) in
@@ -84,7 +84,7 @@ module _ (exchanges : List (Option ℕ)) (waits : List Wait) (latest : ℕ) (que
   pub queue_without : (exchanges' : List (Option ℕ)) → ((key since : ℕ) → get_or exchanges' key None ≡ Some since → get_or exchanges key None ≡ Some since) → IsQueue exchanges' waits latest
   queue_without exchanges' kept = record { ordered = queue.ordered; past = queue.past; queued = λ key since here. queue.queued key since (kept key since here) }
 
-  -- But for them one that stands in the queue is under way.
+  -- But for them one that is in the queue is under way.
   pub queue_with : (exchanges' : List (Option ℕ)) (key since : ℕ) → get_or exchanges' key None ≡ Some since → ((other : ℕ) → other ≢ key → get_or exchanges' other None ≡ get_or exchanges other None)
       → IsTrue (is_queued waits key since) → IsQueue exchanges' waits latest
   queue_with exchanges' key since here others stands =

@@ -14,7 +14,6 @@ use crate::outside::{Client, Outside, Unserved};
 use crate::telling::tell;
 use command_text::Clock;
 use dns_wire::Query;
-use front_workers::copy_question;
 use iterate::{Input, Task, first_look, resolved_law, settled};
 use rand_core::Rng;
 
@@ -85,7 +84,7 @@ impl<D: Numbered, L: InFlight, C: Clock, G: Rng, K: Client> Flight<D, L, C, G, K
         ensures { SettlesOrWaits O.server_port O.counts O.told now self.old outside.old self.new outside.new }
     {
         let port = outside.server_port();
-        let Ok(question) = copy_question(&query.question) else {
+        let Ok(question) = query.question.clone() else {
             outside.fail(client, octets, Unserved::NoMemory);
             return;
         };

@@ -3,6 +3,7 @@
 ghost use Rattle.std.specs.Prelude.{◌≡◌, ◌≤◌, ℕ, List, length, IfNone, IfSome, OnSome};
 ghost use Rattle.dns_wire.specs.declared.server.query.Asked.TheVariants.{Drop};
 ghost use Rattle.dns_wire.specs.Server.Asking.{AsksFor};
+ghost use Rattle.front_workers.specs.declared.limits.TheConstants.{MOST_UDP_REPLY};
 ghost use Rattle.front_workers.specs.Serves.{fault_octets};
 ghost use Rattle.flight.specs.declared.counts.Counts.{Counts};
 ghost use Rattle.flight.specs.Clients.{Settles};
@@ -90,7 +91,7 @@ pub trait Outside<D: Numbered, L: InFlight, C: Clock, K: Client> {
     fn give(&mut self, client: K, octets: &[u8], reply: ReplyOctets)
         requires own { K.sent client octets.now }
         requires told { IsTold D.calls D.seen L.hears C.ticks (server_port self.old) octets.now (octets_of reply) }
-        requires short { length (octets_of reply) ≤ 512 }
+        requires short { length (octets_of reply) ≤ MOST_UDP_REPLY }
         ensures told { told self.new client (octets_of reply) }
         ensures settles { Settles server_port counts told self.old self.new };
 

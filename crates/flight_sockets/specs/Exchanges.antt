@@ -29,7 +29,7 @@ pub record AsksBy {S : Type 0} (opened : S → SocketAddr → Type 0) (reported 
   pub reported_as : reported socket exchange.token
   pub asks : sent socket exchange.asked.query
 
--- A connection to the server's address was reported under the token from the start, and has written part or all of the query, behind its length.
+-- A connection to the server's address was reported under the token from the start, and has written part or all of the query, preceded by its length.
 pub record AsksOn {C : Type 0} (connected : C → SocketAddr → Type 0) (reported : C → Token → Type 0) (contents remaining : C → Option (List ℕ)) (exchange : ExchangeState) (line : LineState C) : Type 0 where
   pub over : exchange.asked.over ≡ OverTcp
   pub place : SocketAddr
@@ -62,7 +62,7 @@ abbrev pub IsQuiet : {S : Type 0} → (S → List ℕ → Type 0) → (S → Typ
 IsQuiet {S} sent drained reported_again exchange =
     exchange.asked.over ≡ OverUdp → (socket : S) × sent socket exchange.asked.query × (drained socket ⊎ reported_again socket exchange.token)
 
--- Over UDP no exchange with a server could begin: the network failed, its address is no host's, a socket that is connected to it failed, or the address is the service's own.
+-- Over UDP no exchange with a server could begin: the network failed, its address belongs to no host, a socket that is connected to it failed, or the address is the service's own.
 abbrev pub IsNotToBeHad : {S : Type 0} → Type 0 → (S → SocketAddr → Type 0) → (S → SocketAddr → Type 0) → (S → Type 0) → SocketAddr → Addr → Over → Type 0
 IsNotToBeHad {S} failed opened is_at failed' service server over =
     over ≡ OverUdp → (place : SocketAddr) × IsPlaceOf server place × IsNoLine failed opened is_at failed' service place

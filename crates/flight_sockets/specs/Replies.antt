@@ -13,12 +13,12 @@ use Rattle.flight.specs.Flight.{Sent}
 abbrev pub IsReply : List ℕ → List ℕ → Type 0
 IsReply query octets = (length octets ≤ MOST_MESSAGE) × Fits query octets
 
--- The whole query has left by a connection, and these octets came behind it as one message, which fits the query.
+-- The whole query has left by a connection, and these octets came after it as one message, which fits the query.
 abbrev pub IsWholeReply : {C : Type 0} → List ℕ → LineState C → List ℕ → Type 0
 IsWholeReply query line octets = IsReply query octets × (line.left ≡ length line.asks) × (line.came ≡ framed octets)
 
 -- Octets that fit a query, and came from the address of the server that was asked, over the transport of the query.
-abbrev pub IsReplyTo : {S C : Type 0} → (S → SocketAddr → Type 0) → (S → List ℕ → Type 0) → (S → List ℕ → Type 0) → (C → SocketAddr → Type 0) → (C → Option (List ℕ)) → (C → Option (List ℕ))
+abbrev pub IsServerReply : {S C : Type 0} → (S → SocketAddr → Type 0) → (S → List ℕ → Type 0) → (S → List ℕ → Type 0) → (C → SocketAddr → Type 0) → (C → Option (List ℕ)) → (C → Option (List ℕ))
     → Sent → List ℕ → Type 0
-IsReplyTo opened sent came connected contents remaining asked octets =
+IsServerReply opened sent came connected contents remaining asked octets =
     IsReply asked.query octets × ((place : SocketAddr) × IsPlaceOf asked.server place × IsAskedAt opened sent came connected contents remaining asked.over place asked.query octets)

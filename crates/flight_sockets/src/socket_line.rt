@@ -7,7 +7,7 @@ ghost use Rattle.flight.specs.declared.outside.Listened.TheVariants.{Nothing};
 ghost use Rattle.flight.specs.Flight.{query_to};
 ghost use Rattle.flight.specs.Told.{IsHeard};
 ghost use Rattle.flight_sockets.specs.Exchanges.{IsNotToBeHad, IsQuiet};
-ghost use Rattle.flight_sockets.specs.Replies.{IsReplyTo};
+ghost use Rattle.flight_sockets.specs.Replies.{IsServerReply};
 
 use crate::way::Way;
 use dns_query::Over;
@@ -50,13 +50,13 @@ impl<R: ReadyNet> InFlight for SocketLine<R> {
     ghost asked = { λ line. line.asked };
 
     // Octets that fit the query and came from the server's address, over the same transport, after the query.
-    ghost hears = { IsReplyTo R.Datagrams.opened R.Datagrams.sent R.Datagrams.came
+    ghost hears = { IsServerReply R.Datagrams.opened R.Datagrams.sent R.Datagrams.came
         R.Connection.connected R.Connection.contents R.Connection.remaining };
 }
 
 impl<R: ReadyNet> SocketLine<R> {
     /// Sends a query, or begins to connect, and has the poll watch the socket. The service listens at `service`, and queries
-    /// neither itself nor an address that is no host's.
+    /// neither itself nor an address that belongs to no host.
     pub fn open(
         rt: &R,
         alloc: Global,
@@ -94,7 +94,7 @@ impl<R: ReadyNet> SocketLine<R> {
     /// Reads and writes as far as the socket allows.
     pub fn hear(&mut self, alloc: Global, registry: &Registry, room: &mut [u8]) -> Listened
         requires { length room.old ≡ MOST_MESSAGE }
-        ensures heard { IsHeard (IsReplyTo R.Datagrams.opened R.Datagrams.sent R.Datagrams.came
+        ensures heard { IsHeard (IsServerReply R.Datagrams.opened R.Datagrams.sent R.Datagrams.came
             R.Connection.connected R.Connection.contents R.Connection.remaining self.old.asked) result }
         ensures nothing { result ≡ Nothing → IsQuiet R.Datagrams.sent R.Datagrams.drained R.Datagrams.reported_again self.old }
         ensures kept { self.new ≡ self.old }

@@ -34,8 +34,8 @@ const MOST_TAKEN: usize = 256;
 /// The time for taking datagrams in one turn, in milliseconds. The batch in progress may overrun it.
 const MOST_TAKING: u64 = 10;
 
-/// The most events that are handled in one turn, so that a datagram does not wait behind many replies.
-const MOST_EVENTS: usize = 16;
+/// The most events that are handled in one turn, so that a datagram does not wait after many replies.
+const MOST_READY: usize = 16;
 
 /// The questions of a worker that are in flight.
 pub(crate) type Questions<D, C, G, R> = Flight<D, SocketLine<R>, C, G, UdpClient>;
@@ -81,7 +81,7 @@ impl<'a, R: ReadyNet + Log + Elapsing, S: ServiceSocket> Turns<'a, R, S> {
         Ok(Turns {
             sockets: WorkerSockets::new(rt, alloc, listener, server_port)?,
             clock: MonotonicClock::new(rt, start),
-            events: Events::with_capacity(alloc, MOST_EVENTS)?,
+            events: Events::with_capacity(alloc, MOST_READY)?,
             taken: 0,
             failures: 0,
         })
@@ -235,7 +235,7 @@ impl<'a, R: ReadyNet + Log + Elapsing, S: ServiceSocket> Turns<'a, R, S> {
         };
         self.sockets.wait(&mut self.events, wait)?;
         self.go_on(desk, questions);
-        // The event of the service's socket may come behind those of many replies.
+        // The event of the service's socket may come after those of many replies.
         self.take_datagrams(desk, questions, inbox)
     }
 }

@@ -5,7 +5,7 @@ ghost use Rattle.front_workers.specs.declared.limits.TheConstants.{MOST_MESSAGE}
 ghost use Rattle.flight.specs.declared.outside.Listened.TheVariants.{Nothing};
 ghost use Rattle.flight.specs.Told.{IsHeard};
 ghost use Rattle.flight_sockets.specs.Exchanges.{ExchangeState, HasNoneYet, IsUnderWay, OnUnbroken, WentOn};
-ghost use Rattle.flight_sockets.specs.Replies.{IsReplyTo, IsWholeReply};
+ghost use Rattle.flight_sockets.specs.Replies.{IsServerReply, IsWholeReply};
 
 use dns_sockets::{ReadyConnection, ReadySocket, TcpLine, UdpLine, fits};
 use dns_text::Octets;
@@ -79,7 +79,7 @@ impl<S: ReadySocket, C: ReadyConnection> Way<S, C> {
         requires { length room.old ≡ MOST_MESSAGE }
         ensures heard { (exchange : ExchangeState) → exchange.asked.query ≡ query.now
             → IsUnderWay S.opened S.reported S.sent C.connected C.reported C.contents C.remaining exchange self.old
-            → IsHeard (IsReplyTo S.opened S.sent S.came C.connected C.contents C.remaining exchange.asked) result }
+            → IsHeard (IsServerReply S.opened S.sent S.came C.connected C.contents C.remaining exchange.asked) result }
         ensures nothing { result ≡ Nothing → HasNoneYet S.drained S.reported_again token self.old }
         ensures goes_on { result ≡ Nothing → (exchange : ExchangeState)
             → IsUnderWay S.opened S.reported S.sent C.connected C.reported C.contents C.remaining exchange self.old

@@ -13,7 +13,7 @@ ghost use Rattle.flight.specs.Flight.{query_to};
 ghost use Rattle.flight.specs.Told.{octets_of, IsHeard, Keeps};
 ghost use Rattle.flight_sockets.specs.Exchanges.{IsNotToBeHad, IsQuiet};
 ghost use Rattle.flight_sockets.specs.Outgoing.{IsOnItsWay, StayOnTheirWay};
-ghost use Rattle.flight_sockets.specs.Replies.{IsReplyTo};
+ghost use Rattle.flight_sockets.specs.Replies.{IsServerReply};
 ghost use Rattle.flight_sockets.specs.declared.client.UdpClient.{UdpClient as UdpClientValue};
 ghost use Rattle.flight_sockets.specs.declared.inbox.TheConstants.{BATCH};
 
@@ -39,7 +39,7 @@ use std::net::SocketAddr;
 use std::time::Duration;
 
 /// The reply that reports a fault, by the header alone.
-fn fault_of(front: &[u8], rcode: Rcode) -> ReplyOctets
+fn report_of(front: &[u8], rcode: Rcode) -> ReplyOctets
     requires { 12 ≤ length front.now }
     ensures { octets_of result ≡ fault_octets front.now rcode }
 {
@@ -161,7 +161,7 @@ impl<'a, R: Log, S: ServiceSocket> WorkerSockets<'a, R, S> {
         ensures counts { self.new.counts ≡ self.old.counts }
     {
         if wants_reply(self.alloc, front) {
-            self.send(peer, fault_of(front, Rcode::FORMAT_ERROR));
+            self.send(peer, report_of(front, Rcode::FORMAT_ERROR));
         }
     }
 
@@ -175,6 +175,7 @@ impl<'a, R: Log, S: ServiceSocket> WorkerSockets<'a, R, S> {
         match why {
             Unserved::NoMemory => warn!(self.rt; "resolver: no memory"),
             Unserved::TooMany => warn!(self.rt; "resolver: too many exchanges"),
+            // It never happens at one seat: no other line fits.
             Unserved::Elsewhere => self.log_fault(),
         }
     }
@@ -209,7 +210,7 @@ impl<'a, D: Numbered, C: Clock, R: ReadyNet + Log, S: ServiceSocket> Outside<
         query: Shared<Octets>,
     ) -> Option<SocketLine<R>>
         // As for any `Outside`. Also, the exchange is reported under the key, and the service may ask that server. Over UDP
-        // there is an exchange unless the network failed, the address is no host's, or the server is the service itself.
+        // there is an exchange unless the network failed, the address belongs to no host, or the server is the service itself.
         ensures asked { IfSome result (λ line. line.asked ≡ query_to server.now over query) }
         ensures opened { OnSome result (CountsOpened self.old.counts self.new.counts) }
         ensures unopened { IfNone result (self.new.counts ≡ self.old.counts) }
@@ -246,7 +247,7 @@ impl<'a, D: Numbered, C: Clock, R: ReadyNet + Log, S: ServiceSocket> Outside<
 
     fn hear(&mut self, line: &mut SocketLine<R>) -> Listened
         // As for any `Outside`. Also, nothing is heard only of a quiet exchange.
-        ensures heard { IsHeard (IsReplyTo R.Datagrams.opened R.Datagrams.sent R.Datagrams.came
+        ensures heard { IsHeard (IsServerReply R.Datagrams.opened R.Datagrams.sent R.Datagrams.came
             R.Connection.connected R.Connection.contents R.Connection.remaining line.old.asked) result }
         ensures asked { line.new.asked ≡ line.old.asked }
         ensures listened { CountsListened result self.old.counts self.new.counts }
@@ -274,7 +275,7 @@ impl<'a, D: Numbered, C: Clock, R: ReadyNet + Log, S: ServiceSocket> Outside<
     }
 
     fn fail(&mut self, client: UdpClient, octets: &[u8], why: Unserved) {
-        self.send(client.peer(), fault_of(octets, Rcode::SERVER_FAILURE));
+        self.send(client.peer(), report_of(octets, Rcode::SERVER_FAILURE));
         self.log(why);
         self.counts.settle();
     }

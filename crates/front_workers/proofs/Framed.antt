@@ -1,4 +1,4 @@
--- A message that broke off behind its length.
+-- A message that broke off preceded by its length.
 use Rattle.std.proofs.Common.{◌<◌, ◌^◌, ℕ, List, ◌++◌, [], refl, inr, arith}
 use Rattle.std.specs.Prelude.{Option, Err}
 use Rattle.std.specs.Io.KnownBytes.{Consumes}

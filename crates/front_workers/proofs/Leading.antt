@@ -12,7 +12,7 @@ use Rattle.iterate.specs.Exchanges.{exchanges_of}
 use Rattle.iterate.specs.Phase.{Suits}
 use Rattle.iterate.specs.Task.{IsDueAt}
 use Rattle.iterate.specs.Wanted.{MayWant, id_drawn, stream_behind}
-use Rattle.front_workers.specs.Leads.{Calls, Asks, Ticks, Lent, Draws, Met, replied, refused, came, failed, Leads, begins, goes_on, Ends, BreaksOff, in_an_exchange}
+use Rattle.front_workers.specs.Leads.{Calls, Asks, Ticks, Lent, Draws, Met, replied, refused, came, failed, StepsLead, begins, goes_on, EndsInAnswer, BreaksOff, in_an_exchange}
 use Rattle.front_workers.specs.Turning.{Lacks, lacks}
 
 suits : {D X : Type 0} {calls : Calls D} {asks : Asks X} {d d' : D} {x x' : X} {want : Want} {input : Input} → Met calls asks d x want input d' x' → Suits want input
@@ -25,7 +25,7 @@ suits (failed p) = tt
 pub due : {D X C : Type 0} {calls : Calls D} {asks : Asks X} {ticks : Ticks C} {port : ℕ} {question : Question} {desk d : D} {exchange x : X} {lent l : Lent C} {steps : List Step} {input : Input}
     → ((phase : Phase) → IsDueAt phase [] Begin)
     → ((phase : Phase) (steps : List Step) (step : Step) (input : Input) → Suits step.want input → IsDueAt phase (steps ++ step ∷ []) input)
-    → (phase : Phase) → Leads calls asks ticks port question desk exchange lent steps input d x l → IsDueAt phase steps input
+    → (phase : Phase) → StepsLead calls asks ticks port question desk exchange lent steps input d x l → IsDueAt phase steps input
 due first more phase begins = first phase
 due first more phase (goes_on {steps} {after} {input} {next} {want} before draws met) =
     subst (λ (steps : List Step). IsDueAt phase steps next) (sym draws.wants.grown) (more phase steps (record { input = input; want = want }) next (suits met))
@@ -45,14 +45,14 @@ draws_at {after = after} {lent = lent} {want = want} port own_port question own_
 
 -- An exchange finds no memory.
 pub breaks_off : {D X C : Type 0} {calls : Calls D} {asks : Asks X} {ticks : Ticks C} {port : ℕ} {question : Question} {desk d d' : D} {exchange x x' : X} {lent l l' : Lent C} {steps after : List Step} {input : Input} {want : Want}
-    → Leads calls asks ticks port question desk exchange lent steps input d x l → Draws ticks port question steps input l want after l' → Lacks asks d x want d' x'
+    → StepsLead calls asks ticks port question desk exchange lent steps input d x l → Draws ticks port question steps input l want after l' → Lacks asks d x want d' x'
     → BreaksOff calls asks ticks port question desk exchange lent d' x' l'
 breaks_off before draws (lacks asked) = in_an_exchange before draws asked
 
 -- The task answers.
 pub ends : {D X C : Type 0} {calls : Calls D} {asks : Asks X} {ticks : Ticks C} {port : ℕ} {question : Question} {desk d d' : D} {exchange x x' : X} {lent l l' : Lent C} {steps after : List Step} {input : Input} {want : Want} {answer : Answer}
-    → Leads calls asks ticks port question desk exchange lent steps input d x l → Draws ticks port question steps input l want after l' → want ≡ Finish answer → d' ≡ d → x' ≡ x
-    → Ends calls asks ticks port question desk exchange lent answer d' x' l'
+    → StepsLead calls asks ticks port question desk exchange lent steps input d x l → Draws ticks port question steps input l want after l' → want ≡ Finish answer → d' ≡ d → x' ≡ x
+    → EndsInAnswer calls asks ticks port question desk exchange lent answer d' x' l'
 ends {calls = calls} {asks} {ticks} {port} {question} {desk} {d} {d'} {exchange} {x} {x'} {lent} {l} {l'} {steps} {after} {input} before draws is same_desk same_exchange = record {
   steps = steps;
   input = input;

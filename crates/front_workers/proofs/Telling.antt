@@ -7,11 +7,11 @@ use Rattle.dns_wire.specs.declared.server.query.Asked.TheVariants.{Good}
 use Rattle.dns_wire.specs.Server.Asking.{AsksFor}
 use Rattle.iterate.specs.declared.answer.Answer.{Answer}
 use Rattle.iterate.specs.declared.answer.Answer.TheVariants.{Reply as Replies, Silent}
-use Rattle.front_workers.specs.Leads.{Calls, Asks, Ticks, Lent, Ends}
+use Rattle.front_workers.specs.Leads.{Calls, Asks, Ticks, Lent, EndsInAnswer}
 use Rattle.front_workers.specs.Serves.{Serves, silent, answered, Tells}
 
 pub served_by : {D X C : Type 0} {calls : Calls D} {asks : Asks X} {ticks : Ticks C} {port : ℕ} {over : Over} {m : List ℕ} {query : Query} {desk d : D} {exchange x : X} {lent l : Lent C}
-    → (answer : Answer) (reply : Option (List ℕ)) → AsksFor m (Good query) → Ends calls asks ticks port query.question desk exchange lent answer d x l
+    → (answer : Answer) (reply : Option (List ℕ)) → AsksFor m (Good query) → EndsInAnswer calls asks ticks port query.question desk exchange lent answer d x l
     → Tells over m query answer reply → Serves calls asks ticks port over m desk exchange lent reply d x l
 served_by (Replies rcode aa aliases last authority) (Some out) wanted ends tells = answered wanted ends tells
 served_by (Replies rcode aa aliases last authority) None wanted ends tells = absurd tells

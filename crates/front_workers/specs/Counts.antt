@@ -8,7 +8,7 @@ abbrev pub Rises : ℕ → ℕ → Type 0
 Rises old new = (new ≡ old + 1) ⊎ ((old ≡ 2 ^ 64 - 1) × (new ≡ old))
 
 -- A call that fails is counted, and no other is.
-abbrev pub Counts : {A : Type 0} → Result A DeviceFault → ℕ → ℕ → Type 0
-Counts (Ok _) old new = new ≡ old
-Counts (Err Device) old new = Rises old new
-Counts (Err NoMemory) old new = new ≡ old
+abbrev pub CountsFault : {A : Type 0} → Result A DeviceFault → ℕ → ℕ → Type 0
+CountsFault (Ok _) old new = new ≡ old
+CountsFault (Err Device) old new = Rises old new
+CountsFault (Err NoMemory) old new = new ≡ old

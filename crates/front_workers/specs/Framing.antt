@@ -1,4 +1,4 @@
--- Messages over TCP, each behind its length in two octets (RFC 1035, section 4.2.2).
+-- Messages over TCP, each preceded by its length in two octets (RFC 1035, section 4.2.2).
 use Rattle.std.specs.Prelude.{◌≡◌, ◌⊎◌, ℕ, ◌+◌, ◌<◌, ◌/◌, ◌%◌, ◌^◌, Option, Some, None, Result, Ok, Err, List, [], ◌∷◌, ◌++◌, length}
 use Rattle.std.specs.Io.KnownBytes.{Consumes, IsAtEnd}
 use Rattle.front_workers.specs.declared.fault.StreamFault.{StreamFault}
@@ -8,7 +8,7 @@ use Rattle.front_workers.specs.declared.fault.StreamFault.TheVariants.{Read, Wri
 abbrev pub length_octets : ℕ → List ℕ
 length_octets n = (n / 256) ∷ (n % 256) ∷ []
 
--- a message behind its length
+-- a message preceded by its length
 abbrev pub framed : List ℕ → List ℕ
 framed m = length_octets (length m) ++ m
 

@@ -56,21 +56,21 @@ pub data Met {D X : Type 0} (calls : Calls D) (asks : Asks X) : D → X → Want
   failed : {d : D} {x x' : X} {server : Addr} {over : Over} {bytes : List ℕ} → asks x server over bytes (Err Device) x' → Met calls asks d x (Send server over bytes) Failed d x'
 
 -- Steps of a task for the question led from one state of desk, exchange, clock and generator to another, and the task gets this input next.
-pub data Leads {D X C : Type 0} (calls : Calls D) (asks : Asks X) (ticks : Ticks C) (port : ℕ) (question : Question) (desk : D) (exchange : X) (lent : Lent C)
+pub data StepsLead {D X C : Type 0} (calls : Calls D) (asks : Asks X) (ticks : Ticks C) (port : ℕ) (question : Question) (desk : D) (exchange : X) (lent : Lent C)
     : List Step → Input → D → X → Lent C → Type 0 where
-  begins : Leads calls asks ticks port question desk exchange lent [] Begin desk exchange lent
+  begins : StepsLead calls asks ticks port question desk exchange lent [] Begin desk exchange lent
   goes_on : {steps after : List Step} {input next : Input} {want : Want} {d d' : D} {x x' : X} {l l' : Lent C}
-      → Leads calls asks ticks port question desk exchange lent steps input d x l
+      → StepsLead calls asks ticks port question desk exchange lent steps input d x l
       → Draws ticks port question steps input l want after l' → Met calls asks d x want next d' x'
-      → Leads calls asks ticks port question desk exchange lent after next d' x' l'
+      → StepsLead calls asks ticks port question desk exchange lent after next d' x' l'
 
 -- A question ended in an answer: steps led from the first state to the last, where a task may give this answer. `MayWant` says that it resolves the question.
-pub record Ends {D X C : Type 0} (calls : Calls D) (asks : Asks X) (ticks : Ticks C) (port : ℕ) (question : Question) (desk : D) (exchange : X) (lent : Lent C)
+pub record EndsInAnswer {D X C : Type 0} (calls : Calls D) (asks : Asks X) (ticks : Ticks C) (port : ℕ) (question : Question) (desk : D) (exchange : X) (lent : Lent C)
     (answer : Answer) (d : D) (x : X) (l' : Lent C) : Type 0 where
   pub steps : List Step
   pub input : Input
   pub l : Lent C
-  pub leads : Leads calls asks ticks port question desk exchange lent steps input d x l
+  pub leads : StepsLead calls asks ticks port question desk exchange lent steps input d x l
   pub after : List Step
   pub draws : Draws ticks port question steps input l (Finish answer) after l'
 
@@ -78,9 +78,9 @@ pub record Ends {D X C : Type 0} (calls : Calls D) (asks : Asks X) (ticks : Tick
 pub data BreaksOff {D X C : Type 0} (calls : Calls D) (asks : Asks X) (ticks : Ticks C) (port : ℕ) (question : Question) (desk : D) (exchange : X) (lent : Lent C)
     : D → X → Lent C → Type 0 where
   in_the_task : {steps : List Step} {input : Input} {d : D} {x : X} {moment : ℕ} {l l' : Lent C}
-      → Leads calls asks ticks port question desk exchange lent steps input d x l → ticks l.0 moment l'.0
+      → StepsLead calls asks ticks port question desk exchange lent steps input d x l → ticks l.0 moment l'.0
       → BreaksOff calls asks ticks port question desk exchange lent d x l'
   in_an_exchange : {steps after : List Step} {input : Input} {server : Addr} {over : Over} {bytes : List ℕ} {d : D} {x x' : X} {l l' : Lent C}
-      → Leads calls asks ticks port question desk exchange lent steps input d x l
+      → StepsLead calls asks ticks port question desk exchange lent steps input d x l
       → Draws ticks port question steps input l (Send server over bytes) after l' → asks x server over bytes (Err NoMemory) x'
       → BreaksOff calls asks ticks port question desk exchange lent d x' l'

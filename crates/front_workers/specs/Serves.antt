@@ -17,7 +17,7 @@ use Rattle.iterate.specs.declared.answer.Answer.TheVariants.{Reply as Replies, S
 use Rattle.iterate.specs.declared.answer.Soa.{Soa}
 use Rattle.iterate.specs.declared.answer.AnswerSet.{AnswerSet}
 use Rattle.front_workers.specs.declared.limits.TheConstants.{MOST_MESSAGE, MOST_UDP_REPLY}
-use Rattle.front_workers.specs.Leads.{Calls, Asks, Ticks, Lent, Ends, BreaksOff}
+use Rattle.front_workers.specs.Leads.{Calls, Asks, Ticks, Lent, EndsInAnswer, BreaksOff}
 use Rattle.front_workers.specs.Lending.{answer_parts, authority_parts}
 
 -- the most octets that a reply may have (RFC 1035, section 4.2)
@@ -59,18 +59,18 @@ pub data Serves {D X C : Type 0} (calls : Calls D) (asks : Asks X) (ticks : Tick
   dropped : AsksFor m Drop → Serves calls asks ticks port over m desk exchange lent None desk exchange lent
   faulty : {rcode : ℕ} {out : List ℕ} → AsksFor m (Fault rcode) → out ≡ fault_octets m rcode
       → Serves calls asks ticks port over m desk exchange lent (Some out) desk exchange lent
-  silent : {query : Query} {d : D} {x : X} {l : Lent C} → AsksFor m (Good query) → Ends calls asks ticks port query.question desk exchange lent Silent d x l
+  silent : {query : Query} {d : D} {x : X} {l : Lent C} → AsksFor m (Good query) → EndsInAnswer calls asks ticks port query.question desk exchange lent Silent d x l
       → Serves calls asks ticks port over m desk exchange lent None d x l
   answered : {query : Query} {rcode : ℕ} {aa : Bool} {aliases : List AnswerSet} {last : Option AnswerSet} {authority : Option Soa} {out : List ℕ} {d : D} {x : X} {l : Lent C}
-      → AsksFor m (Good query) → Ends calls asks ticks port query.question desk exchange lent (Replies rcode aa aliases last authority) d x l
+      → AsksFor m (Good query) → EndsInAnswer calls asks ticks port query.question desk exchange lent (Replies rcode aa aliases last authority) d x l
       → Written over m query (reply_told query rcode aa aliases last authority) out
       → Serves calls asks ticks port over m desk exchange lent (Some out) d x l
 
 -- Octets got no reply, since no memory was left: the state before and after.
-pub data Unserved {D X C : Type 0} (calls : Calls D) (asks : Asks X) (ticks : Ticks C) (port : ℕ) (m : List ℕ) (desk : D) (exchange : X) (lent : Lent C)
+pub data IsUnserved {D X C : Type 0} (calls : Calls D) (asks : Asks X) (ticks : Ticks C) (port : ℕ) (m : List ℕ) (desk : D) (exchange : X) (lent : Lent C)
     : D → X → Lent C → Type 0 where
-  unread : ¬ (AsksFor m Drop) → Unserved calls asks ticks port m desk exchange lent desk exchange lent
+  unread : ¬ (AsksFor m Drop) → IsUnserved calls asks ticks port m desk exchange lent desk exchange lent
   broken_off : {query : Query} {d : D} {x : X} {l : Lent C} → AsksFor m (Good query) → BreaksOff calls asks ticks port query.question desk exchange lent d x l
-      → Unserved calls asks ticks port m desk exchange lent d x l
-  unwritten : {query : Query} {answer : Answer} {d : D} {x : X} {l : Lent C} → AsksFor m (Good query) → Ends calls asks ticks port query.question desk exchange lent answer d x l
-      → Unserved calls asks ticks port m desk exchange lent d x l
+      → IsUnserved calls asks ticks port m desk exchange lent d x l
+  unwritten : {query : Query} {answer : Answer} {d : D} {x : X} {l : Lent C} → AsksFor m (Good query) → EndsInAnswer calls asks ticks port query.question desk exchange lent answer d x l
+      → IsUnserved calls asks ticks port m desk exchange lent d x l

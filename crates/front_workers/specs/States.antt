@@ -11,8 +11,8 @@ use Rattle.front_workers.specs.declared.fault.StreamFault.{StreamFault}
 use Rattle.front_workers.specs.declared.port.Came.{Came}
 use Rattle.front_workers.specs.declared.tools.Tools.{Tools}
 use Rattle.front_workers.specs.declared.work_end.WorkEnd.{WorkEnd}
-use Rattle.front_workers.specs.Leads.{Calls, Asks, Ticks, Lent, Ends, BreaksOff}
-use Rattle.front_workers.specs.Serves.{Serves, Unserved}
+use Rattle.front_workers.specs.Leads.{Calls, Asks, Ticks, Lent, EndsInAnswer, BreaksOff}
+use Rattle.front_workers.specs.Serves.{Serves, IsUnserved}
 use Rattle.front_workers.specs.Stream.{serving, lacking, ServedOne, Streams}
 use Rattle.front_workers.specs.Working.{Answered, Given, Streamed, datagrams, answering, connections, streaming, WorksUntil}
 
@@ -27,7 +27,7 @@ state_of stream desk tools = (desk, tools.exchange, lent_of stream tools)
 -- A task for the question ended in this answer.
 abbrev pub TaskEnds : {D X C R : Type 0} → Calls D → Asks X → Ticks C → (R → Stream) → Question → Answer → D → Tools X C R → D → Tools X C R → Type 0
 TaskEnds calls asks ticks stream question answer desk tools desk' tools' =
-    Ends calls asks ticks tools.server_port question desk tools.exchange (lent_of stream tools) answer desk' tools'.exchange (lent_of stream tools')
+    EndsInAnswer calls asks ticks tools.server_port question desk tools.exchange (lent_of stream tools) answer desk' tools'.exchange (lent_of stream tools')
 
 -- A task for the question broke off, since no memory was left.
 abbrev pub TaskBreaksOff : {D X C R : Type 0} → Calls D → Asks X → Ticks C → (R → Stream) → Question → D → Tools X C R → D → Tools X C R → Type 0
@@ -42,9 +42,9 @@ QueryServed calls asks ticks stream over octets reply desk tools desk' tools' =
 -- The query in these octets got no reply, since no memory was left.
 abbrev pub QueryUnserved : {D X C R : Type 0} → Calls D → Asks X → Ticks C → (R → Stream) → List ℕ → D → Tools X C R → D → Tools X C R → Type 0
 QueryUnserved calls asks ticks stream octets desk tools desk' tools' =
-    Unserved calls asks ticks tools.server_port octets desk tools.exchange (lent_of stream tools) desk' tools'.exchange (lent_of stream tools')
+    IsUnserved calls asks ticks tools.server_port octets desk tools.exchange (lent_of stream tools) desk' tools'.exchange (lent_of stream tools')
 
--- One message of a connection was served, and its reply written behind what the writer held.
+-- One message of a connection was served, and its reply written after what the writer held.
 abbrev pub MessageServed : {A D X C R : Type 0} → Calls D → Asks X → Ticks C → (R → Stream) → Result A StreamFault → List ℕ
     → D → Tools X C R → Option (List ℕ) → D → Tools X C R → Option (List ℕ) → Type 0
 MessageServed calls asks ticks stream result message desk tools held desk' tools' held' =

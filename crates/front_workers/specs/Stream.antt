@@ -6,7 +6,7 @@ use Rattle.dns_query.specs.declared.over.Over.{Over}
 use Rattle.front_workers.specs.declared.fault.StreamFault.{StreamFault}
 use Rattle.front_workers.specs.declared.fault.StreamFault.TheVariants.{Read, Write, Short, NoMemory}
 use Rattle.front_workers.specs.Leads.{Calls, Asks, Ticks, Lent}
-use Rattle.front_workers.specs.Serves.{Serves, Unserved}
+use Rattle.front_workers.specs.Serves.{Serves, IsUnserved}
 use Rattle.front_workers.specs.Framing.{framed, length_octets, HasLength, IsPartial}
 
 -- Octets are served: the state before, the octets, their reply or none, the state after.
@@ -21,9 +21,9 @@ Lacking O = O → List ℕ → O → Type 0
 abbrev pub serving : {D X C : Type 0} → Calls D → Asks X → Ticks C → ℕ → Over → Serving (D × X × Lent C)
 serving calls asks ticks port over old m reply new = Serves calls asks ticks port over m old.0 old.1 old.2 reply new.0 new.1 new.2
 
--- Octets get no reply (`Unserved`), where the state is the same.
+-- Octets get no reply (`IsUnserved`), where the state is the same.
 abbrev pub lacking : {D X C : Type 0} → Calls D → Asks X → Ticks C → ℕ → Lacking (D × X × Lent C)
-lacking calls asks ticks port old m new = Unserved calls asks ticks port m old.0 old.1 old.2 new.0 new.1 new.2
+lacking calls asks ticks port old m new = IsUnserved calls asks ticks port m old.0 old.1 old.2 new.0 new.1 new.2
 
 -- the octets that are written for a reply, or for none
 abbrev pub written_for : Option (List ℕ) → List ℕ
@@ -38,7 +38,7 @@ Replying serves old m text ends new = (reply : Option (List ℕ)) × HasLength m
 abbrev pub Served : {O : Type 0} → Serving O → O → List (List ℕ) → List ℕ → O → Type 0
 Served serves = Transcript (Replying serves)
 
--- The last message, for which no memory was left: the state before, what was read of it, the state after. There was no room for the message, or none on the way to its reply, or none for the reply behind its length.
+-- The last message, for which no memory was left: the state before, what was read of it, the state after. There was no room for the message, or none on the way to its reply, or none for the reply preceded by its length.
 pub data Lost {O : Type 0} (serves : Serving O) (lacks : Lacking O) (old : O) (rest : List ℕ) (new : O) : Type 0 where
   unread : {size : ℕ} → size < 2 ^ 16 → rest ≡ length_octets size → new ≡ old → Lost serves lacks old rest new
   unserved : {m : List ℕ} → HasLength m → rest ≡ framed m → lacks old m new → Lost serves lacks old rest new

@@ -10,9 +10,9 @@ use Rattle.front_workers.specs.declared.run.Outcome.TheVariants.{Go, Done}
 use Rattle.front_workers.specs.Leads.{Calls, Asks, Met}
 
 -- A call met the want, or the want is an answer.
-abbrev pub Turns : {D X : Type 0} → Calls D → Asks X → D → X → Want → Outcome → D → X → Type 0
-Turns calls asks d x want (Go next) d' x' = Met calls asks d x want next d' x'
-Turns calls asks d x want (Done answer) d' x' = (want ≡ Finish answer) × (d' ≡ d) × (x' ≡ x)
+abbrev pub TakesTurn : {D X : Type 0} → Calls D → Asks X → D → X → Want → Outcome → D → X → Type 0
+TakesTurn calls asks d x want (Go next) d' x' = Met calls asks d x want next d' x'
+TakesTurn calls asks d x want (Done answer) d' x' = (want ≡ Finish answer) × (d' ≡ d) × (x' ≡ x)
 
 -- The want is a query, and the exchange found no memory.
 pub data Lacks {D X : Type 0} (asks : Asks X) : D → X → Want → D → X → Type 0 where

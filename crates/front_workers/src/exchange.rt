@@ -4,7 +4,7 @@ ghost use Rattle.std.specs.Prelude.{ℕ, List, Result};
 ghost use Rattle.dns_text.specs.declared.addr.Addr.{Addr};
 ghost use Rattle.dns_query.specs.declared.over.Over.{Over};
 ghost use Rattle.front_workers.specs.declared.device.DeviceFault.{DeviceFault};
-ghost use Rattle.front_workers.specs.Counts.{Counts};
+ghost use Rattle.front_workers.specs.Counts.{CountsFault};
 
 use crate::device::DeviceFault;
 use dns_query::Over;
@@ -22,5 +22,5 @@ pub trait Exchange {
     /// memory for it.
     fn ask(&mut self, server: &Addr, over: Over, query: &[u8]) -> Result<Octets, DeviceFault>
         ensures asked { asks self.old server.now over query.now result self.new }
-        ensures counted { Counts result (failures self.old) (failures self.new) };
+        ensures counted { CountsFault result (failures self.old) (failures self.new) };
 }

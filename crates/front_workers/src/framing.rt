@@ -1,4 +1,4 @@
-//! Messages over TCP, each behind its length in two octets (RFC 1035, section 4.2.2).
+//! Messages over TCP, each preceded by its length in two octets (RFC 1035, section 4.2.2).
 
 ghost use Rattle.std.specs.Prelude.{◌≡◌, [], ◌∷◌, ◌+◌, ◌^◌, ◌<◌, ◌≤◌, length, IfOk, OnOk};
 ghost use Rattle.streams.specs.declared.source.TheConstants.{MOST_COUNTED};
@@ -82,7 +82,7 @@ pub(crate) fn take_message<S: Source>(
     }
 }
 
-/// A message behind its length, as it goes out over TCP.
+/// A message preceded by its length, as it goes out over TCP.
 pub fn frame(alloc: Global, message: &[u8]) -> Result<Vec<u8>, NoMemory>
     requires { length message.now ≤ MOST_MESSAGE }
     ensures { IfOk result (λ out. out.items ≡ framed message.now) }

@@ -101,7 +101,7 @@ pub(crate) struct AnswerSection<'a> {
 }
 
 impl AnswerSection<'_> {
-    /// The set at a place: an alias, or the last set behind them.
+    /// The set at a place: an alias, or the last set after them.
     fn set(&self, part: usize) -> Option<&AnswerSet>
         ensures { option_copied result ≡ slice_get (self.now.aliases.now ++ option_to_list self.now.last.now) part }
     {

@@ -29,7 +29,7 @@ mod query;
 mod owed;
 // The faults that end a stream.
 mod fault;
-// Messages behind their length.
+// Messages preceded by their length.
 mod framing;
 // A stream of messages.
 mod stream;
@@ -52,7 +52,7 @@ pub use listener::Listener;
 pub use log_lines::{DEVICE_FAULT, WORKER_ENDED};
 pub use owed::wants_reply;
 pub use port::{Came, Port};
-pub use query::{copy_question, serve_query};
+pub use query::serve_query;
 pub use reply::write_answer;
 pub use run::run_task;
 pub use stream::serve_stream;

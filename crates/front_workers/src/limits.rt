@@ -2,13 +2,13 @@
 
 ghost use Rattle.std.specs.Prelude.{◌≡◌};
 
-use dns_wire::MOST_OCTETS;
+use dns_wire::{MOST_OCTETS, MOST_UDP_OCTETS};
 
 /// The octets of the longest message: over TCP its length has two octets (RFC 1035, section 4.2.2).
 pub const MOST_MESSAGE: usize = MOST_OCTETS;
 
 /// The octets of the longest reply over UDP (RFC 1035, section 4.2.1).
-pub const MOST_UDP_REPLY: usize = 512;
+pub const MOST_UDP_REPLY: usize = MOST_UDP_OCTETS;
 
 /// The octets of the longest datagram that a worker reads whole.
 pub const MOST_DATAGRAM: usize = 4096;

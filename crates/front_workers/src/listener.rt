@@ -2,7 +2,7 @@
 
 ghost use Rattle.std.specs.Prelude.{◌≡◌, ℕ, Option, Result, IfOk, IfSome};
 ghost use Rattle.front_workers.specs.declared.device.DeviceFault.{DeviceFault};
-ghost use Rattle.front_workers.specs.Counts.{Counts};
+ghost use Rattle.front_workers.specs.Counts.{CountsFault};
 
 use crate::device::DeviceFault;
 use streams::{Sink, Source};
@@ -19,5 +19,5 @@ pub trait Listener<S: Source, W: Sink> {
     fn accept(&mut self) -> Result<Option<(S, W)>, DeviceFault>
         ensures accepted { accepts self.old result self.new }
         ensures fresh { IfOk result (λ came. IfSome came (λ c. (S.calls c.0 ≡ 0) × (W.failures c.1 ≡ 0))) }
-        ensures counted { Counts result (failures self.old) (failures self.new) };
+        ensures counted { CountsFault result (failures self.old) (failures self.new) };
 }

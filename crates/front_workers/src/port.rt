@@ -4,7 +4,7 @@ ghost use Rattle.std.specs.Prelude.{◌≡◌, ℕ, ◌≤◌, List, Option, Res
 ghost use Rattle.std.specs.declared.net.SocketAddr.{SocketAddr};
 ghost use Rattle.front_workers.specs.declared.device.DeviceFault.{DeviceFault};
 ghost use Rattle.front_workers.specs.declared.port.Came.{Came};
-ghost use Rattle.front_workers.specs.Counts.{Counts};
+ghost use Rattle.front_workers.specs.Counts.{CountsFault};
 
 use crate::device::DeviceFault;
 use std::net::SocketAddr;
@@ -33,10 +33,10 @@ pub trait Port {
     fn take(&mut self, room: &mut [u8]) -> Result<Option<Came>, DeviceFault>
         ensures taken { takes self.old result room.new self.new }
         ensures within { IfOk result (λ came. IfSome came (λ c. c.count ≤ length room.new)) }
-        ensures counted { Counts result (failures self.old) (failures self.new) };
+        ensures counted { CountsFault result (failures self.old) (failures self.new) };
 
     /// Sends a reply to a peer.
     fn give(&mut self, peer: SocketAddr, reply: &[u8]) -> Result<(), DeviceFault>
         ensures given { gives self.old peer reply.now result self.new }
-        ensures counted { Counts result (failures self.old) (failures self.new) };
+        ensures counted { CountsFault result (failures self.old) (failures self.new) };
 }

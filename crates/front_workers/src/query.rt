@@ -19,16 +19,6 @@ use history::Desk;
 use rand_core::Rng;
 use std::alloc::Global;
 
-/// A copy of a question.
-pub fn copy_question(question: &Question) -> Result<Question, NoMemory>
-    ensures { IfOk result (λ copy. copy ≡ question.now) }
-{
-    Ok(Question {
-        owner: question.owner.clone()?,
-        kind: question.kind,
-    })
-}
-
 /// Serves a query that asks for an answer: resolves its question, and writes the reply.
 fn answer_query<D: Desk, X: Exchange, C: Clock, R: Rng>(
     alloc: Global,
@@ -45,7 +35,7 @@ fn answer_query<D: Desk, X: Exchange, C: Clock, R: Rng>(
         desk.old tools.old desk.new tools.new) }
     ensures unserved { OnErr result (QueryUnserved D.calls X.asks C.ticks R.stream octets.now desk.old tools.old desk.new tools.new) }
 {
-    let question = copy_question(&query.question)?;
+    let question = query.question.clone()?;
     let answer = run_task(alloc, desk, tools, question)?;
     Ok(write_answer(alloc, Vec::new(alloc), over, octets, query, &answer)?)
 }

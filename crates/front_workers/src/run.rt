@@ -3,7 +3,7 @@
 ghost use Rattle.std.specs.Prelude.{◌≡◌, IfOk, OnErr};
 ghost use Rattle.iterate.specs.Told.{IsFit};
 ghost use Rattle.front_workers.specs.States.{TaskBreaksOff, TaskEnds};
-ghost use Rattle.front_workers.specs.Turning.{Turns, Lacks};
+ghost use Rattle.front_workers.specs.Turning.{TakesTurn, Lacks};
 
 use crate::device::DeviceFault;
 use crate::exchange::Exchange;
@@ -30,7 +30,7 @@ fn meet<D: Desk, X: Exchange>(
     exchange: &mut X,
     want: Want,
 ) -> Result<Outcome, NoMemory>
-    ensures turns { IfOk result (λ outcome. Turns D.calls X.asks desk.old exchange.old want outcome desk.new exchange.new) }
+    ensures turns { IfOk result (λ outcome. TakesTurn D.calls X.asks desk.old exchange.old want outcome desk.new exchange.new) }
     ensures lacks { OnErr result (Lacks X.asks desk.old exchange.old want desk.new exchange.new) }
 {
     match want {

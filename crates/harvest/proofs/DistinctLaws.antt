@@ -78,7 +78,7 @@ texts_added {A} kind texts after known all new text h read is updates e datum q 
     ∙ ap (λ b. cond (data_eq new datum) true b) (h datum q read_q is_q)
     ∙ either (data_eq new datum) (is_among data_eq known datum) ∙ sym more ∙ ap (λ (ds : List Data). is_among data_eq ds datum) (sym e)
 
--- a datum is among the first or among those behind them
+-- a datum is among the first or among those after them
 in_parts : (n : ℕ) (known : List Data) (datum : Data) → is_among data_eq known datum ≡ (is_among data_eq (take n known) datum || is_among data_eq (drop n known) datum)
 in_parts n known datum = ap (λ (ds : List Data). is_among data_eq ds datum) (sym (take-append-drop n known)) ∙ list_any-append (λ d. data_eq d datum) (take n known) (drop n known)
 
@@ -106,7 +106,7 @@ newly_added x y datum kinds apart more =
     ap (λ (k : ℕ). whole k y.data_in) kinds ∙ ap (λ (ds : List Data). whole x.kind ds) more
     ∙ ap (λ b. whole x.kind (cond b x.data_in (x.data_in ++ datum ∷ []))) (sym apart)
 
--- the data behind the first n, where one is pushed behind them
+-- the data after the first n, where one is pushed after them
 pub behind_pushed : (n : ℕ) (known all : List Data) (datum : Data) → n ≤ length known → all ≡ known ++ datum ∷ [] → drop n all ≡ drop n known ++ datum ∷ []
 behind_pushed n known all datum enough e = ap (λ (ds : List Data). drop n ds) e ∙ drop-append-le n known (datum ∷ []) enough
 

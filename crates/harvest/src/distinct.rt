@@ -12,7 +12,7 @@ use std::alloc::{AllocError, Global};
 use std::collections::BTreeSet;
 use std::marker::Model;
 
-/// The most data that a new datum is compared with, one by one. Those behind them are found by their texts. Few sets have more.
+/// The most data that a new datum is compared with, one by one. Those after them are found by their texts. Few sets have more.
 pub(crate) const MOST_COMPARED: usize = 8;
 
 /// Borrowed data of one type in order, without duplicates.
@@ -20,7 +20,7 @@ pub(crate) const MOST_COMPARED: usize = 8;
 pub(crate) struct Distinct<'a> {
     kind: u16,
     data: Vec<&'a Data>,
-    /// The texts of the data behind the first `MOST_COMPARED`.
+    /// The texts of the data after the first `MOST_COMPARED`.
     texts: BTreeSet<Vec<u8>>,
 }
 
@@ -75,7 +75,7 @@ impl<'a> Distinct<'a> {
         &self.data
     }
 
-    /// Adds a datum behind the first `MOST_COMPARED`, unless one with its text is there.
+    /// Adds a datum after the first `MOST_COMPARED`, unless one with its text is there.
     fn add_behind(&mut self, alloc: Global, datum: &'a Data) -> Result<(), NoMemory>
         requires form { HasForm self.old.kind datum.now }
         requires behind { MOST_COMPARED ≤ length self.old.data_in }

@@ -14,13 +14,13 @@ use Rattle.history.specs.History.{stands_by, standing_with}
 use Rattle.history.specs.Cells.{effect, cell_after, cell_by}
 use Rattle.history.specs.Flushes.{ticket_covering, last_covering, only}
 
--- the cell after what stands by a choice
+-- the cell after what is in force by a choice
 abbrev after_choice : Question → (ℕ → Bool) → Option (Admitted Find) → List Entry → Option (Admitted Find)
 after_choice question chosen cell log = fold (cell_after question) cell (standing_with chosen log)
 
 -- ---- one entry
 
--- what stands by a choice stands by a wider one
+-- what is in force by a choice is in force by a wider one
 wider : (chosen other : ℕ → Bool) → ((t : ℕ) → other t ≡ true → chosen t ≡ true) → (e : Event) (ticket : Option ℕ) → stands_by other e ticket ≡ true → stands_by chosen e ticket ≡ true
 wider chosen other more (Admit m f) ticket is = refl
 wider chosen other more (Look m a) ticket is = is
@@ -45,7 +45,7 @@ leaves question chosen other cell moment (Do m c) (Some t) stays out none = no_c
 leaves question chosen other cell moment (Undo m) ticket stays out none = refl
 leaves question chosen other cell moment (Redo m) ticket stays out none = refl
 
--- an entry that stands by a choice and whose command of this ticket covers the question
+-- an entry that is in force by a choice and whose command of this ticket covers the question
 record Empties (question : Question) (chosen : ℕ → Bool) (e : Event) (ticket : Option ℕ) (t : ℕ) : Type 0 where
   pub is_chosen : chosen t ≡ true
   pub stands : stands_by (only (Some t)) e ticket ≡ true

@@ -1,4 +1,4 @@
--- The commands that the journal holds stand in the order of tickets, those that are done are those that can be undone, and the others those that can be redone.
+-- The commands that the journal holds are in the order of tickets, those that are done are those that can be undone, and the others those that can be redone.
 use Rattle.std.proofs.Common.{◌≡◌, ℕ, ◌+◌, ◌<◌, ◌≤◌, Bool, true, false, cond, Option, Some, None, List, [], ◌∷◌, ◌++◌, refl, sym, ◌∙◌, ap, subst, inl, inr, arith}
 use Rattle.std.specs.Prelude.{fold, filter, filter_map, not, ◌==◌, ◌||◌, ◌&&◌}
 use Rattle.std.specs.List.{AllByRecursion, cons_option}

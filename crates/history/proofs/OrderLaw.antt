@@ -1,4 +1,4 @@
--- Tickets are given out once, and stand in one list at most: what can be undone is in their order and is not struck, what can be redone is struck.
+-- Tickets are given out once, and are in one list at most: what can be undone is in their order and is not struck, what can be redone is struck.
 use Rattle.std.proofs.Common.{◌≡◌, ℕ, ◌+◌, ◌-◌, ◌<◌, ◌≤◌, true, false, Option, Some, None, List, zero, suc, [], ◌∷◌, ◌++◌, length, drop, refl, ap, subst, inl, inr, arith}
 use Rattle.std.specs.Prelude.{fold, nat_lt, ◌==◌}
 use Rattle.std.specs.List.{AllByRecursion}
@@ -90,7 +90,7 @@ first_in_place : (x : ℕ) (xs : List ℕ) → AllByRecursion (λ t. x < t) xs �
 first_in_place x [] above = refl
 first_in_place x (t ∷ xs) above = rw (lt-ltb x t above.0) refl
 
--- a ticket that is left out and put back stands where it stood
+-- a ticket that is left out and put back is where it was
 pub put_back_in_place : (x : ℕ) (xs : List ℕ) → AreAscending xs → 1 ≤ occurs x xs → in_place x (without x xs) ≡ xs
 put_back_in_place x [] h some = absurd (omega arith)
 put_back_in_place x (t ∷ xs) h some =

@@ -1,4 +1,4 @@
--- A redo right behind an undo puts back what stood before the undo: what can be undone is not struck, and stands there once.
+-- A redo right after an undo puts back what was in force before the undo: what can be undone is not struck, and is there once.
 use Rattle.std.proofs.Common.{◌≡◌, ℕ, ◌+◌, ◌≤◌, Bool, false, cond, Option, Some, None, List, [], ◌∷◌, ◌++◌, refl, sym, ◌∙◌, ap, subst, arith, append_assoc}
 use Rattle.std.specs.Prelude.{filter, max, not, ◌==◌}
 use Rattle.std.proofs.lemmas.Bool.{eq-eqb}
@@ -29,7 +29,7 @@ struck_again x xs none =
     let itself : without x (x ∷ []) ≡ [] = ap (λ (b : Bool). cond (not b) (x ∷ []) []) (eq-eqb x x refl) in
     filter-append (λ t. not (t == x)) xs (x ∷ []) ∙ ap (λ (l : List ℕ). without x xs ++ l) itself ∙ append-nil (without x xs) ∙ without_absent x xs none
 
--- a command that can be undone stands at its place again: the marks after both are the marks before
+-- a command that can be undone is at its place again: the marks after both are the marks before
 restored : (j : Marks) (x : ℕ) → InOne j x → AreAscending j.done → 1 ≤ occurs x j.done → restore (strike j x) x ≡ j
 restored j x h order here =
     let once = h.once in
@@ -46,7 +46,7 @@ reached : (o : Option ℕ) (x : ℕ) → reply_to_undo o ≡ Undone x → o ≡ 
 reached None x is = cc
 reached (Some y) x is = cc
 
--- neither event stands
+-- neither event is in force
 both_left_out : (k : Marks) (log : List Entry) (x y : Entry) → stands k x ≡ false → stands k y ≡ false → filter (stands k) ((log ++ x ∷ []) ++ y ∷ []) ≡ filter (stands k) log
 both_left_out k log x y first second =
     filter-append (stands k) (log ++ x ∷ []) (y ∷ [])

@@ -1,4 +1,4 @@
--- A command that is undone at once leaves standing what stood.
+-- A command that is undone at once leaves in force what was.
 use Rattle.std.proofs.Common.{◌≡◌, ℕ, ◌+◌, ◌-◌, ◌<◌, ◌≤◌, Bool, true, false, cond, Option, Some, None, List, [], ◌∷◌, ◌++◌, length, drop, refl, ◌∙◌, ap, arith, length-append}
 use Rattle.std.specs.Prelude.{fold, filter, max, not, ◌||◌, ◌==◌, slice_get}
 use Rattle.std.specs.List.{list_any}
@@ -66,7 +66,7 @@ each_given bound past (e ∷ events) h =
     let next = followed_by bound past e in
     each_given bound next events (each_push past.marks.tickets next.marks.tickets past.log _ step.0 h step.1)
 
--- a ticket that was given out later is struck: the others stand as before
+-- a ticket that was given out later is struck: the others are as before
 same_stands : (j k : Marks) (t n : ℕ) → k.struck ≡ j.struck ++ t ∷ [] → n < t → (e : Event) (o : Option ℕ) → UpTo n o → stands_by (is_unstruck k) e o ≡ stands_by (is_unstruck j) e o
 same_stands j k t n is lt (Admit m f) o h = refl
 same_stands j k t n is lt (Look m a) o h = refl

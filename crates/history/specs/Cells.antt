@@ -1,4 +1,4 @@
--- What is held of each question: a replay, from nothing, of what stands.
+-- The cached data of each question: a replay, from nothing, of what is in force.
 use Rattle.std.specs.Prelude.{ℕ, max, Option, None, List, fold, if◌then◌else◌}
 use Rattle.dns_text.specs.declared.record.Question.{Question}
 use Rattle.ranked.specs.declared.find.Find.{Find}

@@ -1,4 +1,4 @@
--- The log of a history has each of its events once. The lemmas stand here since the plain book names two of them, as its proofs of `stores_few` and `one_count`.
+-- The log of a history has each of its events once.
 use Rattle.std.specs.Prelude.{◌≡◌, ℕ, ◌+◌, ◌≤◌, List, [], ◌∷◌, ◌++◌, length, count_by, fold}
 use Rattle.std.proofs.Common.{arith, ap, cond, max, sym, ◌∙◌, length-append}
 use Rattle.std.proofs.lemmas.List.Sums.{sum_by-append}

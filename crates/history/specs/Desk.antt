@@ -33,6 +33,6 @@ pub record Call : Type 0 where
   pub answer : Result Reply DeskFault
 
 -- Calls, each by the relation of one call, lead from one desk to another.
-abbrev pub Leads : {D : Type 0} → (D → Event → Result Reply DeskFault → D → Type 0) → D → List Call → D → Type 0
-Leads calls before [] after = after ≡ before
-Leads {D} calls before (c ∷ later) after = (next : D) × calls before c.event c.answer next × Leads calls next later after
+abbrev pub CallsLead : {D : Type 0} → (D → Event → Result Reply DeskFault → D → Type 0) → D → List Call → D → Type 0
+CallsLead calls before [] after = after ≡ before
+CallsLead {D} calls before (c ∷ later) after = (next : D) × calls before c.event c.answer next × CallsLead calls next later after

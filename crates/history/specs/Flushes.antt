@@ -25,12 +25,12 @@ abbrev pub only : Option ℕ → ℕ → Bool
 only None ticket = false
 only (Some chosen) ticket = chosen == ticket
 
--- A cell that a flush covers is the one that what stands after the flush gives.
+-- A cell that a flush covers depends only on what is in force after the flush.
 abbrev pub ForgetsBefore : Question → Entry → Type 0
 ForgetsBefore question flush = (before after : List Entry) (moment : ℕ) (command : Command) → flush.event ≡ Do moment command → IsTrue (covers command question) →
     cell_by question (before ++ flush ∷ after) ≡ cell_by question after
 
--- Whichever commands are chosen to stand, a cell is the same if of them only the last flush that covers it stands.
+-- Whichever commands are chosen to be in force, a cell is the same if of them only the last flush that covers it is in force.
 abbrev pub LastFlushDecides : Question → Type 0
 LastFlushDecides question = (chosen : ℕ → Bool) (log : List Entry) →
     cell_by question (standing_with chosen log) ≡ cell_by question (standing_with (only (last_covering question (standing_with chosen log))) log)

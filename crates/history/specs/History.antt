@@ -1,4 +1,4 @@
--- The replay of a list of events: its greatest moment, its marks, and the entries that stand.
+-- The replay of a list of events: its greatest moment, its marks, and the entries that are in force.
 use Rattle.std.specs.Prelude.{ℕ, ◌+◌, max, Bool, true, false, not, Option, Some, None, List, [], ◌∷◌, ◌++◌, fold, filter}
 use Rattle.history.specs.declared.event.Event.{Event}
 use Rattle.history.specs.declared.event.Event.TheVariants.{Admit, Do, Undo, Redo}
@@ -21,13 +21,13 @@ pub record Past : Type 0 where
 abbrev pub nothing : Past
 nothing = record { now = 0; marks = no_marks; log = [] }
 
--- Admissions stand, and so do the accepted commands that are chosen, by their tickets.
+-- Admissions are in force, and so are the accepted commands that are chosen, by their tickets.
 abbrev pub stands_by : (ℕ → Bool) → Event → Option ℕ → Bool
 stands_by chosen (Admit moment find) ticket = true
 stands_by chosen (Do moment command) (Some ticket) = chosen ticket
 stands_by chosen event ticket = false
 
--- the entries that stand if these tickets are chosen
+-- the entries that are in force if these tickets are chosen
 abbrev pub standing_with : (ℕ → Bool) → List Entry → List Entry
 standing_with chosen log = filter (λ entry. stands_by chosen entry.event entry.ticket) log
 
@@ -35,23 +35,23 @@ standing_with chosen log = filter (λ entry. stands_by chosen entry.event entry.
 abbrev pub is_unstruck : Marks → ℕ → Bool
 is_unstruck marks ticket = not (is_struck marks ticket)
 
--- whether an entry stands
+-- whether an entry is in force
 abbrev pub stands : Marks → Entry → Bool
 stands marks entry = stands_by (is_unstruck marks) entry.event entry.ticket
 
--- what stands: the list with the undone commands struck out
+-- what is in force: the list with the undone commands struck out
 abbrev pub standing_of : Past → List Entry
 standing_of past = standing_with (is_unstruck past.marks) past.log
 
--- local zones, records and stubs, by what stands
+-- local zones, records and stubs, by what is in force
 abbrev pub tables_of : Past → Tables
 tables_of past = tables_by (standing_of past)
 
--- stubs, by what stands
+-- stubs, by what is in force
 abbrev pub stubs_of : Past → Stubs
 stubs_of past = (tables_of past).stubs
 
--- why a command is refused, by what stands
+-- why a command is refused, by what is in force
 abbrev pub reason_of : Past → Command → Option Reason
 reason_of past command = reason_on (tables_of past) command
 

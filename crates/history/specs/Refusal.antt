@@ -13,7 +13,7 @@ is_refusal NothingToUndo = true
 is_refusal NothingToRedo = true
 is_refusal _ = false
 
--- The same stands, the same can be undone and redone, the next ticket is the same, and so are local zones, records and stubs. The moment that the event gives counts.
+-- The same is in force, the same can be undone and redone, the next ticket is the same, and so are local zones, records and stubs. The moment that the event gives counts.
 pub record SameButClock (before after : Past) (event : Event) : Type 0 where
   pub standing : standing_of after ≡ standing_of before
   pub tables : (tables_of after).local ≡ (tables_of before).local

@@ -29,7 +29,7 @@ use Rattle.history.specs.Cells.{cell_of, shows}
 use Rattle.history.specs.Journal.{commands_of}
 use Rattle.history.specs.Servers.{servers_of}
 
--- Data of the lowest rank is held and never seen.
+-- Data of the lowest rank is cached and never shown.
 abbrev pub seen_by : Option (Shown Find) → SeenValue
 seen_by None = Unknown
 seen_by (Some shown) = if nat_lt (level_of shown.rank) 2 then Unknown else Held shown

@@ -29,7 +29,7 @@ impl Tables {
         }
     }
 
-    /// Obeys a command that stands. The tables that stand before it accepted it, so only want of memory can refuse it.
+    /// Obeys a command in force. The tables before it accepted it, so only want of memory can refuse it.
     pub fn obey(&mut self, command: &Command) -> Result<(), NoMemory>
         ensures { OnOk result (self.new ≡ after_command_on command.now self.old) }
     {

@@ -1,4 +1,4 @@
-//! The desk: a book behind whatever a caller can hand an event to.
+//! The desk: a book after whatever a caller can hand an event to.
 
 ghost use Rattle.std.specs.Prelude.{◌≡◌, Result};
 ghost use Rattle.history.specs.declared.event.Event.{Event};
@@ -21,7 +21,7 @@ pub enum DeskFault {
     Behind { at: u64 },
 }
 
-/// A book behind anything that a caller can hand an event to.
+/// A book after anything that a caller can hand an event to.
 pub trait Desk {
     /// One call: the desk before, the event, the answer, the desk after.
     ghost calls: { Self → Event → Result Reply DeskFault → Self → Type 0 };

@@ -224,7 +224,7 @@ pub enum Reason {
     BelowRedirect,
     /// A record would lie strictly below the name of a redirect zone.
     DataBelow,
-    /// A CNAME would stand beside other types.
+    /// A name would have a CNAME and another type.
     CnameClash,
     /// A list would be longer than it may be, or a stub's addresses are not 1 to 8.
     TooMany,

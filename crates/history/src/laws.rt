@@ -22,22 +22,22 @@ ghost use Rattle.history.specs.Servers.{servers_of};
 
 use crate::event::{Event, Reply};
 
-/// A command that is undone at once leaves what stood before it. So local zones, records and stubs are what they were, and
+/// A command that is undone at once leaves what was in force before it. So local zones, records and stubs are what they were, and
 /// from both moments on every cell shows what it would have shown.
 /// The clock, the next ticket and what can be undone and redone may have changed.
 pub fn undo_takes_back()
     ensures { (bound : ℕ) (history : List Event) (c : Command) → 1 ≤ bound → TakesBack bound history c }
 {}
 
-/// A redo right behind an undo puts back what stood before the undo, marks and all, and moves nothing but the clock.
-/// So a command that is undone and redone at once stands as though neither had been given.
+/// A redo right after an undo puts back what was in force before the undo, marks and all, and moves nothing but the clock.
+/// So a command that is undone and redone at once is in force as though neither had been given.
 pub fn redo_puts_back()
     ensures command { (bound : ℕ) (history : List Event) (c : Command) → 1 ≤ bound → StandsAgain bound history c }
     ensures undo { (settings : Settings) (history : List Event) → UndoIsPutBack settings history }
 {}
 
-/// A flush forgets what was before it: a cell that it covers is the one that what stands after it gives.
-/// So whichever commands are chosen to stand, a cell is the same if of them only the last flush that covers it stands.
+/// A flush forgets what was before it: a cell that it covers depends only on what is in force after it.
+/// So whichever commands are chosen to be in force, a cell is the same if of them only the last flush that covers it is in force.
 pub fn flush_forgets()
     ensures after { (question : Question) (flush : Entry) → ForgetsBefore question flush }
     ensures last { (question : Question) → LastFlushDecides question }

@@ -15,7 +15,7 @@ mod made;
 mod changes;
 // The promise that every book keeps.
 mod book;
-// The desk: a book behind whatever a caller can hand an event to.
+// The desk: a book after whatever a caller can hand an event to.
 mod desk;
 // A run of any book over a list of events.
 mod runs;

@@ -29,7 +29,7 @@ pub fn sight<'a, C: CellSource>(
     }
 }
 
-/// Whether local zones leave a question to what is held.
+/// Whether local zones leave a question to the cache.
 fn passes(answer: &Local<LocalSet, &LocalRecord>) -> bool
     ensures { result ≡ passes_on (local_now answer.now) }
 {

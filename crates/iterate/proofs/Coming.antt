@@ -211,7 +211,7 @@ empty (f ∷ fs) none = absurd (omega (arith, none))
 pub no_frames : (searching : Search) → length searching.frames.items ≡ 0 → searching.frames.items ≡ []
 no_frames searching none = empty searching.frames.items none
 
--- the innermost question, and those behind it
+-- the innermost question, and those after it
 pub record Inner (fs : List Nested) : Type 0 where
   pub first : Nested
   pub rest : List Nested

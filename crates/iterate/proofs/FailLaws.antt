@@ -8,16 +8,16 @@ use Rattle.iterate.specs.declared.answer.Soa.{Soa}
 use Rattle.iterate.specs.declared.want.Input.{Input}
 use Rattle.iterate.specs.Exchanges.{Exchange}
 use Rattle.iterate.specs.Resolved.{Began, BeganUnanswered, IsNoAnswer, ResolvedAs, IsResolved}
-use Rattle.iterate.specs.Shown.{Ends}
+use Rattle.iterate.specs.Shown.{EndsQuestion}
 
 -- What ends a question does not fail it.
-ends_well : {question : Question} {seen : SeenValue} {rcode : ℕ} {last : Option AnswerSet} {authority : Option Soa} → Ends question seen rcode last authority → rcode ≡ 2 → ⊥
-ends_well (Ends.held is) fails = absurd (omega (arith, fails))
-ends_well (Ends.held_no_data is body) fails = absurd (omega (arith, fails))
-ends_well (Ends.held_no_name is body) fails = absurd (omega (arith, fails))
-ends_well (Ends.local_set is) fails = absurd (omega (arith, fails))
-ends_well (Ends.local_no_data formed) fails = absurd (omega (arith, fails))
-ends_well (Ends.local_no_name formed) fails = absurd (omega (arith, fails))
+ends_well : {question : Question} {seen : SeenValue} {rcode : ℕ} {last : Option AnswerSet} {authority : Option Soa} → EndsQuestion question seen rcode last authority → rcode ≡ 2 → ⊥
+ends_well (EndsQuestion.held is) fails = absurd (omega (arith, fails))
+ends_well (EndsQuestion.held_no_data is body) fails = absurd (omega (arith, fails))
+ends_well (EndsQuestion.held_no_name is body) fails = absurd (omega (arith, fails))
+ends_well (EndsQuestion.local_set is) fails = absurd (omega (arith, fails))
+ends_well (EndsQuestion.local_no_data formed) fails = absurd (omega (arith, fails))
+ends_well (EndsQuestion.local_no_name formed) fails = absurd (omega (arith, fails))
 
 unanswered : {port : ℕ} {question : Question} {log : List Exchange} {rcode : ℕ} {aa : Bool} {aliases : List AnswerSet} {last : Option AnswerSet} {authority : Option Soa}
     → ResolvedAs port question log rcode aa aliases last authority → rcode ≡ 2 → BeganUnanswered question log

@@ -53,7 +53,7 @@ weight_falls (Falls.there {x} {xs} {ys} f) all =
 pub path_digits : (path : Path) (sending coming hunts looks : ℕ) → coming ≤ top → hunts ≤ top → looks ≤ top → Digits (digits_of_path path sending coming hunts looks)
 path_digits path sending coming hunts looks comes few some = (omega arith, (omega arith, (omega arith, (comes, (few, (some, tt))))))
 
--- a digit stays, and one behind it falls
+-- a digit stays, and one after it falls
 stays : {x y : ℕ} {xs ys : List ℕ} → x ≡ y → Falls xs ys → Falls (x ∷ xs) (y ∷ ys)
 stays {x} {y} {xs} {ys} same f = subst (λ (n : ℕ). Falls (x ∷ xs) (n ∷ ys)) same (Falls.there f)
 

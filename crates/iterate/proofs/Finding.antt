@@ -34,7 +34,7 @@ use Rattle.iterate.specs.Measure.{top, left_of_path, left_of_seek}
 use Rattle.iterate.specs.Phase.{Goes, IsSeeking, IsUnknownAt, ask_at, idle}
 use Rattle.iterate.specs.Resolved.{Fails, ReachedFor, Sought}
 use Rattle.iterate.specs.Searching.{IsPath, IsAskable, IsSearch, hunt_of}
-use Rattle.iterate.specs.Shown.{IsReplyTo, IsMisanswered}
+use Rattle.iterate.specs.Shown.{IsLookReply, IsMisanswered}
 use Rattle.iterate.proofs.Growing.{happened_last, path_more, askable_more, base_more, frames_more, search_looked, since_more, sought_more, unknown_more}
 use Rattle.iterate.proofs.Falling.{ended_falls}
 use Rattle.iterate.proofs.Asking.{failing, ended_seek, innermost_hunt}
@@ -143,7 +143,7 @@ contains_next n xs x rest next =
 
 -- A set that a look saw is known.
 had_seen : (port m : ℕ) (before log : List Exchange) (question : Question) (seen : SeenValue) (told : AnswerSet) → Adds before (exchange (Book (Look m (Asked question))) (Reply (Seen seen))) log
-    → IsReplyTo (Asked question) (Seen seen) → IsSetSeen seen told → Known port log (Had question told)
+    → IsLookReply (Asked question) (Seen seen) → IsSetSeen seen told → Known port log (Had question told)
 had_seen port m before log question (Held shown) told a lawful is = subst (λ (t : AnswerSet). Known port log (Had question t)) (sym is.1) (Known.looked a record { shown_for = lawful; has_data = is.0 })
 had_seen port m before log question (LocalSeen (local.Data records)) told a lawful is = subst (λ (t : AnswerSet). Known port log (Had question t)) (sym is) (Known.local a lawful)
 had_seen port m before log question (LocalSeen (local.NoData soa)) told a lawful is = absurd is
@@ -159,7 +159,7 @@ had_seen port m before log question (Commands commands) told a lawful is = absur
 had_seen port m before log question (SeenServers servers) told a lawful is = absurd is
 
 each_serves : (port m : ℕ) (before log : List Exchange) (servers : Servers) (target : Labels) (seen : SeenValue) (found : List Addr) → Adds before (exchange (Book (Look m (Asked (address_question target)))) (Reply (Seen seen))) log
-    → IsReplyTo (Asked (address_question target)) (Seen seen) → Known port log (Listed servers) → Contains servers.missing target → AllByRecursion (IsAddressSeen port seen) found
+    → IsLookReply (Asked (address_question target)) (Seen seen) → Known port log (Listed servers) → Contains servers.missing target → AllByRecursion (IsAddressSeen port seen) found
     → AllServe port log servers.zone found
 each_serves port m before log servers target seen [] a lawful known among all = tt
 each_serves port m before log servers target seen (addr ∷ found) a lawful known among all =
@@ -167,7 +167,7 @@ each_serves port m before log servers target seen (addr ∷ found) a lawful know
 
 -- The addresses that a look saw are those of a server of the zone.
 pub serving : (port m : ℕ) (question : Question) (before log : List Exchange) (search : Search) (target : Labels) (seen : SeenValue) (found : List Addr) → IsSeeking port question before search target stage.Address
-    → Adds before (exchange (Book (Look m (Asked (address_question target)))) (Reply (Seen seen))) log → IsReplyTo (Asked (address_question target)) (Seen seen) → AllByRecursion (IsAddressSeen port seen) found
+    → Adds before (exchange (Book (Look m (Asked (address_question target)))) (Reply (Seen seen))) log → IsLookReply (Asked (address_question target)) (Seen seen) → AllByRecursion (IsAddressSeen port seen) found
     → AllServe port log (hunt_of search).servers.zone found
 serving port m question before log search target seen found k a lawful all =
     let hunt = innermost_hunt search (search_looked k.is_search a refl) in

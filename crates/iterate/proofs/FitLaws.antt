@@ -28,7 +28,7 @@ use Rattle.iterate.specs.declared.answer.AnswerSet.TheVariants.{Local as LocalTo
 use Rattle.iterate.specs.Exchanges.{Exchange}
 use Rattle.iterate.specs.Known.{Fact, Had, Listed, Serves, Responds, Known}
 use Rattle.iterate.specs.Resolved.{Chain, ResolvedAs, IsResolved}
-use Rattle.iterate.specs.Shown.{IsLocalRecord, IsLocalSet, IsSoaFormed, Ends}
+use Rattle.iterate.specs.Shown.{IsLocalRecord, IsLocalSet, IsSoaFormed, EndsQuestion}
 use Rattle.iterate.specs.Told.{IsFormed, IsFit, records_of_find, records_of_passing, records_told, records_of_soa, kinds_of, soa_in, soa_whole, told_of}
 
 -- ---- sets
@@ -121,14 +121,14 @@ negative_formed (Some find) = find_soa_formed find.ttl find
 
 -- ---- how a look ends a question
 
-ends_formed : {question : Question} {seen : SeenValue} {rcode : ℕ} {last : Option AnswerSet} {authority : Option Soa} → Ends question seen rcode last authority
+ends_formed : {question : Question} {seen : SeenValue} {rcode : ℕ} {last : Option AnswerSet} {authority : Option Soa} → EndsQuestion question seen rcode last authority
     → AllByRecursion IsFormed (flat_map records_told (option_to_list last)) × AllByRecursion IsFormed (flat_map records_of_soa (option_to_list authority))
-ends_formed (Ends.held {shown = shown} is) = (last_formed (told_of shown) (find_formed shown.left shown.body), tt)
-ends_formed (Ends.held_no_data {shown = shown} is body) = (tt, find_soa_formed shown.left shown.body)
-ends_formed (Ends.held_no_name {shown = shown} is body) = (tt, find_soa_formed shown.left shown.body)
-ends_formed (Ends.local_set {records = records} is) = (last_formed (LocalTold records) (local_set_formed is), tt)
-ends_formed (Ends.local_no_data {soa = soa} formed) = (tt, local_soa_formed soa formed)
-ends_formed (Ends.local_no_name {soa = soa} formed) = (tt, local_soa_formed soa formed)
+ends_formed (EndsQuestion.held {shown = shown} is) = (last_formed (told_of shown) (find_formed shown.left shown.body), tt)
+ends_formed (EndsQuestion.held_no_data {shown = shown} is body) = (tt, find_soa_formed shown.left shown.body)
+ends_formed (EndsQuestion.held_no_name {shown = shown} is body) = (tt, find_soa_formed shown.left shown.body)
+ends_formed (EndsQuestion.local_set {records = records} is) = (last_formed (LocalTold records) (local_set_formed is), tt)
+ends_formed (EndsQuestion.local_no_data {soa = soa} formed) = (tt, local_soa_formed soa formed)
+ends_formed (EndsQuestion.local_no_name {soa = soa} formed) = (tt, local_soa_formed soa formed)
 
 resolved_formed : {port : ℕ} {question : Question} {log : List Exchange} {rcode : ℕ} {aa : Bool} {aliases : List AnswerSet} {last : Option AnswerSet} {authority : Option Soa}
     → ResolvedAs port question log rcode aa aliases last authority

@@ -19,7 +19,7 @@ use Rattle.iterate.specs.Searching.{IsPath, IsAskable, IsHunt, IsBase, AreFrames
 
 -- ---- exchanges
 
--- the exchanges behind a place, with one more
+-- the exchanges after a place, with one more
 behind_more : {log after : List Exchange} {y : Exchange} (before since : List Exchange) (x : Exchange) → log ≡ before ++ x ∷ since → Adds log y after → after ≡ before ++ x ∷ (since ++ y ∷ [])
 behind_more {log} {after} {y} before since x split a = a.adds ∙ ap (λ (xs : List Exchange). xs ++ y ∷ []) split ∙ append_assoc before (x ∷ since) (y ∷ [])
 

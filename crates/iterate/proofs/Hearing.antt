@@ -203,7 +203,7 @@ serves_all port log hunt target listed among [] all = tt
 serves_all port log hunt target listed among (addr ∷ addrs) all =
     (Known.found listed among all.0.had all.0.among, serves_all port log hunt target listed among addrs all.1)
 
--- The addresses of the server for which the innermost question asks serve the zone behind it.
+-- The addresses of the server for which the innermost question asks serve the zone after it.
 pub addresses_serve : {port : ℕ} {question : Question} {log : List Exchange} (searching : Search) (frame : Nested) → 0 < length searching.frames.items → frame ≡ slice_index_or searching.frames.items 0 frame
     → IsSearch port question log searching → (addrs : List Addr) → AllByRecursion (IsAddressOf port log frame.target) addrs
     → AllByRecursion (λ addr. Known port log (Serves (hunt_behind (drop 1 searching.frames.items) searching.base).servers.zone addr)) addrs

@@ -32,7 +32,7 @@ use Rattle.iterate.specs.Measure.{top, Falls, left_in, left_of_path, digits_of_p
 use Rattle.iterate.specs.Phase.{Goes, Drawing, idle}
 use Rattle.iterate.specs.Resolved.{Began, BeganUnanswered, IsNoAnswer, is_local, Chain, IsDenied, Fails, IsBarred, ResolvedAs, IsResolved, question_at}
 use Rattle.iterate.specs.Searching.{IsPath, IsLonger}
-use Rattle.iterate.specs.Shown.{Ends, IsMisanswered}
+use Rattle.iterate.specs.Shown.{EndsQuestion, IsMisanswered}
 use Rattle.iterate.specs.Told.{IsTarget}
 use Rattle.iterate.proofs.Falling.{Digits, weight_falls, path_digits, looks_fall, alias_falls, ended_falls}
 use Rattle.iterate.proofs.Growing.{happened_last, path_more, sends_same}
@@ -94,14 +94,14 @@ denying {port} {question} {log} path rcode authority less p denied =
 
 -- So does what a look sees.
 pub seeing : {port : ℕ} {question : Question} {before log : List Exchange} {m moment : ℕ} {id : Stream} {left : ℕ} (path : Path) (seen : SeenValue) {rcode : ℕ} {last : Option AnswerSet} {authority : Option Soa}
-    → left_in Ended < left → IsPath port question before path → Adds before (exchange (Book (Look m (Asked path.last))) (Reply (Seen seen))) log → Ends path.last seen rcode last authority
+    → left_in Ended < left → IsPath port question before path → Adds before (exchange (Book (Look m (Asked path.last))) (Reply (Seen seen))) log → EndsQuestion path.last seen rcode last authority
     → Goes port question log moment (idle id) left Ended (Finish (Replies rcode false path.sets.items last authority))
 seeing {port} {question} {before} {log} {m} path seen {rcode} {last} {authority} less p adds ends =
     let q = path_more p adds refl in
     let happened : Happened log (exchange (Book (Look m (Asked (question_at question path.last.owner)))) (Reply (Seen seen))) =
     subst (λ (k : ℕ). Happened log (exchange (Book (Look m (Asked (record { owner = path.last.owner; kind = k })))) (Reply (Seen seen)))) p.kind (happened_last adds) in
-    let there : Ends (question_at question path.last.owner) seen rcode last authority =
-    subst (λ (k : ℕ). Ends (record { owner = path.last.owner; kind = k }) seen rcode last authority) p.kind ends in
+    let there : EndsQuestion (question_at question path.last.owner) seen rcode last authority =
+    subst (λ (k : ℕ). EndsQuestion (record { owner = path.last.owner; kind = k }) seen rcode last authority) p.kind ends in
     answering (Replies rcode false path.sets.items last authority)
     (ResolvedAs.looked {front = path.sets.items} {seen = seen} q.began q.chain q.short happened there) (few_sent q) less
 
@@ -204,7 +204,7 @@ first_some = omega arith
 
 -- What it sees ends the question.
 pub first_ends : {port : ℕ} {question : Question} {log : List Exchange} {m : ℕ} (seen : SeenValue) {rcode : ℕ} {last : Option AnswerSet} {authority : Option Soa}
-    → Adds [] (exchange (Book (Look m (Asked question))) (Reply (Seen seen))) log → Ends question seen rcode last authority
+    → Adds [] (exchange (Book (Look m (Asked question))) (Reply (Seen seen))) log → EndsQuestion question seen rcode last authority
     → IsResolved port question log (Replies rcode (is_local seen) [] last authority)
 first_ends seen adds ends = ResolvedAs.at_once {seen = seen} (first_began adds) ends
 
@@ -212,7 +212,7 @@ pub first_refused : {port : ℕ} {question : Question} {log : List Exchange} {m 
     → IsResolved port question log (Replies 5 true [] None None)
 first_refused adds = ResolvedAs.refused (first_began adds)
 
--- An answer that resolves behind it may be given.
+-- An answer that resolves after it may be given.
 pub first_answering : {port : ℕ} {question : Question} {input : Input} {log : List Exchange} {m moment : ℕ} {id : Stream} (answer : Answer)
     → Adds [] (exchange (Book (Look m (Asked question))) input) log → IsResolved port question log answer
     → Goes port question log moment (idle id) (left_in First) Ended (Finish answer)

@@ -14,7 +14,7 @@ use Rattle.iterate.specs.declared.want.Want.{Want}
 use Rattle.iterate.specs.declared.want.Want.TheVariants.{Finish}
 use Rattle.iterate.specs.Exchanges.{Exchange, exchange, exchanges_behind, exchanges_of, last_behind, Stands, Adds, sends, is_send, wants_send, count_sends, sent_in}
 use Rattle.iterate.specs.Measure.{left_in}
-use Rattle.iterate.specs.Phase.{Fits, Goes, IsDue, Suits, Drawing}
+use Rattle.iterate.specs.Phase.{Remembers, Goes, IsDue, Suits, Drawing}
 use Rattle.iterate.specs.Searching.{IsPath}
 use Rattle.iterate.specs.Task.{IsTask, IsDueAt, IsKept, StepsOn}
 use Rattle.iterate.specs.Told.{IsFit}
@@ -85,7 +85,7 @@ one_open log want is few = subst (λ (b : Bool). count_sends log + cond b 1 0 �
 path_few : {port : ℕ} {question : Question} {log : List Exchange} {path : Path} → IsPath port question log path → count_sends log ≤ 64
 path_few p = omega (arith, p.counted, p.few)
 
-few_open : (port : ℕ) (question : Question) (log : List Exchange) (want : Want) (phase : Phase) → Fits port question log want phase → count_sends log + cond (sends want) 1 0 ≤ 64
+few_open : (port : ℕ) (question : Question) (log : List Exchange) (want : Want) (phase : Phase) → Remembers port question log want phase → count_sends log + cond (sends want) 1 0 ≤ 64
 few_open port question log want Fresh f = absurd f
 few_open port question log want Broken f = absurd f
 few_open port question log want First f = none_open log want (ap sends f.1.wanted) (omega (arith, ap count_sends f.0))
@@ -101,7 +101,7 @@ few_open port question log want Ended f = none_open log want (ap sends f.1) f.2
 
 -- A phase that fits makes a task.
 task_of : (port : ℕ) (question : Question) {steps : List Step} {log : List Exchange} {want : Want} (phase : Phase)
-    → Stands steps log want → Fits port question log want phase → IsTask port question steps phase
+    → Stands steps log want → Remembers port question log want phase → IsTask port question steps phase
 task_of port question Fresh s f = absurd f
 task_of port question Broken s f = absurd f
 task_of port question First s f = record { log = _; want = _; stands = s; fits = f }
@@ -141,13 +141,13 @@ step_next : {port : ℕ} {question : Question} {steps : List Step} {log : List E
 step_next {input = input} {want = want} s g = step_made (stands_more s input want) g
 
 -- what a turn gives of a phase
-abbrev pub Turns : ℕ → Question → ℕ → Drawing → Input → Phase → Phase → Want → Type 0
-Turns port question moment id input before after want =
-    (log next : List Exchange) (last : Want) → Fits port question log last before → Suits last input → Adds log (exchange last input) next → Goes port question next moment id (left_in before) after want
+abbrev pub StepTurns : ℕ → Question → ℕ → Drawing → Input → Phase → Phase → Want → Type 0
+StepTurns port question moment id input before after want =
+    (log next : List Exchange) (last : Want) → Remembers port question log last before → Suits last input → Adds log (exchange last input) next → Goes port question next moment id (left_in before) after want
 
--- What a turn of a task gives, by where it stands.
+-- What a turn of a task gives, by where it is.
 pub stepping : (port : ℕ) (question : Question) (steps : List Step) (moment : ℕ) (id : Drawing) (input : Input) (before after : Phase) (want : Want)
-    → IsTask port question steps before → IsDueAt before steps input → Turns port question moment id input before after want
+    → IsTask port question steps before → IsDueAt before steps input → StepTurns port question moment id input before after want
     → (before ≡ Fresh → Goes port question [] moment id (left_in before) after want) → (before ≡ Broken → ⊥)
     → IsStep port question steps moment id (left_in before) input after want
 stepping port question steps moment id input Fresh after want t due goes fresh broken = step_first t (fresh refl)

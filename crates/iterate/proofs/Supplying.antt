@@ -34,7 +34,7 @@ all_of P (x ∷ xs) h = (h x (0, omega arith, refl), all_of P xs (λ y is. h y (
 of_all : {X : Type 0} (P : X → Type 0) (xs : List X) (x : X) → AllByRecursion P xs → Contains xs x → P x
 of_all P xs x all is = All-contains P xs x (All-from_recursion P xs all) is
 
--- what stands before a place
+-- what is before a place
 take_first : {X : Type 0} (n m : ℕ) (xs ys : List X) → take m xs ≡ ys → n ≤ m → n ≤ length ys → take n xs ≡ take n ys
 take_first n m xs ys first few short =
     ap (λ (zs : List _). take n zs) (sym (take-append-drop m xs)) ∙ ap (λ (zs : List _). take n (zs ++ drop m xs)) first ∙ take-append-le n ys (drop m xs) short

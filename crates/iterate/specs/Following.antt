@@ -1,5 +1,4 @@
 -- How far a response leads.
--- (Of the code. What a task is held to stands in Exchanges, Told, Shown, Known, Resolved and Wanted.)
 use Rattle.std.specs.Prelude.{◌≡◌, ℕ, List, Option, IfSome, map}
 use Rattle.dns_name.specs.Labels.{Labels}
 use Rattle.dns_text.specs.declared.record.Question.{Question}
@@ -38,7 +37,7 @@ abbrev pub IsHadIfSome : ℕ → List Exchange → Question → Option AnswerSet
 IsHadIfSome port log question found = IfSome found (λ told. Known port log (Had question told))
 
 -- A harvest leads there from a question.
-abbrev pub Leads : ℕ → List Exchange → Question → Hop → Type 0
-Leads port log last (Set told) = Known port log (Had last told)
-Leads port log last (Alias told to) = Known port log (Had (alias_question last.owner) told) × IsTarget told to
-Leads port log last Nowhere = Unit {0}
+abbrev pub HarvestLeads : ℕ → List Exchange → Question → Hop → Type 0
+HarvestLeads port log last (Set told) = Known port log (Had last told)
+HarvestLeads port log last (Alias told to) = Known port log (Had (alias_question last.owner) told) × IsTarget told to
+HarvestLeads port log last Nowhere = Unit {0}

@@ -1,5 +1,4 @@
 -- What becomes of the servers that are asked: they are reached, asked in turn, and given the addresses that were found.
--- (Of the code. What a task is held to stands in Exchanges, Told, Shown, Known, Resolved and Wanted.)
 use Rattle.std.specs.Prelude.{Bool, true, false, ◌≡◌, ℕ, ◌+◌, ◌^◌, ◌<◌, ◌≤◌, ◌⊎◌, List, [], ◌∷◌, length, take, drop}
 use Rattle.std.specs.List.{AllByRecursion, Contains, flat_map}
 use Rattle.dns_name.specs.Labels.{Labels}
@@ -100,7 +99,7 @@ pub record IsSmaller (port : ℕ) (question : Question) (log : List Exchange) (l
   pub is_search : IsSearch port question log search
   pub falls : left_of_search search 4 < left
 
--- An item stands at a place.
+-- An item is at a place.
 abbrev pub IsAt : {X : Type 0} → List X → ℕ → X → Type 0
 IsAt {X} xs place x = (rest : List X) × (drop place xs ≡ x ∷ rest)
 

@@ -1,5 +1,4 @@
 -- What a look was answered, as the code tells it.
--- (Of the code. What a task is held to stands in Exchanges, Told, Shown, Known, Resolved and Wanted.)
 use Rattle.std.specs.Prelude.{◌≡◌, false, Option, MatchOption}
 use Rattle.dns_text.specs.declared.record.Question.{Question}
 use Rattle.local_zone.specs.declared.local.Local.TheVariants.{Data as LocalData}
@@ -15,7 +14,7 @@ use Rattle.iterate.specs.declared.shown.Looked.{Looked}
 use Rattle.iterate.specs.declared.shown.Looked.TheVariants.{Unknown, Held, Local}
 use Rattle.iterate.specs.declared.want.Input.{Input}
 use Rattle.iterate.specs.declared.want.Input.TheVariants.{Reply}
-use Rattle.iterate.specs.Shown.{Ends, IsReplyTo}
+use Rattle.iterate.specs.Shown.{EndsQuestion, IsLookReply}
 use Rattle.iterate.specs.Told.{told_of}
 
 -- what was seen
@@ -27,7 +26,7 @@ seen_of (Local answer) = SeenLocal answer.now
 -- A look at the question was replied to, as it may be.
 pub record IsReplied (question : Question) (input : Input) (seen : SeenValue) : Type 0 where
   pub replied : input ≡ Reply (Seen seen)
-  pub lawful : IsReplyTo (Asked question) (Seen seen)
+  pub lawful : IsLookReply (Asked question) (Seen seen)
 
 -- Nothing was seen.
 abbrev pub IsUnseen : Input → Type 0
@@ -46,4 +45,4 @@ IsSetIn seen found = MatchOption found ((told : AnswerSet) → ¬ (IsSetSeen see
 
 -- What was seen ends the question so.
 abbrev pub EndsSo : Question → SeenValue → Ending → Type 0
-EndsSo question seen ending = Ends question seen ending.rcode ending.last ending.authority
+EndsSo question seen ending = EndsQuestion question seen ending.rcode ending.last ending.authority

@@ -1,5 +1,4 @@
--- How much is left of a task: digits, the weightiest first. With each step one falls; those before it stay, and those behind it may be any.
--- (Of the code. What a task is held to stands in Exchanges, Told, Shown, Known, Resolved and Wanted.)
+-- How much is left of a task: digits, the weightiest first. With each step one falls; those before it stay, and those after it may be any.
 use Rattle.std.specs.Prelude.{ℕ, ◌+◌, ◌-◌, ◌*◌, ◌^◌, ◌<◌, ◌≡◌, List, [], ◌∷◌, length}
 use Rattle.iterate.specs.declared.limits.TheConstants.{MOST_ALIASES, MOST_BEGUN, MOST_SENDS}
 use Rattle.iterate.specs.declared.path.Path.{Path}

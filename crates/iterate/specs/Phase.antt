@@ -1,5 +1,4 @@
--- Where a task stands: what is remembered in each phase, and what a step has to bring.
--- (Of the code. What a task is held to stands in Exchanges, Told, Shown, Known, Resolved and Wanted.)
+-- Where a task is: what is remembered in each phase, and what a step has to bring.
 use Rattle.std.specs.Prelude.{◌≡◌, ℕ, ◌<◌, ◌≤◌, List, [], ◌∷◌, ◌++◌, length, map}
 use Rattle.dns_name.specs.Labels.{Labels}
 use Rattle.dns_text.specs.declared.addr.Addr.{Addr}
@@ -46,7 +45,7 @@ Suits (Send server over bytes) (Came octets) = Unit {0}
 Suits (Send server over bytes) Failed = Unit {0}
 Suits want input = ⊥
 
--- What may come behind these steps: the beginning first, and nothing after the answer.
+-- What may come after these steps: the beginning first, and nothing after the answer.
 abbrev pub IsDue : List Step → Input → Type 0
 IsDue [] Begin = Unit {0}
 IsDue [] input = ⊥
@@ -112,17 +111,17 @@ pub record IsHearing (port : ℕ) (question : Question) (log : List Exchange) (s
   pub says : IsSaid port (hunt_of search).servers.zone (question_of search) message heard.says
 
 -- what is remembered where this is open
-abbrev pub Fits : ℕ → Question → List Exchange → Want → Phase → Type 0
-Fits port question log want Fresh = ⊥
-Fits port question log want First = (log ≡ []) × IsLook want (Asked question)
-Fits port question log want (Aliasing path) = IsAskable port question log path × IsLook want (Asked (alias_question path.last.owner))
-Fits port question log want (Looking path) = IsPath port question log path × (1 ≤ length path.sets.items) × IsLook want (Asked path.last)
-Fits port question log want (Listing path) = IsAskable port question log path × IsLook want (ServersFor path.last.owner)
-Fits port question log want (Seeking search target stage) = IsSeeking port question log search.value target stage × IsLook want (ask_at stage target)
-Fits port question log want (Sent search server id over) = IsWaiting port question log want search.value server id over
-Fits port question log want (Admitting search heard next) = IsHearing port question log search.value heard.value × (next < length heard.value.harvest.finds) × IsAdmission want
-Fits port question log want Ended = (answer : Answer) × (want ≡ Finish answer) × (count_sends log ≤ MOST_SENDS)
-Fits port question log want Broken = ⊥
+abbrev pub Remembers : ℕ → Question → List Exchange → Want → Phase → Type 0
+Remembers port question log want Fresh = ⊥
+Remembers port question log want First = (log ≡ []) × IsLook want (Asked question)
+Remembers port question log want (Aliasing path) = IsAskable port question log path × IsLook want (Asked (alias_question path.last.owner))
+Remembers port question log want (Looking path) = IsPath port question log path × (1 ≤ length path.sets.items) × IsLook want (Asked path.last)
+Remembers port question log want (Listing path) = IsAskable port question log path × IsLook want (ServersFor path.last.owner)
+Remembers port question log want (Seeking search target stage) = IsSeeking port question log search.value target stage × IsLook want (ask_at stage target)
+Remembers port question log want (Sent search server id over) = IsWaiting port question log want search.value server id over
+Remembers port question log want (Admitting search heard next) = IsHearing port question log search.value heard.value × (next < length heard.value.harvest.finds) × IsAdmission want
+Remembers port question log want Ended = (answer : Answer) × (want ≡ Finish answer) × (count_sends log ≤ MOST_SENDS)
+Remembers port question log want Broken = ⊥
 
 -- the stream of numbers as a step finds it, and as it leaves it
 pub record Drawing : Type 0 where
@@ -141,9 +140,9 @@ idle stream = drawing stream stream
 pub record Goes (port : ℕ) (question : Question) (log : List Exchange) (moment : ℕ) (ids : Drawing) (left : ℕ) (phase : Phase) (want : Want) : Type 0 where
   pub wants : MayWant port question log moment (id_drawn ids.before) want
   pub drawn : ids.after ≡ stream_behind want ids.before
-  pub fits : Fits port question log want phase
+  pub fits : Remembers port question log want phase
   pub falls : left_in phase < left
 
 -- So does what a step hands over.
-abbrev pub GoesOn : ℕ → Question → List Exchange → ℕ → Drawing → ℕ → Advance → Type 0
-GoesOn port question log moment ids left next = Goes port question log moment ids left next.phase next.want
+abbrev pub Advances : ℕ → Question → List Exchange → ℕ → Drawing → ℕ → Advance → Type 0
+Advances port question log moment ids left next = Goes port question log moment ids left next.phase next.want

@@ -31,7 +31,7 @@ use Rattle.iterate.specs.declared.want.Input.TheVariants.{Reply, Came, Failed}
 use Rattle.iterate.specs.declared.want.Want.TheVariants.{Book, Send}
 use Rattle.iterate.specs.Exchanges.{Exchange, exchange, Adds, Happened, count_sends}
 use Rattle.iterate.specs.Known.{WasUnknown, Known, Had, Responds, servers_referred}
-use Rattle.iterate.specs.Shown.{IsShownFor, IsLocalFor, IsMisanswered, Ends}
+use Rattle.iterate.specs.Shown.{IsShownFor, IsLocalFor, IsMisanswered, EndsQuestion}
 use Rattle.iterate.specs.Told.{IsTarget, soa_whole}
 
 -- ---- the first look
@@ -154,12 +154,12 @@ question_at question name = record { owner = name; kind = question.kind }
 pub data ResolvedAs (port : ℕ) (question : Question) (log : List Exchange) : ℕ → Bool → List AnswerSet → Option AnswerSet → Option Soa → Type 0 where
   -- The first look ends it.
   at_once : {seen : SeenValue} {rcode : ℕ} {last : Option AnswerSet} {authority : Option Soa}
-      → Began question (Reply (Seen seen)) log → Ends question seen rcode last authority
+      → Began question (Reply (Seen seen)) log → EndsQuestion question seen rcode last authority
       → ResolvedAs port question log rcode (is_local seen) [] last authority
   -- A chain of aliases ends in what a look says.
   looked : {name : Labels} {front : List AnswerSet} {moment : ℕ} {seen : SeenValue} {rcode : ℕ} {last : Option AnswerSet} {authority : Option Soa}
       → BeganUnanswered question log → Chain port log question.owner front name → length front ≤ MOST_ALIASES
-      → Happened log (exchange (Book (Look moment (Asked (question_at question name)))) (Reply (Seen seen))) → Ends (question_at question name) seen rcode last authority
+      → Happened log (exchange (Book (Look moment (Asked (question_at question name)))) (Reply (Seen seen))) → EndsQuestion (question_at question name) seen rcode last authority
       → ResolvedAs port question log rcode false front last authority
   -- A chain ends in a set.
   found : {name : Labels} {front : List AnswerSet} {told : AnswerSet}

@@ -1,5 +1,4 @@
 -- What a task remembers, and why it holds of the exchanges so far.
--- (Of the code. What a task is held to stands in Exchanges, Told, Shown, Known, Resolved and Wanted.)
 use Rattle.std.specs.Prelude.{◌≡◌, ℕ, ◌^◌, ◌<◌, ◌≤◌, List, [], ◌∷◌, ◌++◌, length, take, drop}
 use Rattle.std.specs.List.{AllByRecursion, Contains}
 use Rattle.dns_name.specs.Labels.{Labels, IsAtOrBelow}
@@ -16,7 +15,7 @@ use Rattle.iterate.specs.Exchanges.{Exchange, count_sends}
 use Rattle.iterate.specs.Known.{WasUnknown, Known, Listed, Serves}
 use Rattle.iterate.specs.Resolved.{BeganUnanswered, Chain, ReachedFor, Struck, MaySeek, Sought}
 
--- The aliases so far, and the question to which they lead, behind a first look that was no answer.
+-- The aliases so far, and the question to which they lead, after a first look that was no answer.
 pub record IsPath (port : ℕ) (question : Question) (log : List Exchange) (path : Path) : Type 0 where
   pub began : BeganUnanswered question log
   pub chain : Chain port log question.owner path.sets.items path.last.owner
@@ -66,7 +65,7 @@ abbrev pub hunt_behind : List Nested → Hunt → Hunt
 hunt_behind [] base = base
 hunt_behind (frame ∷ frames) base = frame.hunt
 
--- A question inside another asks for the address of the next server that the one behind it lacks. A look did not find it.
+-- A question inside another asks for the address of the next server that the one after it lacks. A look did not find it.
 pub record IsFrame (port : ℕ) (log : List Exchange) (since : List Exchange) (behind : Hunt) (frame : Nested) : Type 0 where
   pub next : IsNext behind frame.target
   pub unknown : WasUnknown since (address_question frame.target)
@@ -90,7 +89,7 @@ question_behind (frame ∷ frames) last = address_question frame.target
 abbrev pub question_of : Search → Question
 question_of search = question_behind search.frames.items search.path.last
 
--- This server is the next one that the innermost question asks, and these come behind it.
+-- This server is the next one that the innermost question asks, and these come after it.
 abbrev pub IsNextServer : Search → Addr → List Addr → Type 0
 IsNextServer search server rest = drop (hunt_of search).asked (hunt_of search).addrs.items ≡ server ∷ rest
 

@@ -67,14 +67,14 @@ IsLocalFor question local.Drop = Unit {0}
 IsLocalFor question local.Pass = ⊥
 
 -- What may be replied to a look.
-abbrev pub IsReplyTo : Ask → BookReply → Type 0
-IsReplyTo (Asked question) (Seen Unknown) = Unit {0}
-IsReplyTo (Asked question) (Seen (Held shown)) = IsShownFor question shown
-IsReplyTo (Asked question) (Seen (LocalSeen answer)) = IsLocalFor question answer
-IsReplyTo (Asked question) reply = ⊥
-IsReplyTo (ServersFor name) (Seen (SeenServers servers)) = IsAtOrBelow name servers.zone
-IsReplyTo (ServersFor name) reply = ⊥
-IsReplyTo ask reply = Unit {0}
+abbrev pub IsLookReply : Ask → BookReply → Type 0
+IsLookReply (Asked question) (Seen Unknown) = Unit {0}
+IsLookReply (Asked question) (Seen (Held shown)) = IsShownFor question shown
+IsLookReply (Asked question) (Seen (LocalSeen answer)) = IsLocalFor question answer
+IsLookReply (Asked question) reply = ⊥
+IsLookReply (ServersFor name) (Seen (SeenServers servers)) = IsAtOrBelow name servers.zone
+IsLookReply (ServersFor name) reply = ⊥
+IsLookReply ask reply = Unit {0}
 
 -- What may be replied to an admission.
 abbrev pub IsAdmitted : BookReply → Type 0
@@ -85,7 +85,7 @@ IsAdmitted reply = ⊥
 -- A look got a fault, or an event got a reply that it may not get. (A fault of an admission is passed over.)
 abbrev pub IsMisanswered : Event → Input → Type 0
 IsMisanswered (Look moment ask) (Refused fault) = Unit {0}
-IsMisanswered (Look moment ask) (Reply reply) = ¬ (IsReplyTo ask reply)
+IsMisanswered (Look moment ask) (Reply reply) = ¬ (IsLookReply ask reply)
 IsMisanswered (Admit moment find) (Reply reply) = ¬ (IsAdmitted reply)
 IsMisanswered event input = ⊥
 
@@ -97,12 +97,12 @@ pub record IsSetShown (question : Question) (shown : Shown Find) : Type 0 where
   pub has_data : is_negative shown.body.body ≡ false
 
 -- What a look sees ends the question: with this RCODE (RFC 1035, section 4.1.1), these sets and this SOA record.
-pub data Ends (question : Question) : SeenValue → ℕ → Option AnswerSet → Option Soa → Type 0 where
-  held : {shown : Shown Find} → IsSetShown question shown → Ends question (Held shown) 0 (Some (told_of shown)) None
+pub data EndsQuestion (question : Question) : SeenValue → ℕ → Option AnswerSet → Option Soa → Type 0 where
+  held : {shown : Shown Find} → IsSetShown question shown → EndsQuestion question (Held shown) 0 (Some (told_of shown)) None
   held_no_data : {shown : Shown Find} {soa : Record} → IsShownFor question shown → shown.body.body ≡ NoData soa
-      → Ends question (Held shown) 0 None (Some (FindSoa shown.left shown.body))
+      → EndsQuestion question (Held shown) 0 None (Some (FindSoa shown.left shown.body))
   held_no_name : {shown : Shown Find} {soa : Record} → IsShownFor question shown → shown.body.body ≡ NoName soa
-      → Ends question (Held shown) 3 None (Some (FindSoa shown.left shown.body))
-  local_set : {records : List Record} → IsLocalSet question records → Ends question (LocalSeen (local.Data records)) 0 (Some (LocalTold records)) None
-  local_no_data : {soa : Option Record} → IsSoaFormed soa → Ends question (LocalSeen (local.NoData soa)) 0 None (option_map LocalSoa soa)
-  local_no_name : {soa : Option Record} → IsSoaFormed soa → Ends question (LocalSeen (local.NoName soa)) 3 None (option_map LocalSoa soa)
+      → EndsQuestion question (Held shown) 3 None (Some (FindSoa shown.left shown.body))
+  local_set : {records : List Record} → IsLocalSet question records → EndsQuestion question (LocalSeen (local.Data records)) 0 (Some (LocalTold records)) None
+  local_no_data : {soa : Option Record} → IsSoaFormed soa → EndsQuestion question (LocalSeen (local.NoData soa)) 0 None (option_map LocalSoa soa)
+  local_no_name : {soa : Option Record} → IsSoaFormed soa → EndsQuestion question (LocalSeen (local.NoName soa)) 3 None (option_map LocalSoa soa)

@@ -1,5 +1,4 @@
 -- A task before its first step, in the midst, and with no memory.
--- (Of the code. What a task is held to stands in Exchanges, Told, Shown, Known, Resolved and Wanted.)
 use Rattle.std.specs.Prelude.{◌≡◌, ◌<◌, ◌≤◌, ℕ, List, [], ◌∷◌, ◌++◌}
 use Rattle.dns_text.specs.declared.record.Question.{Question}
 use Rattle.iterate.specs.declared.answer.Answer.{Answer}
@@ -14,7 +13,7 @@ use Rattle.iterate.specs.declared.want.Want.{Want}
 use Rattle.iterate.specs.declared.want.Want.TheVariants.{Finish}
 use Rattle.iterate.specs.Exchanges.{Exchange, Stands, exchanges_of, sent_in}
 use Rattle.iterate.specs.Measure.{left_in}
-use Rattle.iterate.specs.Phase.{Drawing, Fits, IsDue}
+use Rattle.iterate.specs.Phase.{Drawing, Remembers, IsDue}
 use Rattle.iterate.specs.Told.{IsFit}
 use Rattle.iterate.specs.Wanted.{MayWant, id_drawn, stream_behind}
 
@@ -23,7 +22,7 @@ pub record IsUnderWay (port : ℕ) (question : Question) (steps : List Step) (ph
   pub log : List Exchange
   pub want : Want
   pub stands : Stands steps log want
-  pub fits : Fits port question log want phase
+  pub fits : Remembers port question log want phase
 
 -- What a task remembers fits its steps.
 abbrev pub IsTask : ℕ → Question → List Step → Phase → Type 0
@@ -31,7 +30,7 @@ IsTask port question steps Fresh = steps ≡ []
 IsTask port question steps Broken = Unit {0}
 IsTask port question steps phase = IsUnderWay port question steps phase
 
--- What may come where a task stands: without memory, anything.
+-- What may come where a task is: without memory, anything.
 abbrev pub IsDueAt : Phase → List Step → Input → Type 0
 IsDueAt Broken steps input = Unit {0}
 IsDueAt phase steps input = IsDue steps input

@@ -40,7 +40,7 @@ pub record WasTruncated (log : List Exchange) (server : Addr) (question : Questi
   pub query : IsQuery bytes id question
   pub truncated : IsTruncated Udp id question octets
 
--- A server is asked over TCP behind a response that was truncated, else over UDP (RFC 2181, section 9).
+-- A server is asked over TCP after a response that was truncated, else over UDP (RFC 2181, section 9).
 abbrev pub MayGo : List Exchange → Addr → Question → Over → Type 0
 MayGo log server question Udp = Unit {0}
 MayGo log server question Tcp = WasTruncated log server question
@@ -58,7 +58,7 @@ pub record AsksZone (port : ℕ) (log : List Exchange) (id : ℕ) (server : Addr
 
 -- ---- the numbers that are drawn
 
--- the stream of numbers behind a want: a query takes a word of it
+-- the stream of numbers after a want: a query takes a word of it
 abbrev pub stream_behind : Want → Stream → Stream
 stream_behind (Send server over bytes) stream = (next_u32 stream).1
 stream_behind want stream = stream

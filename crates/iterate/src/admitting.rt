@@ -8,7 +8,7 @@ ghost use Rattle.iterate.specs.declared.want.Want.{Want};
 ghost use Rattle.iterate.specs.declared.want.Want.TheVariants.{Book};
 ghost use Rattle.iterate.specs.Exchanges.{Exchange, exchange, Adds};
 ghost use Rattle.iterate.specs.Measure.{left_of_finds, left_of_hearing};
-ghost use Rattle.iterate.specs.Phase.{GoesOn, IsAdmission, IsHearing, Suits, drawing};
+ghost use Rattle.iterate.specs.Phase.{Advances, IsAdmission, IsHearing, Suits, drawing};
 ghost use Rattle.iterate.specs.Shown.{IsMisanswered};
 
 use crate::concluding::conclude;
@@ -43,7 +43,7 @@ pub(crate) fn admit<R: Rng>(
     ensures { (question : Question) (log : List Exchange) (left : ℕ) → IsHearing port question log search.value heard.value
         → left_of_hearing search.value.path 1 ≤ left
         → (length heard.value.harvest.finds < 2 ^ 64 → left_of_finds search.value.path heard.value next < left)
-        → IfOk result (GoesOn port question log moment (drawing (R.stream ids.old) (R.stream ids.new)) left) }
+        → IfOk result (Advances port question log moment (drawing (R.stream ids.old) (R.stream ids.new)) left) }
 {
     if next >= count_finds(&heard) {
         let search = Box::into_inner(search);
@@ -84,7 +84,7 @@ pub(crate) fn admitted<R: Rng>(
     ensures { (question : Question) (before log : List Exchange) (want : Want)
         → IsHearing port question before search.value heard.value → next < length heard.value.harvest.finds
         → IsAdmission want → Suits want input.now → Adds before (exchange want input.now) log
-        → IfOk result (GoesOn port question log moment (drawing (R.stream ids.old) (R.stream ids.new))
+        → IfOk result (Advances port question log moment (drawing (R.stream ids.old) (R.stream ids.new))
         (left_of_finds search.value.path heard.value next)) }
 {
     if !is_passed(input) {

@@ -8,7 +8,7 @@ ghost use Rattle.iterate.specs.declared.want.Want.TheVariants.{Send as SendWant}
 ghost use Rattle.iterate.specs.Exchanges.{Exchange, exchange, Adds};
 ghost use Rattle.iterate.specs.Judged.{IsJudged};
 ghost use Rattle.iterate.specs.Measure.{left_in, left_of_sending};
-ghost use Rattle.iterate.specs.Phase.{GoesOn, IsWaiting, Suits, drawing};
+ghost use Rattle.iterate.specs.Phase.{Advances, IsWaiting, Suits, drawing};
 ghost use Rattle.iterate.specs.Resolved.{Struck};
 ghost use Rattle.iterate.specs.Searching.{IsSearch, hunt_of, question_of, IsNextServer};
 ghost use Rattle.iterate.specs.Wanted.{WasTruncated};
@@ -109,7 +109,7 @@ fn again<R: Rng>(
     ensures { (port moment left : ℕ) (question : Question) (log : List Exchange) (rest : List Addr)
         → IsSearch port question log search → IsNextServer search server rest → WasTruncated log server (question_of search)
         → (search.path.sent < MOST_SENDS → left_of_sending search.path < left) → left_in Phase.Ended < left
-        → IfOk result (GoesOn port question log moment (drawing (R.stream ids.old) (R.stream ids.new)) left) }
+        → IfOk result (Advances port question log moment (drawing (R.stream ids.old) (R.stream ids.new)) left) }
 {
     if search.path.sent >= MOST_SENDS {
         return Ok(failed(alloc));
@@ -132,7 +132,7 @@ pub(crate) fn came<R: Rng>(
     ensures { (question : Question) (before log : List Exchange) (want : Want)
         → IsWaiting port question before want search server id over → Suits want input.now
         → Adds before (exchange want input.now) log
-        → IfOk result (GoesOn port question log moment (drawing (R.stream ids.old) (R.stream ids.new)) (left_of_sending search.path)) }
+        → IfOk result (Advances port question log moment (drawing (R.stream ids.old) (R.stream ids.new)) (left_of_sending search.path)) }
 {
     let question = search.question()?;
     let zone = &search.hunt().servers.get().zone;

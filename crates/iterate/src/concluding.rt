@@ -9,7 +9,7 @@ ghost use Rattle.iterate.specs.Hunting.{IsSmaller};
 ghost use Rattle.iterate.specs.Judged.{IsAddressOf};
 ghost use Rattle.iterate.specs.Known.{servers_referred};
 ghost use Rattle.iterate.specs.Measure.{left_of_hearing};
-ghost use Rattle.iterate.specs.Phase.{GoesOn, IsHearing, drawing};
+ghost use Rattle.iterate.specs.Phase.{Advances, IsHearing, drawing};
 
 use crate::addresses::addresses;
 use crate::finishing::denied;
@@ -71,7 +71,7 @@ fn conclude_last<R: Rng>(
 ) -> Result<Advance, NoMemory>
     requires { search.frames.items ≡ [] }
     ensures { (port : ℕ) (question : Question) (log : List Exchange) → IsHearing port question log search heard
-        → IfOk result (GoesOn port question log moment (drawing (R.stream ids.old) (R.stream ids.new)) (left_of_hearing search.path 1)) }
+        → IfOk result (Advances port question log moment (drawing (R.stream ids.old) (R.stream ids.new)) (left_of_hearing search.path 1)) }
 {
     let Heard { harvest, says } = heard;
     match says {
@@ -116,7 +116,7 @@ fn conclude_frame<R: Rng>(
 ) -> Result<Advance, NoMemory>
     requires { 0 < length search.frames.items }
     ensures { (question : Question) (log : List Exchange) → IsHearing port question log search heard
-        → IfOk result (GoesOn port question log moment (drawing (R.stream ids.old) (R.stream ids.new))
+        → IfOk result (Advances port question log moment (drawing (R.stream ids.old) (R.stream ids.new))
         (left_of_hearing search.path 1)) }
 {
     let after = search_behind(alloc, port, search, heard)?;
@@ -134,7 +134,7 @@ pub(crate) fn conclude<R: Rng>(
     heard: Heard,
 ) -> Result<Advance, NoMemory>
     ensures { (question : Question) (log : List Exchange) → IsHearing port question log search heard
-        → IfOk result (GoesOn port question log moment (drawing (R.stream ids.old) (R.stream ids.new)) (left_of_hearing search.path 1)) }
+        → IfOk result (Advances port question log moment (drawing (R.stream ids.old) (R.stream ids.new)) (left_of_hearing search.path 1)) }
 {
     if search.frames.is_empty() {
         return conclude_last(alloc, moment, ids, search, heard);

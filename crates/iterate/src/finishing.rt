@@ -8,7 +8,7 @@ ghost use Rattle.iterate.specs.declared.answer.Soa.TheVariants.{Find as FindSoa,
 ghost use Rattle.iterate.specs.Exchanges.{Exchange};
 ghost use Rattle.iterate.specs.Known.{Known, Had};
 ghost use Rattle.iterate.specs.Measure.{left_in};
-ghost use Rattle.iterate.specs.Phase.{GoesOn, idle};
+ghost use Rattle.iterate.specs.Phase.{Advances, idle};
 ghost use Rattle.iterate.specs.Resolved.{IsBarred, IsDenied};
 ghost use Rattle.iterate.specs.Searching.{IsPath};
 ghost use Rattle.iterate.specs.Looked.{EndsSo};
@@ -90,7 +90,7 @@ pub(crate) fn refusal(alloc: Global) -> Answer
 pub(crate) fn found(path: Path, told: AnswerSet) -> Advance
     ensures { (port moment : ℕ) (ids : Stream) (left : ℕ) (question : Question) (log : List Exchange)
         → left_in Phase.Ended < left → IsPath port question log path → Known port log (Had path.last told)
-        → GoesOn port question log moment (idle ids) left result }
+        → Advances port question log moment (idle ids) left result }
 {
     let Path { sets, .. } = path;
     finished(Rcode::NO_ERROR, false, sets, Some(told), None)
@@ -114,7 +114,7 @@ pub(crate) fn denied(path: Path, rcode: Rcode, negative: Option<SharedFind>) -> 
     ensures { (port moment : ℕ) (ids : Stream) (left : ℕ) (question : Question) (log : List Exchange)
         → left_in Phase.Ended < left → IsPath port question log path
         → IsDenied port log path.last rcode (option_map soa_whole negative)
-        → GoesOn port question log moment (idle ids) left result }
+        → Advances port question log moment (idle ids) left result }
 {
     let Path { sets, .. } = path;
     finished(rcode, false, sets, None, soa_told(negative))

@@ -11,7 +11,7 @@ ghost use Rattle.iterate.specs.declared.want.Want.TheVariants.{Book};
 ghost use Rattle.iterate.specs.Exchanges.{Exchange, AddsLook};
 ghost use Rattle.iterate.specs.Looked.{seen_of, IsReplied};
 ghost use Rattle.iterate.specs.Measure.{left_in};
-ghost use Rattle.iterate.specs.Phase.{GoesOn, Suits, idle};
+ghost use Rattle.iterate.specs.Phase.{Advances, Suits, idle};
 ghost use Rattle.iterate.specs.Resolved.{IsBarred, IsNoAnswer, IsResolved};
 ghost use Rattle.iterate.specs.Shown.{IsShownFor, IsLocalFor};
 ghost use Rattle.rand_core.specs.Stream.{Stream};
@@ -29,28 +29,19 @@ use local_zone::{Local, LocalRecord, SeenRecord};
 use ranked::{SharedFind, Shown};
 use std::alloc::Global;
 
-fn copy_question(question: &Question) -> Result<Question, NoMemory>
-    ensures { IfOk result (λ copy. copy ≡ question.now) }
-{
-    Ok(Question {
-        owner: question.owner.clone()?,
-        kind: question.kind,
-    })
-}
-
 /// The lookup with which a task begins: that of its question.
 pub fn first_look(question: &Question, moment: u64) -> Result<Event, NoMemory>
     ensures { IfOk result (λ event. event ≡ Look moment (Asked question.now)) }
 {
     Ok(Event::Look {
         moment,
-        ask: Ask::Answer(copy_question(question)?),
+        ask: Ask::Answer(question.clone()?),
     })
 }
 
 /// Looks the question up.
 pub(crate) fn begin(question: &Question, moment: u64) -> Result<Advance, NoMemory>
-    ensures { (port : ℕ) (ids : Stream) → IfOk result (GoesOn port question.now [] moment (idle ids) (left_in Phase.Fresh)) }
+    ensures { (port : ℕ) (ids : Stream) → IfOk result (Advances port question.now [] moment (idle ids) (left_in Phase.Fresh)) }
 {
     Ok(Advance {
         phase: Phase::First,
@@ -66,7 +57,7 @@ fn start(alloc: Global, question: &Question) -> Result<Path, NoMemory>
 {
     Ok(Path {
         sets: Vec::new(alloc),
-        last: copy_question(question)?,
+        last: question.clone()?,
         sent: 0,
         begun: 0,
     })
@@ -131,7 +122,7 @@ fn seen_first(
 ) -> Result<Advance, NoMemory>
     ensures { (port m : ℕ) (ids : Stream) (input : InputValue) (log : List Exchange) → IsReplied question.now input (seen_of what.entry)
         → AddsLook [] m (Asked question.now) input log
-        → IfOk result (GoesOn port question.now log moment (idle ids) (left_in Phase.First)) }
+        → IfOk result (Advances port question.now log moment (idle ids) (left_in Phase.First)) }
 {
     match answer_seen(alloc, what)? {
         Some(answer) => Ok(finish(answer)),
@@ -148,7 +139,7 @@ pub(crate) fn looked_first(
 ) -> Result<Advance, NoMemory>
     ensures { (port m : ℕ) (ids : Stream) (log : List Exchange) → AddsLook [] m (Asked question.now) input.now log
         → Suits (Book (Look m (Asked question.now))) input.now
-        → IfOk result (GoesOn port question.now log moment (idle ids) (left_in Phase.First)) }
+        → IfOk result (Advances port question.now log moment (idle ids) (left_in Phase.First)) }
 {
     match replied(input, &question.owner, question.kind) {
         Some(what) => seen_first(alloc, question, moment, what),

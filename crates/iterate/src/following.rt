@@ -3,10 +3,10 @@
 ghost use Rattle.std.specs.Prelude.{◌≡◌, ◌≤◌, [], ℕ, List, IfOk};
 ghost use Rattle.dns_query.specs.Query.{alias_question};
 ghost use Rattle.iterate.specs.Exchanges.{Exchange};
-ghost use Rattle.iterate.specs.Following.{told_by, IsHarvestOf, IsHadIfSome, Leads};
+ghost use Rattle.iterate.specs.Following.{told_by, IsHarvestOf, IsHadIfSome, HarvestLeads};
 ghost use Rattle.iterate.specs.Known.{Known, Had, WasUnknown};
 ghost use Rattle.iterate.specs.Measure.{left_of_path};
-ghost use Rattle.iterate.specs.Phase.{GoesOn, idle};
+ghost use Rattle.iterate.specs.Phase.{Advances, idle};
 ghost use Rattle.iterate.specs.Searching.{IsPath};
 ghost use Rattle.rand_core.specs.Stream.{Stream};
 
@@ -69,7 +69,7 @@ fn harvested_alias(harvest: &Harvest, name: &Name) -> Result<Option<AnswerSet>, 
 /// The hop along a set of aliases.
 fn hop_by(told: AnswerSet) -> Result<Hop, NoMemory>
     ensures { (port : ℕ) (log : List Exchange) (last : Question) → Known port log (Had (alias_question last.owner) told)
-        → IfOk result (Leads port log last) }
+        → IfOk result (HarvestLeads port log last) }
 {
     match first_target(&told)? {
         Some(to) => Ok(Hop::Alias(told, to)),
@@ -78,7 +78,7 @@ fn hop_by(told: AnswerSet) -> Result<Hop, NoMemory>
 }
 
 fn alias_hop(harvest: &Harvest, last: &Question) -> Result<Hop, NoMemory>
-    ensures { (port : ℕ) (log : List Exchange) → IsHarvestOf port log harvest.now → IfOk result (Leads port log last.now) }
+    ensures { (port : ℕ) (log : List Exchange) → IsHarvestOf port log harvest.now → IfOk result (HarvestLeads port log last.now) }
 {
     match harvested_alias(harvest, &last.owner)? {
         Some(told) => hop_by(told),
@@ -88,7 +88,7 @@ fn alias_hop(harvest: &Harvest, last: &Question) -> Result<Hop, NoMemory>
 
 /// The next hop from a question inside a harvest. A set of the question is preferred to an alias of its name.
 fn next_hop(harvest: &Harvest, last: &Question) -> Result<Hop, NoMemory>
-    ensures { (port : ℕ) (log : List Exchange) → IsHarvestOf port log harvest.now → IfOk result (Leads port log last.now) }
+    ensures { (port : ℕ) (log : List Exchange) → IsHarvestOf port log harvest.now → IfOk result (HarvestLeads port log last.now) }
 {
     match harvested(harvest, last)? {
         Some(told) => Ok(Hop::Set(told)),
@@ -101,7 +101,7 @@ fn next_hop(harvest: &Harvest, last: &Question) -> Result<Hop, NoMemory>
 fn leave(path: Path, moment: u64) -> Result<Advance, NoMemory>
     ensures { (port : ℕ) (ids : Stream) (question : Question) (log : List Exchange) → IsPath port question log path
         → (path.sets.items ≡ [] → WasUnknown log path.last)
-        → IfOk result (GoesOn port question log moment (idle ids) (left_of_path path 4)) }
+        → IfOk result (Advances port question log moment (idle ids) (left_of_path path 4)) }
 {
     if path.sets.is_empty() {
         return list(path, moment);
@@ -118,7 +118,7 @@ pub(crate) fn follow_in(
 ) -> Result<Advance, NoMemory>
     ensures { (port : ℕ) (ids : Stream) (left : ℕ) (question : Question) (log : List Exchange) → left_of_path path 4 ≤ left
         → IsHarvestOf port log harvest.now → IsPath port question log path → (path.sets.items ≡ [] → WasUnknown log path.last)
-        → IfOk result (GoesOn port question log moment (idle ids) left) }
+        → IfOk result (Advances port question log moment (idle ids) left) }
 {
     match next_hop(harvest, &path.last)? {
         Hop::Set(told) => Ok(found(path, told)),

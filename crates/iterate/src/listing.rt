@@ -11,7 +11,7 @@ ghost use Rattle.iterate.specs.declared.want.Want.TheVariants.{Book};
 ghost use Rattle.iterate.specs.Exchanges.{Exchange, AddsLook};
 ghost use Rattle.iterate.specs.Hunting.{IsUnlisted, IsUnnamed, Names};
 ghost use Rattle.iterate.specs.Measure.{left_of_path};
-ghost use Rattle.iterate.specs.Phase.{GoesOn, Suits, drawing};
+ghost use Rattle.iterate.specs.Phase.{Advances, Suits, drawing};
 ghost use Rattle.iterate.specs.Searching.{IsAskable};
 
 use crate::finishing::failed;
@@ -60,7 +60,7 @@ pub(crate) fn listed<R: Rng>(
 ) -> Result<Advance, NoMemory>
     ensures { (port m : ℕ) (question : Question) (before log : List Exchange) → IsAskable port question before path
         → AddsLook before m (ServersFor path.last.owner) input.now log → Suits (Book (Look m (ServersFor path.last.owner))) input.now
-        → IfOk result (GoesOn port question log moment (drawing (R.stream ids.old) (R.stream ids.new)) (left_of_path path 1)) }
+        → IfOk result (Advances port question log moment (drawing (R.stream ids.old) (R.stream ids.new)) (left_of_path path 1)) }
 {
     match servers_for(&path.last.owner, input) {
         Some(servers) => {

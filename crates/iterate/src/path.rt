@@ -13,7 +13,7 @@ ghost use Rattle.iterate.specs.Exchanges.{Exchange, AddsLook};
 ghost use Rattle.iterate.specs.Known.{Known, Had};
 ghost use Rattle.iterate.specs.Looked.{seen_of, IsReplied};
 ghost use Rattle.iterate.specs.Measure.{left_of_path};
-ghost use Rattle.iterate.specs.Phase.{GoesOn, Suits, idle};
+ghost use Rattle.iterate.specs.Phase.{Advances, Suits, idle};
 ghost use Rattle.iterate.specs.Searching.{IsPath, IsAskable, IsLonger};
 ghost use Rattle.iterate.specs.Shown.{IsLocalFor};
 ghost use Rattle.iterate.specs.Told.{IsTarget};
@@ -48,7 +48,7 @@ pub struct Path {
 /// Looks up the servers of the last name.
 pub(crate) fn list(path: Path, moment: u64) -> Result<Advance, NoMemory>
     ensures { (port : ℕ) (ids : Stream) (question : Question) (log : List Exchange) → IsAskable port question log path
-        → IfOk result (GoesOn port question log moment (idle ids) (left_of_path path 2)) }
+        → IfOk result (Advances port question log moment (idle ids) (left_of_path path 2)) }
 {
     let name = path.last.owner.clone()?;
     Ok(Advance {
@@ -63,7 +63,7 @@ pub(crate) fn list(path: Path, moment: u64) -> Result<Advance, NoMemory>
 /// Looks up an alias of the last name, unless the question asks for CNAME records.
 pub(crate) fn alias(path: Path, moment: u64) -> Result<Advance, NoMemory>
     ensures { (port : ℕ) (ids : Stream) (question : Question) (log : List Exchange) → IsAskable port question log path
-        → IfOk result (GoesOn port question log moment (idle ids) (left_of_path path 3)) }
+        → IfOk result (Advances port question log moment (idle ids) (left_of_path path 3)) }
 {
     if path.last.kind == CNAME {
         return list(path, moment);
@@ -81,7 +81,7 @@ pub(crate) fn alias(path: Path, moment: u64) -> Result<Advance, NoMemory>
 /// Looks up the question behind an alias.
 pub(crate) fn look_on(path: Path, moment: u64) -> Result<Advance, NoMemory>
     ensures { (port : ℕ) (ids : Stream) (question : Question) (log : List Exchange) → IsPath port question log path
-        → 1 ≤ length path.sets.items → IfOk result (GoesOn port question log moment (idle ids) (left_of_path path 4)) }
+        → 1 ≤ length path.sets.items → IfOk result (Advances port question log moment (idle ids) (left_of_path path 4)) }
 {
     let owner = path.last.owner.clone()?;
     let kind = path.last.kind;
@@ -129,7 +129,7 @@ fn go_behind(
 ) -> Result<Advance, NoMemory>
     ensures { (port : ℕ) (ids : Stream) (question : Question) (log : List Exchange) → IsPath port question log path
         → Known port log (Had (alias_question path.last.owner) told) → IsTarget told to
-        → IfOk result (GoesOn port question log moment (idle ids) (left_of_path path 2)) }
+        → IfOk result (Advances port question log moment (idle ids) (left_of_path path 2)) }
 {
     match follow(path, told, to)? {
         Some(next) => look_on(next, moment),
@@ -137,11 +137,11 @@ fn go_behind(
     }
 }
 
-/// Continues behind a set of aliases.
+/// Continues after a set of aliases.
 fn alias_told(alloc: Global, path: Path, told: AnswerSet, moment: u64) -> Result<Advance, NoMemory>
     ensures { (port : ℕ) (ids : Stream) (question : Question) (log : List Exchange) → IsAskable port question log path
         → Known port log (Had (alias_question path.last.owner) told)
-        → IfOk result (GoesOn port question log moment (idle ids) (left_of_path path 2)) }
+        → IfOk result (Advances port question log moment (idle ids) (left_of_path path 2)) }
 {
     match first_target(&told)? {
         Some(to) => go_behind(alloc, path, told, to, moment),
@@ -154,7 +154,7 @@ fn alias_seen(alloc: Global, path: Path, moment: u64, what: Looked<'_>) -> Resul
     ensures { (port m : ℕ) (ids : Stream) (question : Question) (input : InputValue) (before log : List Exchange)
         → IsAskable port question before path → IsReplied (alias_question path.last.owner) input (seen_of what.entry)
         → AddsLook before m (Asked (alias_question path.last.owner)) input log
-        → IfOk result (GoesOn port question log moment (idle ids) (left_of_path path 2)) }
+        → IfOk result (Advances port question log moment (idle ids) (left_of_path path 2)) }
 {
     match set_in(alloc, what)? {
         Some(told) => alias_told(alloc, path, told, moment),
@@ -172,7 +172,7 @@ pub(crate) fn aliased(
     ensures { (port m : ℕ) (ids : Stream) (question : Question) (before log : List Exchange) → IsAskable port question before path
         → AddsLook before m (Asked (alias_question path.last.owner)) input.now log
         → Suits (Book (Look m (Asked (alias_question path.last.owner)))) input.now
-        → IfOk result (GoesOn port question log moment (idle ids) (left_of_path path 2)) }
+        → IfOk result (Advances port question log moment (idle ids) (left_of_path path 2)) }
 {
     match replied(input, &path.last.owner, CNAME) {
         Some(what) => alias_seen(alloc, path, moment, what),
@@ -189,7 +189,7 @@ fn local_on(
     ensures { (port m moment : ℕ) (ids : Stream) (question : Question) (before log : List Exchange)
         → IsPath port question before path → 1 ≤ length path.sets.items → IsLocalFor path.last answer.now
         → AddsLook before m (Asked path.last) (Replied (SeenReply (SeenLocal answer.now))) log
-        → IfOk result (GoesOn port question log moment (idle ids) (left_of_path path 3)) }
+        → IfOk result (Advances port question log moment (idle ids) (left_of_path path 3)) }
 {
     match local_ending(alloc, answer)? {
         Some(ending) => Ok(ended(false, path.sets, ending)),
@@ -202,7 +202,7 @@ fn seen_on(alloc: Global, path: Path, moment: u64, what: Looked<'_>) -> Result<A
     ensures { (port m : ℕ) (ids : Stream) (question : Question) (input : InputValue) (before log : List Exchange)
         → IsPath port question before path → 1 ≤ length path.sets.items → IsReplied path.last input (seen_of what.entry)
         → AddsLook before m (Asked path.last) input log
-        → IfOk result (GoesOn port question log moment (idle ids) (left_of_path path 3)) }
+        → IfOk result (Advances port question log moment (idle ids) (left_of_path path 3)) }
 {
     match what {
         Looked::Unknown => alias(path, moment),
@@ -221,7 +221,7 @@ pub(crate) fn looked_on(
     ensures { (port m : ℕ) (ids : Stream) (question : Question) (before log : List Exchange)
         → IsPath port question before path → 1 ≤ length path.sets.items → AddsLook before m (Asked path.last) input.now log
         → Suits (Book (Look m (Asked path.last))) input.now
-        → IfOk result (GoesOn port question log moment (idle ids) (left_of_path path 3)) }
+        → IfOk result (Advances port question log moment (idle ids) (left_of_path path 3)) }
 {
     match replied(input, &path.last.owner, path.last.kind) {
         Some(what) => seen_on(alloc, path, moment, what),

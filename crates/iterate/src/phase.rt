@@ -4,7 +4,7 @@ ghost use Rattle.std.specs.Prelude.{◌≡◌, [], List, IfOk, IsErr};
 ghost use Rattle.iterate.specs.declared.want.Want.{Want};
 ghost use Rattle.iterate.specs.Exchanges.{Exchange, exchange, Adds};
 ghost use Rattle.iterate.specs.Measure.{left_in};
-ghost use Rattle.iterate.specs.Phase.{Fits, GoesOn, Suits, drawing};
+ghost use Rattle.iterate.specs.Phase.{Remembers, Advances, Suits, drawing};
 
 use crate::admitting::admitted;
 use crate::came::came;
@@ -91,11 +91,11 @@ pub(crate) fn step_on<R: Rng>(
     ids: &mut R,
     input: &Input,
 ) -> Result<Advance, NoMemory>
-    ensures goes { (before log : List Exchange) (want : Want) → Fits port question.now before want phase
+    ensures goes { (before log : List Exchange) (want : Want) → Remembers port question.now before want phase
         → Suits want input.now → Adds before (exchange want input.now) log
-        → IfOk result (GoesOn port question.now log moment (drawing (R.stream ids.old) (R.stream ids.new)) (left_in phase)) }
+        → IfOk result (Advances port question.now log moment (drawing (R.stream ids.old) (R.stream ids.new)) (left_in phase)) }
     ensures fresh { phase ≡ Phase.Fresh
-        → IfOk result (GoesOn port question.now [] moment (drawing (R.stream ids.old) (R.stream ids.new)) (left_in phase)) }
+        → IfOk result (Advances port question.now [] moment (drawing (R.stream ids.old) (R.stream ids.new)) (left_in phase)) }
     ensures broken { phase ≡ Phase.Broken → IsErr result }
 {
     match phase {

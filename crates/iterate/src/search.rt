@@ -8,7 +8,7 @@ ghost use Rattle.iterate.specs.Exchanges.{Exchange};
 ghost use Rattle.iterate.specs.Hunting.{AllServe, IsReached, IsFresh, IsSupplied, AreSupplied, IsTried, IsSmaller, IsAt, IsNextStep};
 ghost use Rattle.iterate.specs.Known.{Known, Listed};
 ghost use Rattle.iterate.specs.Measure.{hunts_left, left_of_path, left_of_search, left_of_seek, left_of_hearing};
-ghost use Rattle.iterate.specs.Phase.{GoesOn, IsSeeking, drawing};
+ghost use Rattle.iterate.specs.Phase.{Advances, IsSeeking, drawing};
 ghost use Rattle.iterate.specs.Resolved.{MaySeek};
 ghost use Rattle.iterate.specs.Searching.{IsAskable, IsSearch, hunt_of, hunt_behind, question_of};
 
@@ -322,7 +322,7 @@ pub(crate) fn go_on<R: Rng>(
     search: Search,
 ) -> Result<Advance, NoMemory>
     ensures { (port : ℕ) (question : Question) (log : List Exchange) → IsSearch port question log search
-        → IfOk result (GoesOn port question log moment (drawing (R.stream ids.old) (R.stream ids.new)) (left_of_search search 4)) }
+        → IfOk result (Advances port question log moment (drawing (R.stream ids.old) (R.stream ids.new)) (left_of_search search 4)) }
 {
     let mut current = search;
     'going: loop {

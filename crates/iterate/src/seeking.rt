@@ -13,8 +13,8 @@ ghost use Rattle.iterate.specs.Exchanges.{Exchange, AddsLook};
 ghost use Rattle.iterate.specs.Hunting.{IsAddressSeen, IsTried, is_set_seen};
 ghost use Rattle.iterate.specs.Looked.{seen_of};
 ghost use Rattle.iterate.specs.Measure.{left_of_search, left_of_seek};
-ghost use Rattle.iterate.specs.Phase.{GoesOn, Suits, IsSeeking, ask_at, drawing, idle};
-ghost use Rattle.iterate.specs.Shown.{IsReplyTo};
+ghost use Rattle.iterate.specs.Phase.{Advances, Suits, IsSeeking, ask_at, drawing, idle};
+ghost use Rattle.iterate.specs.Shown.{IsLookReply};
 ghost use Rattle.rand_core.specs.Stream.{Stream};
 
 use crate::addresses::addresses;
@@ -56,7 +56,7 @@ pub(crate) fn seek(
 ) -> Result<Advance, NoMemory>
     ensures { (port : ℕ) (ids : Stream) (left : ℕ) (question : Question) (log : List Exchange)
         → IsSeeking port question log search target stage → left_of_seek search stage < left
-        → IfOk result (GoesOn port question log moment (idle ids) left) }
+        → IfOk result (Advances port question log moment (idle ids) left) }
 {
     let ask = ask_at(stage, &target)?;
     Ok(Advance {
@@ -89,7 +89,7 @@ fn seek_on<R: Rng>(
 ) -> Result<Advance, NoMemory>
     ensures { (port : ℕ) (question : Question) (log : List Exchange) → IsTried port question log search target
         → IsSeeking port question log search target Stage.Alias
-        → IfOk result (GoesOn port question log moment (drawing (R.stream ids.old) (R.stream ids.new)) (left_of_search search 3)) }
+        → IfOk result (Advances port question log moment (drawing (R.stream ids.old) (R.stream ids.new)) (left_of_search search 3)) }
 {
     if search.path.begun < MOST_BEGUN {
         return seek(alloc, moment, search.begun(), target, Stage::Alias);
@@ -110,8 +110,8 @@ fn address_seen<R: Rng>(
 ) -> Result<Advance, NoMemory>
     ensures { (m : ℕ) (question : Question) (before log : List Exchange) → IsSeeking port question before search target Stage.Address
         → AddsLook before m (Asked (address_question target)) (Replied (SeenReply (seen_of what.entry))) log
-        → IsReplyTo (Asked (address_question target)) (SeenReply (seen_of what.entry))
-        → IfOk result (GoesOn port question log moment (drawing (R.stream ids.old) (R.stream ids.new)) (left_of_search search 3)) }
+        → IsLookReply (Asked (address_question target)) (SeenReply (seen_of what.entry))
+        → IfOk result (Advances port question log moment (drawing (R.stream ids.old) (R.stream ids.new)) (left_of_search search 3)) }
 {
     match what {
         Looked::Unknown => seek_on(alloc, ids, moment, search, target),
@@ -135,7 +135,7 @@ fn address_came<R: Rng>(
 ) -> Result<Advance, NoMemory>
     ensures { (m : ℕ) (question : Question) (before log : List Exchange) → IsSeeking port question before search target Stage.Address
         → AddsLook before m (ask_at Stage.Address target) input.now log → Suits (Book (Look m (ask_at Stage.Address target))) input.now
-        → IfOk result (GoesOn port question log moment (drawing (R.stream ids.old) (R.stream ids.new)) (left_of_search search 3)) }
+        → IfOk result (Advances port question log moment (drawing (R.stream ids.old) (R.stream ids.new)) (left_of_search search 3)) }
 {
     match replied(input, &target, A) {
         Some(what) => address_seen(alloc, port, ids, moment, search, target, what),
@@ -165,7 +165,7 @@ fn alias_came<R: Rng>(
 ) -> Result<Advance, NoMemory>
     ensures { (port m : ℕ) (question : Question) (before log : List Exchange) → IsSeeking port question before search target Stage.Alias
         → AddsLook before m (ask_at Stage.Alias target) input.now log → Suits (Book (Look m (ask_at Stage.Alias target))) input.now
-        → IfOk result (GoesOn port question log moment (drawing (R.stream ids.old) (R.stream ids.new)) (left_of_seek search Stage.Alias)) }
+        → IfOk result (Advances port question log moment (drawing (R.stream ids.old) (R.stream ids.new)) (left_of_seek search Stage.Alias)) }
 {
     match replied(input, &target, CNAME) {
         Some(what) => {
@@ -193,7 +193,7 @@ fn servers_came<R: Rng>(
         → IsSeeking port question before search target Stage.Servers
         → AddsLook before m (ask_at Stage.Servers target) input.now log
         → Suits (Book (Look m (ask_at Stage.Servers target))) input.now
-        → IfOk result (GoesOn port question log moment (drawing (R.stream ids.old) (R.stream ids.new))
+        → IfOk result (Advances port question log moment (drawing (R.stream ids.old) (R.stream ids.new))
         (left_of_seek search Stage.Servers)) }
 {
     match servers_for(&target, input) {
@@ -219,7 +219,7 @@ pub(crate) fn sought<R: Rng>(
 ) -> Result<Advance, NoMemory>
     ensures { (m : ℕ) (question : Question) (before log : List Exchange) → IsSeeking port question before search target stage
         → AddsLook before m (ask_at stage target) input.now log → Suits (Book (Look m (ask_at stage target))) input.now
-        → IfOk result (GoesOn port question log moment (drawing (R.stream ids.old) (R.stream ids.new)) (left_of_seek search stage)) }
+        → IfOk result (Advances port question log moment (drawing (R.stream ids.old) (R.stream ids.new)) (left_of_seek search stage)) }
 {
     match stage {
         Stage::Address => address_came(alloc, port, ids, moment, search, target, input),

@@ -5,7 +5,7 @@ ghost use Rattle.dns_text.specs.declared.addr.Addr.{Addr};
 ghost use Rattle.dns_text.specs.declared.record.Question.{Question};
 ghost use Rattle.iterate.specs.Exchanges.{Exchange};
 ghost use Rattle.iterate.specs.Measure.{left_of_search, left_of_sending};
-ghost use Rattle.iterate.specs.Phase.{GoesOn, drawing};
+ghost use Rattle.iterate.specs.Phase.{Advances, drawing};
 ghost use Rattle.iterate.specs.Searching.{IsSearch, question_of, IsNextServer};
 ghost use Rattle.iterate.specs.Wanted.{MayGo};
 
@@ -31,7 +31,7 @@ pub(crate) fn send<R: Rng>(
     ensures { (port moment left : ℕ) (question : Question) (log : List Exchange) (rest : List Addr)
         → IsSearch port question log search → search.path.sent < MOST_SENDS → IsNextServer search server rest
         → MayGo log server (question_of search) over → left_of_sending search.path < left
-        → IfOk result (GoesOn port question log moment (drawing (R.stream ids.old) (R.stream ids.new)) left) }
+        → IfOk result (Advances port question log moment (drawing (R.stream ids.old) (R.stream ids.new)) left) }
 {
     let id = (ids.next_u32() % 65536) as u16;
     let bytes = query(alloc, id, &search.question()?)?;
@@ -59,7 +59,7 @@ pub(crate) fn ask<R: Rng>(
 ) -> Result<Advance, NoMemory>
     ensures { (port moment : ℕ) (question : Question) (log : List Exchange) (rest : List Addr) → IsSearch port question log search
         → IsNextServer search server rest
-        → IfOk result (GoesOn port question log moment (drawing (R.stream ids.old) (R.stream ids.new)) (left_of_search search 4)) }
+        → IfOk result (Advances port question log moment (drawing (R.stream ids.old) (R.stream ids.new)) (left_of_search search 4)) }
 {
     if search.path.sent >= MOST_SENDS {
         return Ok(failed(alloc));

@@ -14,7 +14,7 @@ ghost use Rattle.history.specs.declared.event.Seen.TheVariants.{Held as SeenHeld
 ghost use Rattle.iterate.specs.declared.want.Input.TheVariants.{Reply as Replied};
 ghost use Rattle.iterate.specs.declared.want.Want.TheVariants.{Book};
 ghost use Rattle.iterate.specs.Phase.{Suits};
-ghost use Rattle.iterate.specs.Shown.{IsShownFor, IsLocalRecord, IsLocalSet, IsSoaFormed, IsLocalFor, IsReplyTo, IsMisanswered};
+ghost use Rattle.iterate.specs.Shown.{IsShownFor, IsLocalRecord, IsLocalSet, IsSoaFormed, IsLocalFor, IsLookReply, IsMisanswered};
 ghost use Rattle.iterate.specs.Told.{data_told, local_data, told_of, IsTarget};
 ghost use Rattle.iterate.specs.Looked.{seen_of, IsReplied, IsSetIn, IsUnseen};
 
@@ -107,8 +107,8 @@ pub(crate) fn is_local_for(
 
 /// What was seen, if it is a valid reply to the lookup.
 fn looked_in<'a>(seen: &'a Seen, owner: &Name, kind: u16) -> Option<Looked<'a>>
-    ensures { MatchOption result (¬ (IsReplyTo (Asked (record { owner = owner.now; kind = kind })) (SeenReply seen.now)))
-        (λ what. (seen.now ≡ seen_of what) × IsReplyTo (Asked (record { owner = owner.now; kind = kind })) (SeenReply (seen_of what))) }
+    ensures { MatchOption result (¬ (IsLookReply (Asked (record { owner = owner.now; kind = kind })) (SeenReply seen.now)))
+        (λ what. (seen.now ≡ seen_of what) × IsLookReply (Asked (record { owner = owner.now; kind = kind })) (SeenReply (seen_of what))) }
 {
     match seen {
         Seen::Unknown => Some(Looked::Unknown),

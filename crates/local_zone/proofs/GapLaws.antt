@@ -62,7 +62,7 @@ fit_at (gap ∷ more) records h =
 
 -- ---- back, and taken again
 
--- the list behind the first that is put back
+-- the list after the first that is put back
 put_behind : (t : Taken) (more : List Taken) (left : List Record) → t.gap ≤ length left → drop t.gap (put_back (t ∷ more) left) ≡ t.item ∷ put_back more (drop t.gap left)
 put_behind t more left h = drop_at (take t.gap left) (t.item ∷ put_back more (drop t.gap left)) t.gap (short t.gap left h)
 

@@ -54,7 +54,7 @@ module _ {K G : Type 0} (octets : K → List ℕ) (items : G → List Record) wh
       by true there = absurd (false≢true (sym e ∙ (bytes_eq-Decides (octets_of a) (octets_of b)).1 (same_octets _ _ here ∙ sym (same_octets _ _ there))))
       by false there = there
 
-  -- a change under one key leaves what stands under others
+  -- a change under one key leaves what is under others
   pub others_kept : (spelled name : List ℕ) (es after : List (K × G))
       → KeepsOthers (λ x y. pointwise nat_eq (octets x) (octets y)) (λ k. pointwise nat_eq spelled (octets k)) es after
       → ((k : K) → pointwise nat_eq spelled (octets k) ≡ true → pointwise nat_eq name (octets k) ≡ false) → under octets name after ≡ under octets name es

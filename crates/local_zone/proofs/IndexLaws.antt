@@ -79,7 +79,7 @@ others-push owner records new e =
     filter_push (λ (r : Record). name_eq r.owner owner) records new ∙ ap (λ b. of_owner owner records ++ cond b (new ∷ []) []) e ∙ append-nil (of_owner owner records)
 
 module _ {K G : Type 0} (octets : K → List ℕ) (items : G → List Record) where
-  -- ---- what stands under a name
+  -- ---- what is under a name
 
   -- no key is that of two names
   apart : (a b : Labels) (k : K) → name_eq a b ≡ false → pointwise nat_eq (octets_of a) (octets k) ≡ true → pointwise nat_eq (octets_of b) (octets k) ≡ false

@@ -14,7 +14,7 @@ records_of taken = map (λ t. t.item) taken
 abbrev pub gaps_of : List Taken → List ℕ
 gaps_of taken = map (λ t. t.gap) taken
 
--- the records put back: each behind as many of those that stayed as its gap says
+-- the records put back: each after as many of those that stayed as its gap says
 abbrev pub put_back : List Taken → List Record → List Record
 put_back [] left = left
 put_back (t ∷ more) left = take t.gap left ++ t.item ∷ put_back more (drop t.gap left)

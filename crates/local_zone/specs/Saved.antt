@@ -2,7 +2,7 @@
 use Rattle.std.specs.Prelude.{◌≡◌}
 use Rattle.local_zone.specs.declared.saved.SavedTables.{SavedTables}
 use Rattle.local_zone.specs.Tables.{Tables, AreTables}
-use Rattle.named_list.specs.Turn.{other_of, Fits}
+use Rattle.named_list.specs.Turn.{other_of, HasPlace}
 use Rattle.local_zone.specs.Added.{records_other, GoesBack}
 
 -- the lists on the other side of a change, from the saved value and those on this side
@@ -12,6 +12,6 @@ before_of saved left = record { zones = other_of saved.zones left.zones; records
 -- From the lists that a change left, the saved value gives those before it.
 pub record TakesBack (saved : SavedTables) (left before : Tables) : Type 0 where
   pub gives : before_of saved left ≡ before
-  pub fits : Fits (λ z. z.name) saved.zones left.zones
+  pub fits : HasPlace (λ z. z.name) saved.zones left.zones
   pub goes : GoesBack saved.records left.records
   pub sound : AreTables before

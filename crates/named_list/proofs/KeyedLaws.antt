@@ -25,7 +25,7 @@ use Rattle.named_list.specs.ClosestLaws.{name_eq-swap, name_of_find, has_named-f
 -- ---- look-ups
 
 module _ {K : Type 0} (octets : K → List ℕ) where
-  -- what stands under a name's octets is the thing of this name
+  -- what is under a name's octets is the thing of this name
   pub lookup-named : {T : Type 0} (name_of : T → Labels) → (es : List (K × T)) (name : Labels) → AreKeyed name_of octets es → lookup (λ k. pointwise nat_eq (octets_of name) (octets k)) es ≡ find_named name_of (values_of es) name
   lookup-named {T} name_of [] name h = refl
   lookup-named {T} name_of (e ∷ es) name h =

@@ -13,19 +13,19 @@ other_of (Without place) things = remove things place
 other_of (With place thing) things = insert things place thing
 
 -- The place is in the list, and another thing there has the same name.
-abbrev pub Fits : {T : Type 0} → (T → Labels) → Turn T → List T → Type 0
-Fits named Nothing things = ⊤
-Fits named (Other place thing) things = (place < length things) × (map (λ x. named x) (slice_set things place thing) ≡ map (λ x. named x) things)
-Fits named (Without place) things = place < length things
-Fits named (With place thing) things = place ≤ length things
+abbrev pub HasPlace : {T : Type 0} → (T → Labels) → Turn T → List T → Type 0
+HasPlace named Nothing things = ⊤
+HasPlace named (Other place thing) things = (place < length things) × (map (λ x. named x) (slice_set things place thing) ≡ map (λ x. named x) things)
+HasPlace named (Without place) things = place < length things
+HasPlace named (With place thing) things = place ≤ length things
 
 -- The list can go to the other side of the change, and no two things have the same name there.
 abbrev pub LeadsOn : {T : Type 0} → (T → Labels) → Turn T → List T → Type 0
-LeadsOn named turn things = Fits named turn things × AreNamed named (other_of turn things)
+LeadsOn named turn things = HasPlace named turn things × AreNamed named (other_of turn things)
 
 -- The way leads from the list that is left to the one before.
 abbrev pub IsWayBack : {T : Type 0} → (T → Labels) → Turn T → List T → List T → Type 0
-IsWayBack named turn left before = Fits named turn left × (other_of turn left ≡ before)
+IsWayBack named turn left before = HasPlace named turn left × (other_of turn left ≡ before)
 
 -- whether the step to the other side puts a thing in
 abbrev pub puts_in : {T : Type 0} → Turn T → Bool

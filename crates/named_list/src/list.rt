@@ -4,7 +4,7 @@ ghost use Rattle.std.specs.Prelude.{◌≡◌, ℕ, [], true, false, IfOk, OnErr
 ghost use Rattle.std.specs.Option.{option_map};
 ghost use Rattle.named_list.specs.Closest.{closest_of};
 ghost use Rattle.named_list.specs.Named.{AreNamed, has_named, list_with, list_without};
-ghost use Rattle.named_list.specs.Turn.{other_of, puts_in, with_at, Fits, IsWayBack};
+ghost use Rattle.named_list.specs.Turn.{other_of, puts_in, with_at, HasPlace, IsWayBack};
 ghost use Rattle.named_list.specs.declared.turn.Turn.TheVariants as Turn;
 
 use crate::closest::closest;
@@ -91,7 +91,7 @@ impl<T: Named> NamedList<T> {
 
     /// Goes to the other side of a change, and leaves the way back in `turn`.
     pub fn turn_over(&mut self, turn: &mut Turn<T>) -> Result<(), NoMemory>
-        requires fits { Fits T.named turn.old self.old }
+        requires fits { HasPlace T.named turn.old self.old }
         requires sound { AreNamed T.named (other_of turn.old self.old) }
         ensures ok { OnOk result (self.new ≡ other_of turn.old self.old) }
         ensures again { OnOk result (IsWayBack T.named turn.new self.new self.old) }
@@ -106,7 +106,7 @@ impl<T: Named> NamedList<T> {
 
     /// Goes to the other side of a change, which has one more thing.
     pub fn put_in(&mut self, turn: &mut Turn<T>) -> Result<(), NoMemory>
-        requires fits { Fits T.named turn.old self.old }
+        requires fits { HasPlace T.named turn.old self.old }
         requires sound { AreNamed T.named (other_of turn.old self.old) }
         requires puts { puts_in turn.old ≡ true }
         ensures ok { OnOk result (self.new ≡ other_of turn.old self.old) }
@@ -120,7 +120,7 @@ impl<T: Named> NamedList<T> {
 
     /// Goes to the other side of a change, which has no more things. It takes no memory.
     pub fn turn_out(&mut self, turn: &mut Turn<T>)
-        requires fits { Fits T.named turn.old self.old }
+        requires fits { HasPlace T.named turn.old self.old }
         requires sound { AreNamed T.named (other_of turn.old self.old) }
         requires puts { puts_in turn.old ≡ false }
         ensures list { self.new ≡ other_of turn.old self.old }

@@ -4,7 +4,7 @@ ghost use Rattle.std.specs.Prelude.{◌≡◌, ◌<◌, ◌≤◌, ℕ, true, fa
 ghost use Rattle.indexmap.specs.IndexMap.{values};
 ghost use Rattle.named_list.specs.Keyed.{AreKeyed};
 ghost use Rattle.named_list.specs.Named.{AreNamed};
-ghost use Rattle.named_list.specs.Turn.{other_of, puts_in, with_at, Fits, IsWayBack, LeadsOn};
+ghost use Rattle.named_list.specs.Turn.{other_of, puts_in, with_at, HasPlace, IsWayBack, LeadsOn};
 ghost use Rattle.named_list.specs.declared.turn.Turn.TheVariants as Turn;
 
 use crate::keyed::Keyed;
@@ -89,7 +89,7 @@ pub(crate) fn put_in<T: Named>(
 /// Goes to the other side of a change, which has no more things. It takes no memory.
 pub(crate) fn turn_out<T: Named>(things: &mut IndexMap<Vec<u8>, Shared<T>>, turn: &mut Turn<T>)
     requires keyed { AreKeyed T.named (λ k. k.items) things.old.entries }
-    requires fits { Fits T.named turn.old (values things.old) }
+    requires fits { HasPlace T.named turn.old (values things.old) }
     requires puts { puts_in turn.old ≡ false }
     ensures list { values things.new ≡ other_of turn.old (values things.old) }
     ensures again { IsWayBack T.named turn.new (values things.new) (values things.old) }

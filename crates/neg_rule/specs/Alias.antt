@@ -11,7 +11,7 @@ use Rattle.dns_text.specs.declared.record.Record.{Record}
 use Rattle.dns_text.specs.declared.types.TheConstants.{CNAME}
 use Rattle.dns_wire.specs.declared.message.Classed.{Classed}
 use Rattle.dns_wire.specs.declared.message.TheConstants.{CLASS_IN}
-use Rattle.neg_rule.specs.declared.alias.TheConstants.{MOST_ALIASES}
+use Rattle.neg_rule.specs.declared.alias.TheConstants.{MOST_RESPONSE_ALIASES}
 
 -- whether a record is of class IN, this owner and this type
 abbrev pub is_for : Labels → ℕ → Classed Record → Bool
@@ -39,20 +39,20 @@ name_after answer owner (suc n) = next_name answer (name_after answer owner n)
 abbrev pub unless_alias : List (Classed Record) → Labels → Option Labels
 unless_alias answer owner = if is_some (alias_of answer owner) then None else Some owner
 
--- the last name of a question, to which its aliases lead in `MOST_ALIASES` steps at most; a question for CNAME asks for the alias itself
+-- the last name of a question, to which its aliases lead in `MOST_RESPONSE_ALIASES` steps at most; a question for CNAME asks for the alias itself
 abbrev pub last_of : List (Classed Record) → Question → Option Labels
-last_of answer question = if question.kind == CNAME then Some question.owner else unless_alias answer (name_after answer question.owner MOST_ALIASES)
+last_of answer question = if question.kind == CNAME then Some question.owner else unless_alias answer (name_after answer question.owner MOST_RESPONSE_ALIASES)
 
 -- CNAME records lead from one name to another in this many steps.
-pub data Leads (answer : List (Classed Record)) : Labels → ℕ → Labels → Type 0 where
-  here : {name : Labels} → Leads answer name 0 name
-  alias : {name next last : Labels} {n : ℕ} → alias_of answer name ≡ Some next → Leads answer next n last → Leads answer name (suc n) last
+pub data AliasesLead (answer : List (Classed Record)) : Labels → ℕ → Labels → Type 0 where
+  here : {name : Labels} → AliasesLead answer name 0 name
+  alias : {name next last : Labels} {n : ℕ} → alias_of answer name ≡ Some next → AliasesLead answer next n last → AliasesLead answer name (suc n) last
 
--- CNAME records lead from a name to one that is no alias, in `MOST_ALIASES` steps at most.
+-- CNAME records lead from a name to one that is no alias, in `MOST_RESPONSE_ALIASES` steps at most.
 pub record IsLast (answer : List (Classed Record)) (name last : Labels) : Type 0 where
   pub steps : ℕ
-  pub few : steps ≤ MOST_ALIASES
-  pub leads : Leads answer name steps last
+  pub few : steps ≤ MOST_RESPONSE_ALIASES
+  pub leads : AliasesLead answer name steps last
   pub ends : alias_of answer last ≡ None
 
 -- For a question of a type other than CNAME, the last name is found exactly if CNAME records lead to it.

@@ -10,8 +10,8 @@ use dns_text::types::CNAME;
 use dns_text::{Data, Question, Record};
 use dns_wire::{CLASS_IN, Classed};
 
-/// The most CNAME records that are followed.
-pub const MOST_ALIASES: usize = 16;
+/// The most CNAME records of one response that are followed.
+pub const MOST_RESPONSE_ALIASES: usize = 16;
 
 /// Whether a record is of class IN, this owner and this type.
 pub(crate) fn is_for(r: &Classed<Record>, owner: &Name, kind: u16) -> bool
@@ -72,7 +72,7 @@ pub(crate) fn last_of<'a>(answer: &'a [Classed<Record>], question: &'a Question)
     if question.kind == CNAME {
         return Some(&question.owner);
     }
-    let last = name_after(answer, &question.owner, MOST_ALIASES);
+    let last = name_after(answer, &question.owner, MOST_RESPONSE_ALIASES);
     match alias_of(answer, last) {
         None => Some(last),
         Some(_) => None,

@@ -3,7 +3,7 @@
 ghost use Rattle.neg_rule.specs.Alias.{FindsLast};
 ghost use Rattle.neg_rule.specs.Negative.{DeniesWithinZone};
 
-/// The last name is the one to which CNAME records lead, in `MOST_ALIASES` steps at most, and which has no CNAME record itself.
+/// The last name is the one to which CNAME records lead, in `MOST_RESPONSE_ALIASES` steps at most, and which has no CNAME record itself.
 pub fn last_law()
     ensures { FindsLast }
 {}

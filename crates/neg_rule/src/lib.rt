@@ -10,6 +10,6 @@ mod negative;
 // Laws of the definitions, which callers may cite.
 mod laws;
 
-pub use alias::MOST_ALIASES;
+pub use alias::MOST_RESPONSE_ALIASES;
 pub use laws::{denial_law, last_law};
 pub use negative::negative_of;

@@ -25,7 +25,7 @@ pub fn book_with(alloc: Global, hints: Vec<Addr>, port: u16) -> Result<PlainBook
     }
 }
 
-/// Hands a line of a script to a book behind a line with the moment, and writes the replies to both.
+/// Hands a line of a script to a book after a line with the moment, and writes the replies to both.
 pub fn obey_line(
     rt: &HostRuntime,
     book: &mut PlainBook,

@@ -3,7 +3,7 @@
 //! | Line | What comes |
 //! |---|---|
 //! | `came OCTETS` | a message, in hexadecimal digits; the identifier of the query is added to its own |
-//! | `asked OCTETS` | the same with the question of the query put in behind the header |
+//! | `asked OCTETS` | the same with the question of the query put in after the header |
 //! | `nothing` | nothing yet |
 //! | `failed`, `broken` | nothing at all |
 //! | `no_memory` | something for which there is no memory |
@@ -50,7 +50,7 @@ fn with_id(mut octets: Vec<u8>, query: &[u8]) -> Octets {
     Octets::new(octets)
 }
 
-/// A message with the question of a query behind its header.
+/// A message with the question of a query after its header.
 fn with_question(alloc: Global, octets: &[u8], query: &[u8]) -> Result<Vec<u8>, NoMemory> {
     let (header, rest) = octets.split_at(octets.len().min(12));
     let mut whole = Vec::from_slice(alloc, header)?;

@@ -15,7 +15,7 @@
 //!
 //! For a query it writes `send ADDR udp|tcp OCTETS` for each query to a name server, and then `reply OCTETS`, `none`, or
 //! `no_memory`; for a stream the same queries, `wrote OCTETS`, and how it ended. A worker's replies are `gave OCTETS` or
-//! `wrote OCTETS`, and behind the queries comes `ended` or `failing`, with the number of words that were left. Octets are
+//! `wrote OCTETS`, and after the queries comes `ended` or `failing`, with the number of words that were left. Octets are
 //! hexadecimal digits.
 
 pub mod exchange; // name servers that say what lines said

@@ -1,4 +1,4 @@
-//! Lines, and what stands in one.
+//! Lines, and what is in one.
 
 ghost use Rattle.std.specs.Prelude.{◌≡◌, ◌≢◌, ℕ, List, map, option_map, All, IfOk, IfErr, IfSome, OnOk, IsFalse};
 ghost use Rattle.std.specs.Str.{IsTrimAsciiStart};
@@ -15,7 +15,7 @@ use hex::FromHexError;
 use std::alloc::Global;
 use std::io::BufRead;
 
-/// Reads a line without its end; false at the end of the input. Where it fails, a part of the line may stand there.
+/// Reads a line without its end; false at the end of the input. Where it fails, a part of the line may be there.
 pub fn next_line<I: BufRead>(input: &mut I, line: &mut Vec<u8>) -> Result<bool, Stop>
     ensures plain { OnOk result (All (λ x. x ≢ 10) line.new.items) }
     ensures line { OnOk result (IfSome (I.remaining input.old) (λ xs. line.new.items ≡ first_piece 10 xs)) }
@@ -32,7 +32,7 @@ pub fn next_line<I: BufRead>(input: &mut I, line: &mut Vec<u8>) -> Result<bool, 
     Ok(true)
 }
 
-/// The number that a text begins with, and what stands behind it and the blanks there.
+/// The number that a text begins with, and what is after it and the blanks there.
 pub fn number_and_rest(text: &[u8]) -> Result<(u64, &[u8]), Stop>
     ensures ok { IfOk result (λ r. (rest : List ℕ) × (number_at u64.MAX text.now ≡ Some (r.0, rest)) × IsTrimAsciiStart rest r.1.now) }
     ensures err { IfErr result (λ stop. (stop ≡ Stop.Device) × (number_at u64.MAX text.now ≡ None)) }

@@ -9,8 +9,8 @@ use Rattle.streams.specs.Split.{with_end}
 use Rattle.streams.specs.Text.{octets_in}
 
 -- The program ends with this status, and writes these words as a line to standard error.
-abbrev pub Ends : CliFault → ℕ → List ℕ → Type 0
-Ends fault status words = (fault.status ≡ status) × (octets_in fault.text ≡ with_end words)
+abbrev pub ProgramEnds : CliFault → ℕ → List ℕ → Type 0
+ProgramEnds fault status words = (fault.status ≡ status) × (octets_in fault.text ≡ with_end words)
 
 -- An octet as a line shows it: one that would end the line, or move the cursor of a terminal, is a question mark.
 abbrev pub shown : ℕ → ℕ
@@ -30,27 +30,27 @@ EndsWhy fault status words = (fault.status ≡ status) × HasWhy words (octets_i
 
 -- Memory ran out at the start.
 abbrev pub IsNoMemory : CliFault → Type 0
-IsNoMemory fault = Ends fault 1 (codes "resolver: no memory")
+IsNoMemory fault = ProgramEnds fault 1 (codes "resolver: no memory")
 
 -- An argument is not UTF-8 or no address, or there are too few or too many hints or workers. If there is memory, it says which.
 abbrev pub IsBadArguments : CliFault → Type 0
-IsBadArguments fault = EndsWhy fault 2 (codes "resolver: bad arguments") ⊎ Ends fault 2 (codes "resolver: bad arguments")
+IsBadArguments fault = EndsWhy fault 2 (codes "resolver: bad arguments") ⊎ ProgramEnds fault 2 (codes "resolver: bad arguments")
 
 -- Other machines could reach the control address.
 abbrev pub IsNotLoopback : CliFault → Type 0
-IsNotLoopback fault = Ends fault 2 (codes "resolver: control must be loopback")
+IsNotLoopback fault = ProgramEnds fault 2 (codes "resolver: control must be loopback")
 
 -- Standard input, or the reply of a service, cannot be read.
 abbrev pub IsFailedRead : CliFault → Type 0
-IsFailedRead fault = Ends fault 1 (codes "resolver: read failed")
+IsFailedRead fault = ProgramEnds fault 1 (codes "resolver: read failed")
 
 -- Standard output cannot be written.
 abbrev pub IsFailedWrite : CliFault → Type 0
-IsFailedWrite fault = Ends fault 1 (codes "resolver: write failed")
+IsFailedWrite fault = ProgramEnds fault 1 (codes "resolver: write failed")
 
 -- The system denied its clock, its random numbers or its limit of descriptors, or no more callers of the book are counted.
 abbrev pub CannotStart : CliFault → Type 0
-CannotStart fault = Ends fault 1 (codes "resolver: cannot start")
+CannotStart fault = ProgramEnds fault 1 (codes "resolver: cannot start")
 
 -- The service cannot listen at this address, and why.
 abbrev pub CannotListen : Addr → CliFault → Type 0
@@ -58,11 +58,11 @@ CannotListen addr fault = EndsWhy fault 1 (codes "resolver: cannot listen on " +
 
 -- No service listens at this address.
 abbrev pub HasNoService : Addr → CliFault → Type 0
-HasNoService addr fault = Ends fault 1 (codes "resolver: no service at " ++ addr_text addr)
+HasNoService addr fault = ProgramEnds fault 1 (codes "resolver: no service at " ++ addr_text addr)
 
 -- The service at this address did not reply in time.
 abbrev pub HasNoReply : Addr → CliFault → Type 0
-HasNoReply addr fault = Ends fault 3 (codes "resolver: no reply from " ++ addr_text addr)
+HasNoReply addr fault = ProgramEnds fault 3 (codes "resolver: no reply from " ++ addr_text addr)
 
 -- Status 2, and the lines that clap writes: what is wrong with the arguments, help, or the version.
 abbrev pub IsUsage : List ℕ → CliFault → Type 0

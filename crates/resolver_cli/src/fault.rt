@@ -3,7 +3,7 @@
 ghost use Rattle.std.specs.Prelude.{◌≡◌, ◌++◌, ◌⊎◌, IfOk, OnOk, codes};
 ghost use Rattle.dns_text.specs.Addr.{addr_text};
 ghost use Rattle.streams.specs.Split.{with_end};
-ghost use Rattle.resolver_cli.specs.Fault.{Ends, IsNoMemory, IsBadArguments, IsNotLoopback, EndsFor, IsFailedRead, IsFailedWrite, shown, why_line, HasWhy, CannotStart, CannotListen, HasNoService, HasNoReply};
+ghost use Rattle.resolver_cli.specs.Fault.{ProgramEnds, IsNoMemory, IsBadArguments, IsNotLoopback, EndsFor, IsFailedRead, IsFailedWrite, shown, why_line, HasWhy, CannotStart, CannotListen, HasNoService, HasNoReply};
 
 use dns_name::NoMemory;
 use dns_text::{Addr, push_addr};
@@ -199,7 +199,7 @@ fn line_of(alloc: Global, words: &[u8], addr: &Addr) -> Result<Vec<u8>, NoMemory
 
 /// A status, and a line of these words and an address.
 fn at_addr(alloc: Global, status: u8, words: &[u8], addr: &Addr) -> CliFault
-    ensures { Ends result status (words.now ++ addr_text addr.now) ⊎ IsNoMemory result }
+    ensures { ProgramEnds result status (words.now ++ addr_text addr.now) ⊎ IsNoMemory result }
 {
     match line_of(alloc, words, addr) {
         Ok(line) => CliFault {

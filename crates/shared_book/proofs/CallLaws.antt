@@ -15,7 +15,7 @@ use Rattle.shared_book.specs.declared.fault.CallFault.TheVariants.{Step, Behind}
 use Rattle.shared_book.specs.declared.receipt.Receipt.{Receipt}
 use Rattle.shared_book.specs.Pass.{PassState, after_call}
 use Rattle.shared_book.specs.Kept.{KeptState, IsKept, IsStep, IsCalled}
-use Rattle.shared_book.specs.Calling.{IsReason, IsReplyTo, IsFaultOf, IsCall, IsLocked, IsShared, IsReceiptOf, IsJustified, SeatCall, fault_at_desk}
+use Rattle.shared_book.specs.Calling.{IsReason, IsCallReply, IsFaultOf, IsCall, IsLocked, IsShared, IsReceiptOf, IsJustified, SeatCall, fault_at_desk}
 
 module _ {B : Type 0} (stands_for : B → List Event → Type 0) (made_with : B → Settings) (stored : B → ℕ) where
   ended : (before after : KeptState B) (pass pass' : PassState) (event : Event) (answer : Result Reply CallFault) → IsKept stands_for made_with before

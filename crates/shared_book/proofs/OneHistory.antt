@@ -10,7 +10,7 @@ use Rattle.history.specs.declared.event.Settings.{Settings}
 use Rattle.shared_book.specs.declared.receipt.Receipt.{Receipt}
 use Rattle.shared_book.specs.Pass.{PassState}
 use Rattle.shared_book.specs.Record.{events_of, IsLegalAfter}
-use Rattle.shared_book.specs.Kept.{KeptState, IsWhole}
+use Rattle.shared_book.specs.Kept.{KeptState, IsWholeRecord}
 use Rattle.shared_book.specs.Closing.{ClosesAs}
 use Rattle.shared_book.specs.OneHistory.{IsPlaced, AreOfCaller, AreOfOneHistory, ClosedIsOneHistory}
 

@@ -25,7 +25,7 @@ pub record IsReceiptOf (pass : PassState) (event : Event) (receipt : Receipt) (p
   pub later : pass.seen < receipt.number
   pub counted : pass' ≡ after_call pass receipt.number
 
--- By these settings a reply is that of the replay of some history of as many events as there were calls before it, behind which the event is timely.
+-- By these settings a reply is that of the replay of some history of as many events as there were calls before it, after which the event is timely.
 pub record IsJustified (settings : Settings) (number : ℕ) (event : Event) (reply : Reply) : Type 0 where
   pub history : List Event
   pub place : number ≡ length history + 1
@@ -45,7 +45,7 @@ IsReasonOf settings pass event (CallStep fault) = IsReason settings event fault
 IsReasonOf settings pass event (CallBehind at) = at < pass.seen
 
 -- The reply to a call with this pass, which then has seen the call.
-pub record IsReplyTo (settings : Settings) (pass : PassState) (event : Event) (reply : Reply) (pass' : PassState) : Type 0 where
+pub record IsCallReply (settings : Settings) (pass : PassState) (event : Event) (reply : Reply) (pass' : PassState) : Type 0 where
   pub counted : pass' ≡ after_call pass pass'.seen
   pub later : pass.seen < pass'.seen
   pub justified : IsJustified settings pass'.seen event reply

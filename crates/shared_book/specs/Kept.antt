@@ -24,7 +24,7 @@ abbrev pub first_kept : {B : Type 0} → B → ℕ → KeptState B
 first_kept book limit = record { book = book; first = 1; entries = []; limit = limit; total = 0; callers = 1 }
 
 -- The record has each call, is legal, and the book stands for its events.
-pub record IsWhole {B : Type 0} (stands_for : B → List Event → Type 0) (settings : B → Settings) (kept : KeptState B) : Type 0 where
+pub record IsWholeRecord {B : Type 0} (stands_for : B → List Event → Type 0) (settings : B → Settings) (kept : KeptState B) : Type 0 where
   pub each_call : length kept.entries ≡ kept.total
   pub legal : IsLegalAfter (settings kept.book) [] kept.entries
   pub stands : stands_for kept.book (events_of kept.entries)

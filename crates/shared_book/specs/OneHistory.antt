@@ -6,7 +6,7 @@ use Rattle.history.specs.History.{past_of}
 use Rattle.history.specs.Reply.{reply_of}
 use Rattle.shared_book.specs.declared.receipt.Receipt.{Receipt}
 use Rattle.shared_book.specs.Pass.{PassState}
-use Rattle.shared_book.specs.Kept.{KeptState, IsWhole}
+use Rattle.shared_book.specs.Kept.{KeptState, IsWholeRecord}
 use Rattle.shared_book.specs.Calling.{IsReceiptOf}
 use Rattle.shared_book.specs.Closing.{ClosesAs}
 
@@ -26,7 +26,7 @@ AreOfCaller first (receipt ∷ receipts) last =
     × IsReceiptOf before receipt.event receipt after
     × AreOfCaller after receipts last
 
--- The receipts are of one history, for which the book stands. It has as many events, each with a receipt of its number, and each receipt has its place there. The receipts of one caller are there in the order of its calls.
+-- The receipts are of one history, which the book represents. It has as many events, each with a receipt of its number, and each receipt has its place there. The receipts of one caller are there in the order of its calls.
 pub record AreOfOneHistory {B : Type 0} (stands_for : B → List Event → Type 0) (settings : B → Settings) (book : B) (receipts : List Receipt) : Type 0 where
   pub history : List Event
   pub stands : stands_for book history
@@ -40,4 +40,4 @@ pub record AreOfOneHistory {B : Type 0} (stands_for : B → List Event → Type 
 abbrev pub ClosedIsOneHistory : {B : Type 0} → (B → List Event → Type 0) → (B → Settings) → Type 0
 ClosedIsOneHistory {B} stands_for settings =
     (kept : KeptState B) (passes : List PassState) (receipts : List Receipt)
-    → ClosesAs kept passes receipts None → IsWhole stands_for settings kept → AreOfOneHistory stands_for settings kept.book receipts
+    → ClosesAs kept passes receipts None → IsWholeRecord stands_for settings kept → AreOfOneHistory stands_for settings kept.book receipts

@@ -2,7 +2,7 @@
 
 ghost use Rattle.std.specs.Prelude.{◌≡◌, ◌+◌, ◌<◌, ◌≤◌, ◌^◌, ◌↔◌, IsTrue, length, slice_get, Some, None, OnOk, IfOk, IfErr, IsOk, MatchResult, MatchOption};
 ghost use Rattle.shared_book.specs.Closing.{IsInOrder, IsFirstOther, IsClosed};
-ghost use Rattle.shared_book.specs.Kept.{IsWhole};
+ghost use Rattle.shared_book.specs.Kept.{IsWholeRecord};
 
 use crate::fault::CloseFault;
 use crate::kept::Kept;
@@ -29,7 +29,7 @@ impl<B: Book, L: CallLedger> Kept<B, L> {
         ensures same { MatchResult result (λ kept. kept ≡ self) (λ not_closed. not_closed.kept ≡ self) }
         ensures ok { IfOk result (λ kept. IsClosed L.parts kept passes.items receipts.items None) }
         ensures err { IfErr result (λ not_closed. IsClosed L.parts not_closed.kept passes.items receipts.items (Some not_closed.fault)) }
-        ensures whole { IfOk result (λ kept. IsWhole B.stands_for B.settings kept) }
+        ensures whole { IfOk result (λ kept. IsWholeRecord B.stands_for B.settings kept) }
     {
         let made = self.gather(passes);
         if self.total() > self.limit() {

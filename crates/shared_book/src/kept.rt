@@ -4,7 +4,7 @@ ghost use Rattle.std.specs.Prelude.{◌≡◌, ◌<◌, ◌≤◌, ◌^◌, ◌�
 ghost use Rattle.history.specs.Answers.{IsTimely};
 ghost use Rattle.shared_book.specs.declared.kept.TheConstants.{MOST_RECORDED};
 ghost use Rattle.shared_book.specs.Pass.{PassState, first_pass};
-ghost use Rattle.shared_book.specs.Kept.{first_kept, IsKept, IsWhole, IsStep};
+ghost use Rattle.shared_book.specs.Kept.{first_kept, IsKept, IsWholeRecord, IsStep};
 
 use crate::ahead::{make_ready, told_again};
 use crate::ledger::{Blank, CallLedger};
@@ -115,7 +115,7 @@ impl<B: Book, L: CallLedger> Kept<B, L> {
     pub fn entries(&self) -> &[Receipt]
         ensures entries { result.now ≡ self.now.entries }
         ensures kept { IsKept B.stands_for B.settings self.now }
-        ensures whole { self.now.total ≤ self.now.limit → IsWhole B.stands_for B.settings self.now }
+        ensures whole { self.now.total ≤ self.now.limit → IsWholeRecord B.stands_for B.settings self.now }
     {
         self.recorded.entries.as_slice()
     }
@@ -161,7 +161,7 @@ impl<B: Book, L: CallLedger> Kept<B, L> {
         }
     }
 
-    /// Takes an event behind all calls that are recorded.
+    /// Takes an event after all calls that are recorded.
     pub(crate) fn step_unrecorded(
         &mut self,
         pass: &mut Pass<L>,
@@ -179,7 +179,7 @@ impl<B: Book, L: CallLedger> Kept<B, L> {
         }
     }
 
-    /// Takes a timely event behind all calls that are recorded.
+    /// Takes a timely event after all calls that are recorded.
     fn pass_by(&mut self, pass: &mut Pass<L>, event: Event) -> Result<Reply, StepFault>
         requires timely { IsTimely self.old.total event }
         requires beyond { self.old.limit ≤ self.old.total }

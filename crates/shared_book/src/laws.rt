@@ -16,7 +16,7 @@ pub fn one_verdict<B: Book>()
         ClosesAs kept passes receipts a → ClosesAs kept passes receipts b → AgreeButMemory a b }
 {}
 
-/// The receipts with which a book was closed are of one history, for which the book stands. Each reply is that of a replay of
+/// The receipts with which a book was closed are of one history, which the book represents. Each reply is that of a replay of
 /// the events before it, and each caller's receipts are there in the order of its calls.
 #[tactic(auto, using(crate::proofs::OneHistory::one_history))]
 pub fn one_history<B: Book>()

@@ -3,9 +3,9 @@
 ghost use Rattle.std.specs.Prelude.{◌≡◌, ◌≤◌, ◌↔◌, [], Some, None, IfOk, IfErr, OnErr, IsOk, IsErr, IsErrOf, MatchResult};
 ghost use Rattle.shared_book.specs.declared.kept.TheConstants.{MOST_RECORDED};
 ghost use Rattle.shared_book.specs.Pass.{first_pass, IsSplit, IsJoined};
-ghost use Rattle.shared_book.specs.Calling.{IsReceiptOf, IsJustified, IsReplyTo, IsFaultOf, IsLocked, IsShared, answer_of};
+ghost use Rattle.shared_book.specs.Calling.{IsReceiptOf, IsJustified, IsCallReply, IsFaultOf, IsLocked, IsShared, answer_of};
 ghost use Rattle.shared_book.specs.Closing.{IsClosed};
-ghost use Rattle.shared_book.specs.Kept.{IsWhole};
+ghost use Rattle.shared_book.specs.Kept.{IsWholeRecord};
 
 use crate::close::NotClosed;
 use crate::fault::{CallFault, SplitFault};
@@ -117,7 +117,7 @@ impl<B: Book, L: CallLedger> SharedBook<B, L> {
         event: Event,
     ) -> Result<Reply, CallFault>
         requires beyond { L.limit ≤ pass.old.seen }
-        ensures ok { IfOk result (λ reply. IsReplyTo L.settings pass.old event reply pass.new) }
+        ensures ok { IfOk result (λ reply. IsCallReply L.settings pass.old event reply pass.new) }
         ensures err { IfErr result (λ fault. IsFaultOf L.settings pass.old event fault pass.new) }
         ensures locked { IsLocked B.stands_for B.settings B.stored L.settings pass.old event result pass.new }
     {
@@ -148,7 +148,7 @@ impl<B: Book, L: CallLedger> SharedBook<B, L> {
         ensures ok { IfOk result (λ kept. IsClosed L.parts kept passes.items receipts.items None) }
         ensures err { IfErr result (λ not_closed. IsClosed L.parts not_closed.kept passes.items receipts.items (Some not_closed.fault)) }
         ensures limit { MatchResult result (λ kept. kept.limit ≡ L.limit) (λ not_closed. not_closed.kept.limit ≡ L.limit) }
-        ensures whole { IfOk result (λ kept. IsWhole B.stands_for B.settings kept) }
+        ensures whole { IfOk result (λ kept. IsWholeRecord B.stands_for B.settings kept) }
     {
         let SharedBook { kept, .. } = self;
         kept.into_inner().close(passes, receipts)

@@ -53,7 +53,7 @@ fn push_ask(ask: &Ask, out: &mut Vec<u8>) -> Result<(), NoMemory> {
     }
 }
 
-/// Writes an event in the words of its line, behind its moment.
+/// Writes an event in the words of its line, after its moment.
 fn push_event(alloc: Global, event: &Event, out: &mut Vec<u8>) -> Result<(), NoMemory> {
     let moment = event.moment();
     out.extend_from_slice(format!(in alloc; "at {moment} ")?.as_bytes())?;

@@ -39,7 +39,7 @@ shelved shelf = record { names = shelf.owners.entries; flushes = shelf.kept.item
 abbrev pub cell_at : Shelved → Question → ℕ → Option (Admitted Find)
 cell_at shelf q v = cell_by_owner (lookup (name_eq q.owner) shelf.names) q.kind v
 
--- the cell of a question, if of the kept flushes just the chosen ones stood
+-- the cell of a question, if of the kept flushes just the chosen ones were in force
 abbrev pub cell_by : Shelved → (ℕ → Bool) → Question → Option (Admitted Find)
 cell_by shelf chosen q = cell_at shelf q (chosen_version shelf.flushes q chosen)
 
@@ -51,23 +51,23 @@ abbrev pub fault_told : StoreFault → WorldFault
 fault_told (store.Full stored) = world.Full stored
 fault_told store.NoMemory = world.NoMemory
 
--- the number of a flush, and whether it stands: as the journal has it, and as the shelf has it
+-- the number of a flush, and whether it is in force: as the journal has it, and as the shelf has it
 abbrev pub mark_of : KeptChange SavedFlush → ℕ × Bool
 mark_of k = (k.ticket, is_done k.standing)
 
 abbrev pub mark : KeptFlush → ℕ × Bool
 mark own = (own.number, own.shown)
 
--- These are the flushes that the shelf keeps, by their numbers: the done ones stand, the others do not.
+-- These are the flushes that the shelf keeps, by their numbers: the done ones are in force, the others are not.
 pub record KeepsFlushes (shelf : Shelved) (kept : List (KeptChange SavedFlush)) : Type 0 where
   pub agree : map mark_of kept ≡ map mark shelf.flushes
   pub numbers : AllByRecursion (λ k. k.saved.number ≡ k.ticket) kept
 
--- what it would show, if of its flushes just the chosen ones stood
+-- what it would show, if of its flushes just the chosen ones were in force
 abbrev pub face_by : Shelved → List (KeptChange SavedFlush) → (ℕ → Bool) → Face (Unit {0})
 face_by shelf kept chosen = record { tables = tt; cell = cell_by shelf chosen }
 
--- what it shows: of each question, the cell of the last flush that stands and covers it, or of none
+-- what it shows: of each question, the cell of the last flush that is in force and covers it, or of none
 abbrev pub shown_face : Shelved → Face (Unit {0})
 shown_face shelf = record { tables = tt; cell = λ q. cell_at shelf q (shown_version shelf.flushes q) }
 

@@ -293,7 +293,7 @@ row_oldest before after ticket saved later up h items faces =
     row_less Done (λ chosen. chosen ticket ≡ true) before after [] ticket saved later up h items
     (λ chosen p. faces chosen (ap chosen h.numbers.0 ∙ (p ∙ sym (first_stands before ticket saved later h))))
 
--- A cleared one never stands again.
+-- A cleared one is never in force again.
 pub row_cleared : (before after : Shelved) (earlier : List (KeptChange SavedFlush)) (ticket : ℕ) (saved : SavedFlush) (later : List (KeptChange SavedFlush)) →
     IsAscending before.flushes → KeepsFlushes before (earlier ++ kept_as Cleared ticket saved ∷ later) →
     after.flushes ≡ without saved.number before.flushes →

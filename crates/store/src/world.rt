@@ -98,7 +98,7 @@ impl ShelfWorld {
     }
 
     /// How many places count. They are never more than the limit, nor more than the different pairs that count. They are never
-    /// fewer than the different pairs of the finds that are alive at a moment, whatever choice of the kept flushes stands.
+    /// fewer than the different pairs of the finds that are alive at a moment, whatever choice of the kept flushes is in force.
     pub fn stored(&self) -> u64
         ensures stored { result ≡ ⟦<ShelfWorld as World>⟧.stored self.now }
         ensures within { ⟦<ShelfWorld as World>⟧.stored self.now ≤ ⟦<ShelfWorld as World>⟧.limit self.now }

@@ -4,7 +4,7 @@ use Rattle.std.proofs.lemmas.List.{take_all, length-take, take-append-le}
 use Rattle.std.proofs.lemmas.Bool.{cases_lt}
 use Rattle.std.specs.Io.BufRead.{ends_with_byte}
 use Rattle.streams.specs.declared.held_line.TheConstants.{MOST_HELD}
-use Rattle.streams.specs.Split.{without_return, held_of, Heard}
+use Rattle.streams.specs.Split.{without_return, held_of, IsLineHeard}
 
 -- What is held does not tell more than what is held of it.
 pub held-again : (begun : List ℕ) (octet : ℕ) → held_of (held_of begun ++ octet ∷ []) ≡ held_of (begun ++ octet ∷ [])
@@ -29,7 +29,7 @@ first-take zero xs p = absurd (omega (arith, p))
 first-take (suc n) [] p = refl
 first-take (suc n) (x ∷ xs) p = refl
 
-pub heard-held : (held begun : List ℕ) → held ≡ held_of begun → Heard held begun
+pub heard-held : (held begun : List ℕ) → held ≡ held_of begun → IsLineHeard held begun
 heard-held held begun is = elim (cases_lt MOST_HELD (length begun)) [
   | inl p ↦ inr (omega (arith, p, ap (λ (l : List ℕ). length l) is, length-take MOST_HELD begun), omega (arith, p), ap (λ (l : List ℕ). take 1 l) is ∙ first-take MOST_HELD begun (omega arith))
   | inr p ↦ inl (is ∙ take_all MOST_HELD begun p)
@@ -43,7 +43,7 @@ strip-first : (b : Bool) (xs : List ℕ) → 1 < length xs → take 1 (cond b (t
 strip-first true xs p = first-take (length xs - 1) xs (omega (arith, p))
 strip-first false xs p = refl
 
-pub heard-trimmed : (line held begun : List ℕ) → line ≡ without_return held → held ≡ held_of begun → Heard line (without_return begun)
+pub heard-trimmed : (line held begun : List ℕ) → line ≡ without_return held → held ≡ held_of begun → IsLineHeard line (without_return begun)
 heard-trimmed line held begun trim is = elim (cases_lt MOST_HELD (length begun)) [
   | inl p ↦
       let front = take MOST_HELD begun in

@@ -57,7 +57,7 @@ told-before On O obeys o next xs ys t n a = absurd n
 told-before Stopped O obeys o next xs ys t n a = Partly-before O obeys IsLast o next xs ys t a
 told-before Failed O obeys o next xs ys t n a = Partly-before O obeys IsFront o next xs ys t a
 
--- Where no more are obeyed, others may stand behind.
+-- Where no more are obeyed, others may follow.
 pub tells-before : (flow : Flow) (O : Type 0) (obeys : Obeying O) (o next : O) (xs ys : List (List ℕ)) (u w : Option (List ℕ))
     → Stops flow → Tells flow obeys o xs next u w → Tells flow obeys o (xs ++ ys) next u w
 tells-before flow O obeys o next xs ys u w n a = (a.0, told-before flow O obeys o next xs ys a.0 n a.1, a.2)

@@ -32,8 +32,8 @@ abbrev pub held_of : List ℕ → List ℕ
 held_of begun = take MOST_HELD begun
 
 -- The octets handed on for a line: all of it, or, if it is too long, some that are too long too and begin with the same octet.
-abbrev pub Heard : List ℕ → List ℕ → Type 0
-Heard line whole = (line ≡ whole) ⊎ ((LONGEST_LINE < length line) × (LONGEST_LINE < length whole) × (take 1 line ≡ take 1 whole))
+abbrev pub IsLineHeard : List ℕ → List ℕ → Type 0
+IsLineHeard line whole = (line ≡ whole) ⊎ ((LONGEST_LINE < length line) × (LONGEST_LINE < length whole) × (take 1 line ≡ take 1 whole))
 
 -- No octet of it ends a line.
 abbrev pub IsUnended : List ℕ → Type 0

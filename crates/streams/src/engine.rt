@@ -5,7 +5,7 @@ ghost use Rattle.streams.specs.declared.source.TheConstants.{MOST_COUNTED};
 ghost use Rattle.streams.specs.declared.engine.TheConstants.{MOST_READS};
 ghost use Rattle.streams.specs.declared.fault.Flow.TheVariants.{On};
 ghost use Rattle.streams.specs.declared.fault.ScriptFault.TheVariants.{Read as ReadFault, Write as WriteFault};
-ghost use Rattle.streams.specs.Split.{ended_lines, begun_line, last_line, held_of, Heard};
+ghost use Rattle.streams.specs.Split.{ended_lines, begun_line, last_line, held_of, IsLineHeard};
 ghost use Rattle.streams.specs.Transcript.{paired};
 ghost use Rattle.streams.specs.Flow.{Tells, CountsFlow};
 ghost use Rattle.streams.specs.Engine.{RunsLines, FailsToRead};
@@ -33,7 +33,7 @@ fn tell<T, D, O: Obeyer<T, D>, W: Sink>(
     writer: &mut W,
 ) -> Flow
     requires { W.failures writer.old < MOST_COUNTED }
-    ensures told { (whole : List ℕ) → Heard line.now whole → Tells result (paired O.obeys)
+    ensures told { (whole : List ℕ) → IsLineHeard line.now whole → Tells result (paired O.obeys)
         (time.old, desk.old) (whole ∷ []) (time.new, desk.new) (W.contents writer.old) (W.contents writer.new) }
     ensures failures { CountsFlow result (W.failures writer.old) (W.failures writer.new) }
 {

@@ -1,6 +1,6 @@
 -- The way back of a change.
 use Rattle.std.specs.Prelude.{◌≡◌}
-use Rattle.named_list.specs.Turn.{other_of, Fits}
+use Rattle.named_list.specs.Turn.{other_of, HasPlace}
 use Rattle.stub_table.specs.declared.saved.SavedStubs.{SavedStubs}
 use Rattle.stub_table.specs.Stubs.{Stubs, AreStubs}
 
@@ -11,5 +11,5 @@ before_of saved left = other_of saved.turn left
 -- From the list that a change left, the saved value gives the one before it.
 pub record TakesBack (saved : SavedStubs) (left before : Stubs) : Type 0 where
   pub gives : before_of saved left ≡ before
-  pub fits : Fits (λ s. s.name) saved.turn left
+  pub fits : HasPlace (λ s. s.name) saved.turn left
   pub sound : AreStubs before

@@ -205,7 +205,7 @@ module _ {S V : Type 0} (other : S → V → V) (Leads : S → V → V → Type 
   back_no_done v [] h = tt
   back_no_done v (k ∷ kept) h = (λ d. absurd (h.0 d), back_no_done v kept h.1)
 
-  -- the part behind a place
+  -- the part after a place
   lead_at : (v : V) (earlier : List (KeptChange S)) (k : KeptChange S) (later : List (KeptChange S)) → LeadBack other Leads v (earlier ++ k ∷ later) → LeadBack other Leads v (k ∷ later)
   lead_at v [] k later h = h
   lead_at v (e ∷ earlier) k later h = lead_at v earlier k later h.1
@@ -220,7 +220,7 @@ module _ {S V : Type 0} (other : S → V → V) (Leads : S → V → V → Type 
   on_before v (e ∷ earlier) rest n h =
       (λ u. absurd (n.0 u), subst (λ (x : V). LeadOn other Leads x (earlier ++ rest)) (sym (again_not_undone other true e.standing e.saved v n.0)) (on_before v earlier rest n.1 h))
 
-  -- the same before a place where the part behind it goes back to the same
+  -- the same before a place where the part after it goes back to the same
   back_before : (v v' : V) (earlier rest rest' : List (KeptChange S)) → taken_back other nothing v rest ≡ taken_back other nothing v' rest' →
       LeadBack other Leads v (earlier ++ rest) → LeadBack other Leads v' rest' → LeadBack other Leads v' (earlier ++ rest')
   back_before v v' [] rest rest' e h h' = h'

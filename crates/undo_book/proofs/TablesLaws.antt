@@ -48,13 +48,13 @@ replayed marks ticket flag log h =
 
 -- ---- one event more
 
--- an entry that does not stand
+-- an entry that is not in force
 left_out : (marks : Marks) (log : List Entry) (e : Entry) → stands marks e ≡ false → tables_by (filter (stands marks) (log ++ e ∷ [])) ≡ tables_by (filter (stands marks) log)
 left_out marks log e out =
     let same : filter (stands marks) (log ++ e ∷ []) ≡ filter (stands marks) log = filter-append (stands marks) log (e ∷ []) ∙ rw out (append-nil (filter (stands marks) log)) in
     ap tables_by same
 
--- an entry that stands
+-- an entry that is in force
 taken_in : (marks : Marks) (log : List Entry) (e : Entry) → stands marks e ≡ true → tables_by (filter (stands marks) (log ++ e ∷ [])) ≡ tables_after (tables_by (filter (stands marks) log)) e
 taken_in marks log e stays =
     let itself : filter (stands marks) (e ∷ []) ≡ e ∷ [] = ap (λ (b : Bool). cond b (e ∷ []) []) stays in

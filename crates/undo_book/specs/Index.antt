@@ -18,13 +18,13 @@ use Rattle.undo_book.specs.Plain.{cell_after_logged}
 abbrev pub tag_of : Labels → ℕ
 tag_of name = folding.finish (fold folding.write folding.initial (name_hash_input name))
 
--- what stands in the index of an entry: an admission is under its owner's tag, a command under none
+-- what the index of an entry holds: an admission is under its owner's tag, a command under none
 abbrev pub index_of_entry : ℕ → Event → Option Indexed
 index_of_entry at (Admit moment find) = Some (record { at = at; tag = Some (tag_of find.owner) })
 index_of_entry at (Do moment command) = Some (record { at = at; tag = None })
 index_of_entry at event = None
 
--- the index of a log whose first entry stands here
+-- the index of a log whose first entry is here
 abbrev pub index_from : ℕ → List Logged → List Indexed
 index_from at [] = []
 index_from at (logged ∷ log) = cons_option (index_of_entry at logged.entry.event) (index_from (at + 1) log)

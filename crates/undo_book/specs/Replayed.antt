@@ -8,7 +8,7 @@ use Rattle.history.specs.History.{stands_by}
 use Rattle.history.specs.Changes.{no_tables, tables_after}
 use Rattle.undo_book.specs.Plain.{with_flag}
 
--- the tables after an entry, if that stands
+-- the tables after an entry, if that is in force
 abbrev pub tables_after_logged : Tables → Logged → Tables
 tables_after_logged t logged = if stands_by (λ ticket. not logged.struck) logged.entry.event logged.entry.ticket then tables_after t logged.entry else t
 

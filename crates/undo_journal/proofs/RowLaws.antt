@@ -22,7 +22,7 @@ same_itself a = record { tables = refl; cell = λ q. refl }
 -- ---- rows
 
 module _ {W S T : Type 0} (table : S → Option ℕ) (keeps : W → List (KeptChange S) → Type 0) (face : W → List (KeptChange S) → (ℕ → Bool) → Face T) where
-  -- what leaves the faces of some choices, behind another change of the row
+  -- what leaves the faces of some choices, after another change of the row
   pub row_then : (made : (ℕ → Bool) → Face T → Face T) (P Q R : (ℕ → Bool) → Type 0) (w w' w'' : W) (k k' k'' : List (KeptChange S)) →
       IsRowAfter table keeps face made P w k w' k' → IsRowAfter table keeps face same_face Q w' k' w'' k'' →
       ((chosen : ℕ → Bool) → R chosen → P chosen) → ((chosen : ℕ → Bool) → R chosen → Q chosen) →
@@ -51,7 +51,7 @@ module _ {S : Type 0} (table : S → Option ℕ) (chosen : ℕ → Bool) where
       let parts = all_split (λ k. IsOneTable (table saved) (table k.saved) → chosen k.ticket ≡ false) earlier later h in
       all-append _ earlier (one ∷ later) parts.0 (λ same. out, parts.1)
 
-  -- a cleared one that is left out may stand anywhere
+  -- a cleared one that is left out may be anywhere
   pub choice_with_cleared : (earlier : List (KeptChange S)) (ticket : ℕ) (saved : S) (later : List (KeptChange S)) → chosen ticket ≡ false →
       IsChoice table (earlier ++ later) chosen → IsChoice table (earlier ++ kept_as Cleared ticket saved ∷ later) chosen
   choice_with_cleared [] ticket saved later out h = (out, h)
@@ -60,7 +60,7 @@ module _ {S : Type 0} (table : S → Option ℕ) (chosen : ℕ → Bool) where
     choice_with_cleared earlier ticket saved later out h.1,
   )
 
-  -- one that stands and is chosen may stand first
+  -- one that is in force and is chosen may be first
   pub choice_with_oldest : (ticket : ℕ) (saved : S) (later : List (KeptChange S)) → chosen ticket ≡ true →
       IsChoice table later chosen → IsChoice table (kept_as Done ticket saved ∷ later) chosen
   choice_with_oldest ticket saved later is h = (λ out. absurd (search rules), h)

@@ -19,7 +19,7 @@ type Saved<C> = <<C as Change>::World as World>::Saved;
 
 /// The newest changes of a world, the oldest first. Changes in effect come before undone ones.
 ///
-/// An undo takes the last change in effect, a redo the one behind it. The ring takes all its memory when it is made.
+/// An undo takes the last change in effect, a redo the one after it. The ring takes all its memory when it is made.
 #[derive(Drop)]
 pub struct Journal<C: Change> {
     ring: HeapCircularBuffer<KeptChange<Saved<C>>>,

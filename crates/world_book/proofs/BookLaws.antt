@@ -27,7 +27,7 @@ use Rattle.world_book.specs.Book.{BookState, IsBookOf, IsUntouched}
 use Rattle.world_book.specs.Deeds.{empty_face}
 use Rattle.world_book.specs.Step.{IsFaultOf}
 use Rattle.world_book.specs.Versions.{find_admitted, finds_admitted, pairs_admitted}
-use Rattle.world_book.specs.Tied.{IsTied, IsReplyTo, TakesIn, TakesNothingIn}
+use Rattle.world_book.specs.Tied.{IsTied, IsHistoryReply, TakesIn, TakesNothingIn}
 
 pub past_more : (bound : ℕ) (h : List Event) (event : Event) → past_of bound (h ++ event ∷ []) ≡ followed_by bound (past_of bound h) event
 past_more bound h event = fold-append (followed_by bound) nothing h (event ∷ [])
@@ -88,7 +88,7 @@ module _ {W S : Type 0} (by : Ghosts W Tables S Command) where
   }
 
   pub answered : (book : BookState W S) (clock : ℕ) (event : Event) (reply : Reply) → clock ≡ max book.moment (moment_of event) → moment_of event < MOMENT_END → book.count < MOST_EVENTS →
-      IsReplyTo by book.settings clock event book.world book.changes reply → (h : List Event) → BookOf book h → Answers book.settings h event (Ok reply)
+      IsHistoryReply by book.settings clock event book.world book.changes reply → (h : List Event) → BookOf book h → Answers book.settings h event (Ok reply)
   answered book clock event reply is timely counted told h so =
       let past = past_of book.settings.journal h in
       let at : clock ≡ max past.now (moment_of event) = is ∙ ap (λ (m : ℕ). max m (moment_of event)) so.moment in

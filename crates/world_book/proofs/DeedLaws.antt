@@ -19,7 +19,7 @@ use Rattle.world_book.specs.Deeds.{deeds_of, empty_face, face_of}
 abbrev face_from : Face Tables → List Entry → Face Tables
 face_from f entries = record { tables = fold tables_after f.tables entries; cell = λ q. fold (cell_after q) (f.cell q) entries }
 
--- the deeds show what stands, from any face
+-- the deeds show what is in force, from any face
 abbrev AreShown : (ℕ → Bool) → List Entry → Type 0
 AreShown chosen log = (f : Face Tables) → IsSame (face_by true chosen f (deeds_of log)) (face_from f (standing_with chosen log))
 

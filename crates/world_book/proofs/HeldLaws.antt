@@ -102,7 +102,7 @@ absent (k ∷ ks) t h =
     let other : (k.ticket == t) ≡ false = grind (arith, nat_tests) in
     rw other (absent ks t h.1)
 
--- a kept change is not looked for behind it
+-- a kept change is not looked for after it
 passed : {S : Type 0} (k : KeptChange S) (ks : List (KeptChange S)) (gs : List (ℕ × Command)) → AllByRecursion (λ u. k.ticket < u) (map (λ given. given.0) gs) →
     filter_map (λ (g : ℕ × Command). option_map (made_of g) (look (k ∷ ks) g.0)) gs ≡ filter_map (λ (g : ℕ × Command). option_map (made_of g) (look ks g.0)) gs
 passed k ks [] h = refl
@@ -127,7 +127,7 @@ of_all : (P : ℕ → Type 0) (gs : List (ℕ × Command)) (given : ℕ × Comma
 of_all P [] given all has = absurd (omega (arith, has.1))
 of_all P (g ∷ gs) given all has = elim (in_front g given gs has) [ inl e ↦ subst (λ (x : ℕ × Command). P x.0) e all.0 | inr more ↦ of_all P gs given all.1 more ]
 
--- those of later tickets are behind the first
+-- those of later tickets are after the first
 behind : {S : Type 0} (told : S → Command) (g : ℕ × Command) (gs : List (ℕ × Command)) (ks : List (KeptChange S)) → AllByRecursion (λ u. g.0 < u) (tickets_of ks) →
     AllByRecursion (λ given. Contains (g ∷ gs) given) (told_of told ks) → AllByRecursion (λ given. Contains gs given) (told_of told ks)
 behind told g gs [] above has = tt

@@ -1,4 +1,4 @@
--- What a book keeps, and for which histories it stands.
+-- What a book keeps, and which histories it represents.
 use Rattle.std.specs.Prelude.{◌≡◌, ◌≤◌, ℕ, Bool, List, [], length, count_by, refl}
 use Rattle.std.specs.Coded.{Coded, code_by, coded×, coded_ℕ}
 use Rattle.change_law.specs.declared.world.World.{Ghosts}

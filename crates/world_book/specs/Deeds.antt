@@ -36,6 +36,6 @@ given_tickets log = map (λ given. given.0) (given_in log)
 abbrev pub empty_face : Face Tables
 empty_face = record { tables = no_tables; cell = λ q. None }
 
--- what stands of a log by a choice, from nothing
+-- what is in force of a log by a choice, from nothing
 abbrev pub face_of : (ℕ → Bool) → List Entry → Face Tables
 face_of chosen log = record { tables = tables_by (standing_with chosen log); cell = λ q. cell_by q (standing_with chosen log) }

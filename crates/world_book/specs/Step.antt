@@ -22,7 +22,8 @@ pub record IsSound {W T S D : Type 0} (by : Ghosts W T S D) (world : W) (changes
   pub kept : by.keeps world changes.kept
   pub latest : by.newest world ≤ changes.tickets
 
--- After a step the world is sound under its journal. At most one more ticket was given out, at most so many more cells are stored, and no more pairs count than these. The limit of cells is the same.
+-- After a step the world is sound under its journal. At most one more ticket was given out, and at most so many more cells are stored.
+-- No pair but these counts that did not before. The limit of cells is the same.
 pub record IsSoundAfter {W T S D : Type 0} (by : Ghosts W T S D) (more : ℕ) (added : List (Labels × Scope)) (world : W) (changes : Changes S) (world' : W) (changes' : Changes S) : Type 0 where
   pub sound : IsSound by world' changes'
   pub tickets : changes'.tickets ≤ changes.tickets + 1

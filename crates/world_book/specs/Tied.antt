@@ -39,8 +39,8 @@ pub record IsTied {W S : Type 0} (by : Ghosts W Tables S Command) (world : W) (c
   pub tables : told_of by.table changes.kept ≡ tables_told (told_of by.told changes.kept)
 
 -- The reply is what the history says, whichever the world and its journal come to. The clock is at the later of its last moment and the event's.
-abbrev pub IsReplyTo : {W S : Type 0} → Ghosts W Tables S Command → Settings → ℕ → Event → W → Changes S → Reply → Type 0
-IsReplyTo by settings clock event world changes reply =
+abbrev pub IsHistoryReply : {W S : Type 0} → Ghosts W Tables S Command → Settings → ℕ → Event → W → Changes S → Reply → Type 0
+IsHistoryReply by settings clock event world changes reply =
     (bound : ℕ) (past : Past) → clock ≡ max past.now (moment_of event) → IsTied by world changes bound past → reply ≡ reply_of settings past event
 
 -- Whatever history the world and its journal came to, they now come to it with the event. The clock is at the later of its last moment and the event's.

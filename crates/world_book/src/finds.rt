@@ -5,7 +5,7 @@ ghost use Rattle.change_law.specs.Pairs.{IsAliveIn, pair_of};
 ghost use Rattle.history.specs.declared.event.Event.TheVariants.{Admit, Sweep};
 ghost use Rattle.history.specs.declared.event.Settings.{Settings};
 ghost use Rattle.world_book.specs.Step.{IsSound, IsSoundAfter, IsFaultOf, reply_of_fate};
-ghost use Rattle.world_book.specs.Tied.{IsReplyTo, TakesIn, TakesNothingIn};
+ghost use Rattle.world_book.specs.Tied.{IsHistoryReply, TakesIn, TakesNothingIn};
 
 use crate::world::BookChange;
 use change_law::{World, WorldFault};
@@ -22,7 +22,7 @@ pub(crate) fn admit<C: BookChange>(
 ) -> Result<Reply, StepFault>
     requires { IsSound C.World.World world.old journal.now }
     ensures told { IfOk result (λ reply. (settings : Settings) (moment : ℕ) →
-        IsReplyTo C.World.World settings clock (Admit moment find) world.old journal.now reply) }
+        IsHistoryReply C.World.World settings clock (Admit moment find) world.old journal.now reply) }
     ensures tied { OnOk result ((moment : ℕ) →
         TakesIn C.World.World clock (Admit moment find) world.old journal.now world.new journal.now) }
     ensures same { OnErr result (TakesNothingIn C.World.World world.old journal.now world.new journal.now) }

@@ -5,7 +5,7 @@ ghost use Rattle.history.specs.declared.event.Event.TheVariants.{Do};
 ghost use Rattle.history.specs.declared.event.Reason.{Reason};
 ghost use Rattle.history.specs.declared.event.Settings.{Settings};
 ghost use Rattle.world_book.specs.Step.{IsSound, IsSoundAfter, code_of};
-ghost use Rattle.world_book.specs.Tied.{IsReplyTo, TakesIn, TakesNothingIn};
+ghost use Rattle.world_book.specs.Tied.{IsHistoryReply, TakesIn, TakesNothingIn};
 
 use crate::world::BookChange;
 use change_law::ChangeFault;
@@ -23,7 +23,7 @@ pub(crate) fn give<C: BookChange>(
     requires sound { IsSound C.World.World world.old journal.old }
     requires few { journal.old.tickets < 2 ^ 62 }
     ensures told { IfOk result (λ reply. (settings : Settings) (clock moment : ℕ) →
-        IsReplyTo C.World.World settings clock (Do moment command) world.old journal.old reply) }
+        IsHistoryReply C.World.World settings clock (Do moment command) world.old journal.old reply) }
     ensures tied { OnOk result ((clock moment : ℕ) →
         TakesIn C.World.World clock (Do moment command) world.old journal.old world.new journal.new) }
     ensures same { OnErr result (TakesNothingIn C.World.World world.old journal.old world.new journal.new) }

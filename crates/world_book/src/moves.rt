@@ -5,7 +5,7 @@ ghost use Rattle.history.specs.declared.event.Event.TheVariants.{Undo, Redo};
 ghost use Rattle.history.specs.declared.event.Settings.{Settings};
 ghost use Rattle.history.specs.Reply.{reply_to_undo, reply_to_redo};
 ghost use Rattle.world_book.specs.Step.{IsSound, IsSoundAfter, IsFree};
-ghost use Rattle.world_book.specs.Tied.{IsReplyTo, TakesIn, TakesNothingIn};
+ghost use Rattle.world_book.specs.Tied.{IsHistoryReply, TakesIn, TakesNothingIn};
 
 use crate::world::BookChange;
 use dns_name::NoMemory;
@@ -19,7 +19,7 @@ pub(crate) fn undo<C: BookChange>(
 ) -> Result<Reply, NoMemory>
     requires { IsSound C.World.World world.old journal.old }
     ensures told { IfOk result (λ reply. (settings : Settings) (clock moment : ℕ) →
-        IsReplyTo C.World.World settings clock (Undo moment) world.old journal.old reply) }
+        IsHistoryReply C.World.World settings clock (Undo moment) world.old journal.old reply) }
     ensures tied { OnOk result ((clock moment : ℕ) →
         TakesIn C.World.World clock (Undo moment) world.old journal.old world.new journal.new) }
     ensures same { OnErr result (TakesNothingIn C.World.World world.old journal.old world.new journal.new) }
@@ -37,7 +37,7 @@ pub(crate) fn redo<C: BookChange>(
 ) -> Result<Reply, NoMemory>
     requires { IsSound C.World.World world.old journal.old }
     ensures told { IfOk result (λ reply. (settings : Settings) (clock moment : ℕ) →
-        IsReplyTo C.World.World settings clock (Redo moment) world.old journal.old reply) }
+        IsHistoryReply C.World.World settings clock (Redo moment) world.old journal.old reply) }
     ensures tied { OnOk result ((clock moment : ℕ) →
         TakesIn C.World.World clock (Redo moment) world.old journal.old world.new journal.new) }
     ensures same { OnErr result (TakesNothingIn C.World.World world.old journal.old world.new journal.new) }

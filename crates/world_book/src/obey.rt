@@ -3,7 +3,7 @@
 ghost use Rattle.std.specs.Prelude.{◌<◌, ◌^◌, ◌∷◌, [], IfOk, IfErr, OnOk, OnErr, if◌then◌else◌};
 ghost use Rattle.history.specs.Event.{is_admission};
 ghost use Rattle.world_book.specs.Step.{IsSound, IsSoundAfter, IsFaultOf};
-ghost use Rattle.world_book.specs.Tied.{IsReplyTo, IsTakenIfFree, TakesIn, TakesNothingIn};
+ghost use Rattle.world_book.specs.Tied.{IsHistoryReply, IsTakenIfFree, TakesIn, TakesNothingIn};
 ghost use Rattle.world_book.specs.Versions.{pairs_admitted};
 
 use crate::finds::{admit, sweep};
@@ -26,7 +26,7 @@ pub(crate) fn obey<C: BookChange>(
 ) -> Result<Reply, StepFault>
     requires sound { IsSound C.World.World world.old journal.old }
     requires few { journal.old.tickets < 2 ^ 62 }
-    ensures told { IfOk result (λ reply. IsReplyTo C.World.World settings.now clock event world.old journal.old reply) }
+    ensures told { IfOk result (λ reply. IsHistoryReply C.World.World settings.now clock event world.old journal.old reply) }
     ensures tied { OnOk result (TakesIn C.World.World clock event world.old journal.old world.new journal.new) }
     ensures same { OnErr result (TakesNothingIn C.World.World world.old journal.old world.new journal.new) }
     ensures faults { IfErr result (λ fault. IsFaultOf C.World.World world.old event fault) }

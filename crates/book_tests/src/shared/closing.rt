@@ -17,14 +17,14 @@ use undo_book::PlainBook;
 /// What is done to the six receipts before they are handed in.
 #[derive(Clone, Copy, PartialEq, Eq)]
 enum Case {
-    /// Nothing; those of the second caller stand behind those of the first.
+    /// Nothing; those of the second caller come after those of the first.
     Whole,
-    /// They stand the other way round.
+    /// They are the other way round.
     Reversed,
     OneLess,
     /// Receipt 4 is replaced by a second receipt 3.
     ThirdForFourth,
-    /// A second receipt 3 stands besides.
+    /// There is a second receipt 3.
     ThirdTwice,
     /// Receipt 2 is replaced by one with another reply.
     OfAnotherBook,

@@ -27,7 +27,7 @@ fn push_octets(rng: &mut Pcg32, out: &mut Vec<u8>, count: u32) -> Result<(), All
     Ok(())
 }
 
-/// Changes one octet, cuts the end off, or puts octets behind it.
+/// Changes one octet, cuts the end off, or puts octets after it.
 fn change(rng: &mut Pcg32, out: &mut Vec<u8>) -> Result<(), AllocError> {
     let at = (rng.next_u32() % 300) as usize;
     let octet = (rng.next_u32() % 256) as u8;

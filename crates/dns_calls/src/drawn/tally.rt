@@ -148,7 +148,7 @@ impl Tally {
         Ok(tally)
     }
 
-    /// Each count behind its name.
+    /// Each count after its name.
     pub fn counts(&self) -> [(&'static str, u32); 16] {
         [
             ("messages", self.messages),

@@ -20,7 +20,7 @@ use std::io::{BufRead, BufReader, Read};
 use std::rt::Clock;
 use streams::{ReadFailed, Source};
 
-/// A reader of messages behind their lengths (RFC 1035, section 4.2.2), which reads ahead of what it hands out.
+/// A reader of messages preceded by their lengths (RFC 1035, section 4.2.2), which reads ahead of what it hands out.
 ///
 /// If a message has not come whole `PATIENCE_SECONDS` after the reader first waited for it, the read fails, which ends the
 /// connection. If the stop flag is set where a message would begin, the connection is at its end.
@@ -50,7 +50,7 @@ impl<'a, R: Clock, F: StopFlag, S: Read + Timeouts + Drop> FrameReader<'a, R, F,
         Ok(FrameReader {
             rt,
             stop,
-            // Reads ahead the longest message behind its length, or many short ones.
+            // Reads ahead the longest message preceded by its length, or many short ones.
             stream: BufReader::with_capacity(alloc, MOST_FRAMED, stream)?,
             spot: Spot::Beginning,
             deadline: None,

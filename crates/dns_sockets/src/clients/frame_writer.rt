@@ -12,7 +12,7 @@ use std::io::Write;
 use std::rt::Clock;
 use streams::CountedWriter;
 
-/// A writer of messages behind their lengths (RFC 1035, section 4.2.2).
+/// A writer of messages preceded by their lengths (RFC 1035, section 4.2.2).
 ///
 /// If a message has not left whole `PATIENCE_SECONDS` after its first write, the write fails, which ends the connection.
 pub type FrameWriter<'a, R, S> = CountedWriter<StreamWriter<'a, R, S>>;

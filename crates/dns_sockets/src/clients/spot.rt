@@ -1,4 +1,4 @@
-//! The place of an octet of a connection, whose messages are each behind a length in two octets (RFC 1035, section 4.2.2).
+//! The place of an octet of a connection, whose messages are each preceded by a length in two octets (RFC 1035, section 4.2.2).
 
 ghost use Rattle.std.specs.Prelude.{◌≡◌, ◌<◌, ◌≤◌, ◌⊎◌, length, take};
 ghost use Rattle.dns_sockets.specs.declared.clients.spot.Spot.TheVariants.{Beginning};
@@ -27,7 +27,7 @@ impl Spot {
         }
     }
 
-    /// The place of the next octet, behind this one.
+    /// The place of the next octet, after this one.
     fn behind(self, octet: u8) -> Spot
         ensures { result ≡ spot_behind self octet }
     {
@@ -38,7 +38,7 @@ impl Spot {
         }
     }
 
-    /// The place of the next octet, behind all of these.
+    /// The place of the next octet, after all of these.
     pub(crate) fn after(self, octets: &[u8]) -> Spot
         ensures { result ≡ spot_after self octets.now }
     {

@@ -1,4 +1,4 @@
-//! A query behind its length, and the count of octets that have left.
+//! A query preceded by its length, and the count of octets that have left.
 
 ghost use Rattle.std.specs.Prelude.{◌≡◌, ◌↔◌, ◌<◌, ◌≤◌, ◌⊎◌, length, slice_range, vec_len, IsTrue, IfOk, IfErr};
 ghost use Rattle.std.specs.Io.KnownBytes.{Appends};
@@ -12,7 +12,7 @@ use std::alloc::Global;
 use std::io;
 use std::io::{ErrorKind, Write};
 
-/// A query behind its length, and the count of octets that have left.
+/// A query preceded by its length, and the count of octets that have left.
 #[derive(Drop)]
 pub(crate) struct FramedQuery {
     octets: Vec<u8>,

@@ -1,11 +1,11 @@
-//! The octets of a reply that have come, behind its length.
+//! The octets of a reply that have come, preceded by its length.
 
 ghost use Rattle.std.specs.Prelude.{◌≡◌, ◌↔◌, ◌<◌, ◌≤◌, [], length, IsTrue, IfOk, IfSome, IsNone, OnOk};
 ghost use Rattle.std.specs.Io.{StartsWith, appended_bytes};
 ghost use Rattle.std.specs.Io.KnownBytes.{Consumes};
 ghost use Rattle.front_workers.specs.declared.limits.TheConstants.{MOST_MESSAGE};
 ghost use Rattle.front_workers.specs.Framing.{framed};
-ghost use Rattle.dns_sockets.specs.Wanting.{framed_size, octets_wanting, IsWhole};
+ghost use Rattle.dns_sockets.specs.Wanting.{framed_size, octets_wanting, IsWholeFrame};
 
 use crate::waiting::{MOST_CALLS, would_wait};
 use front_workers::{MOST_MESSAGE, size_of};
@@ -13,7 +13,7 @@ use std::alloc::Global;
 use std::io;
 use std::io::{ErrorKind, Read};
 
-/// The octets that have come of a reply behind its length, and none of what follows it.
+/// The octets that have come of a reply preceded by its length, and none of what follows it.
 #[derive(Drop)]
 pub(crate) struct FramedReply {
     octets: Vec<u8>,
@@ -23,7 +23,7 @@ pub(crate) struct FramedReply {
 /// The number of octets that a message still lacks, if these came.
 fn wanting(came: &[u8]) -> usize
     ensures wanting { result ≡ octets_wanting came.now }
-    ensures none { length came.now ≤ framed_size came.now → ((result ≡ 0) ↔ IsWhole came.now) }
+    ensures none { length came.now ≤ framed_size came.now → ((result ≡ 0) ↔ IsWholeFrame came.now) }
 {
     match came {
         [] => 2,
@@ -32,11 +32,11 @@ fn wanting(came: &[u8]) -> usize
     }
 }
 
-/// The message in these octets, or None if they are no whole message behind its length.
+/// The message in these octets, or None if they are no whole message preceded by its length.
 fn whole(came: &[u8]) -> Option<&[u8]>
     ensures message { IfSome result (λ message. came.now ≡ framed message.now) }
     ensures within { IfSome result (λ message. length message.now ≤ MOST_MESSAGE) }
-    ensures none { IsNone result → ¬ (IsWhole came.now) }
+    ensures none { IsNone result → ¬ (IsWholeFrame came.now) }
 {
     let [high, low, message @ ..] = came else {
         return None;
@@ -57,14 +57,14 @@ impl FramedReply {
         }
     }
 
-    /// Reads as much as the connection has, and nothing behind the reply: whether the reply has come whole. It fails if a read
+    /// Reads as much as the connection has, and nothing after the reply: whether the reply has come whole. It fails if a read
     /// fails, if the connection ends or no memory is left, or after `MOST_CALLS` calls.
     pub fn read_on<S: Read>(&mut self, stream: &mut S, room: &mut [u8]) -> io::Result<bool>
         requires { 0 < length room.old }
         ensures came { StartsWith self.new.octets.items self.old.octets.items }
         ensures read { OnOk result
             (Consumes (S.remaining stream.old) (S.remaining stream.new) (appended_bytes self.old.octets.items self.new.octets.items)) }
-        ensures whole { IfOk result (λ is_whole. IsTrue is_whole ↔ IsWhole self.new.octets.items) }
+        ensures whole { IfOk result (λ is_whole. IsTrue is_whole ↔ IsWholeFrame self.new.octets.items) }
     {
         for _ in 0..MOST_CALLS {
             let most = wanting(&self.octets).min(room.len());
@@ -88,7 +88,7 @@ impl FramedReply {
     pub fn message(&self) -> Option<&[u8]>
         ensures message { IfSome result (λ message. self.now.octets.items ≡ framed message.now) }
         ensures within { IfSome result (λ message. length message.now ≤ MOST_MESSAGE) }
-        ensures none { IsNone result → ¬ (IsWhole self.now.octets.items) }
+        ensures none { IsNone result → ¬ (IsWholeFrame self.now.octets.items) }
     {
         whole(&self.octets)
     }

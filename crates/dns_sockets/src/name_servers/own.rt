@@ -1,4 +1,4 @@
-//! The places that the service never asks: addresses that are no host's, and its own.
+//! The places that the service never asks: addresses that belong to no host, and its own.
 
 ghost use Rattle.std.specs.Prelude.{◌↔◌, IsTrue, OnErr, OnOk};
 ghost use Rattle.std.specs.Net.Socket.{socket_ip};
@@ -21,7 +21,7 @@ fn is_no_host_v6(ip: Ipv6Addr) -> bool
     ip.is_unspecified() || ip.is_multicast()
 }
 
-/// Whether an address is no host's: of "this network", multicast, reserved or the limited broadcast address. Asking there would
+/// Whether an address belongs to no host: of "this network", multicast, reserved or the limited broadcast address. Asking there would
 /// reach this machine, or many.
 pub(crate) fn is_no_host(ip: IpAddr) -> bool
     ensures { IsTrue result ↔ IsNoHost ip }
@@ -55,8 +55,8 @@ fn never_asked() -> io::Error {
     io::Error::from(ErrorKind::AddrNotAvailable)
 }
 
-/// Fails if the address of a place is no host's. This is tried before there is a socket.
-pub(crate) fn want_host(place: SocketAddr) -> io::Result<()>
+/// Fails if the address of a place belongs to no host. This is tried before there is a socket.
+pub(crate) fn check_host(place: SocketAddr) -> io::Result<()>
     ensures host { OnOk result (¬ (IsNoHost (socket_ip place))) }
     ensures none { OnErr result (IsNoHost (socket_ip place)) }
 {
@@ -67,7 +67,7 @@ pub(crate) fn want_host(place: SocketAddr) -> io::Result<()>
 }
 
 /// Fails if a service that listens at `service` would ask itself, if it sent a query from `from` to `place`.
-pub(crate) fn want_other(service: SocketAddr, from: SocketAddr, place: SocketAddr) -> io::Result<()>
+pub(crate) fn check_other(service: SocketAddr, from: SocketAddr, place: SocketAddr) -> io::Result<()>
     ensures other { OnOk result (¬ (IsOwn service from place)) }
     ensures own { OnErr result (IsOwn service from place) }
 {

@@ -12,7 +12,7 @@ ghost use Rattle.dns_sockets.specs.Own.{MayAskAt, MayAskServer};
 use crate::deadline::Deadline;
 use crate::lengths::MOST_FRAMED;
 use crate::name_servers::fitting::fits;
-use crate::name_servers::own::{want_host, want_other};
+use crate::name_servers::own::{check_host, check_other};
 use crate::name_servers::place::place_of;
 use crate::name_servers::server_net::ServerNet;
 use crate::name_servers::timed::Timed;
@@ -34,10 +34,10 @@ const MOST_DATAGRAMS: u32 = 65_536;
 /// An exchange may take `PATIENCE_SECONDS`, connecting included. A reply fits if it has the query's identifier and question.
 /// - Over UDP the socket is connected to the server (RFC 5452, section 9.2), at a port that the system draws. Datagrams that do
 ///   not fit the query are dropped.
-/// - Over TCP each message is behind its length in two octets (RFC 1035, section 4.2.2). The exchange fails if the first message
+/// - Over TCP each message is preceded by its length in two octets (RFC 1035, section 4.2.2). The exchange fails if the first message
 ///   does not fit.
 ///
-/// An exchange with an address that is no host's, or with the service itself, fails at once. Each exchange that fails is logged.
+/// An exchange with an address that belongs to no host, or with the service itself, fails at once. Each exchange that fails is logged.
 #[derive(Drop)]
 pub struct SocketExchange<'a, R> {
     rt: &'a R,
@@ -83,10 +83,10 @@ fn ask_udp<R: ServerNet + Clock>(
     ensures asked { IfOk result (λ count. ByDatagrams R.opened R.sent R.came place query.now (take count room.new)) }
     ensures may_ask { OnOk result (MayAskAt R.opened R.is_at service place) }
 {
-    want_host(place)?;
+    check_host(place)?;
     let deadline = Deadline::set(rt)?;
     let socket = rt.open_socket(place)?;
-    want_other(service, rt.place_of_socket(&socket)?, place)?;
+    check_other(service, rt.place_of_socket(&socket)?, place)?;
     rt.send_datagram(&socket, query)?;
     for _ in 0..MOST_DATAGRAMS {
         match rt.take_datagram(&socket, room, deadline.left(rt)?) {
@@ -113,7 +113,7 @@ fn put(room: &mut [u8], at: usize, octets: &[u8])
     room[at..at + octets.len()].copy_from_slice(octets);
 }
 
-/// Sends a message behind its length, in one piece (RFC 7766, section 8).
+/// Sends a message preceded by its length, in one piece (RFC 7766, section 8).
 fn send_framed<W: Write>(stream: &mut W, message: &[u8], room: &mut [u8]) -> io::Result<()>
     requires { length room.old ≡ MOST_FRAMED }
     ensures { OnOk result (Appends (W.contents stream.old) (W.contents stream.new) (framed message.now)) }
@@ -127,7 +127,7 @@ fn send_framed<W: Write>(stream: &mut W, message: &[u8], room: &mut [u8]) -> io:
     stream.write_all(&room[..2 + size])
 }
 
-/// Reads a message behind its length: the number of octets at the front of the room that it fills.
+/// Reads a message preceded by its length: the number of octets at the front of the room that it fills.
 fn read_framed<S: Read>(stream: &mut S, room: &mut [u8]) -> io::Result<usize>
     requires { length room.old ≡ MOST_FRAMED }
     ensures few { IfOk result (λ count. count ≤ MOST_MESSAGE) }
@@ -156,10 +156,10 @@ fn ask_tcp<R: ServerNet + Clock>(
         ByStream R.connected R.Connection.contents R.Connection.remaining place query.now (take count room.new)) }
     ensures may_ask { OnOk result (MayAskAt R.connected R.connected_at service place) }
 {
-    want_host(place)?;
+    check_host(place)?;
     let deadline = Deadline::set(rt)?;
     let stream = rt.open_connection(place, deadline.left(rt)?)?;
-    want_other(service, rt.place_of_connection(&stream)?, place)?;
+    check_other(service, rt.place_of_connection(&stream)?, place)?;
     let mut stream = Timed {
         rt,
         stream,
@@ -197,7 +197,7 @@ fn ask_over<R: ServerNet + Clock>(
 }
 
 impl<'a, R: ServerNet + Clock + Log> Exchange for SocketExchange<'a, R> {
-    // The reply fits the query, and came from the server's place, over the transport, behind the query. The service may ask
+    // The reply fits the query, and came from the server's place, over the transport, after the query. The service may ask
     // that server, and has not moved.
     ghost asks = { λ before server over query came after. (after.service ≡ before.service)
         × IfOk came (λ reply. (length reply ≤ MOST_MESSAGE) × Fits query reply

@@ -7,11 +7,11 @@ ghost use Rattle.front_workers.specs.declared.limits.TheConstants.{MOST_MESSAGE}
 ghost use Rattle.front_workers.specs.Framing.{framed};
 ghost use Rattle.dns_sockets.specs.Own.{IsNoLine, MayAsk};
 ghost use Rattle.dns_sockets.specs.Line.{IsDone, Moves, WentFrom, WentOn};
-ghost use Rattle.dns_sockets.specs.Wanting.{IsWhole};
+ghost use Rattle.dns_sockets.specs.Wanting.{IsWholeFrame};
 
 use crate::name_servers::framed_query::FramedQuery;
 use crate::name_servers::framed_reply::FramedReply;
-use crate::name_servers::own::{want_host, want_other};
+use crate::name_servers::own::{check_host, check_other};
 use crate::name_servers::ready_net::{ReadyConnection, ReadyNet};
 use mio::{Registry, Token};
 use std::alloc::Global;
@@ -20,7 +20,7 @@ use std::io::ErrorKind;
 use std::marker::Model;
 use std::net::SocketAddr;
 
-/// A connection on which one query goes out and one reply comes in, each behind its length. Contracts see the connection, the
+/// A connection on which one query goes out and one reply comes in, each preceded by its length. Contracts see the connection, the
 /// octets that have left and those that have come.
 #[derive(Drop)]
 pub struct TcpLine<S> {
@@ -44,7 +44,7 @@ impl<S> Model for TcpLine<S> {
 
 impl<S: ReadyConnection> TcpLine<S> {
     /// Begins to connect, watched by the poll. It fails if the query is longer than a message may be, if no memory or no
-    /// descriptor is left, if the system knows no way to the place, if the address is no host's, or if the service, which listens
+    /// descriptor is left, if the system knows no way to the place, if the address belongs to no host, or if the service, which listens
     /// at `service`, would ask itself.
     pub fn begin<R: ReadyNet<Connection = S>>(
         rt: &R,
@@ -65,10 +65,10 @@ impl<S: ReadyConnection> TcpLine<S> {
         ensures failed { IfErr result (λ error. (MOST_MESSAGE < length query.now) ⊎ ((error_kind error ≡ ErrorKind.OutOfMemory)
             ⊎ IsNoLine R.failed S.connected S.is_at S.failed service place)) }
     {
-        want_host(place)?;
+        check_host(place)?;
         let query = FramedQuery::new(alloc, query)?;
         let stream = rt.begin_connection(registry, token, place)?;
-        want_other(service, stream.place()?, place)?;
+        check_other(service, stream.place()?, place)?;
         Ok(TcpLine {
             stream,
             query,
@@ -100,7 +100,7 @@ impl<S: ReadyConnection> TcpLine<S> {
     pub fn reply(&self) -> Option<&[u8]>
         ensures reply { IfSome result (λ reply. self.now.came ≡ framed reply.now) }
         ensures within { IfSome result (λ reply. length reply.now ≤ MOST_MESSAGE) }
-        ensures none { IsNone result → ¬ (IsWhole self.now.came) }
+        ensures none { IsNone result → ¬ (IsWholeFrame self.now.came) }
     {
         self.reply.message()
     }

@@ -7,7 +7,7 @@ ghost use Rattle.dns_sockets.specs.Fits.{Fits};
 ghost use Rattle.dns_sockets.specs.Own.{IsNoLine, MayAsk};
 
 use crate::name_servers::fitting::fits;
-use crate::name_servers::own::{want_host, want_other};
+use crate::name_servers::own::{check_host, check_other};
 use crate::name_servers::ready_net::{ReadyNet, ReadySocket};
 use crate::waiting::would_wait;
 use front_workers::MOST_MESSAGE;
@@ -16,7 +16,7 @@ use std::io;
 use std::marker::Model;
 use std::net::SocketAddr;
 
-/// The most datagrams that one call of `hear` takes. If others wait behind them, the poll reports them once more.
+/// The most datagrams that one call of `hear` takes. If others wait after them, the poll reports them once more.
 const MOST_LOOKED_AT: u32 = 64;
 
 /// The socket of one exchange, connected to the server (RFC 5452, section 9.2): one query went out by it, and the reply comes to
@@ -34,7 +34,7 @@ impl<S> Model for UdpLine<S> {
 
 impl<S: ReadySocket> UdpLine<S> {
     /// Sends one query, in one datagram, by a new socket. It fails if no descriptor is left, if the system knows no way to the
-    /// place or cannot send, if the address is no host's, or if the service, which listens at `service`, would ask itself.
+    /// place or cannot send, if the address belongs to no host, or if the service, which listens at `service`, would ask itself.
     pub fn begin<R: ReadyNet<Datagrams = S>>(
         rt: &R,
         registry: &Registry,
@@ -49,15 +49,15 @@ impl<S: ReadySocket> UdpLine<S> {
         ensures may_ask { IfOk result (MayAsk S.is_at service place) }
         ensures failed { OnErr result (IsNoLine R.failed S.opened S.is_at S.failed service place) }
     {
-        want_host(place)?;
+        check_host(place)?;
         let mut socket = rt.open_socket(registry, token, place)?;
-        want_other(service, socket.place()?, place)?;
+        check_other(service, socket.place()?, place)?;
         socket.send_datagram(query)?;
         Ok(UdpLine { socket })
     }
 
     /// Takes the datagrams that came, up to one that fits the query: the number of octets at the front of the room that it fills.
-    /// None if none of them fits. If others wait behind `MOST_LOOKED_AT` that do not fit, the poll reports them once more.
+    /// None if none of them fits. If others wait after `MOST_LOOKED_AT` that do not fit, the poll reports them once more.
     pub fn hear(
         &mut self,
         registry: &Registry,
@@ -87,7 +87,7 @@ impl<S: ReadySocket> UdpLine<S> {
                 }
             }
         }
-        // The poll reports once more what waits behind these.
+        // The poll reports once more what waits after these.
         self.socket.report_again(registry, token)?;
         Ok(None)
     }

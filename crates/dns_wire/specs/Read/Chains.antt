@@ -4,13 +4,13 @@ use Rattle.dns_wire.specs.declared.read.place.Next.TheVariants.{Pointer}
 use Rattle.dns_wire.specs.Read.Place.{next_at}
 
 -- Pointers lead from a place to another, or both are the same place.
-pub data Leads (m : List ℕ) : ℕ → ℕ → Type 0 where
-  there : {at end : ℕ} → end ≡ at → Leads m at end
-  back : {at to end : ℕ} → next_at m at ≡ Pointer to → to < at → Leads m to end → Leads m at end
+pub data PointersLead (m : List ℕ) : ℕ → ℕ → Type 0 where
+  there : {at end : ℕ} → end ≡ at → PointersLead m at end
+  back : {at to end : ℕ} → next_at m at ≡ Pointer to → to < at → PointersLead m to end → PointersLead m at end
 
 -- A list has for a place either 0 or one more than a place to which pointers lead from there.
 abbrev pub IsNotedAt : List ℕ → List ℕ → ℕ → Type 0
-IsNotedAt m ends at = 0 < get_or ends at 0 → Leads m at (get_or ends at 0 - 1)
+IsNotedAt m ends at = 0 < get_or ends at 0 → PointersLead m at (get_or ends at 0 - 1)
 
 -- The list has such a value for each place.
 pub record AreEnds (m ends : List ℕ) : Type 0 where

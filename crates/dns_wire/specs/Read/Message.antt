@@ -74,7 +74,7 @@ questions_read m count at = section_read (λ i. question_read m i) count at
 abbrev pub records_read : List ℕ → ℕ → ℕ → Result (List (Classed Record) × ℕ) WireFault
 records_read m count at = section_read (λ i. record_read m i) count at
 
--- the sections behind a header, and the place after them
+-- the sections after a header, and the place after them
 unfoldable pub sections_read : List ℕ → Result (Message × ℕ) WireFault
 sections_read m = do
   questions ← questions_read m (question_count m) HEADER_OCTETS
@@ -87,7 +87,7 @@ sections_read m = do
 abbrev pub whole : List ℕ → Message × ℕ → Result Message WireFault
 whole m found = if found.1 == length m then Ok found.0 else Err Trailing
 
--- the message behind a whole header
+-- the message after a whole header
 abbrev pub message_behind : List ℕ → Result Message WireFault
 message_behind m = sections_read m >>= whole m
 

@@ -34,7 +34,7 @@ SpelledName m at after labels = SpelledIn m m at after labels
 -- ---- the first fault of a name at a place
 
 -- A name that began at `start` and has taken `used` octets can't go on at a place of a front, in a run of labels that began
--- at `run`: this is its first fault. Reading past the front gives the fault `ending`; behind a pointer the whole message is
+-- at `run`: this is its first fault. Reading past the front gives the fault `ending`; after a pointer the whole message is
 -- the front, and reading past it gives `Short`. A label of n octets takes one more for its length, and leaves one for the
 -- zero octet. A label too long for the name is `BadName` even if its octets are missing too.
 pub data NameFails (m : List ℕ) (start : ℕ) : List ℕ → WireFault → ℕ → ℕ → ℕ → WireFault → Type 0 where

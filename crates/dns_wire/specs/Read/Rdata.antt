@@ -1,5 +1,5 @@
 -- RDATA by class and type (RFC 1035, sections 3.3 and 3.4; RFC 3596, section 2.2; RFC 2782). Here `front` is the front of
--- a message `m` that ends with the RDATA, and `at` is where the RDATA begins. A name's own octets are within it; behind a
+-- a message `m` that ends with the RDATA, and `at` is where the RDATA begins. A name's own octets are within it; after a
 -- pointer the name may be anywhere in the message.
 use Rattle.std.specs.Prelude.{◌≡◌, ℕ, zero, suc, ◌+◌, ◌≤◌, List, [], ◌∷◌, ◌++◌, length, take, drop, Option, Some, None, Result, Ok, Err, nat_lt, ◌==◌, if◌then◌else◌}
 use Rattle.std.specs.List.{flat_map}
@@ -92,7 +92,7 @@ soa_read m front at =
     data_name_read m front at at >>= λ primary. data_name_read m front at primary.1 >>= λ mailbox. let numbers = mailbox.1 in
     ending front at (numbers + 20) (Soa primary.0 mailbox.0 (u32_at front numbers) (u32_at front (numbers + 4)) (u32_at front (numbers + 8)) (u32_at front (numbers + 12)) (u32_at front (numbers + 16)))
 
--- the string behind the length at the front, and the octets after it
+-- the string preceded by the length at the front, and the octets after it
 abbrev pub first_string : List ℕ → Option (List ℕ × List ℕ)
 first_string [] = None
 first_string (n ∷ octets) = if nat_lt (length octets) n then None else Some (take n octets, drop n octets)

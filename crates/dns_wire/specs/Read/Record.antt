@@ -61,7 +61,7 @@ frame_read m fixed =
     if nat_lt (length m) (data_end m fixed) then Err Short else
     Ok (record { begin = data_begin fixed; end = data_end m fixed; form = form_at m fixed })
 
--- the record behind its owner, and the place after it
+-- the record after its owner, and the place after it
 abbrev pub record_behind : List ℕ → Labels × ℕ → Result (Classed Record × ℕ) WireFault
 record_behind m owner = frame_read m owner.1 >>= λ frame. data_read m (take frame.end m) frame.begin frame.form >>= record_with m owner
 

@@ -8,7 +8,7 @@ use Rattle.dns_wire.specs.Write.Number.{u16_octets, u32_octets}
 use Rattle.dns_wire.specs.Write.Name.{owner_octets}
 use Rattle.dns_wire.specs.Write.Rdata.{data_octets}
 
--- the fields behind the owner: type, class, TTL, the length of the data, and the data
+-- the fields after the owner: type, class, TTL, the length of the data, and the data
 abbrev pub behind_owner_octets : Classed Record → List ℕ
 behind_owner_octets r =
     u16_octets r.item.kind ++ u16_octets r.class ++ u32_octets r.item.ttl ++ u16_octets (length (data_octets r.item.body)) ++ data_octets r.item.body

@@ -1,7 +1,7 @@
 //! Chains of pointers. Their ends are noted once if a message may have many names.
 
 ghost use Rattle.std.specs.Prelude.{◌≡◌, ◌≤◌, ◌<◌, ◌-◌, ℕ, length};
-ghost use Rattle.dns_wire.specs.Read.Chains.{Leads, IsNotedAt, AreEnds};
+ghost use Rattle.dns_wire.specs.Read.Chains.{PointersLead, IsNotedAt, AreEnds};
 
 use crate::limits::{HEADER_OCTETS, MOST_OCTETS};
 use crate::read::number::u16_at;
@@ -60,7 +60,7 @@ impl<'a> Wire<'a> {
 
     /// A place to which pointers lead from this one. If all chains are noted, that place has no pointer back.
     pub(crate) fn end_of(&self, at: usize) -> usize
-        ensures { Leads self.now at result }
+        ensures { PointersLead self.now at result }
     {
         end_in(self.octets, self.ends, at)
     }
@@ -69,7 +69,7 @@ impl<'a> Wire<'a> {
 /// The place that is noted for one, or that place itself.
 fn end_in(octets: &[u8], ends: &[u16], at: usize) -> usize
     requires { IsNotedAt octets.now ends.now at }
-    ensures { Leads octets.now at result }
+    ensures { PointersLead octets.now at result }
 {
     match ends.get(at) {
         None | Some(0) => at,
@@ -81,7 +81,7 @@ fn end_in(octets: &[u8], ends: &[u16], at: usize) -> usize
 fn note_of(octets: &[u8], ends: &[u16], at: usize) -> u16
     requires reach { at < POINTER_REACH }
     requires noted { (place : ℕ) → place < at → IsNotedAt octets.now ends.now place }
-    ensures { 0 < result → Leads octets.now at (result - 1) }
+    ensures { 0 < result → PointersLead octets.now at (result - 1) }
 {
     match next_at(octets, at) {
         Next::Pointer(to) if to < at => (end_in(octets, ends, to) + 1) as u16,

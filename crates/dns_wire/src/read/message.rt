@@ -13,7 +13,7 @@ use crate::read::number::u16_at;
 use crate::read::section::section_at;
 use std::alloc::Global;
 
-/// The message of a whole header and the sections behind it, which end with the octets.
+/// The message of a whole header and the sections after it, which end with the octets.
 #[tactic(auto, unfolding(crate::specs::Read::Message::sections_read))]
 fn message_in(alloc: Global, message: &Wire<'_>) -> Result<Message, WireFault>
     requires { HEADER_OCTETS ≤ length message.now }

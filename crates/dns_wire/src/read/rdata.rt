@@ -162,7 +162,7 @@ fn octets_from(alloc: Global, front: &[u8], at: usize) -> Result<Octets, AllocEr
     Ok(Octets::new(octets))
 }
 
-/// The string behind the length at the front, and the octets after it.
+/// The string preceded by the length at the front, and the octets after it.
 pub(crate) fn split_string(octets: &[u8]) -> Option<(&[u8], &[u8])>
     ensures value { option_map (λ r. (r.0.now, r.1.now)) result ≡ first_string octets.now }
     ensures less { IfSome result (λ r. length r.1.now < length octets.now) }
@@ -175,7 +175,7 @@ pub(crate) fn split_string(octets: &[u8]) -> Option<(&[u8], &[u8])>
     Some(rest.split_at(n))
 }
 
-/// One or more strings, each behind its length.
+/// One or more strings, each preceded by its length.
 fn txt_at(alloc: Global, front: &[u8], at: usize) -> Result<Data, WireFault>
     requires { at ≤ length front.now }
     ensures { Gives result (txt_read front.now at) }

@@ -9,7 +9,7 @@ ghost use Rattle.dns_wire.specs.Server.Replying.{fault_head, head_alone, cut_to}
 ghost use Rattle.dns_wire.specs.Write.Header.{header_octets};
 ghost use Rattle.dns_wire.specs.Write.Message.{octets_with};
 
-use crate::limits::{HEADER_OCTETS, UDP_OCTETS};
+use crate::limits::{HEADER_OCTETS, MOST_UDP_OCTETS};
 use crate::message::Head;
 use crate::rcode::Rcode;
 use crate::read::header::head_in;
@@ -46,9 +46,9 @@ pub fn fault_reply(octets: &[u8], rcode: Rcode) -> Option<[u8; HEADER_OCTETS]>
 /// Truncates a reply to its header, with TC set, and the question.
 #[tactic(auto, unfolding(crate::specs::Write::Message::octets_with))]
 fn cut_to_question(reply: &mut Vec<u8>, query: &Query)
-    requires { UDP_OCTETS < length reply.old.items }
+    requires { MOST_UDP_OCTETS < length reply.old.items }
     ensures cut { reply.new.items ≡ octets_with query.now.octets (cut_to query.now reply.old.items) }
-    ensures short { length reply.new.items ≤ UDP_OCTETS }
+    ensures short { length reply.new.items ≤ MOST_UDP_OCTETS }
     ensures name { IsName query.now.question.owner }
     ensures head { IsHead (record (head_in reply.old.items) { tc = true }) }
 {
@@ -64,12 +64,13 @@ fn cut_to_question(reply: &mut Vec<u8>, query: &Query)
 /// Truncates a reply to the query to its header, with TC set, and the question, if it is too long for UDP (RFC 2181,
 /// section 9). It takes no memory.
 pub fn cut_for_udp(reply: &mut Vec<u8>, query: &Query)
-    ensures bound { length reply.new.items ≤ UDP_OCTETS }
-    ensures short { length reply.old.items ≤ UDP_OCTETS → reply.new.items ≡ reply.old.items }
-    ensures cut { UDP_OCTETS < length reply.old.items → reply.new.items ≡ octets_with query.now.octets (cut_to query.now reply.old.items) }
-    ensures spelled { UDP_OCTETS < length reply.old.items → SpelledMessage reply.new.items (cut_to query.now reply.old.items) }
+    ensures bound { length reply.new.items ≤ MOST_UDP_OCTETS }
+    ensures short { length reply.old.items ≤ MOST_UDP_OCTETS → reply.new.items ≡ reply.old.items }
+    ensures cut { MOST_UDP_OCTETS < length reply.old.items →
+        reply.new.items ≡ octets_with query.now.octets (cut_to query.now reply.old.items) }
+    ensures spelled { MOST_UDP_OCTETS < length reply.old.items → SpelledMessage reply.new.items (cut_to query.now reply.old.items) }
 {
-    if reply.len() > UDP_OCTETS {
+    if reply.len() > MOST_UDP_OCTETS {
         cut_to_question(reply, query);
     }
 }

@@ -64,7 +64,7 @@ fn is_soa(message: &Wire<'_>, end: usize, at: usize) -> bool
     }
 }
 
-/// Whether the front ends with one string or more, each behind its length.
+/// Whether the front ends with one string or more, each preceded by its length.
 fn are_strings(front: &[u8], at: usize) -> bool
     requires { at ≤ length front.now }
     ensures { result ≡ is_ok (txt_read front.now at) }

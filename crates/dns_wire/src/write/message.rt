@@ -1,4 +1,4 @@
-//! The sections of a message as octets, behind what `out` holds.
+//! The sections of a message as octets, after what `out` holds.
 
 ghost use Rattle.std.specs.Prelude.{◌≡◌, ◌++◌, ◌≤◌, ◌<◌, ◌+◌, length, OnOk};
 ghost use Rattle.std.specs.List.{AllByRecursion};
@@ -33,7 +33,7 @@ fn push_section<S: Section>(
     Ok(())
 }
 
-/// The sections behind the questions. The first question, if there is one, has this name.
+/// The sections after the questions. The first question, if there is one, has this name.
 pub(crate) fn push_sections<A: Section, B: Section, C: Section>(
     out: &mut Vec<u8>,
     first: Option<&Name>,

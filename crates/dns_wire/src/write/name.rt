@@ -1,4 +1,4 @@
-//! Names as octets, each behind what `out` holds.
+//! Names as octets, each after what `out` holds.
 
 ghost use Rattle.std.specs.Prelude.{◌≡◌, ◌++◌, ◌<◌, ◌+◌, OnOk};
 ghost use Rattle.std.specs.Option.{option_copied};

@@ -1,4 +1,4 @@
-//! Numbers as octets, the high octet first, behind what `out` holds.
+//! Numbers as octets, the high octet first, after what `out` holds.
 
 ghost use Rattle.std.specs.Prelude.{◌≡◌, ◌++◌, ◌<◌, ◌^◌, ◌+◌, OnOk};
 ghost use Rattle.dns_wire.specs.Write.Number.{u16_octets, u32_octets};

@@ -1,4 +1,4 @@
-//! Questions as octets, each behind what `out` holds.
+//! Questions as octets, each after what `out` holds.
 
 ghost use Rattle.std.specs.Prelude.{◌≡◌, ◌++◌, ◌<◌, ◌+◌, OnOk};
 ghost use Rattle.std.specs.List.{flat_map, AllByRecursion};

@@ -1,4 +1,4 @@
-//! RDATA as octets, behind what `out` holds. If memory runs out, a part of them may have been written.
+//! RDATA as octets, after what `out` holds. If memory runs out, a part of them may have been written.
 
 ghost use Rattle.std.specs.Prelude.{◌≡◌, ◌++◌, ◌<◌, length, OnOk};
 ghost use Rattle.std.specs.List.{flat_map, AllByRecursion};
@@ -21,7 +21,7 @@ fn push_octets(out: &mut Vec<u8>, octets: &[u8]) -> Result<(), AllocError>
     out.extend_from_slice(octets)
 }
 
-/// Strings, each behind its length.
+/// Strings, each preceded by its length.
 fn push_strings(out: &mut Vec<u8>, strings: &[Octets]) -> Result<(), AllocError>
     requires { AllByRecursion (λ octets. length octets < 256) strings.now }
     ensures octets { OnOk result (out.new.items ≡ out.old.items ++ flat_map with_length strings.now) }

@@ -1,4 +1,4 @@
-//! Records as octets, each behind what `out` holds. If memory runs out, a part of them may have been written.
+//! Records as octets, each after what `out` holds. If memory runs out, a part of them may have been written.
 
 ghost use Rattle.std.specs.Prelude.{◌≡◌, ◌++◌, ◌≤◌, ◌<◌, length, OnOk};
 ghost use Rattle.std.specs.List.{AllByRecursion};
@@ -18,7 +18,7 @@ use crate::write::size::data_len;
 use dns_name::Name;
 use std::alloc::AllocError;
 
-/// The fields of a record behind its owner.
+/// The fields of a record after its owner.
 fn push_behind_owner(out: &mut Vec<u8>, entry: &LentRecord<'_>) -> Result<(), AllocError>
     requires form { HasItsForm entry.now }
     requires short { length (data_octets entry.now.item.body) ≤ MOST_OCTETS }

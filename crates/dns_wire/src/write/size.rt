@@ -33,7 +33,7 @@ fn sum_of(before: usize, more: usize) -> Option<usize>
     Some(before + more)
 }
 
-/// Strings, each behind its length.
+/// Strings, each preceded by its length.
 fn strings_len(strings: &[Octets]) -> Option<usize>
     ensures { result ≡ within (length (flat_map with_length strings.now)) }
 {
@@ -87,7 +87,7 @@ fn record_len(first: Option<&Name>, entry: &LentRecord<'_>) -> Option<usize>
     sum_of(body, owner + 10)
 }
 
-/// A part of a section, behind this many octets.
+/// A part of a section, after this many octets.
 fn part_len<S: Section>(
     before: usize,
     first: Option<&Name>,
@@ -106,7 +106,7 @@ fn part_len<S: Section>(
     Some(total)
 }
 
-/// A section, behind this many octets.
+/// A section, after this many octets.
 fn section_len<S: Section>(before: usize, first: Option<&Name>, section: &S) -> Option<usize>
     requires few { before ≤ MOST_OCTETS }
     requires forms { AllByRecursion HasItsForm (in_order (S.parts section.now)) }
@@ -130,7 +130,7 @@ fn questions_len(questions: &[Classed<Question>]) -> Option<usize>
     Some(total)
 }
 
-/// All sections, behind this many octets.
+/// All sections, after this many octets.
 fn sections_len<A: Section, B: Section, C: Section>(
     before: usize,
     first: Option<&Name>,

@@ -29,7 +29,7 @@ impl Exchange for NoServers {
     }
 }
 
-/// A clock that stands.
+/// A clock that does not move.
 #[derive(Drop)]
 struct StillClock {
     moment: u64,

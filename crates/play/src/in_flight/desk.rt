@@ -13,7 +13,7 @@ pub trait LineDesk: Numbered + Drop {
     /// Begins anew with an empty book whose root has these servers.
     fn begin(&mut self, alloc: Global, hints: Vec<Addr>) -> Result<(), Stop>;
 
-    /// Hands a line of a script to the book behind a line with the moment, and writes the replies to both.
+    /// Hands a line of a script to the book after a line with the moment, and writes the replies to both.
     fn obey(&mut self, rt: &HostRuntime, moment: u64, line: &[u8]) -> Result<(), Stop>;
 }
 

@@ -7,7 +7,7 @@ use iterate::{AnswerSet, Soa};
 use ranked::{Body, Find, Scope};
 use std::alloc::Global;
 
-/// Writes `NAME TTL TYPE DATA` behind a bar.
+/// Writes `NAME TTL TYPE DATA` after a bar.
 fn push_listed(
     alloc: Global,
     owner: &Name,

@@ -66,7 +66,7 @@ pub fn came_words(alloc: Global, input: &Input) -> Result<Vec<u8>, NoMemory> {
     Ok(out)
 }
 
-/// `answer`, the RCODE, `aa` or `-`, the records of each set, and the SOA record behind `soa`; or `silent`.
+/// `answer`, the RCODE, `aa` or `-`, the records of each set, and the SOA record after `soa`; or `silent`.
 pub fn answer_words(alloc: Global, answer: &Answer) -> Result<Vec<u8>, NoMemory> {
     let Answer::Reply {
         rcode,

@@ -1,6 +1,6 @@
 //! What comes to a worker, as a line says.
 
-ghost use Rattle.front_workers.specs.Counts.{Counts};
+ghost use Rattle.front_workers.specs.Counts.{CountsFault};
 
 use crate::serve::pieces::PieceReader;
 use crate::serve::serving::tell_octets;
@@ -64,7 +64,7 @@ impl<'a> Arrivals<'a> {
     }
 
     fn next(&mut self) -> Result<Option<Vec<u8>>, DeviceFault>
-        ensures { Counts result self.old.failures self.new.failures }
+        ensures { CountsFault result self.old.failures self.new.failures }
     {
         match self.coming.pop() {
             None => Ok(None),

@@ -39,7 +39,7 @@ impl Servers {
         }
     }
 
-    /// Says this behind what it says already.
+    /// Says this after what it says already.
     pub fn say(&mut self, said: Said) -> Result<(), NoMemory> {
         self.said.push(said)?;
         Ok(())

@@ -1,6 +1,6 @@
 use Rattle.std.proofs.Common.{ℕ, List, Vec, Global, ap, sym, subst, ◌∙◌}
 use Rattle.std.specs.Map.{values_of}
-use Rattle.named_list.specs.Turn.{other_of, Fits}
+use Rattle.named_list.specs.Turn.{other_of, HasPlace}
 use Rattle.named_list.specs.declared.turn.Turn.{Turn}
 use Rattle.named_list.specs.declared.turn.Turn.TheVariants.{Other}
 use Rattle.named_list.proofs.KeyedLaws.{put-within, put-back, put-names, values-set, keyed-set, names_at}
@@ -20,7 +20,7 @@ returns-in-Other-clause-again g c =
     let es = c.args.things.now.entries in
     let old = c.index_mut.result.now in
     let at = c.index_mut.ensures.value in
-    let fits : Fits name_of (Other c.in-Other.place c.in-Other.thing) (values_of es) = subst (λ (turn : Turn _). Fits name_of turn (values_of es)) (sym c.in-Other.ensures.value) c.requires.fits in
+    let fits : HasPlace name_of (Other c.in-Other.place c.in-Other.thing) (values_of es) = subst (λ (turn : Turn _). HasPlace name_of turn (values_of es)) (sym c.in-Other.ensures.value) c.requires.fits in
     let same = names_at name_of (values_of es) c.in-Other.place old c.in-Other.thing at fits.1 in
     rw (c.replace-other.ensures.after, c.replace-other.ensures.value)
     ((put-within es c.in-Other.place old c.in-Other.thing at, put-names name_of es c.in-Other.place old c.in-Other.thing at same), put-back es c.in-Other.place old c.in-Other.thing at)
@@ -30,6 +30,6 @@ returns-in-Other-clause-keyed g c =
     let name_of = g.T.Named.named in
     let es = c.args.things.now.entries in
     let old = c.index_mut.result.now in
-    let fits : Fits name_of (Other c.in-Other.place c.in-Other.thing) (values_of es) = subst (λ (turn : Turn _). Fits name_of turn (values_of es)) (sym c.in-Other.ensures.value) c.requires.fits in
+    let fits : HasPlace name_of (Other c.in-Other.place c.in-Other.thing) (values_of es) = subst (λ (turn : Turn _). HasPlace name_of turn (values_of es)) (sym c.in-Other.ensures.value) c.requires.fits in
     let same = names_at name_of (values_of es) c.in-Other.place old c.in-Other.thing c.index_mut.ensures.value fits.1 in
     rw c.replace-other.ensures.after (keyed-set items name_of es c.in-Other.place c.in-Other.thing old c.requires.keyed c.index_mut.ensures.value same)

@@ -8,14 +8,14 @@ use Rattle.change_law.specs.Pairs.{pair_of}
 use Rattle.history.specs.declared.event.Event.TheVariants.{Undo, Redo}
 use Rattle.world_book.specs.Step.{IsFaultOf}
 use Rattle.world_book.specs.Versions.{IsAliveInVersion, IsFreeIn}
-use Rattle.world_book.specs.Tied.{IsReplyTo, TakesIn}
+use Rattle.world_book.specs.Tied.{IsHistoryReply, TakesIn}
 use Rattle.world_book.proofs.TiedLaws.{tied_look}
 use Rattle.world_book.proofs.VersionLaws.{alive_in_face, undo_free, redo_free}
 use Rattle.world_book.proofs.obey.obey.Goals as goal
 
 pub returns-in-Ok-clause-told : goal.returns-in-Ok-clause-told
 returns-in-Ok-clause-told g c =
-    subst (λ (e : Event). IsReplyTo g.C.World.World c.args.settings.now c.args.clock e c.args.world.now c.args.journal.now c.in-Ok.reply) (sym c.in-Admit.is) (c.in-Ok.ensures.told c.args.settings.now c.in-Admit.moment)
+    subst (λ (e : Event). IsHistoryReply g.C.World.World c.args.settings.now c.args.clock e c.args.world.now c.args.journal.now c.in-Ok.reply) (sym c.in-Admit.is) (c.in-Ok.ensures.told c.args.settings.now c.in-Admit.moment)
 
 pub returns-in-Ok-clause-tied : goal.returns-in-Ok-clause-tied
 returns-in-Ok-clause-tied g c =
@@ -36,7 +36,7 @@ returns-in-Sweep-clause-tied g c =
 
 pub returns-in_ok-give-in-Do-clause-told : goal.returns-in_ok-give-in-Do-clause-told
 returns-in_ok-give-in-Do-clause-told g c =
-    subst (λ (e : Event). IsReplyTo g.C.World.World c.args.settings.now c.args.clock e c.args.world.now c.args.journal.now c.in_ok-give-in-Do.field-0) (sym c.in-Do.is)
+    subst (λ (e : Event). IsHistoryReply g.C.World.World c.args.settings.now c.args.clock e c.args.world.now c.args.journal.now c.in_ok-give-in-Do.field-0) (sym c.in-Do.is)
     (c.in_ok-give-in-Do.ensures.told c.args.settings.now c.args.clock c.in-Do.moment)
 
 pub returns-in_ok-give-in-Do-clause-tied : goal.returns-in_ok-give-in-Do-clause-tied
@@ -57,12 +57,12 @@ returns-in-Err-clause-faults g c =
 
 pub returns-in_ok-undo-in-Undo-clause-told : goal.returns-in_ok-undo-in-Undo-clause-told
 returns-in_ok-undo-in-Undo-clause-told g c =
-    subst (λ (e : Event). IsReplyTo g.C.World.World c.args.settings.now c.args.clock e c.args.world.now c.args.journal.now c.in_ok-undo-in-Undo.field-0) (sym c.in-Undo.is)
+    subst (λ (e : Event). IsHistoryReply g.C.World.World c.args.settings.now c.args.clock e c.args.world.now c.args.journal.now c.in_ok-undo-in-Undo.field-0) (sym c.in-Undo.is)
     (c.in_ok-undo-in-Undo.ensures.told c.args.settings.now c.args.clock c.in-Undo.moment)
 
 pub returns-in_ok-redo-in-Redo-clause-told : goal.returns-in_ok-redo-in-Redo-clause-told
 returns-in_ok-redo-in-Redo-clause-told g c =
-    subst (λ (e : Event). IsReplyTo g.C.World.World c.args.settings.now c.args.clock e c.args.world.now c.args.journal.now c.in_ok-redo-in-Redo.field-0) (sym c.in-Redo.is)
+    subst (λ (e : Event). IsHistoryReply g.C.World.World c.args.settings.now c.args.clock e c.args.world.now c.args.journal.now c.in_ok-redo-in-Redo.field-0) (sym c.in-Redo.is)
     (c.in_ok-redo-in-Redo.ensures.told c.args.settings.now c.args.clock c.in-Redo.moment)
 
 -- ---- what needs no memory

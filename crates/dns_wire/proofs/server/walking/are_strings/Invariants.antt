@@ -2,7 +2,7 @@ use Rattle.std.proofs.Common.{◌≡◌, ◌<◌, ◌⊎◌, ℕ, List, [], leng
 use Rattle.dns_wire.specs.Read.Rdata.{strings_after}
 use Rattle.dns_wire.proofs.server.walking.are_strings.Given as goal
 
--- Strings were passed, and what is left reads on behind them; at first there is something left.
+-- Strings were passed, and what is left reads on after them; at first there is something left.
 abbrev pub invariant-loop-rest : goal.invariant-loop-rest
 invariant-loop-rest l = record {
   before : List (List ℕ);

@@ -6,7 +6,7 @@ use Rattle.dns_wire.specs.Read.Message.{records_read}
 use Rattle.dns_wire.specs.Read.Record.{record_read}
 use Rattle.dns_wire.proofs.server.walking.records_end.Given as goal
 
--- Records were passed, and reading goes on behind them.
+-- Records were passed, and reading goes on after them.
 abbrev pub invariant-loop : goal.invariant-loop
 invariant-loop l = record {
   before : List (Classed Record);

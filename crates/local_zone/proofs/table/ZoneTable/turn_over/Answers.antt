@@ -3,7 +3,7 @@ use Rattle.named_list.specs.declared.turn.Turn.{Turn}
 use Rattle.named_list.specs.declared.turn.Turn.TheVariants.{With, Without}
 use Rattle.local_zone.specs.declared.zone.Zone.{Zone}
 use Rattle.local_zone.specs.Tables.{Tables}
-use Rattle.named_list.specs.Turn.{other_of, with_at, Fits}
+use Rattle.named_list.specs.Turn.{other_of, with_at, HasPlace}
 use Rattle.local_zone.proofs.ImpliedLaws.{get-insert}
 use Rattle.local_zone.proofs.table.ZoneTable.turn_over.Goals as goal
 
@@ -16,8 +16,8 @@ returns-in-Err-clause-err c =
     let zone : Zone = way.1.0 in
     let was : c.args.saved.now.zones ≡ With place zone = way.1.1.0 in
     let now : c.put_in.new.turn ≡ Without place = way.1.1.1 in
-    let there : Fits (λ (z : Zone). z.name) (With place zone) c.args.self.now.zones = subst (λ (t : Turn Zone). Fits (λ (z : Zone). z.name) t c.args.self.now.zones) was c.requires.1.fits in
-    let fits : Fits (λ (z : Zone). z.name) (With place zone) zones = subst (λ (t : Tables). Fits (λ (z : Zone). z.name) (With place zone) t.zones) (sym c.self.view_is) there in
+    let there : HasPlace (λ (z : Zone). z.name) (With place zone) c.args.self.now.zones = subst (λ (t : Turn Zone). HasPlace (λ (z : Zone). z.name) t c.args.self.now.zones) was c.requires.1.fits in
+    let fits : HasPlace (λ (z : Zone). z.name) (With place zone) zones = subst (λ (t : Tables). HasPlace (λ (z : Zone). z.name) (With place zone) t.zones) (sym c.self.view_is) there in
     let list : c.put_in.new.self ≡ insert zones place zone = c.in_ok-put_in.ensures.ok ∙ ap (λ (t : Turn Zone). other_of t zones) was in
     let got : slice_get c.put_in.new.self place ≡ Some zone = ap (λ (zs : List Zone). slice_get zs place) list ∙ get-insert zones place zone fits in
     let back : c.turn_out.new.turn ≡ c.args.saved.now.zones = c.turn_out.ensures.taken place now ∙ ap (with_at place) got ∙ sym was in

@@ -1,6 +1,6 @@
 use Rattle.std.proofs.Common.{rules, ◌≡◌, ◌≤◌, length, drop, ℕ, List, arith, subst, sym}
 use Rattle.streams.specs.Laws.{Consumes-kept}
-use Rattle.dns_sockets.specs.Wanting.{framed_size, IsWhole}
+use Rattle.dns_sockets.specs.Wanting.{framed_size, IsWholeFrame}
 use Rattle.dns_sockets.proofs.Passing.{came_on}
 use Rattle.dns_sockets.proofs.name_servers.framed_reply.FramedReply.read_on.Goals as goal
 use Rattle.dns_sockets.proofs.name_servers.framed_reply.FramedReply.read_on.Goals.{in-Ok+in_ok-extend_from_slice-in-Ok, in-Err+in_ok-would_wait-in-Err+else-branch}
@@ -9,7 +9,7 @@ pub returns-then-most-eq0-clause-whole : goal.returns-then-most-eq0-clause-whole
 returns-then-most-eq0-clause-whole g c =
     let none : c.wanting.result ≡ 0 = omega (arith, c.requires) in
     let is = c.wanting.ensures.none (subst (λ (l : List ℕ). length l ≤ framed_size l) (sym c.deref.ensures.value) c.loop.self.within) in
-    (λ _. subst IsWhole c.deref.ensures.value (is.0 none), λ _. search rules)
+    (λ _. subst IsWholeFrame c.deref.ensures.value (is.0 none), λ _. search rules)
 
 pub loop-preserved : goal.loop-preserved
 loop-preserved g c =
