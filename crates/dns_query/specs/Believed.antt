@@ -11,7 +11,7 @@ use Rattle.neg_rule.specs.Negative.{Said, said_by}
 use Rattle.harvest.specs.Harvest.{finds_in, passing_in}
 use Rattle.harvest.specs.Learnt.{set_of}
 use Rattle.harvest.specs.Sets.{Set}
-use Rattle.harvest.specs.declared.learnt.Harvest.{Harvest}
+use Rattle.harvest.specs.declared.harvest_type.Harvest.{Harvest}
 use Rattle.dns_query.specs.declared.sets.Believed.{Believed}
 use Rattle.dns_query.specs.declared.sets.Believed.TheVariants.{Find, Passing}
 

@@ -16,7 +16,7 @@ mod believing;
 // The verdict on a response.
 mod verdict;
 // The zone to which a response refers.
-mod nearer;
+mod referred_zone;
 // The servers that a response names, and their addresses.
 mod servers;
 // Referrals: the zone, its servers and their addresses.

@@ -6,7 +6,7 @@ ghost use Rattle.harvest.specs.Harvest.{finds_in, passing_in};
 ghost use Rattle.harvest.specs.Learnt.{set_of};
 ghost use Rattle.dns_query.specs.Referral.{AreServers, IsReferral};
 
-use crate::nearer::zone_of;
+use crate::referred_zone::zone_of;
 use crate::servers::{add_server, addrs_by_name, targets_in};
 use crate::verdict::Referral;
 use dns_name::{Name, NoMemory};

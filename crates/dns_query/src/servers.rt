@@ -13,7 +13,7 @@ ghost use Rattle.harvest.specs.Learnt.{set_of};
 ghost use Rattle.dns_query.specs.Indexed.{addrs_at, HasEach};
 ghost use Rattle.dns_query.specs.Referral.{addr_of, addrs_by, addrs_of, data_found, data_passing, target_in, targets_in};
 
-use crate::nearer::is_of;
+use crate::referred_zone::is_of;
 use dns_name::{Name, NoMemory};
 use dns_text::types::{A, AAAA, NS};
 use dns_text::{Addr, Data, Ip, Record, Shared};

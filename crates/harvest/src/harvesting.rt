@@ -9,7 +9,7 @@ ghost use Rattle.harvest.specs.Harvest.{finds_in, lives, passes, passing_in};
 
 use crate::counted::records_of;
 use crate::gathering::Gathering;
-use crate::learnt::Harvest;
+use crate::harvest_type::Harvest;
 use crate::passing::PassingSet;
 use crate::sets::sets_of;
 use dns_name::{Name, NoMemory};

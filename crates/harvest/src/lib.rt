@@ -14,12 +14,12 @@ mod sets;
 // A set with a TTL of 0.
 mod passing;
 // The harvest of a message, and its type.
+mod harvest_type;
 mod harvesting;
-mod learnt;
 // Laws of the definitions, which callers may cite.
 mod laws;
 
+pub use harvest_type::Harvest;
 pub use harvesting::harvest;
 pub use laws::zone_law;
-pub use learnt::Harvest;
 pub use passing::PassingSet;

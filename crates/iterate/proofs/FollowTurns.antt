@@ -7,7 +7,7 @@ use Rattle.dns_query.specs.declared.sets.Believed.TheVariants.{Find, Passing}
 use Rattle.dns_query.specs.Believed.{IsBelieved}
 use Rattle.dns_query.specs.BelievedLaws.{first_contained}
 use Rattle.dns_text.specs.declared.record.Question.{Question}
-use Rattle.harvest.specs.declared.learnt.Harvest.{Harvest}
+use Rattle.harvest.specs.declared.harvest_type.Harvest.{Harvest}
 use Rattle.harvest.specs.Learnt.{set_of}
 use Rattle.harvest.specs.Sets.{Set}
 use Rattle.neg_rule.specs.Negative.{Said, said_by}

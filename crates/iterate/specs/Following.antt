@@ -6,7 +6,7 @@ use Rattle.dns_wire.specs.declared.message.Message.{Message}
 use Rattle.dns_query.specs.declared.sets.Believed.{Believed}
 use Rattle.dns_query.specs.declared.sets.Believed.TheVariants.{Find, Passing}
 use Rattle.dns_query.specs.Query.{alias_question}
-use Rattle.harvest.specs.declared.learnt.Harvest.{Harvest}
+use Rattle.harvest.specs.declared.harvest_type.Harvest.{Harvest}
 use Rattle.harvest.specs.Harvest.{finds_in, passing_in}
 use Rattle.harvest.specs.Learnt.{set_of}
 use Rattle.neg_rule.specs.Negative.{said_by}
