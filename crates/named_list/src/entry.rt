@@ -1,6 +1,6 @@
 //! Lookups and changes of one thing in the index.
 
-ghost use Rattle.std.specs.Prelude.{◌≡◌, IfOk, OnErr, OnOk};
+ghost use Rattle.std.specs.Prelude.{◌≡◌, true, IfOk, IsOk, OnErr, OnOk};
 ghost use Rattle.indexmap.specs.IndexMap.{values};
 ghost use Rattle.named_list.specs.Named.{AreNamed, has_named, list_with, list_without};
 ghost use Rattle.named_list.specs.Keyed.{AreKeyed};
@@ -35,6 +35,7 @@ pub(crate) fn put<T: Named>(
     ensures keyed { AreKeyed T.named (λ k. k.items) things.new.entries }
     ensures err { OnErr result (values things.new ≡ values things.old) }
     ensures saved { IfOk result (λ turn. IsWayBack T.named turn (values things.new) (values things.old)) }
+    ensures free { has_named T.named (values things.old) (T.named new) ≡ true → IsOk result }
 {
     if let Some(place) = things.get_index_of(new.get().name().octets()) {
         let thing = mem::replace(&mut things[place], new);

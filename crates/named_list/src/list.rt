@@ -1,6 +1,6 @@
 //! The list, its questions and its changes.
 
-ghost use Rattle.std.specs.Prelude.{◌≡◌, ℕ, [], true, false, IfOk, OnErr, OnOk, slice_get};
+ghost use Rattle.std.specs.Prelude.{◌≡◌, ℕ, [], true, false, IfOk, IsOk, OnErr, OnOk, slice_get};
 ghost use Rattle.std.specs.Option.{option_map};
 ghost use Rattle.named_list.specs.Closest.{closest_of};
 ghost use Rattle.named_list.specs.Named.{AreNamed, has_named, list_with, list_without};
@@ -72,11 +72,12 @@ impl<T: Named> NamedList<T> {
         has(&self.things, name)
     }
 
-    /// Puts a thing in the place of the thing of its name, or last.
+    /// Puts a thing in the place of the thing of its name, which takes no memory, or last.
     pub fn put(&mut self, alloc: Global, new: Shared<T>) -> Result<Turn<T>, NoMemory>
         ensures ok { OnOk result (self.new ≡ list_with T.named new self.old) }
         ensures err { OnErr result (self.new ≡ self.old) }
         ensures saved { IfOk result (λ turn. IsWayBack T.named turn self.new self.old) }
+        ensures free { has_named T.named self.old (T.named new) ≡ true → IsOk result }
     {
         put(alloc, &mut self.things, new)
     }
@@ -89,13 +90,14 @@ impl<T: Named> NamedList<T> {
         take(&mut self.things, name)
     }
 
-    /// Goes to the other side of a change, and leaves the way back in `turn`.
+    /// Goes to the other side of a change, and leaves the way back in `turn`. Only if that puts a thing in, memory may be refused.
     pub fn turn_over(&mut self, turn: &mut Turn<T>) -> Result<(), NoMemory>
         requires fits { HasPlace T.named turn.old self.old }
         requires sound { AreNamed T.named (other_of turn.old self.old) }
         ensures ok { OnOk result (self.new ≡ other_of turn.old self.old) }
         ensures again { OnOk result (IsWayBack T.named turn.new self.new self.old) }
         ensures err { OnErr result ((self.new ≡ self.old) × (turn.new ≡ turn.old)) }
+        ensures free { puts_in turn.old ≡ false → IsOk result }
     {
         if turn.puts_in() {
             return self.put_in(turn);

@@ -1,6 +1,6 @@
 //! The list of stubs.
 
-ghost use Rattle.std.specs.Prelude.{◌≡◌, [], IfErr, IfOk, OnErr, OnOk, None};
+ghost use Rattle.std.specs.Prelude.{◌≡◌, [], IfErr, IfOk, IsOk, OnErr, OnOk, None};
 ghost use Rattle.std.specs.Option.{option_map};
 
 use crate::fault::StubFault;
@@ -78,11 +78,12 @@ impl StubTable {
         Ok(SavedStubs { turn })
     }
 
-    /// Removes the stub of a name, if there is one.
+    /// Removes the stub of a name, if there is one. It takes no memory.
     pub fn remove(&mut self, name: &Name) -> Result<SavedStubs, NoMemory>
         ensures ok { OnOk result (self.new ≡ stubs_without name.now self.old) }
         ensures err { OnErr result (self.new ≡ self.old) }
         ensures saved { IfOk result (λ saved. TakesBack saved self.new self.old) }
+        ensures free { IsOk result }
     {
         let turn = self.stubs.take(name);
         Ok(SavedStubs { turn })

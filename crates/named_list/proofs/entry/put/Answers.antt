@@ -1,9 +1,10 @@
 use Rattle.std.proofs.Common.{◌≡◌, ℕ, List, [], ◌∷◌, ◌++◌, length, Vec, Global, ap, sym, ◌∙◌, arith, length-append}
 use Rattle.std.specs.Prelude.{is_some}
 use Rattle.std.specs.Map.{values_of}
+use Rattle.std.proofs.lemmas.Bool.{false≢true}
 use Rattle.std.proofs.lemmas.List.{length-map}
 use Rattle.dns_name.specs.Labels.{octets_of}
-use Rattle.named_list.specs.ClosestLaws.{name_of_find}
+use Rattle.named_list.specs.ClosestLaws.{has_named-found, name_of_find}
 use Rattle.indexmap.proofs.CallerLemmas.{insert_entry-new}
 use Rattle.named_list.proofs.KeyedLaws.{lookup-of, none_from, keyed-set, keyed-push, put-over, put-within, put-back, put-names, push-with, values-push, remove-last}
 use Rattle.named_list.proofs.entry.put.Goals as goal
@@ -75,3 +76,21 @@ returns-clause-saved g c =
     let is : values_of c.insert.new.self.entries ≡ values_of es ++ c.args.new ∷ [] = ap (λ x. values_of x) entries ∙ values-push es c.in_ok-key.key c.args.new in
     let place : c.len-place.result ≡ length (values_of es) = c.len-place.ensures.len ∙ sym (length-map es (λ e. e.1)) in
     rw (is, place) (omega (arith, length-append (values_of es) (c.args.new ∷ [])), remove-last (values_of es) c.args.new)
+
+pub returns-in_err-key-clause-free : goal.returns-in_err-key-clause-free
+returns-in_err-key-clause-free g c has =
+    let name_of = g.T.Named.named in
+    let es = c.args.things.now.entries in
+    let spelled = c.octets.ensures.value ∙ ap octets_of (c.name.ensures ∙ ap name_of c.get.ensures) in
+    let found = lookup-of items name_of es (name_of c.args.new) c.octets.result.now spelled c.requires.keyed in
+    let absent = none_from _ (ap is_some (sym found) ∙ sym c.get_index_of.ensures.found ∙ ap is_some c.in_default.is) in
+    absurd (false≢true (sym (has_named-found name_of (values_of es) (name_of c.args.new) ∙ ap is_some absent) ∙ has))
+
+pub returns-in_err-insert-clause-free : goal.returns-in_err-insert-clause-free
+returns-in_err-insert-clause-free g c has =
+    let name_of = g.T.Named.named in
+    let es = c.args.things.now.entries in
+    let spelled = c.octets.ensures.value ∙ ap octets_of (c.name.ensures ∙ ap name_of c.get.ensures) in
+    let found = lookup-of items name_of es (name_of c.args.new) c.octets.result.now spelled c.requires.keyed in
+    let absent = none_from _ (ap is_some (sym found) ∙ sym c.get_index_of.ensures.found ∙ ap is_some c.in_default.is) in
+    absurd (false≢true (sym (has_named-found name_of (values_of es) (name_of c.args.new) ∙ ap is_some absent) ∙ has))
