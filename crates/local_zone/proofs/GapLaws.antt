@@ -1,5 +1,7 @@
 -- Records that are taken out of a list, and put back in their places.
-use Rattle.std.proofs.Common.{◌≡◌, ℕ, zero, suc, ◌+◌, ◌<◌, ◌≤◌, ◌⊎◌, inl, inr, Bool, true, false, not, cond, List, [], ◌∷◌, ◌++◌, length, take, drop, filter, get_or, refl, ap, sym, subst, ◌∙◌, append_assoc, arith, length-append}
+use Rattle.std.proofs.Common.{◌≡◌, ℕ, zero, suc, ◌+◌, ◌<◌, ◌≤◌, ◌⊎◌, inl, inr, Bool, true, false, not, ◌||◌, cond, List, [], ◌∷◌, ◌++◌, length, take, drop, filter, get_or, refl, ap, sym, subst, ◌∙◌, append_assoc, arith, length-append}
+use Rattle.std.specs.List.{list_any}
+use Rattle.std.proofs.lemmas.Bool.{false≢true}
 use Rattle.std.proofs.lemmas.List.{take_at, drop_at, take-append-drop, length-take-le, length-drop, drop_more, take_more}
 use Rattle.std.proofs.lemmas.List.Elements.{filter-append}
 use Rattle.dns_name.specs.Labels.{Labels}
@@ -287,3 +289,12 @@ apart_of f old gaps e = subst (λ (g : List ℕ). AreApart (at_gaps g old) (rest
 
 pub rest_of_test : (f : Labels → Bool) (old : List Record) (gaps : List ℕ) → gaps ≡ gaps_where (λ r. f r.owner) 0 old → rest_of gaps old ≡ filter (λ r. not (f r.owner)) old
 rest_of_test f old gaps e = ap (λ (g : List ℕ). rest_of g old) e ∙ rest_where (λ r. f r.owner) old
+
+-- where no record passes the test, there is no gap
+pub no_gaps : (p : Record → Bool) (gap : ℕ) (records : List Record) → list_any p records ≡ false → gaps_where p gap records ≡ []
+no_gaps p gap [] none = refl
+no_gaps p gap (r ∷ records) none = by (p r) none (λ n. no_gaps p n records)
+  where
+    by : (b : Bool) → (b || list_any p records) ≡ false → ((n : ℕ) → list_any p records ≡ false → gaps_where p n records ≡ []) → cond b (gap ∷ gaps_where p 0 records) (gaps_where p (gap + 1) records) ≡ []
+    by true none more = absurd (false≢true (sym none))
+    by false none more = more (gap + 1) none

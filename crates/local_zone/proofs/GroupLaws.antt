@@ -12,7 +12,7 @@ use Rattle.dns_name.specs.Order.{name_eq, name_eq_exact, name_eq_itself}
 use Rattle.dns_text.specs.declared.record.Record.{Record}
 use Rattle.local_zone.specs.declared.taken.Taken.{Taken}
 use Rattle.local_zone.specs.Gaps.{records_of, put_back, at_gaps, rest_of, AreApart, AreWithin}
-use Rattle.local_zone.specs.Index.{of_owner, items_in, under, IsIndexed, IsGrouped}
+use Rattle.local_zone.specs.Index.{of_owner, items_in, under, AreOwned, IsIndexed, IsGrouped}
 use Rattle.local_zone.proofs.GapLaws.{back_at, put_none, put_all}
 
 abbrev pub first_of : {G : Type 0} → Option G → Option G → Option G
@@ -73,17 +73,24 @@ module _ {K G : Type 0} (octets : K → List ℕ) (items : G → List Record) wh
     pub kept : (other : Labels) → name_eq owner other ≡ false → under octets (octets_of other) es' ≡ under octets (octets_of other) es
     pub others : (other : Labels) → name_eq owner other ≡ false → under octets (octets_of other) groups' ≡ under octets (octets_of other) groups
 
-  pub index_moved : (owner : Labels) (groups es groups' es' : List (K × G)) → IsMoved owner groups es groups' es' → (records : List Record)
-      → IsIndexed octets items records (groups ++ es) → IsIndexed octets items records (groups' ++ es')
-  index_moved owner groups es groups' es' m records h other = by (name_eq owner other) refl
+  same_moved : (owner : Labels) (groups es groups' es' : List (K × G)) → IsMoved owner groups es groups' es' → (other : Labels)
+      → under octets (octets_of other) (groups' ++ es') ≡ under octets (octets_of other) (groups ++ es)
+  same_moved owner groups es groups' es' m other = by (name_eq owner other) refl
     where
-      by : (b : Bool) → name_eq owner other ≡ b → items_in items (under octets (octets_of other) (groups' ++ es')) ≡ of_owner other records
+      by : (b : Bool) → name_eq owner other ≡ b → under octets (octets_of other) (groups' ++ es') ≡ under octets (octets_of other) (groups ++ es)
       by true e =
           let one : under octets (octets_of owner) (groups' ++ es') ≡ under octets (octets_of owner) (groups ++ es)
           = under_append (octets_of owner) groups' es' ∙ m.here ∙ sym (under_append (octets_of owner) groups es) in
-          subst (λ (o : Labels). items_in items (under octets (octets_of o) (groups' ++ es')) ≡ of_owner o records) (name_eq_exact owner other e) (ap (items_in items) one ∙ h owner)
-      by false e =
-          ap (items_in items) (under_append (octets_of other) groups' es' ∙ (λ i. first_of (m.others other e i) (m.kept other e i)) ∙ sym (under_append (octets_of other) groups es)) ∙ h other
+          subst (λ (o : Labels). under octets (octets_of o) (groups' ++ es') ≡ under octets (octets_of o) (groups ++ es)) (name_eq_exact owner other e) one
+      by false e = under_append (octets_of other) groups' es' ∙ (λ i. first_of (m.others other e i) (m.kept other e i)) ∙ sym (under_append (octets_of other) groups es)
+
+  -- both together index the same records, and no group is empty
+  pub grouped_moved : (owner : Labels) (groups es groups' es' : List (K × G)) → IsMoved owner groups es groups' es' → (records : List Record)
+      → IsGrouped octets items records (groups ++ es) → IsGrouped octets items records (groups' ++ es')
+  grouped_moved owner groups es groups' es' m records h = (
+    λ other. ap (items_in items) (same_moved owner groups es groups' es' m other) ∙ h.0 other,
+    λ other none. same_moved owner groups es groups' es' m other ∙ h.1 other none,
+  )
 
   pub moved_some : (owner : Labels) (groups es after : List (K × G)) (k : K) (g : G) → octets k ≡ octets_of owner → under octets (octets_of owner) es ≡ Some g → under octets (octets_of owner) after ≡ None
       → KeepsOthers (λ x y. pointwise nat_eq (octets x) (octets y)) (λ k. pointwise nat_eq (octets_of owner) (octets k)) es after → IsMoved owner groups es (groups ++ (k, g) ∷ []) after
@@ -117,14 +124,11 @@ module _ {K G : Type 0} (octets : K → List ℕ) (items : G → List Record) wh
 
   -- ---- a group comes back
 
-  pub index_put : (groups es after : List (K × G)) (k : K) (g : G) → under octets (octets k) after ≡ Some g
-      → KeepsOthers (λ x y. pointwise nat_eq (octets x) (octets y)) (λ q. pointwise nat_eq (octets k) (octets q)) es after → (records : List Record)
-      → IsIndexed octets items records ((groups ++ (k, g) ∷ []) ++ es) → IsIndexed octets items records (groups ++ after)
-  index_put groups es after k g here keeps records h owner = ap (items_in items) same ∙ h owner
+  same_put : (groups es after : List (K × G)) (k : K) (g : G) → under octets (octets k) after ≡ Some g
+      → KeepsOthers (λ x y. pointwise nat_eq (octets x) (octets y)) (λ q. pointwise nat_eq (octets k) (octets q)) es after → (owner : Labels)
+      → under octets (octets_of owner) (groups ++ after) ≡ under octets (octets_of owner) ((groups ++ (k, g) ∷ []) ++ es)
+  same_put groups es after k g here keeps owner = same
     where
-      name : List ℕ
-      name = octets_of owner
-
       rest : (b : Bool) → pointwise nat_eq (octets_of owner) (octets k) ≡ b → under octets (octets_of owner) after ≡ first_of (under octets (octets_of owner) ((k, g) ∷ [])) (under octets (octets_of owner) es)
       rest true is =
           let e : octets_of owner ≡ octets k = same_octets _ _ is in
@@ -139,6 +143,12 @@ module _ {K G : Type 0} (octets : K → List ℕ) (items : G → List Record) wh
           ∙ sym (first_three (under octets (octets_of owner) groups) (under octets (octets_of owner) ((k, g) ∷ [])) (under octets (octets_of owner) es))
           ∙ ap (λ (x : Option G). first_of x (under octets (octets_of owner) es)) (sym (under_append (octets_of owner) groups ((k, g) ∷ [])))
           ∙ sym (under_append (octets_of owner) (groups ++ (k, g) ∷ []) es)
+
+  pub grouped_put : (groups es after : List (K × G)) (k : K) (g : G) → under octets (octets k) after ≡ Some g
+      → KeepsOthers (λ x y. pointwise nat_eq (octets x) (octets y)) (λ q. pointwise nat_eq (octets k) (octets q)) es after → (records : List Record)
+      → IsGrouped octets items records ((groups ++ (k, g) ∷ []) ++ es) → IsGrouped octets items records (groups ++ after)
+  grouped_put groups es after k g here keeps records h =
+      (λ owner. ap (items_in items) (same_put groups es after k g here keeps owner) ∙ h.0 owner, λ owner none. same_put groups es after k g here keeps owner ∙ h.1 owner none)
 
   -- ---- the index of what stayed, and that of what was taken
 
@@ -156,7 +166,7 @@ module _ {K G : Type 0} (octets : K → List ℕ) (items : G → List Record) wh
     first_groups : (owner : Labels) → under octets (octets_of owner) groups ≡ None → under octets (octets_of owner) (groups ++ es) ≡ under octets (octets_of owner) es
     first_groups owner none = under_append (octets_of owner) groups es ∙ ap (λ (x : Option G). first_of x (under octets (octets_of owner) es)) none
 
-    pub split_left : IsIndexed octets items (put_back taken left) (groups ++ es) → ((owner : Labels) → of_owner owner (records_of taken) ≡ [] → under octets (octets_of owner) groups ≡ None)
+    split_left : IsIndexed octets items (put_back taken left) (groups ++ es) → ((owner : Labels) → of_owner owner (records_of taken) ≡ [] → under octets (octets_of owner) groups ≡ None)
         → AllByRecursion (λ t. under octets (octets_of t.item.owner) es ≡ None) taken → IsIndexed octets items left es
     split_left h only gone owner = by (owner_gone owner es taken gone)
       where
@@ -166,6 +176,18 @@ module _ {K G : Type 0} (octets : K → List ℕ) (items : G → List Record) wh
         by : (of_owner owner (records_of taken) ≡ []) ⊎ (under octets (octets_of owner) es ≡ None) → items_in items (under octets (octets_of owner) es) ≡ of_owner owner left
         by (inl none) = where_none none
         by (inr out) = elim (apart owner) [ inl none ↦ where_none none | inr stayed ↦ ap (items_in items) out ∙ sym stayed ]
+
+    owned_left : AreOwned octets (put_back taken left) (groups ++ es) → ((owner : Labels) → of_owner owner (records_of taken) ≡ [] → under octets (octets_of owner) groups ≡ None)
+        → AllByRecursion (λ t. under octets (octets_of t.item.owner) es ≡ None) taken → AreOwned octets left es
+    owned_left h only gone owner stayed = by (owner_gone owner es taken gone)
+      where
+        by : (of_owner owner (records_of taken) ≡ []) ⊎ (under octets (octets_of owner) es ≡ None) → under octets (octets_of owner) es ≡ None
+        by (inl none) = sym (first_groups owner (only owner none)) ∙ h owner (put_none owner taken left none ∙ stayed)
+        by (inr out) = out
+
+    pub grouped_left : IsGrouped octets items (put_back taken left) (groups ++ es) → ((owner : Labels) → of_owner owner (records_of taken) ≡ [] → under octets (octets_of owner) groups ≡ None)
+        → AllByRecursion (λ t. under octets (octets_of t.item.owner) es ≡ None) taken → IsGrouped octets items left es
+    grouped_left h only gone = (split_left h.0 only gone, owned_left h.1 only gone)
 
     pub split_taken : IsIndexed octets items (put_back taken left) (groups ++ es) → ((owner : Labels) → of_owner owner (records_of taken) ≡ [] → under octets (octets_of owner) groups ≡ None)
         → AllByRecursion (λ t. under octets (octets_of t.item.owner) es ≡ None) taken → IsGrouped octets items (records_of taken) groups
@@ -184,7 +206,7 @@ module _ {K G : Type 0} (octets : K → List ℕ) (items : G → List Record) wh
                   ∙ h owner ∙ put_all owner taken left stayed
             ]
 
-    pub joined : IsGrouped octets items (records_of taken) groups → IsIndexed octets items left es → IsIndexed octets items (put_back taken left) (groups ++ es)
+    joined : IsGrouped octets items (records_of taken) groups → IsIndexed octets items left es → IsIndexed octets items (put_back taken left) (groups ++ es)
     joined t l owner =
         elim (apart owner) [
           | inl none ↦ ap (items_in items) (first_groups owner (t.1 owner none)) ∙ l owner ∙ sym (put_none owner taken left none)
@@ -197,18 +219,28 @@ module _ {K G : Type 0} (octets : K → List ℕ) (items : G → List Record) wh
         by stayed (Some g) is =
             ap (items_in items) (under_append (octets_of owner) groups es ∙ ap (λ (x : Option G). first_of x (under octets (octets_of owner) es)) is ∙ sym is) ∙ t.0 owner ∙ sym (put_all owner taken left stayed)
 
+    owned_joined : AreOwned octets (records_of taken) groups → AreOwned octets left es → AreOwned octets (put_back taken left) (groups ++ es)
+    owned_joined t l owner none =
+        elim (apart owner) [
+          | inl empty ↦ first_groups owner (t owner empty) ∙ l owner (sym (put_none owner taken left empty) ∙ none)
+          | inr stayed ↦ first_groups owner (t owner (sym (put_all owner taken left stayed) ∙ none)) ∙ l owner stayed
+        ]
+
+    pub grouped_joined : IsGrouped octets items (records_of taken) groups → IsGrouped octets items left es → IsGrouped octets items (put_back taken left) (groups ++ es)
+    grouped_joined t l = (joined t l.0, owned_joined t.1 l.1)
+
 -- what is left of a list and its index, and what was taken of both
 pub parts : {K G : Type 0} (octets : K → List ℕ) (items : G → List Record) (before : List Record) (gaps : List ℕ) (taken : List Taken) (left : List Record) (groups es start : List (K × G))
-    → AreWithin gaps before → AreApart (at_gaps gaps before) (rest_of gaps before) → taken ≡ at_gaps gaps before → left ≡ rest_of gaps before → IsIndexed octets items before start
-    → ((records : List Record) → IsIndexed octets items records start → IsIndexed octets items records (groups ++ es))
+    → AreWithin gaps before → AreApart (at_gaps gaps before) (rest_of gaps before) → taken ≡ at_gaps gaps before → left ≡ rest_of gaps before → IsGrouped octets items before start
+    → ((records : List Record) → IsGrouped octets items records start → IsGrouped octets items records (groups ++ es))
     → AllByRecursion (λ (t : Taken). under octets (octets_of t.item.owner) es ≡ None) taken
     → ((owner : Labels) → of_owner owner (records_of taken) ≡ [] → under octets (octets_of owner) groups ≡ None)
-    → IsGrouped octets items (records_of taken) groups × IsIndexed octets items left es
+    → IsGrouped octets items (records_of taken) groups × IsGrouped octets items left es
 parts octets items before gaps taken left groups es start within apart taken_is left_is h moves gone only =
     let same : put_back taken left ≡ before = (λ i. put_back (taken_is i) (left_is i)) ∙ back_at gaps before within in
-    let whole : IsIndexed octets items (put_back taken left) (groups ++ es) = moves (put_back taken left) (subst (λ (x : List Record). IsIndexed octets items x start) (sym same) h) in
+    let whole : IsGrouped octets items (put_back taken left) (groups ++ es) = moves (put_back taken left) (subst (λ (x : List Record). IsGrouped octets items x start) (sym same) h) in
     let parted : AreApart taken left = subst (λ (x : List Taken). AreApart x left) (sym taken_is) (subst (λ (y : List Record). AreApart (at_gaps gaps before) y) (sym left_is) apart) in
-    (split_taken octets items taken left groups es parted whole only gone, split_left octets items taken left groups es parted whole only gone)
+    (split_taken octets items taken left groups es parted whole.0 only gone, grouped_left octets items taken left groups es parted whole only gone)
 
 -- the owner of what is found under a key
 pub key_found : {K G : Type 0} (octets : K → List ℕ) (name : List ℕ) (es : List (K × G)) (k : K) → lookup_key (λ k. pointwise nat_eq name (octets k)) es ≡ Some k → octets k ≡ name

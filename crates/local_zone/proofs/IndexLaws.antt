@@ -1,6 +1,6 @@
 -- The index of records by their owners: what a look-up in it tells of the list, and what it is after a change.
 use Rattle.std.proofs.Common.{◌≡◌, ℕ, ◌-◌, Bool, true, false, ◌||◌, ◌&&◌, ◌==◌, cond, List, [], ◌∷◌, ◌++◌, map, filter, length, take, length-append, arith, Option, Some, None, refl, ap, sym, subst, ◌∙◌}
-use Rattle.std.specs.Prelude.{nat_eq}
+use Rattle.std.specs.Prelude.{is_some, nat_eq}
 use Rattle.std.specs.List.{list_any, find}
 use Rattle.std.specs.Map.{set_value, KeepsOthers}
 use Rattle.std.specs.Cmp.Lexicographic.{pointwise}
@@ -18,7 +18,7 @@ use Rattle.local_zone.specs.Change.{is_there}
 use Rattle.local_zone.specs.Reason.{clashes, differ}
 use Rattle.local_zone.specs.Show.{is_for, set_of, or_list, shown_as, unless_empty, data_shown}
 use Rattle.local_zone.specs.Tables.{is_cname, is_of_set, is_same}
-use Rattle.local_zone.specs.Index.{of_owner, items_in, under, IsIndexed}
+use Rattle.local_zone.specs.Index.{of_owner, items_in, under, AreOwned, IsGrouped, IsIndexed}
 
 -- ---- tests of the records of an owner
 
@@ -191,6 +191,70 @@ module _ {K G : Type 0} (octets : K → List ℕ) (items : G → List Record) wh
           (λ x y is. ap (λ s. pointwise nat_eq s (octets y)) ((bytes_eq-Decides (octets_of owner) (octets x)).0 is))
           (λ k is. apart name owner k e is))
           ∙ h owner
+
+  -- ---- no group but of an owner that has records
+
+  own-some : (records : List Record) (new : Record) → of_owner new.owner (records ++ new ∷ []) ≡ [] → ⊥
+  own-some records new none =
+      let empty : [] ≡ of_owner new.owner records ++ new ∷ [] = sym none ∙ own-push new.owner records new (name_eq_itself new.owner) in
+      omega (arith, ap length empty, length-append (of_owner new.owner records) (new ∷ []))
+
+  -- an owner that has a group has records
+  pub owned-some : (records : List Record) (es : List (K × G)) (owner : Labels) (g : G) → AreOwned octets records es → under octets (octets_of owner) es ≡ Some g → of_owner owner records ≡ [] → ⊥
+  owned-some records es owner g h found none = false≢true (ap is_some (sym (h owner none) ∙ found))
+
+  pub owned-write : (records after : List Record) (es : List (K × G)) (name : Labels) (w : G) → AreOwned octets records es → (of_owner name after ≡ [] → ⊥)
+      → ((o : Labels) → name_eq name o ≡ false → of_owner o after ≡ of_owner o records) → AreOwned octets after (set_value (λ k. pointwise nat_eq (octets_of name) (octets k)) es w)
+  owned-write records after es name w h some others owner none = by (name_eq name owner) refl
+    where
+      by : (b : Bool) → name_eq name owner ≡ b → under octets (octets_of owner) (set_value (λ k. pointwise nat_eq (octets_of name) (octets k)) es w) ≡ None
+      by true e = absurd (some (subst (λ (o : Labels). of_owner o after ≡ []) (sym (name_eq_exact name owner e)) none))
+      by false e = set_there name owner es w e ∙ h owner (sym (others owner e) ∙ none)
+
+  pub grouped-set : (records : List Record) (es : List (K × G)) (new : Record) (g w : G) → IsGrouped octets items records es → under octets (octets_of new.owner) es ≡ Some g → items w ≡ items g ++ new ∷ []
+      → IsGrouped octets items (records ++ new ∷ []) (set_value (λ k. pointwise nat_eq (octets_of new.owner) (octets k)) es w)
+  grouped-set records es new g w h found is = (
+    index-set records es new g w h.0 found is,
+    owned-write records (records ++ new ∷ []) es new.owner w h.1 (own-some records new) (λ o e. others-push o records new e),
+  )
+
+  pub grouped-push : (records : List Record) (es : List (K × G)) (new : Record) (k : K) (w : G) → IsGrouped octets items records es → under octets (octets_of new.owner) es ≡ None → octets k ≡ octets_of new.owner → items w ≡ new ∷ []
+      → IsGrouped octets items (records ++ new ∷ []) (es ++ (k, w) ∷ [])
+  grouped-push records es new k w h none key is = (index-push records es new k w h.0 none key is, λ owner empty. by owner empty (name_eq new.owner owner) refl)
+    where
+      by : (owner : Labels) → of_owner owner (records ++ new ∷ []) ≡ [] → (b : Bool) → name_eq new.owner owner ≡ b → under octets (octets_of owner) (es ++ (k, w) ∷ []) ≡ None
+      by owner empty true e = absurd (own-some records new (subst (λ (o : Labels). of_owner o (records ++ new ∷ []) ≡ []) (sym (name_eq_exact new.owner owner e)) empty))
+      by owner empty false e = push_there new.owner owner es k w key e ∙ h.1 owner (sym (others-push owner records new e) ∙ empty)
+
+  pub grouped-keep : (records : List Record) (es : List (K × G)) (name : Labels) (g w : G) → IsGrouped octets items records es → under octets (octets_of name) es ≡ Some g → items w ≡ items g
+      → IsGrouped octets items records (set_value (λ k. pointwise nat_eq (octets_of name) (octets k)) es w)
+  grouped-keep records es name g w h found is =
+      (index-keep records es name g w h.0 found is, owned-write records records es name w h.1 (owned-some records es name g h.1 found) (λ o e. refl))
+
+  -- the group of the last record's owner is not empty yet
+  pub grouped-front : (front : List Record) (last : Record) (es : List (K × G)) (g w : G) (n : ℕ) → IsGrouped octets items (front ++ last ∷ []) es → under octets (octets_of last.owner) es ≡ Some g → n ≡ length (items g) → items w ≡ take (n - 1) (items g)
+      → (items w ≡ [] → ⊥) → IsGrouped octets items front (set_value (λ k. pointwise nat_eq (octets_of last.owner) (octets k)) es w)
+  grouped-front front last es g w n h found long is some =
+      let index = index-front front last es g w n h.0 found long is in
+      let own : items w ≡ of_owner last.owner front = sym (ap (items_in items) (set_here (octets_of last.owner) es g w found)) ∙ index last.owner in
+      (index, owned-write (front ++ last ∷ []) front es last.owner w h.1 (λ none. some (own ∙ none)) (λ o e. sym (others-push o front last e)))
+
+  -- the group of the last record's owner goes
+  pub grouped-drop : (front : List Record) (last : Record) (es mid after : List (K × G)) → IsGrouped octets items (front ++ last ∷ []) es → IsIndexed octets items front mid
+      → ((o : Labels) → name_eq last.owner o ≡ false → under octets (octets_of o) mid ≡ under octets (octets_of o) es)
+      → items_in items (under octets (octets_of last.owner) mid) ≡ [] → under octets (octets_of last.owner) after ≡ None
+      → KeepsOthers (λ x y. pointwise nat_eq (octets x) (octets y)) (λ k. pointwise nat_eq (octets_of last.owner) (octets k)) mid after → IsGrouped octets items front after
+  unfolding KeepsOthers
+  grouped-drop front last es mid after h index kept empty gone others = (index-drop front mid after last.owner index empty gone others, λ owner none. by owner none (name_eq last.owner owner) refl)
+    where
+      by : (owner : Labels) → of_owner owner front ≡ [] → (b : Bool) → name_eq last.owner owner ≡ b → under octets (octets_of owner) after ≡ None
+      by owner none true e = subst (λ (o : Labels). under octets (octets_of o) after ≡ None) (name_eq_exact last.owner owner e) gone
+      by owner none false e =
+          others (λ k. pointwise nat_eq (octets_of owner) (octets k)) (λ x y is. ap (λ s. pointwise nat_eq s (octets y)) ((bytes_eq-Decides (octets_of owner) (octets x)).0 is)) (λ k is. apart last.owner owner k e is)
+          ∙ kept owner e ∙ h.1 owner (others-push owner front last e ∙ none)
+
+  pub others-set : (name other : Labels) (es : List (K × G)) (w : G) → name_eq name other ≡ false → under octets (octets_of other) (set_value (λ k. pointwise nat_eq (octets_of name) (octets k)) es w) ≡ under octets (octets_of other) es
+  others-set name other es w e = set_there name other es w e
 
   -- what a look-up in the index tells
   pub of-found : (records : List Record) (es : List (K × G)) (owner : Labels) (spelled : List ℕ) (found : Option G) → IsIndexed octets items records es → spelled ≡ octets_of owner → under octets spelled es ≡ found → items_in items found ≡ of_owner owner records

@@ -7,12 +7,12 @@ use Rattle.dns_name.specs.Order.{name_eq, name_eq_exact}
 use Rattle.dns_text.specs.declared.record.Record.{Record}
 use Rattle.local_zone.specs.Change.{retimed_by}
 use Rattle.local_zone.specs.Tables.{is_of_set}
-use Rattle.local_zone.specs.Index.{of_owner, items_in, under, IsIndexed}
+use Rattle.local_zone.specs.Index.{of_owner, items_in, under, IsGrouped, IsIndexed}
 use Rattle.named_list.specs.ClosestLaws.{name_eq-swap}
 use Rattle.std.specs.List.{list_any}
 use Rattle.std.proofs.lemmas.Bool.{and_parts}
 use Rattle.local_zone.proofs.ReasonLaws.{retimed_itself}
-use Rattle.local_zone.proofs.IndexLaws.{index-write, any_of}
+use Rattle.local_zone.proofs.IndexLaws.{index-write, owned-write, owned-some, any_of}
 
 -- ---- the walk over a list
 
@@ -75,6 +75,13 @@ fixed owner new (r ∷ rs) differ = by (name_eq r.owner owner) refl (fixed owner
 others-retimed : (owner : Labels) (new : Record) (rs : List Record) → name_eq new.owner owner ≡ false → of_owner owner (map (retimed_by new) rs) ≡ of_owner owner rs
 others-retimed owner new rs differ = own-retimed owner new rs ∙ fixed owner new rs differ
 
+nil_of_map : (f : Record → Record) (rs : List Record) → map f rs ≡ [] → rs ≡ []
+nil_of_map f [] e = refl
+nil_of_map f (r ∷ rs) e = absurd cc
+
+none-retimed : (owner : Labels) (new : Record) (rs : List Record) → of_owner owner (map (retimed_by new) rs) ≡ [] → of_owner owner rs ≡ []
+none-retimed owner new rs e = nil_of_map (retimed_by new) (of_owner owner rs) (sym (own-retimed owner new rs) ∙ e)
+
 module _ {K G : Type 0} (octets : K → List ℕ) (items : G → List Record) where
   pub index-retime : (records : List Record) (es : List (K × G)) (new : Record) (g w : G) → IsIndexed octets items records es → under octets (octets_of new.owner) es ≡ Some g → items w ≡ map (retimed_by new) (items g)
       → IsIndexed octets items (map (retimed_by new) records) (set_value (λ k. pointwise nat_eq (octets_of new.owner) (octets k)) es w)
@@ -92,6 +99,17 @@ module _ {K G : Type 0} (octets : K → List ℕ) (items : G → List Record) wh
           let here : items_in items (under octets (octets_of new.owner) es) ≡ of_owner new.owner (map (retimed_by new) records) = ap (items_in items) none ∙ ap (λ (x : List Record). map (retimed_by new) x) empty ∙ sym (own-retimed new.owner new records) in
           subst (λ o. items_in items (under octets (octets_of o) es) ≡ of_owner o (map (retimed_by new) records)) (name_eq_exact new.owner owner e) here
       by false e = h owner ∙ sym (others-retimed owner new records e)
+
+  pub grouped-retime : (records : List Record) (es : List (K × G)) (new : Record) (g w : G) → IsGrouped octets items records es → under octets (octets_of new.owner) es ≡ Some g → items w ≡ map (retimed_by new) (items g)
+      → IsGrouped octets items (map (retimed_by new) records) (set_value (λ k. pointwise nat_eq (octets_of new.owner) (octets k)) es w)
+  grouped-retime records es new g w h found is = (
+    index-retime records es new g w h.0 found is,
+    owned-write octets items records (map (retimed_by new) records) es new.owner w h.1 (λ none. owned-some octets items records es new.owner g h.1 found (none-retimed new.owner new records none))
+        (λ o differ. others-retimed o new records differ),
+  )
+
+  pub grouped-no-set : (records : List Record) (es : List (K × G)) (new : Record) → IsGrouped octets items records es → under octets (octets_of new.owner) es ≡ None → IsGrouped octets items (map (retimed_by new) records) es
+  grouped-no-set records es new h none = (index-no-set records es new h.0 none, λ owner empty. h.1 owner (none-retimed owner new records empty))
 
 -- where each record of the set has the time to live, nothing changes
 pub same-times : (new : Record) (records : List Record) → list_any (λ r. is_of_set r new && not (r.ttl == new.ttl)) (of_owner new.owner records) ≡ false → map (retimed_by new) records ≡ records

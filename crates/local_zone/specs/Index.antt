@@ -24,7 +24,10 @@ under octets spelled groups = lookup (λ k. pointwise nat_eq spelled (octets k))
 abbrev pub IsIndexed : {K G : Type 0} → (K → List ℕ) → (G → List Record) → List Record → List (K × G) → Type 0
 IsIndexed octets items records groups = (owner : Labels) → items_in items (under octets (octets_of owner) groups) ≡ of_owner owner records
 
--- The same, and there is no group but of an owner that has records.
+-- There is no group but of an owner that has records.
+abbrev pub AreOwned : {K G : Type 0} → (K → List ℕ) → List Record → List (K × G) → Type 0
+AreOwned octets records groups = (owner : Labels) → of_owner owner records ≡ [] → under octets (octets_of owner) groups ≡ None
+
+-- Under the octets of each name are the records of this owner, and each group has records.
 abbrev pub IsGrouped : {K G : Type 0} → (K → List ℕ) → (G → List Record) → List Record → List (K × G) → Type 0
-IsGrouped octets items records groups =
-    IsIndexed octets items records groups × ((owner : Labels) → of_owner owner records ≡ [] → under octets (octets_of owner) groups ≡ None)
+IsGrouped octets items records groups = IsIndexed octets items records groups × AreOwned octets records groups

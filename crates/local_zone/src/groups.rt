@@ -8,7 +8,7 @@ ghost use Rattle.dns_name.specs.Labels.{Labels, octets_of};
 ghost use Rattle.dns_name.specs.Order.{name_eq};
 ghost use Rattle.dns_text.specs.declared.record.Record.{Record};
 ghost use Rattle.local_zone.specs.Gaps.{records_of};
-ghost use Rattle.local_zone.specs.Index.{of_owner, under, IsIndexed};
+ghost use Rattle.local_zone.specs.Index.{of_owner, under, IsGrouped};
 
 use crate::record::LocalRecord;
 use crate::taken::Taken;
@@ -24,8 +24,8 @@ fn move_group(
 )
     requires { vec_len groups.old < vec_capacity groups.old }
     // Both together index the same records as before.
-    ensures index { (records : List Record) → IsIndexed (λ k. k.items) (λ g. g.items) records (groups.old.items ++ owners.old.entries) →
-        IsIndexed (λ k. k.items) (λ g. g.items) records (groups.new.items ++ owners.new.entries) }
+    ensures index { (records : List Record) → IsGrouped (λ k. k.items) (λ g. g.items) records (groups.old.items ++ owners.old.entries) →
+        IsGrouped (λ k. k.items) (λ g. g.items) records (groups.new.items ++ owners.new.entries) }
     ensures gone { under (λ k. k.items) (octets_of owner.now) owners.new.entries ≡ None }
     ensures stays { (other : Labels) → under (λ k. k.items) (octets_of other) owners.old.entries ≡ None →
         under (λ k. k.items) (octets_of other) owners.new.entries ≡ None }
@@ -46,8 +46,8 @@ pub(crate) fn move_groups(
     taken: &[Taken],
 )
     requires { vec_len groups.old + length taken.now ≤ vec_capacity groups.old }
-    ensures index { (records : List Record) → IsIndexed (λ k. k.items) (λ g. g.items) records (groups.old.items ++ owners.old.entries) →
-        IsIndexed (λ k. k.items) (λ g. g.items) records (groups.new.items ++ owners.new.entries) }
+    ensures index { (records : List Record) → IsGrouped (λ k. k.items) (λ g. g.items) records (groups.old.items ++ owners.old.entries) →
+        IsGrouped (λ k. k.items) (λ g. g.items) records (groups.new.items ++ owners.new.entries) }
     ensures gone { AllByRecursion (λ t. under (λ k. k.items) (octets_of t.item.owner) owners.new.entries ≡ None) taken.now }
     ensures only { (other : Labels) → of_owner other (records_of taken.now) ≡ [] →
         under (λ k. k.items) (octets_of other) groups.old.items ≡ None → under (λ k. k.items) (octets_of other) groups.new.items ≡ None }
@@ -63,8 +63,8 @@ pub(crate) fn put_groups(
     groups: Vec<(Vec<u8>, Vec<LocalRecord>)>,
 )
     requires { vec_len groups ≤ spare owners.old }
-    ensures { (records : List Record) → IsIndexed (λ k. k.items) (λ g. g.items) records (groups.items ++ owners.old.entries) →
-        IsIndexed (λ k. k.items) (λ g. g.items) records owners.new.entries }
+    ensures { (records : List Record) → IsGrouped (λ k. k.items) (λ g. g.items) records (groups.items ++ owners.old.entries) →
+        IsGrouped (λ k. k.items) (λ g. g.items) records owners.new.entries }
 {
     let mut groups = groups;
     while let Some((key, records)) = groups.pop() {

@@ -2,13 +2,14 @@
 
 ghost use Rattle.std.specs.Prelude.{◌≡◌, ◌++◌, ◌∷◌, [], IfOk, OnErr, OnOk};
 ghost use Rattle.local_zone.specs.Gaps.{at_gaps, gaps_of, put_back, rest_of, AreApart, AreWithin};
-ghost use Rattle.std.specs.Prelude.{◌-◌, List, None, map, take, length, IsTrue, ◌&&◌, ◌==◌, not};
+ghost use Rattle.std.specs.Prelude.{◌-◌, List, None, map, take, length, false, IsTrue, ◌&&◌, ◌==◌, not};
 ghost use Rattle.std.specs.List.{list_any};
 ghost use Rattle.local_zone.specs.Tables.{is_of_set};
 ghost use Rattle.local_zone.specs.Change.{retimed_by};
-ghost use Rattle.dns_name.specs.Labels.{octets_of};
+ghost use Rattle.dns_name.specs.Labels.{Labels, octets_of};
 ghost use Rattle.dns_text.specs.declared.record.Record.{Record};
-ghost use Rattle.local_zone.specs.Index.{of_owner, items_in, under, IsIndexed};
+ghost use Rattle.dns_name.specs.Order.{name_eq};
+ghost use Rattle.local_zone.specs.Index.{of_owner, items_in, under, IsGrouped, IsIndexed};
 
 use crate::groups::{move_groups, put_groups};
 use crate::passes::{push_gaps, put_pass, take_pass};
@@ -29,10 +30,10 @@ fn index_last(
     owners: &mut IndexMap<Vec<u8>, Vec<LocalRecord>>,
     new: LocalRecord,
 ) -> Result<(), NoMemory>
-    ensures ok { OnOk result ((records : List Record) → IsIndexed (λ k. k.items) (λ g. g.items) records owners.old.entries →
-        IsIndexed (λ k. k.items) (λ g. g.items) (records ++ new ∷ []) owners.new.entries) }
-    ensures err { OnErr result ((records : List Record) → IsIndexed (λ k. k.items) (λ g. g.items) records owners.old.entries →
-        IsIndexed (λ k. k.items) (λ g. g.items) records owners.new.entries) }
+    ensures ok { OnOk result ((records : List Record) → IsGrouped (λ k. k.items) (λ g. g.items) records owners.old.entries →
+        IsGrouped (λ k. k.items) (λ g. g.items) (records ++ new ∷ []) owners.new.entries) }
+    ensures err { OnErr result ((records : List Record) → IsGrouped (λ k. k.items) (λ g. g.items) records owners.old.entries →
+        IsGrouped (λ k. k.items) (λ g. g.items) records owners.new.entries) }
 {
     match owners.get_mut(new.owner().octets()) {
         Some(records) => Ok(records.push(new)?),
@@ -47,8 +48,8 @@ fn index_first(
     new: LocalRecord,
 ) -> Result<(), NoMemory>
     requires { under (λ k. k.items) (octets_of new.owner) owners.old.entries ≡ None }
-    ensures ok { OnOk result ((records : List Record) → IsIndexed (λ k. k.items) (λ g. g.items) records owners.old.entries →
-        IsIndexed (λ k. k.items) (λ g. g.items) (records ++ new ∷ []) owners.new.entries) }
+    ensures ok { OnOk result ((records : List Record) → IsGrouped (λ k. k.items) (λ g. g.items) records owners.old.entries →
+        IsGrouped (λ k. k.items) (λ g. g.items) (records ++ new ∷ []) owners.new.entries) }
     ensures err { OnErr result (owners.new.entries ≡ owners.old.entries) }
 {
     let key = key_of(alloc, new.owner())?;
@@ -83,8 +84,8 @@ fn retime_each(records: &mut [LocalRecord], set: &Record, ttl: Ttl)
 
 /// Gives the records of a set in the index a TTL.
 fn retime_index(owners: &mut IndexMap<Vec<u8>, Vec<LocalRecord>>, set: &Record, ttl: Ttl)
-    ensures { (records : List Record) → IsIndexed (λ k. k.items) (λ g. g.items) records owners.old.entries →
-        IsIndexed (λ k. k.items) (λ g. g.items) (map (retimed_by (record set.now { ttl = ttl })) records) owners.new.entries }
+    ensures { (records : List Record) → IsGrouped (λ k. k.items) (λ g. g.items) records owners.old.entries →
+        IsGrouped (λ k. k.items) (λ g. g.items) (map (retimed_by (record set.now { ttl = ttl })) records) owners.new.entries }
 {
     if let Some(records) = owners.get_mut(set.owner.octets()) {
         retime_each(records.as_mut_slice(), set, ttl);
@@ -94,8 +95,8 @@ fn retime_index(owners: &mut IndexMap<Vec<u8>, Vec<LocalRecord>>, set: &Record, 
 /// Takes the last record of an owner out of the index, and its group if that is empty then.
 fn unindex_last(owners: &mut IndexMap<Vec<u8>, Vec<LocalRecord>>, owner: &Name)
     ensures { (front : List Record) (last : Record) → last.owner ≡ owner.now →
-        IsIndexed (λ k. k.items) (λ g. g.items) (front ++ last ∷ []) owners.old.entries →
-        IsIndexed (λ k. k.items) (λ g. g.items) front owners.new.entries }
+        IsGrouped (λ k. k.items) (λ g. g.items) (front ++ last ∷ []) owners.old.entries →
+        IsGrouped (λ k. k.items) (λ g. g.items) front owners.new.entries }
 {
     if pop_under(owners, owner) {
         owners.swap_remove(owner.octets());
@@ -107,6 +108,11 @@ fn pop_under(owners: &mut IndexMap<Vec<u8>, Vec<LocalRecord>>, owner: &Name) -> 
     ensures front { (front : List Record) (last : Record) → last.owner ≡ owner.now →
         IsIndexed (λ k. k.items) (λ g. g.items) (front ++ last ∷ []) owners.old.entries →
         IsIndexed (λ k. k.items) (λ g. g.items) front owners.new.entries }
+    ensures some { result ≡ false → (front : List Record) (last : Record) → last.owner ≡ owner.now →
+        IsGrouped (λ k. k.items) (λ g. g.items) (front ++ last ∷ []) owners.old.entries →
+        IsGrouped (λ k. k.items) (λ g. g.items) front owners.new.entries }
+    ensures others { (other : Labels) → name_eq owner.now other ≡ false →
+        under (λ k. k.items) (octets_of other) owners.new.entries ≡ under (λ k. k.items) (octets_of other) owners.old.entries }
     ensures empty { IsTrue result → items_in (λ g. g.items) (under (λ k. k.items) (octets_of owner.now) owners.new.entries) ≡ [] }
 {
     match owners.get_mut(owner.octets()) {
@@ -130,13 +136,13 @@ pub(crate) struct RecordList {
 impl Model for RecordList {
     ghost use Rattle.std.specs.Prelude.{List};
     ghost use Rattle.dns_text.specs.declared.record.Record.{Record};
-    ghost use Rattle.local_zone.specs.Index.{IsIndexed};
+    ghost use Rattle.local_zone.specs.Index.{IsGrouped};
 
     ghost Value = { List Record };
 
     ghost view = { λ r. r.list.items };
 
-    ghost invariant = { λ r. IsIndexed (λ k. k.items) (λ g. g.items) r.list.items r.owners.entries };
+    ghost invariant = { λ r. IsGrouped (λ k. k.items) (λ g. g.items) r.list.items r.owners.entries };
 }
 
 impl RecordList {

@@ -1,10 +1,10 @@
 //! The changes of the list of records, each with its way back.
 
-ghost use Rattle.std.specs.Prelude.{◌≡◌, ◌≤◌, filter, length, nat_lt, not, true, IfOk, OnOk, OnErr};
+ghost use Rattle.std.specs.Prelude.{◌≡◌, ◌≤◌, [], false, filter, length, nat_lt, not, true, IfOk, IsOk, OnOk, OnErr};
 ghost use Rattle.dns_name.specs.Order.{name_eq};
 ghost use Rattle.local_zone.specs.Closest.{lies_in};
 ghost use Rattle.local_zone.specs.Gaps.{at_gaps, gaps_where, put_back, rest_of, AreApart, AreWithin};
-ghost use Rattle.std.specs.List.{Contains, find};
+ghost use Rattle.std.specs.List.{Contains, find, list_any};
 ghost use Rattle.std.specs.Option.{option_map};
 ghost use Rattle.dns_text.specs.declared.record.Record.{Record};
 ghost use Rattle.local_zone.specs.Added.{ttl_of, records_before, records_other, GoesBack};
@@ -230,7 +230,8 @@ fn gaps_in(
     zones: &NamedList<Zone>,
     name: &Name,
 ) -> Result<Vec<usize>, NoMemory>
-    ensures { IfOk result (λ gaps. gaps.items ≡ gaps_where (λ r. lies_in zones.now name.now r.owner) 0 records.now) }
+    ensures ok { IfOk result (λ gaps. gaps.items ≡ gaps_where (λ r. lies_in zones.now name.now r.owner) 0 records.now) }
+    ensures free { list_any (λ r. lies_in zones.now name.now r.owner) records.now ≡ false → IsOk result }
 {
     let mut gaps = Vec::new(alloc);
     let mut gap = 0;
@@ -247,7 +248,8 @@ fn gaps_in(
 
 /// The gaps before the records of an owner.
 fn gaps_of(alloc: Global, records: &[LocalRecord], owner: &Name) -> Result<Vec<usize>, NoMemory>
-    ensures { IfOk result (λ gaps. gaps.items ≡ gaps_where (λ r. name_eq r.owner owner.now) 0 records.now) }
+    ensures ok { IfOk result (λ gaps. gaps.items ≡ gaps_where (λ r. name_eq r.owner owner.now) 0 records.now) }
+    ensures free { list_any (λ r. name_eq r.owner owner.now) records.now ≡ false → IsOk result }
 {
     let tag = tag_of(owner);
     let mut gaps = Vec::new(alloc);
@@ -274,6 +276,7 @@ fn take_gaps(
     ensures ok { OnOk result (records.new ≡ rest_of gaps.now records.old) }
     ensures saved { IfOk result (λ turn. GoesBack turn records.new × (records_other turn records.new ≡ records.old)) }
     ensures err { OnErr result (records.new ≡ records.old) }
+    ensures free { gaps.now ≡ [] → IsOk result }
 {
     if gaps.is_empty() {
         return Ok(RecordTurn::Nothing);
@@ -282,7 +285,8 @@ fn take_gaps(
     Ok(RecordTurn::Removed(removed))
 }
 
-/// Takes the records that lie in a zone out, and returns the way back. If memory is refused, nothing has changed.
+/// Takes the records that lie in a zone out, and returns the way back. If memory is refused, nothing has changed. If there are
+/// none, it takes no memory.
 pub(crate) fn take_in(
     alloc: Global,
     records: &mut RecordList,
@@ -292,13 +296,15 @@ pub(crate) fn take_in(
     ensures ok { OnOk result (records.new ≡ filter (λ r. not (lies_in zones.now name.now r.owner)) records.old) }
     ensures saved { IfOk result (λ turn. GoesBack turn records.new × (records_other turn records.new ≡ records.old)) }
     ensures err { OnErr result (records.new ≡ records.old) }
+    ensures free { list_any (λ r. lies_in zones.now name.now r.owner) records.old ≡ false → IsOk result }
 {
     let gaps = gaps_in(alloc, records.as_slice(), zones, name)?;
     let turn = take_gaps(alloc, records, gaps.as_slice())?;
     Ok(turn)
 }
 
-/// Takes the records of an owner out, and returns the way back. If memory is refused, nothing has changed.
+/// Takes the records of an owner out, and returns the way back. If memory is refused, nothing has changed. If there are none, it
+/// takes no memory.
 pub(crate) fn take_of(
     alloc: Global,
     records: &mut RecordList,
@@ -307,6 +313,7 @@ pub(crate) fn take_of(
     ensures ok { OnOk result (records.new ≡ filter (λ r. not (name_eq r.owner owner.now)) records.old) }
     ensures saved { IfOk result (λ turn. GoesBack turn records.new × (records_other turn records.new ≡ records.old)) }
     ensures err { OnErr result (records.new ≡ records.old) }
+    ensures free { list_any (λ r. name_eq r.owner owner.now) records.old ≡ false → IsOk result }
 {
     let gaps = gaps_of(alloc, records.as_slice(), owner)?;
     let turn = take_gaps(alloc, records, gaps.as_slice())?;

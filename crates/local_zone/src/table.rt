@@ -1,6 +1,9 @@
 //! Local zones and local data.
 
-ghost use Rattle.std.specs.Prelude.{◌≡◌, [], IfErr, IfOk, OnErr, OnOk, None};
+ghost use Rattle.std.specs.Prelude.{◌≡◌, [], false, IfErr, IfOk, IsOk, OnErr, OnOk, None};
+ghost use Rattle.std.specs.List.{list_any};
+ghost use Rattle.dns_name.specs.Order.{name_eq};
+ghost use Rattle.local_zone.specs.Closest.{lies_in};
 
 use crate::added::RecordTurn;
 use crate::answer::answer;
@@ -126,22 +129,24 @@ impl ZoneTable {
         }
     }
 
-    /// Removes a zone and the records that lie in it, if there is one. The only fault is `NoMemory`.
+    /// Removes a zone and the records that lie in it, if there is one. The only fault is `NoMemory`, and only if there are records.
     pub fn drop_zone(&mut self, name: &Name) -> Result<SavedTables, TableFault>
         ensures ok { OnOk result (self.new ≡ after_drop name.now self.old) }
         ensures err { IfErr result (λ fault. (fault ≡ TableFault.NoMemory) × (self.new ≡ self.old)) }
         ensures saved { IfOk result (λ saved. TakesBack saved self.new self.old) }
+        ensures free { list_any (λ r. lies_in self.old.zones name.now r.owner) self.old.records ≡ false → IsOk result }
     {
         let records = take_in(self.alloc, &mut self.records, &self.zones, name)?;
         let zones = self.zones.take(name);
         Ok(SavedTables { zones, records })
     }
 
-    /// Removes all records of an owner, if there are any. The only fault is `NoMemory`.
+    /// Removes all records of an owner, if there are any. The only fault is `NoMemory`, and only if there are records.
     pub fn drop_name(&mut self, name: &Name) -> Result<SavedTables, TableFault>
         ensures ok { OnOk result (self.new ≡ after_drop_name name.now self.old) }
         ensures err { IfErr result (λ fault. (fault ≡ TableFault.NoMemory) × (self.new ≡ self.old)) }
         ensures saved { IfOk result (λ saved. TakesBack saved self.new self.old) }
+        ensures free { list_any (λ r. name_eq r.owner name.now) self.old.records ≡ false → IsOk result }
     {
         let records = take_of(self.alloc, &mut self.records, name)?;
         Ok(SavedTables {

@@ -4,8 +4,8 @@ use Rattle.std.specs.Cmp.Lexicographic.{pointwise}
 use Rattle.dns_name.specs.Labels.{octets_of}
 use Rattle.dns_text.specs.declared.record.Record.{Record}
 use Rattle.local_zone.specs.declared.record.LocalRecord.{LocalRecord}
-use Rattle.local_zone.specs.Index.{under, IsIndexed}
-use Rattle.local_zone.proofs.GroupLaws.{IsMoved, moved_some, index_moved, still_none, key_found}
+use Rattle.local_zone.specs.Index.{under, IsGrouped}
+use Rattle.local_zone.proofs.GroupLaws.{IsMoved, moved_some, grouped_moved, still_none, key_found}
 use Rattle.local_zone.proofs.groups.move_group.Goals as goal
 
 abbrev octets : Vec ℕ Global → List ℕ
@@ -33,8 +33,8 @@ moved c =
 pub returns-in-Some-clause-index : goal.returns-in-Some-clause-index
 returns-in-Some-clause-index c records h =
     let after = c.swap_remove_entry.new.self.entries in
-    subst (λ gs. IsIndexed octets items records (gs ++ after)) (sym c.push_reserved.ensures.items)
-    (index_moved octets items c.args.owner.now c.args.groups.now.items c.args.owners.now.entries (c.args.groups.now.items ++ c.in-Some.group ∷ []) after (moved c) records h)
+    subst (λ gs. IsGrouped octets items records (gs ++ after)) (sym c.push_reserved.ensures.items)
+    (grouped_moved octets items c.args.owner.now c.args.groups.now.items c.args.owners.now.entries (c.args.groups.now.items ++ c.in-Some.group ∷ []) after (moved c) records h)
 
 pub returns-in-Some-clause-stays : goal.returns-in-Some-clause-stays
 returns-in-Some-clause-stays c other none =

@@ -1,9 +1,9 @@
-use Rattle.std.proofs.Common.{◌<◌, ℕ, List, ◌++◌, Vec, Global, subst, arith}
+use Rattle.std.proofs.Common.{◌≡◌, ◌<◌, ℕ, List, [], ◌∷◌, ◌++◌, length, Vec, Global, refl, subst, arith}
 use Rattle.indexmap.specs.IndexMap.{spare}
 use Rattle.dns_text.specs.declared.record.Record.{Record}
 use Rattle.local_zone.specs.declared.record.LocalRecord.{LocalRecord}
-use Rattle.local_zone.specs.Index.{IsIndexed}
-use Rattle.local_zone.proofs.GroupLaws.{index_put, is_ok_of}
+use Rattle.local_zone.specs.Index.{IsGrouped}
+use Rattle.local_zone.proofs.GroupLaws.{grouped_put, is_ok_of}
 use Rattle.local_zone.proofs.groups.put_groups.Goals as goal
 
 abbrev octets : Vec ℕ Global → List ℕ
@@ -18,8 +18,8 @@ loop-key-preserved-in-Some c =
     let updates = is_ok_of c.insert.result (c.insert.ensures.succeeds room) c.insert.ensures.updates in
     record {
       index = λ records h.
-          index_put octets items c.pop.new.self.items c.loop-key.owners.entries c.insert.new.self.entries c.in-Some.key c.in-Some.records updates.1 updates.3 records
-          (subst (λ gs. IsIndexed octets items records (gs ++ c.loop-key.owners.entries)) c.in-Some.ensures.items (c.loop-key.invariant.index records h));
+          grouped_put octets items c.pop.new.self.items c.loop-key.owners.entries c.insert.new.self.entries c.in-Some.key c.in-Some.records updates.1 updates.3 records
+          (subst (λ gs. IsGrouped octets items records (gs ++ c.loop-key.owners.entries)) c.in-Some.ensures.items (c.loop-key.invariant.index records h));
       room = omega (arith, c.loop-key.invariant.room, c.in-Some.ensures.len, c.insert.ensures.spare);
     }
 
@@ -29,7 +29,16 @@ loop-key-preserved-in-Some-2 c =
     let updates = is_ok_of c.insert.result (c.insert.ensures.succeeds room) c.insert.ensures.updates in
     record {
       index = λ records h.
-          index_put octets items c.pop.new.self.items c.loop-key.owners.entries c.insert.new.self.entries c.in-Some.key c.in-Some.records updates.1 updates.3 records
-          (subst (λ gs. IsIndexed octets items records (gs ++ c.loop-key.owners.entries)) c.in-Some.ensures.items (c.loop-key.invariant.index records h));
+          grouped_put octets items c.pop.new.self.items c.loop-key.owners.entries c.insert.new.self.entries c.in-Some.key c.in-Some.records updates.1 updates.3 records
+          (subst (λ gs. IsGrouped octets items records (gs ++ c.loop-key.owners.entries)) c.in-Some.ensures.items (c.loop-key.invariant.index records h));
       room = omega (arith, c.loop-key.invariant.room, c.in-Some.ensures.len, c.insert.ensures.spare);
     }
+
+nothing : {X : Type 0} (xs : List X) → length xs ≡ 0 → xs ≡ []
+nothing [] e = refl
+nothing (x ∷ xs) e = absurd (omega (arith, e))
+
+pub returns : goal.returns
+returns c records h =
+    let none : c.loop-key.groups.items ≡ [] = nothing c.loop-key.groups.items (omega (arith, c.in_default.ensures.cases.0, c.loop-key.groups.ok.0)) in
+    subst (λ gs. IsGrouped octets items records (gs ++ c.loop-key.owners.entries)) none (c.loop-key.invariant.index records h)

@@ -2,9 +2,9 @@ use Rattle.std.proofs.Common.{◌≡◌, ℕ, List, [], ◌∷◌, ◌++◌, Non
 use Rattle.dns_name.specs.Labels.{octets_of}
 use Rattle.dns_text.specs.declared.record.Record.{Record}
 use Rattle.local_zone.specs.declared.record.LocalRecord.{LocalRecord}
-use Rattle.local_zone.specs.Index.{under, IsIndexed}
+use Rattle.local_zone.specs.Index.{under, IsGrouped}
 use Rattle.indexmap.proofs.CallerLemmas.{insert_entry-new}
-use Rattle.local_zone.proofs.IndexLaws.{index-push}
+use Rattle.local_zone.proofs.IndexLaws.{grouped-push}
 use Rattle.local_zone.proofs.record_list.index_first.Goals as goal
 
 abbrev octets : Vec ℕ Global → List ℕ
@@ -20,4 +20,4 @@ returns-clause-ok c records h =
     let none : under octets c.in_ok-key.key.items es ≡ None = ap (λ (s : List ℕ). under octets s es) key ∙ c.requires in
     let is : c.push.new.self.items ≡ c.args.new ∷ [] = c.in_ok-push.ensures.items ∙ ap (λ (rs : List Record). rs ++ c.args.new ∷ []) c.new-records.ensures.items in
     let entries = c.in_ok-insert.ensures.entries ∙ insert_entry-new _ c.args.owners.now c.in_ok-key.key c.push.new.self none in
-    subst (λ x. IsIndexed octets items (records ++ c.args.new ∷ []) x) (sym entries) (index-push octets items records es c.args.new c.in_ok-key.key c.push.new.self h c.requires key is)
+    subst (λ x. IsGrouped octets items (records ++ c.args.new ∷ []) x) (sym entries) (grouped-push octets items records es c.args.new c.in_ok-key.key c.push.new.self h c.requires key is)

@@ -4,8 +4,8 @@ use Rattle.dns_text.specs.declared.record.Record.{Record}
 use Rattle.local_zone.specs.declared.record.LocalRecord.{LocalRecord}
 use Rattle.local_zone.specs.declared.taken.Taken.{Taken}
 use Rattle.local_zone.specs.Gaps.{put_back, AreApart}
-use Rattle.local_zone.specs.Index.{IsIndexed}
-use Rattle.local_zone.proofs.GroupLaws.{joined}
+use Rattle.local_zone.specs.Index.{IsGrouped}
+use Rattle.local_zone.proofs.GroupLaws.{grouped_joined}
 use Rattle.local_zone.proofs.record_list.RecordList.put_in.Goals as goal
 
 abbrev octets : Vec ℕ Global → List ℕ
@@ -25,9 +25,9 @@ invariant_of-self-2 c =
     let left : List Record = c.self.inside.list.items in
     let parted : AreApart taken left
     = subst (λ (x : List Taken). AreApart x left) (sym c.removed.view_is) (subst (λ (y : List Record). AreApart c.args.removed.now y) (sym c.self.view_is) c.requires.apart) in
-    let both = joined octets items taken left c.removed.inside.groups.items c.self.inside.owners.entries parted c.removed.invariant c.self.invariant in
+    let both = grouped_joined octets items taken left c.removed.inside.groups.items c.self.inside.owners.entries parted c.removed.invariant c.self.invariant in
     let entries : c.reserve.new.self.entries ≡ c.self.inside.owners.entries = c.reserve.ensures.entries in
-    let now : IsIndexed octets items (put_back taken left) (c.replace-groups.result.items ++ c.reserve.new.self.entries)
-    = subst (λ gs. IsIndexed octets items (put_back taken left) (gs ++ c.reserve.new.self.entries)) (sym (ap (λ v. v.items) c.replace-groups.ensures.value))
-    (subst (λ es. IsIndexed octets items (put_back taken left) (c.removed.inside.groups.items ++ es)) (sym entries) both) in
-    subst (λ (x : List Record). IsIndexed octets items x c.put_groups.new.owners.entries) (sym (list_is c)) (c.put_groups.ensures (put_back taken left) now)
+    let now : IsGrouped octets items (put_back taken left) (c.replace-groups.result.items ++ c.reserve.new.self.entries)
+    = subst (λ gs. IsGrouped octets items (put_back taken left) (gs ++ c.reserve.new.self.entries)) (sym (ap (λ v. v.items) c.replace-groups.ensures.value))
+    (subst (λ es. IsGrouped octets items (put_back taken left) (c.removed.inside.groups.items ++ es)) (sym entries) both) in
+    subst (λ (x : List Record). IsGrouped octets items x c.put_groups.new.owners.entries) (sym (list_is c)) (c.put_groups.ensures (put_back taken left) now)

@@ -6,7 +6,7 @@ use Rattle.dns_text.specs.declared.record.Record.{Record}
 use Rattle.local_zone.specs.declared.record.LocalRecord.{LocalRecord}
 use Rattle.local_zone.specs.declared.taken.Taken.{Taken}
 use Rattle.local_zone.specs.Gaps.{records_of, at_gaps, rest_of, AreApart, AreWithin}
-use Rattle.local_zone.specs.Index.{of_owner, under, IsIndexed}
+use Rattle.local_zone.specs.Index.{of_owner, under, IsGrouped}
 use Rattle.local_zone.proofs.GapLaws.{length_at}
 use Rattle.local_zone.proofs.GroupLaws.{parts}
 use Rattle.local_zone.proofs.record_list.RecordList.take_out.Goals as goal
@@ -35,7 +35,7 @@ invariant_of-result c =
     (subst (λ (x : List Record). AreWithin gaps x) (sym c.self.view_is) c.requires.within)
     (subst (λ (x : List Record). AreApart (at_gaps gaps x) (rest_of gaps x)) (sym c.self.view_is) c.requires.apart)
     taken_is left_is c.self.invariant
-    (λ records h. c.move_groups.ensures.index records (subst (λ gs. IsIndexed octets items records (gs ++ c.self.inside.owners.entries)) (sym c.in_ok-groups.ensures.items) h))
+    (λ records h. c.move_groups.ensures.index records (subst (λ gs. IsGrouped octets items records (gs ++ c.self.inside.owners.entries)) (sym c.in_ok-groups.ensures.items) h))
     (subst (λ (ts : List Taken). AllByRecursion (λ (t : Taken). under octets (octets_of t.item.owner) c.move_groups.new.owners.entries ≡ None) ts) c.deref.ensures.value c.move_groups.ensures.gone)
     (λ owner none. c.move_groups.ensures.only owner (ap (λ (ts : List Taken). of_owner owner (records_of ts)) c.deref.ensures.value ∙ none) (ap (λ gs. under octets (octets_of owner) gs) c.in_ok-groups.ensures.items))).0
 
@@ -51,6 +51,6 @@ invariant_of-self c =
     (subst (λ (x : List Record). AreWithin gaps x) (sym c.self.view_is) c.requires.within)
     (subst (λ (x : List Record). AreApart (at_gaps gaps x) (rest_of gaps x)) (sym c.self.view_is) c.requires.apart)
     taken_is left_is c.self.invariant
-    (λ records h. c.move_groups.ensures.index records (subst (λ gs. IsIndexed octets items records (gs ++ c.self.inside.owners.entries)) (sym c.in_ok-groups.ensures.items) h))
+    (λ records h. c.move_groups.ensures.index records (subst (λ gs. IsGrouped octets items records (gs ++ c.self.inside.owners.entries)) (sym c.in_ok-groups.ensures.items) h))
     (subst (λ (ts : List Taken). AllByRecursion (λ (t : Taken). under octets (octets_of t.item.owner) c.move_groups.new.owners.entries ≡ None) ts) c.deref.ensures.value c.move_groups.ensures.gone)
     (λ owner none. c.move_groups.ensures.only owner (ap (λ (ts : List Taken). of_owner owner (records_of ts)) c.deref.ensures.value ∙ none) (ap (λ gs. under octets (octets_of owner) gs) c.in_ok-groups.ensures.items))).1
