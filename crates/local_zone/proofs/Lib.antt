@@ -11,3 +11,4 @@ pub mod GapLaws
 pub mod GroupLaws
 pub mod TagLaws
 pub mod CountLaws
+pub mod MaskLaws

@@ -2,6 +2,7 @@ pub mod ZoneType
 pub mod Closest
 pub mod Tables
 pub mod Tag
+pub mod Mask
 pub mod Index
 pub mod Change
 pub mod Added

@@ -1,6 +1,8 @@
 //! The answer to a question from the table. Finding it takes no memory.
 
-ghost use Rattle.std.specs.Prelude.{◌≡◌};
+ghost use Rattle.std.specs.Prelude.{◌≡◌, ◌&&◌};
+ghost use Rattle.dns_name.specs.Below.{is_at_or_below};
+ghost use Rattle.local_zone.specs.Closest.{lies_in};
 ghost use Rattle.std.specs.List.{list_any};
 ghost use Rattle.std.specs.Option.{option_map};
 ghost use Rattle.local_zone.specs.Answer.{absent_in, absent_or_pass, answer_in, data_or, has_record, has_record_below};
@@ -11,6 +13,7 @@ use crate::local::{Local, LocalSet};
 use crate::next::is_for;
 use crate::record::LocalRecord;
 use crate::record_list::RecordList;
+use crate::sought::Sought;
 use crate::zone::Zone;
 use crate::zone_type::ZoneType;
 use crate::zones::{closest, lies_in};
@@ -40,12 +43,28 @@ fn has_record(records: &[LocalRecord], name: &Name) -> bool
     records.iter().any(|r| *r.owner() == *name)
 }
 
-/// Whether a name, or one below it, has a record that lies in the zone.
+/// Whether one of these records is at or below a name, and lies in the zone.
+fn is_any_below(
+    zones: &NamedList<Zone>,
+    records: &[LocalRecord],
+    zone: &Sought,
+    name: &Sought,
+) -> bool
+    ensures { result ≡ list_any (λ r. is_at_or_below r.owner name.now && lies_in zones.now zone.now r.owner) records.now }
+{
+    records
+        .iter()
+        .any(|r| r.is_at_or_below(name) && lies_in(zones, zone, r))
+}
+
+/// Whether a name, or one below it, has a record that lies in the zone. Most names have one of their own, which an index finds.
 fn has_record_below(zones: &NamedList<Zone>, records: &RecordList, zone: &Zone, name: &Name) -> bool
     ensures { result ≡ has_record_below name.now zone.now (record { zones = zones.now; records = records.now }) }
 {
-    records.as_slice().iter().any(|r| r.owner().at_or_below(name)
-        && lies_in(zones, &zone.name, r.owner()))
+    let within = Sought::new(&zone.name);
+    let below = Sought::new(name);
+    is_any_below(zones, records.of(name), &within, &below)
+        || is_any_below(zones, records.as_slice(), &within, &below)
 }
 
 /// The CNAME of an owner, else its set of the type, shown with the QNAME as owner. None if there is neither.

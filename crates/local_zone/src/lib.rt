@@ -5,8 +5,10 @@
 
 // The types of zones.
 mod zone_type;
-// A record, with a tag in which most owners differ.
+// A record. Its tag spares most comparisons of its owner with a name, and its mask those with a name above it.
+mod mask;
 mod record;
+mod sought;
 mod tag;
 // A zone, with its name in the list of zones.
 mod zone;

@@ -2,6 +2,7 @@
 
 ghost use Rattle.std.specs.Prelude.{◌≡◌, ◌≤◌, ◌&&◌, length};
 ghost use Rattle.std.specs.List.{list_any};
+ghost use Rattle.dns_name.specs.Below.{is_at_or_below};
 ghost use Rattle.local_zone.specs.Reason.{clashes, differ, has_data_below, reason_of_add, reason_of_set, redirects_below, would_lie_below};
 ghost use Rattle.local_zone.specs.ZoneType.{is_redirect};
 ghost use Rattle.local_zone.specs.Closest.{closest};
@@ -11,6 +12,7 @@ ghost use Rattle.local_zone.specs.declared.table.TheConstants.{MOST_ZONES, MOST_
 use crate::fault::TableFault;
 use crate::record::LocalRecord;
 use crate::record_list::RecordList;
+use crate::sought::Sought;
 use crate::zone::Zone;
 use crate::zone_type::ZoneType;
 use crate::zones::{closest, has_no_room_for, would_lie_below};
@@ -39,14 +41,19 @@ fn differ(a: bool, b: bool) -> bool
     if a { !b } else { b }
 }
 
+/// Whether one of these records is at or below a name, and would lie in the new zone, strictly below its name.
+fn is_any_below(zones: &NamedList<Zone>, records: &[LocalRecord], new: &Zone, name: &Sought) -> bool
+    ensures { result ≡ list_any (λ r. is_at_or_below r.owner name.now && would_lie_below new.now zones.now r.owner) records.now }
+{
+    records.iter().any(|r| r.is_at_or_below(name) && would_lie_below(zones, new, r.owner()))
+}
+
 /// Whether a record would lie in the new zone, strictly below its name.
 fn has_record_below(zones: &NamedList<Zone>, records: &RecordList, new: &Zone) -> bool
     ensures { result ≡ list_any (λ r. would_lie_below new.now zones.now r.owner) records.now }
 {
-    records
-        .as_slice()
-        .iter()
-        .any(|r| would_lie_below(zones, new, r.owner()))
+    let name = Sought::new(&new.name);
+    is_any_below(zones, records.as_slice(), new, &name)
 }
 
 /// Whether a record would lie strictly below the name of the redirect zone.

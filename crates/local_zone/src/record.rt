@@ -2,6 +2,8 @@
 
 ghost use Rattle.std.specs.Prelude.{◌≡◌, IfOk};
 
+use crate::mask::mask_of;
+use crate::sought::Sought;
 use crate::tag::tag_of;
 use dns_name::{Name, NoMemory};
 use dns_text::{Data, Record, Shared, Ttl};
@@ -14,21 +16,25 @@ pub struct LocalRecord {
     ttl: Ttl,
     // A hash of the owner's octets. Most other owners have another one, so their names need not be read.
     tag: u32,
+    // The bits of the owner and of all names above it. Most other names have a bit that is not among them.
+    mask: u64,
 }
 
 impl Model for LocalRecord {
     ghost use Rattle.std.specs.Prelude.{◌≡◌};
     ghost use Rattle.dns_text.specs.declared.record.Record.{Record};
+    ghost use Rattle.local_zone.specs.Mask.{mask_of};
     ghost use Rattle.local_zone.specs.Tag.{tag_of};
 
     ghost Value = { Record };
 
     ghost view = { λ r. record r.said { ttl = r.ttl } };
 
-    ghost invariant = { λ r. r.tag ≡ tag_of r.said.owner };
+    ghost invariant = { λ r. (r.tag ≡ tag_of r.said.owner) × (r.mask ≡ mask_of r.said.owner) };
 }
 
 impl LocalRecord {
+    ghost use Rattle.dns_name.specs.Below.{is_at_or_below};
     ghost use Rattle.dns_name.specs.Order.{name_eq};
     ghost use Rattle.local_zone.specs.Tables.{is_of_set, is_same};
     ghost use Rattle.local_zone.specs.Tag.{tag_of};
@@ -37,8 +43,15 @@ impl LocalRecord {
         ensures { result ≡ said }
     {
         let ttl = said.get().ttl;
-        let tag = tag_of(&said.get().owner);
-        LocalRecord { said, ttl, tag }
+        let owner = &said.get().owner;
+        let tag = tag_of(owner);
+        let mask = mask_of(owner);
+        LocalRecord {
+            said,
+            ttl,
+            tag,
+            mask,
+        }
     }
 
     /// Another share of the record. It takes no memory, and fails only if there are more shares than can be counted.
@@ -55,6 +68,7 @@ impl LocalRecord {
             said: self.said.share()?,
             ttl,
             tag: self.tag,
+            mask: self.mask,
         })
     }
 
@@ -115,6 +129,17 @@ impl LocalRecord {
         ensures { result ≡ name_eq self.now.owner name.now }
     {
         self.tag == tag && *self.owner() == *name
+    }
+
+    /// Whether the owner is the name that is sought, or lies below it.
+    pub(crate) fn is_at_or_below(&self, name: &Sought) -> bool
+        ensures { result ≡ is_at_or_below self.now.owner name.now }
+    {
+        if name.may_cover(self.mask) {
+            self.owner().at_or_below(name.name())
+        } else {
+            false
+        }
     }
 
     /// Whether both are of one set and have the same RDATA.

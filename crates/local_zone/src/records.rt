@@ -17,6 +17,7 @@ use crate::added::{Added, RecordTurn};
 use crate::record::LocalRecord;
 use crate::record_list::RecordList;
 use crate::removed::Removed;
+use crate::sought::Sought;
 use crate::table::MOST_RECORDS;
 use crate::tag::tag_of;
 use crate::zone::Zone;
@@ -233,10 +234,11 @@ fn gaps_in(
     ensures ok { IfOk result (λ gaps. gaps.items ≡ gaps_where (λ r. lies_in zones.now name.now r.owner) 0 records.now) }
     ensures free { list_any (λ r. lies_in zones.now name.now r.owner) records.now ≡ false → IsOk result }
 {
+    let zone = Sought::new(name);
     let mut gaps = Vec::new(alloc);
     let mut gap = 0;
     for r in records {
-        if lies_in(zones, name, r.owner()) {
+        if lies_in(zones, &zone, r) {
             gaps.push(gap)?;
             gap = 0;
         } else {

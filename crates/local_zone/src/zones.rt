@@ -8,6 +8,8 @@ ghost use Rattle.local_zone.specs.Reason.{would_lie_below};
 ghost use Rattle.named_list.specs.Turn.{IsWayBack};
 ghost use Rattle.local_zone.specs.declared.table.TheConstants.{MOST_ZONES};
 
+use crate::record::LocalRecord;
+use crate::sought::Sought;
 use crate::table::MOST_ZONES;
 use crate::zone::Zone;
 use crate::zone_type::ZoneType;
@@ -47,13 +49,13 @@ pub(crate) fn put_implied(
     zones.put(alloc, implied)
 }
 
-/// Whether records of this owner lie in the zone of that name.
-pub(crate) fn lies_in(zones: &NamedList<Zone>, name: &Name, owner: &Name) -> bool
-    ensures { result ≡ lies_in zones.now name.now owner.now }
+/// Whether a record lies in the zone of that name.
+pub(crate) fn lies_in(zones: &NamedList<Zone>, name: &Sought, r: &LocalRecord) -> bool
+    ensures { result ≡ lies_in zones.now name.now r.now.owner }
 {
-    if owner.at_or_below(name) {
-        match closest(zones, owner) {
-            Some(zone) => zone.name == *name,
+    if r.is_at_or_below(name) {
+        match closest(zones, r.owner()) {
+            Some(zone) => zone.name == *name.name(),
             None => false,
         }
     } else {
