@@ -265,6 +265,21 @@ def check_itself(checks, over):
     check_never_asked(checks, "the machine's address, of all addresses", [own], over, "0.0.0.0")
 
 
+def check_many_targets(checks):
+    """A referral to 50 names of a victim: the service asks the victim for the first five (NXNSAttack)."""
+    names = [f"n{place}.victim." for place in range(50)]
+    referral = " ".join(f"| authority attack. 60 NS {name}" for name in names)
+    zone = {"a.attack. A": referral, "*": "| authority victim. 60 NS ns.victim. | additional ns.victim. 60 A 127.0.0.2"}
+    with NameServers({HOST: zone, "127.0.0.2": {"*": "aa rcode 3"}}) as servers:
+        with Service([f"{HOST}@{servers.port}"], "--server-port", str(servers.port)) as service:
+            checks.equal("a referral to 50 names", service.ask("a.attack.").words(), "rcode 2")
+            asked = [question for _, _, question in servers.asked]
+            wanted = ["a.attack. A", *(f"{name} A" for name in names[:5])]
+            checks.equal("a referral to 50 names: what is asked", sorted(set(asked)), wanted)
+            most = 12
+            checks.check("a referral to 50 names: few queries", None if len(asked) <= most else f"{len(asked)}, wanted {most} at most")
+
+
 def check_dead_ports(checks):
     """Hints at which nobody listens are skipped. If there are no others, the question fails."""
     zone = {"good.test. A": GOOD.format(name="good.test.")}
@@ -427,6 +442,7 @@ def main():
     checks.make(check_early)
     checks.make(check_large, {})
     checks.make(check_large, {"SIGNALS": 1, "PIECE": 10_000})
+    checks.make(check_many_targets)
     checks.make(check_dead_ports)
     for over in ("udp", "tcp"):
         checks.make(check_no_hosts, over)

@@ -1,8 +1,8 @@
 -- Turns of a search that are well made.
-use Rattle.std.proofs.Common.{◌≡◌, ℕ, ◌+◌, ◌<◌, ◌≤◌, List, [], ◌∷◌, length, drop, false, None, Result, Ok, Err, IfOk, sym, ap, subst, refl, arith}
+use Rattle.std.proofs.Common.{suc, ◌≡◌, ℕ, ◌+◌, ◌<◌, ◌≤◌, List, [], ◌∷◌, length, take, drop, get_or, false, None, Result, Ok, Err, IfOk, sym, ap, ◌∙◌, subst, refl, add-zero, arith}
 use Rattle.std.specs.Global.{Box}
 use Rattle.std.specs.List.{Contains}
-use Rattle.std.proofs.lemmas.List.{take_all}
+use Rattle.std.proofs.lemmas.List.{take_all, length-drop, length-take, get_or-drop, get_or-take}
 use Rattle.std.proofs.lemmas.List.Elements.{All-from_recursion, All-drop, All-same, All-head}
 use Rattle.dns_name.specs.Labels.{Labels}
 use Rattle.dns_text.specs.declared.addr.Addr.{Addr}
@@ -30,7 +30,7 @@ use Rattle.iterate.specs.Measure.{hunts_left, left_in, left_of_search, left_of_s
 use Rattle.iterate.specs.Phase.{Goes, IsSeeking, IsWaiting, ask_at, Drawing, idle}
 use Rattle.iterate.specs.Resolved.{ResolvedAs, Fails, Exhausted}
 use Rattle.iterate.specs.Searching.{IsPath, IsHunt, IsBase, AreFrames, IsSearch, hunt_behind, hunt_of, question_behind, question_of}
-use Rattle.iterate.specs.Wanted.{MayCall, MayGo, id_drawn}
+use Rattle.iterate.specs.Wanted.{IsAskedFor, MayCall, MayGo, id_drawn}
 use Rattle.iterate.proofs.Falling.{few_is, less_than, less_twice, begun_falls, sending_falls, coming_falls, looks_fall, ended_falls, path_digits}
 use Rattle.iterate.proofs.Growing.{unknown_since}
 use Rattle.iterate.proofs.Hunts.{search_digits}
@@ -125,6 +125,30 @@ unknown_behind : (port : ℕ) (log since : List Exchange) (fs : List Nested) (ba
 unknown_behind port log since [] base last b all = b.unknown
 unknown_behind port log since (f ∷ fs) base last b all = unknown_since b.reached all.0.unknown
 
+-- ---- what is asked
+
+-- The next server is among the first of its list.
+early_within : (n : ℕ) (xs : List Labels) (x : Labels) (rest : List Labels) → drop n xs ≡ x ∷ rest → n < 5 → Contains (take 5 xs) x
+early_within n xs x rest next early =
+    let left : length (drop n xs) ≡ suc (length rest) = ap (λ (ys : List Labels). length ys) next in
+    let within : n < length xs = omega (arith, left, length-drop n xs) in
+    let short : n < length (take 5 xs) = omega (arith, length-take 5 xs, within, early) in
+    let first : get_or (drop n xs) 0 x ≡ x = ap (λ (ys : List Labels). get_or ys 0 x) next in
+    let at : get_or xs n x ≡ x = ap (λ (i : ℕ). get_or xs i x) (sym (add-zero n)) ∙ sym (get_or-drop n xs 0 x) ∙ first in
+    (n, short, get_or-take 5 xs n x early ∙ at)
+
+asked_behind : (port : ℕ) (question : Question) (log since : List Exchange) (fs : List Nested) (base : Hunt) (path : Path) → IsPath port question log path → IsHunt port log path.last.owner base
+    → AreFrames port log since base fs → IsAskedFor port log question (question_behind fs path.last)
+asked_behind port question log since [] base path p h all =
+    subst (λ (k : ℕ). IsAskedFor port log question (record { owner = path.last.owner; kind = k })) (sym p.kind) (IsAskedFor.of_name p.chain)
+asked_behind port question log since (f ∷ fs) base path p h all =
+    let behind = hunt_known port log since fs base path.last h all.1 in
+    IsAskedFor.of_server behind.listed (early_within (hunt_behind fs base).sought (hunt_behind fs base).servers.missing f.target all.0.next.rest all.0.next.next all.0.early)
+
+-- The innermost question may be asked.
+asked_innermost : {port : ℕ} {question : Question} {log : List Exchange} (search : Search) → IsSearch port question log search → IsAskedFor port log question (question_of search)
+asked_innermost {port} {question} {log} search s = asked_behind port question log s.since search.frames.items search.base search.path s.path s.base.is_hunt s.frames
+
 -- A look did not find the innermost question.
 pub unknown_innermost : {port : ℕ} {question : Question} {log : List Exchange} (search : Search) → IsSearch port question log search → WasUnknown log (question_of search)
 unknown_innermost {port} {question} {log} search s = unknown_behind port log s.since search.frames.items search.base search.path.last s.base s.frames
@@ -140,6 +164,7 @@ sending port question log moment id left search server over bytes rest s few nex
     record {
       wants = record {
         question = question_of search;
+        asked = asked_innermost search s;
         zone = (hunt_of search).servers.zone;
         query = subst (λ (n : ℕ). IsQuery bytes n (question_of search)) (sym same) query;
         unknown = unknown_innermost search s;

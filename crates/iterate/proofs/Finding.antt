@@ -1,5 +1,5 @@
 -- Servers without an address are looked for, and servers are named.
-use Rattle.std.proofs.Common.{◌≡◌, ℕ, List, [], ◌∷◌, ◌++◌, take, drop, false, None, sym, subst, refl, arith}
+use Rattle.std.proofs.Common.{◌≡◌, ℕ, ◌<◌, List, [], ◌∷◌, ◌++◌, take, drop, false, None, sym, subst, refl, arith}
 use Rattle.std.specs.List.{AllByRecursion, Contains}
 use Rattle.std.proofs.lemmas.List.{take-append-drop}
 use Rattle.std.proofs.lemmas.List.Elements.{Contains-append_right}
@@ -99,10 +99,10 @@ tried_more port m question before log search target stage input k a = record {
   tried = λ none may. sought_then m k.is_search.since target stage input k.unknown;
 }
 
--- Its address was not found: it is looked for further.
+-- Its address was not found: it is looked for further, if it is among the first of its list.
 pub seeking_unknown : (port m : ℕ) (question : Question) (before log : List Exchange) (search : Search) (target : Labels) (seen : SeenValue) → seen ≡ Unknown → IsSeeking port question before search target stage.Address
-    → Adds before (exchange (Book (Look m (Asked (address_question target)))) (Reply (Seen seen))) log → IsSeeking port question log search target stage.Alias
-seeking_unknown port m question before log search target seen none k a = record {
+    → Adds before (exchange (Book (Look m (Asked (address_question target)))) (Reply (Seen seen))) log → (hunt_of search).sought < 5 → IsSeeking port question log search target stage.Alias
+seeking_unknown port m question before log search target seen none k a early = record {
   is_search = after_look m (Asked (address_question target)) (Reply (Seen seen)) search k.is_search a;
   shallow = k.shallow;
   next = k.next;
@@ -111,16 +111,18 @@ seeking_unknown port m question before log search target seen none k a = record 
     looked = subst (λ (v : SeenValue). Happened (k.is_search.since ++ exchange (Book (Look m (Asked (address_question target)))) (Reply (Seen seen)) ∷ []) (exchange (Book (Look m (Asked (address_question target)))) (Reply (Seen v)))) none
         (happened_last (since_more k.is_search.since _));
   };
+  early = early;
 }
 
 -- It is looked for further still.
 pub seeking_more : (port m : ℕ) (question : Question) (before log : List Exchange) (search : Search) (target : Labels) (first : Stage) (input : Input) → (k : IsSeeking port question before search target first)
-    → WasUnknown k.is_search.since (address_question target) → Adds before (exchange (Book (Look m (ask_at first target))) input) log → IsSeeking port question log search target stage.Servers
-seeking_more port m question before log search target first input k u a = record {
+    → WasUnknown k.is_search.since (address_question target) → (hunt_of search).sought < 5 → Adds before (exchange (Book (Look m (ask_at first target))) input) log → IsSeeking port question log search target stage.Servers
+seeking_more port m question before log search target first input k u early a = record {
   is_search = after_look m (ask_at first target) input search k.is_search a;
   shallow = k.shallow;
   next = k.next;
   unknown = unknown_more u (since_more k.is_search.since _);
+  early = early;
 }
 
 -- One question more is begun.
@@ -133,7 +135,7 @@ begun_search search n s = record { path = begun_path search.path n s.path; since
 
 pub begun_seeking : (port : ℕ) (question : Question) (log : List Exchange) (search : Search) (target : Labels) (stage : Stage) (n : ℕ) → IsSeeking port question log search target stage
     → IsSeeking port question log (record search { path = record search.path { begun = n } }) target stage
-begun_seeking port question log search target stage n k = record { is_search = begun_search search n k.is_search; shallow = k.shallow; next = k.next; unknown = k.unknown }
+begun_seeking port question log search target stage n k = record { is_search = begun_search search n k.is_search; shallow = k.shallow; next = k.next; unknown = k.unknown; early = k.early }
 
 -- ---- its addresses
 

@@ -132,7 +132,7 @@ pub frames_more : (port : ℕ) {log after : List Exchange} {y : Exchange} (since
     → AreFrames port log since base frames → AreFrames port after (since ++ y ∷ []) base frames
 frames_more port since base [] a all = tt
 frames_more port {log} {after} {y} since base (f ∷ frames) a all =
-    (record { next = all.0.next; unknown = unknown_more all.0.unknown (since_more since y); hunt = hunt_more all.0.hunt a }, frames_more port since base frames a all.1)
+    (record { next = all.0.next; early = all.0.early; unknown = unknown_more all.0.unknown (since_more since y); hunt = hunt_more all.0.hunt a }, frames_more port since base frames a all.1)
 
 -- with the path as it is then
 pub search_more : {port : ℕ} {question : Question} {log after : List Exchange} {y : Exchange} {search : Search} → IsSearch port question log search → Adds log y after

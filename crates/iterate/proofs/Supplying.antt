@@ -164,6 +164,7 @@ referred_frames port log since base fs last list target hunt g gs are same all k
     let at : IsAtOrBelow target list.zone = subst (λ (n : Labels). IsAtOrBelow n list.zone) (sym same) (subst (λ (xs : List Nested). IsAtOrBelow (question_behind xs last).owner list.zone) are zone) in (
       record {
         next = subst (λ (n : Labels). IsNext (hunt_behind gs base) n) (sym same) inner.0.next;
+        early = inner.0.early;
         unknown = subst (λ (n : Labels). WasUnknown since (address_question n)) (sym same) inner.0.unknown;
         hunt = fresh_hunt port log target list hunt known at f;
       },
@@ -255,6 +256,7 @@ supplied_stack port log since last target (f ∷ fs) (g ∷ gs) base next found 
     let same = sym i.0 in
     let frame : IsFrame port log since (hunt_behind fs base) g = record {
       next = subst (λ (m : Labels). IsNext (hunt_behind fs base) m) same all.0.next;
+      early = all.0.early;
       unknown = subst (λ (m : Labels). WasUnknown since (address_question m)) same all.0.unknown;
       hunt = subst (λ (m : Labels). IsHunt port log m g.hunt) same (supplied_hunt port log f.target target f.hunt found g.hunt all.0.hunt n serve i.1);
     } in
@@ -338,12 +340,12 @@ closing port question log search after found some same i s serve =
 
 pub opening : (port : ℕ) (question : Question) (log : List Exchange) (search after : Search) (list : Servers) (target : Labels) (hunt : Hunt) → after.path ≡ search.path → after.base ≡ search.base
     → after.frames.items ≡ record { target = target; hunt = hunt } ∷ search.frames.items → IsFresh list hunt → (s : IsSearch port question log search) → length search.frames.items < 8
-    → IsNext (hunt_of search) target → WasUnknown s.since (address_question target) → Known port log (Listed list) → IsAtOrBelow target list.zone → IsSmaller port question log (left_of_seek search stage.Servers) after
-opening port question log search after list target hunt path base frames f s shallow n unknown known zone =
+    → IsNext (hunt_of search) target → (hunt_of search).sought < 5 → WasUnknown s.since (address_question target) → Known port log (Listed list) → IsAtOrBelow target list.zone → IsSmaller port question log (left_of_seek search stage.Servers) after
+opening port question log search after list target hunt path base frames f s shallow n early unknown known zone =
     let h = fresh_hunt port log target list hunt known zone f in
     let stack : IsStack port log s.since search.path.last search.base (record { target = target; hunt = hunt } ∷ search.frames.items) = record {
       base_known = s.base;
-      frames_known = (record { next = n; unknown = unknown; hunt = h }, s.frames);
+      frames_known = (record { next = n; early = early; unknown = unknown; hunt = h }, s.frames);
       deep = omega (arith, shallow);
     } in
     let t = rebuilt port question log s.since after (subst (λ (q : Path). IsPath port question log q) (sym path) s.path)

@@ -17,7 +17,7 @@ use Rattle.history.specs.declared.event.Ask.{Ask}
 use Rattle.history.specs.declared.event.Ask.TheVariants.{Answer as Asked, Servers as ServersFor}
 use Rattle.history.specs.declared.event.Event.TheVariants.{Admit, Look}
 use Rattle.iterate.specs.declared.answer.Answer.{Answer}
-use Rattle.iterate.specs.declared.limits.TheConstants.{MOST_DEPTH, MOST_SENDS}
+use Rattle.iterate.specs.declared.limits.TheConstants.{MOST_DEPTH, MOST_SENDS, MOST_TARGETS}
 use Rattle.iterate.specs.declared.phase.Advance.{Advance}
 use Rattle.iterate.specs.declared.phase.Phase.{Phase}
 use Rattle.iterate.specs.declared.phase.Phase.TheVariants.{Fresh, First, Aliasing, Looking, Listing, Seeking, Sent, Admitting, Ended, Broken}
@@ -75,12 +75,18 @@ abbrev pub IsUnknownAt : Stage → List Exchange → Labels → Type 0
 IsUnknownAt Address since target = Unit {0}
 IsUnknownAt stage since target = WasUnknown since (address_question target)
 
+-- Behind that look, a server is looked for further only if it is among the first of its list.
+abbrev pub IsEarlyAt : Stage → ℕ → Type 0
+IsEarlyAt Address sought = Unit {0}
+IsEarlyAt stage sought = sought < MOST_TARGETS
+
 -- A server without an address is being looked for.
 pub record IsSeeking (port : ℕ) (question : Question) (log : List Exchange) (search : Search) (target : Labels) (stage : Stage) : Type 0 where
   pub is_search : IsSearch port question log search
   pub shallow : length search.frames.items < MOST_DEPTH
   pub next : IsNext (hunt_of search) target
   pub unknown : IsUnknownAt stage is_search.since target
+  pub early : IsEarlyAt stage (hunt_of search).sought
 
 -- The next server is being asked.
 pub record IsWaiting (port : ℕ) (question : Question) (log : List Exchange) (want : Want) (search : Search) (server : Addr) (id : ℕ) (over : Over) : Type 0 where

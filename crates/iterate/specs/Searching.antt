@@ -6,7 +6,7 @@ use Rattle.dns_text.specs.declared.addr.Addr.{Addr}
 use Rattle.dns_text.specs.declared.record.Question.{Question}
 use Rattle.dns_query.specs.Query.{address_question}
 use Rattle.iterate.specs.declared.answer.AnswerSet.{AnswerSet}
-use Rattle.iterate.specs.declared.limits.TheConstants.{MOST_ALIASES, MOST_DEPTH, MOST_SENDS}
+use Rattle.iterate.specs.declared.limits.TheConstants.{MOST_ALIASES, MOST_DEPTH, MOST_SENDS, MOST_TARGETS}
 use Rattle.iterate.specs.declared.path.Path.{Path}
 use Rattle.iterate.specs.declared.search.Nested.{Nested}
 use Rattle.iterate.specs.declared.search.Hunt.{Hunt}
@@ -65,9 +65,10 @@ abbrev pub hunt_behind : List Nested → Hunt → Hunt
 hunt_behind [] base = base
 hunt_behind (frame ∷ frames) base = frame.hunt
 
--- A question inside another asks for the address of the next server that the one after it lacks. A look did not find it.
+-- A question inside another asks for the address of the next server that the one after it lacks, which is among the first of its list. A look did not find it.
 pub record IsFrame (port : ℕ) (log : List Exchange) (since : List Exchange) (behind : Hunt) (frame : Nested) : Type 0 where
   pub next : IsNext behind frame.target
+  pub early : behind.sought < MOST_TARGETS
   pub unknown : WasUnknown since (address_question frame.target)
   pub hunt : IsHunt port log frame.target frame.hunt
 

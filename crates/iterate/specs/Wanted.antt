@@ -1,5 +1,5 @@
 -- What a task may want.
-use Rattle.std.specs.Prelude.{◌≡◌, ℕ, ◌%◌, ◌^◌, List}
+use Rattle.std.specs.Prelude.{◌≡◌, ℕ, ◌%◌, ◌^◌, List, take}
 use Rattle.std.specs.List.{Contains}
 use Rattle.dns_name.specs.Labels.{Labels, IsAtOrBelow}
 use Rattle.dns_text.specs.declared.addr.Addr.{Addr}
@@ -7,7 +7,7 @@ use Rattle.dns_text.specs.declared.record.Question.{Question}
 use Rattle.dns_wire.specs.declared.message.Message.{Message}
 use Rattle.dns_query.specs.declared.over.Over.{Over}
 use Rattle.dns_query.specs.declared.over.Over.TheVariants.{Udp, Tcp}
-use Rattle.dns_query.specs.Query.{IsQuery}
+use Rattle.dns_query.specs.Query.{IsQuery, address_question}
 use Rattle.dns_query.specs.Verdict.{IsTruncated}
 use Rattle.harvest.specs.Harvest.{finds_in}
 use Rattle.neg_rule.specs.Negative.{said_by}
@@ -16,12 +16,15 @@ use Rattle.ranked.specs.declared.find.Find.{Find}
 use Rattle.history.specs.declared.event.Ask.TheVariants.{Answer as Asked, Servers as ServersFor}
 use Rattle.history.specs.declared.event.Event.{Event}
 use Rattle.history.specs.declared.event.Event.TheVariants.{Admit, Look}
+use Rattle.history.specs.declared.servers.Servers.{Servers}
+use Rattle.iterate.specs.declared.answer.AnswerSet.{AnswerSet}
+use Rattle.iterate.specs.declared.limits.TheConstants.{MOST_TARGETS}
 use Rattle.iterate.specs.declared.want.Input.TheVariants.{Came}
 use Rattle.iterate.specs.declared.want.Want.{Want}
 use Rattle.iterate.specs.declared.want.Want.TheVariants.{Book, Send, Finish}
 use Rattle.iterate.specs.Exchanges.{Exchange, exchange, Happened}
-use Rattle.iterate.specs.Known.{Known, Serves, Responds, WasUnknown}
-use Rattle.iterate.specs.Resolved.{IsResolved}
+use Rattle.iterate.specs.Known.{Known, Listed, Serves, Responds, WasUnknown}
+use Rattle.iterate.specs.Resolved.{IsResolved, Chain, question_at}
 
 -- A find is in the harvest of a response.
 pub record IsHarvested (port : ℕ) (log : List Exchange) (find : Find) : Type 0 where
@@ -45,10 +48,18 @@ abbrev pub MayGo : List Exchange → Addr → Question → Over → Type 0
 MayGo log server question Udp = Unit {0}
 MayGo log server question Tcp = WasTruncated log server question
 
+-- What servers may be asked for a question: the type asked, of its name or of one to which aliases lead, or the address of a server that has none.
+-- Of each list of servers that is so for the first of those without an address alone.
+pub data IsAskedFor (port : ℕ) (log : List Exchange) (question : Question) : Question → Type 0 where
+  of_name : {name : Labels} {front : List AnswerSet} → Chain port log question.owner front name → IsAskedFor port log question (question_at question name)
+  of_server : {servers : Servers} {target : Labels} → Known port log (Listed servers) → Contains (take MOST_TARGETS servers.missing) target
+      → IsAskedFor port log question (address_question target)
+
 -- A query with this identifier asks a server of a zone in which its name lies. An earlier look at its question found nothing:
 -- what is cached, blocked or set by the operator is never asked for, neither as the question itself nor behind an alias.
-pub record AsksZone (port : ℕ) (log : List Exchange) (id : ℕ) (server : Addr) (over : Over) (bytes : List ℕ) : Type 0 where
+pub record AsksZone (port : ℕ) (whole : Question) (log : List Exchange) (id : ℕ) (server : Addr) (over : Over) (bytes : List ℕ) : Type 0 where
   pub question : Question
+  pub asked : IsAskedFor port log whole question
   pub zone : Labels
   pub query : IsQuery bytes id question
   pub unknown : WasUnknown log question
@@ -77,5 +88,5 @@ MayCall port log moment event = ⊥
 -- What may be wanted after these exchanges, at this moment, by a task that draws this identifier.
 abbrev pub MayWant : ℕ → Question → List Exchange → ℕ → ℕ → Want → Type 0
 MayWant port question log moment id (Book event) = MayCall port log moment event
-MayWant port question log moment id (Send server over bytes) = AsksZone port log id server over bytes
+MayWant port question log moment id (Send server over bytes) = AsksZone port question log id server over bytes
 MayWant port question log moment id (Finish answer) = IsResolved port question log answer

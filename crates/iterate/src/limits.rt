@@ -10,5 +10,10 @@ pub const MOST_SENDS: usize = 64;
 /// one for each server at each depth.
 pub const MOST_BEGUN: usize = 64;
 
+/// The number of servers without an address, of one list of servers, for whose addresses other servers are asked: the first ones
+/// of the list. Those behind them are looked up in the cache alone. Without it, one referral would turn a question into a query
+/// for each name in it, all sent to whatever servers those names lie in.
+pub const MOST_TARGETS: usize = 5;
+
 /// The most questions for addresses of servers that are open inside one another.
 pub const MOST_DEPTH: usize = 8;

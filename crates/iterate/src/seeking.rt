@@ -1,6 +1,6 @@
 //! Lookups for servers without an address.
 
-ghost use Rattle.std.specs.Prelude.{◌≡◌, ◌<◌, ℕ, List, IfOk};
+ghost use Rattle.std.specs.Prelude.{◌≡◌, ◌<◌, ◌↔◌, ℕ, List, IfOk, IsTrue};
 ghost use Rattle.std.specs.List.{AllByRecursion};
 ghost use Rattle.dns_text.specs.declared.record.Question.{Question};
 ghost use Rattle.dns_query.specs.Query.{address_question};
@@ -14,12 +14,13 @@ ghost use Rattle.iterate.specs.Hunting.{IsAddressSeen, IsTried, is_set_seen};
 ghost use Rattle.iterate.specs.Looked.{seen_of};
 ghost use Rattle.iterate.specs.Measure.{left_of_search, left_of_seek};
 ghost use Rattle.iterate.specs.Phase.{Advances, Suits, IsSeeking, ask_at, drawing, idle};
+ghost use Rattle.iterate.specs.Searching.{hunt_of};
 ghost use Rattle.iterate.specs.Shown.{IsLookReply};
 ghost use Rattle.rand_core.specs.Stream.{Stream};
 
 use crate::addresses::addresses;
 use crate::finishing::failed;
-use crate::limits::MOST_BEGUN;
+use crate::limits::{MOST_BEGUN, MOST_TARGETS};
 use crate::listing::servers_for;
 use crate::phase::{Advance, Phase, Stage};
 use crate::search::{Search, go_on, open, supply};
@@ -79,7 +80,15 @@ fn addresses_seen(alloc: Global, port: u16, what: Looked<'_>) -> Result<Vec<Addr
     }
 }
 
-/// Begins a nested question for a server whose address is not known, unless too many were begun.
+/// Whether a nested question may be begun for the next server that the innermost question needs.
+fn may_begin(search: &Search) -> bool
+    ensures { IsTrue result ↔ ((search.now.path.begun < MOST_BEGUN) × ((hunt_of search.now).sought < MOST_TARGETS)) }
+{
+    search.path.begun < MOST_BEGUN && search.hunt().sought < MOST_TARGETS
+}
+
+/// Begins a nested question for a server whose address is not known, unless too many were begun, or the server is not among the
+/// first of its list.
 fn seek_on<R: Rng>(
     alloc: Global,
     ids: &mut R,
@@ -88,10 +97,10 @@ fn seek_on<R: Rng>(
     target: Name,
 ) -> Result<Advance, NoMemory>
     ensures { (port : ℕ) (question : Question) (log : List Exchange) → IsTried port question log search target
-        → IsSeeking port question log search target Stage.Alias
+        → ((hunt_of search).sought < MOST_TARGETS → IsSeeking port question log search target Stage.Alias)
         → IfOk result (Advances port question log moment (drawing (R.stream ids.old) (R.stream ids.new)) (left_of_search search 3)) }
 {
-    if search.path.begun < MOST_BEGUN {
+    if may_begin(&search) {
         return seek(alloc, moment, search.begun(), target, Stage::Alias);
     }
     let after = supply(alloc, search, &[])?;

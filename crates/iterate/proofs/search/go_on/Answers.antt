@@ -25,7 +25,7 @@ returns-in-Seek g c = λ port question log s.
     let stream = g.R.Rng.stream c.going.ids in
     let here : stream ≡ g.R.Rng.stream c.args.ids.now = cc in
     from_more_ok port question log c.args.moment c.seek.result (ap (λ (s : Stream). drawing s stream) here) (at_most (left_of_search c.args.search 4))
-    (c.seek.ensures port stream (left_of_search c.args.search 4) question log record { is_search = at.0; shallow = next.1; next = next.0; unknown = tt } (address_less c.going.current (left_of_search c.args.search 4) at.0 at.1))
+    (c.seek.ensures port stream (left_of_search c.args.search 4) question log record { is_search = at.0; shallow = next.1; next = next.0; unknown = tt; early = tt } (address_less c.going.current (left_of_search c.args.search 4) at.0 at.1))
 
 pub going-smaller-in-Pass : goal.going-smaller-in-Pass
 going-smaller-in-Pass g c =

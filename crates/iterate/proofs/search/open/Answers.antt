@@ -4,4 +4,4 @@ use Rattle.iterate.proofs.search.open.Goals as goal
 
 pub returns : goal.returns
 returns c = λ port question log k known zone.
-    opening port question log c.args.search _ c.args.servers c.args.target c.in_ok-hunt.hunt refl refl c.in_ok-insert.ensures.items c.in_ok-hunt.ensures k.is_search k.shallow k.next k.unknown known zone
+    opening port question log c.args.search _ c.args.servers c.args.target c.in_ok-hunt.hunt refl refl c.in_ok-insert.ensures.items c.in_ok-hunt.ensures k.is_search k.shallow k.next k.early k.unknown known zone

@@ -15,7 +15,7 @@ returns-in_ok-after-in-Some g c = λ port m question before log k adds suits.
 
 pub returns-else-is_set : goal.returns-else-is_set
 returns-else-is_set g c = λ port m question before log k adds suits.
-    let more = seeking_more port m question before log c.args.search c.args.target stage.Alias c.args.input.now k k.unknown adds in
+    let more = seeking_more port m question before log c.args.search c.args.target stage.Alias c.args.input.now k k.unknown k.early adds in
     c.seek.ensures port _ (left_of_seek c.args.search stage.Alias) question log more (servers_less c.args.search more.is_search)
 
 pub returns-in-None : goal.returns-in-None

@@ -7,10 +7,12 @@ use Rattle.iterate.proofs.Asking.{from_more_ok, begun_less, smaller_goes}
 use Rattle.iterate.proofs.Finding.{begun_seeking}
 use Rattle.iterate.proofs.seeking.seek_on.Goals as goal
 
-pub returns-then-search-lt-MOST_BEGUN : goal.returns-then-search-lt-MOST_BEGUN
-returns-then-search-lt-MOST_BEGUN g c = λ port question log tried k.
+pub returns-then-may_begin : goal.returns-then-may_begin
+returns-then-may_begin g c = λ port question log tried further.
+    let may = c.may_begin.ensures.0 c.if-may_begin.true in
+    let k = further may.1 in
     let more = subst (λ (s : Search). IsSeeking port question log s c.args.target stage.Alias) (sym c.begun.ensures) (begun_seeking port question log c.args.search c.args.target stage.Alias (c.args.search.path.begun + 1) k) in
-    let less = begun_less c.args.search c.begun.result (omega arith) c.begun.ensures tried.is_search in
+    let less = begun_less c.args.search c.begun.result may.0 c.begun.ensures tried.is_search in
     c.seek.ensures port _ (left_of_search c.args.search 3) question log more less
 
 pub returns : goal.returns

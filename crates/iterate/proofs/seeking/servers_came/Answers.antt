@@ -16,7 +16,7 @@ pub returns-in_ok-after-in-Some : goal.returns-in_ok-after-in-Some
 returns-in_ok-after-in-Some g c = λ port m question before log k adds suits.
     let named = subst (λ (s : Servers). Names c.args.target c.args.input.now s) (sym c.in_ok-list-in-Some.ensures) c.in-Some.ensures in
     let here = subst (λ (i : Input). Adds before (exchange (Book (Look m (ServersFor c.args.target))) i) log) named.replied adds in
-    let more = seeking_more port m question before log c.args.search c.args.target stage.Servers c.args.input.now k k.unknown adds in
+    let more = seeking_more port m question before log c.args.search c.args.target stage.Servers c.args.input.now k k.unknown k.early adds in
     let small = c.in_ok-after-in-Some.ensures port question log more (listed_named port before log m c.args.target c.in_ok-list-in-Some.list here) named.zone in
     from_more_ok port question log c.args.moment c.go_on.result refl (goes_on c.in_ok-after-in-Some.after (left_of_seek c.args.search stage.Servers) small) (c.go_on.ensures port question log small.is_search)
 
