@@ -95,6 +95,24 @@ def reply_or_drop(service, over, name, kind, is_asked):
         return "drop" if reply.id == 2 else reply.words()
 
 
+def check_delegation_signer(checks, over):
+    """DS (type 43) is asked of the zone above, though the servers of the name are cached; all else of the zone itself."""
+    below = "127.0.0.3"
+    zones = {
+        ROOT: {"*": REFERRAL},
+        TEST: {"*": f"| authority a.test. 100 NS ns.a.test. | additional ns.a.test. 100 A {below}", "a.test. TYPE43": "aa | answer a.test. 60 TYPE43 0001"},
+        below: {"a.test. A": "aa | answer a.test. 60 A 192.0.2.7", "*": "aa"},
+    }
+    with NameServers(zones) as servers, serving(servers) as service:
+        checks.equal(f"below the cut, over {over}", service.ask("a.test.", "A", over).words(), "- | answer a.test. A 192.0.2.7")
+        checks.equal(f"another type, over {over}", service.ask("a.test.", "TYPE48", over).words(), "-")
+        reply = service.ask("a.test.", "TYPE43", over)
+        checks.equal(f"DS, over {over}: records", [(record.owner, record.kind) for record in reply.records], [("a.test.", "TYPE43")])
+        asked = [(TEST, "udp", "a.test. TYPE43")]
+        checks.equal(f"DS, over {over}: who was asked", [query for query in servers.asked if query[2].endswith("TYPE43")], asked)
+        checks.equal(f"the other type, over {over}: who was asked", servers.asked[-2], (below, "udp", "a.test. TYPE48"))
+
+
 def check_zone_types(checks, over):
     """The ten types of zones, over the wire."""
     nothing = {ROOT: {"*": "aa rcode 3 | authority . 60 SOA ns. host. 1 2 3 4 60"}}
@@ -444,6 +462,7 @@ def main():
     checks = Checks()
     for over in ("udp", "tcp"):
         checks.make(check_resolved, over)
+        checks.make(check_delegation_signer, over)
         checks.make(check_zone_types, over)
         checks.make(check_wrong_queries, over)
         checks.make(check_undone, over)

@@ -8,7 +8,7 @@ use Rattle.dns_name.specs.Labels.{Labels}
 use Rattle.dns_text.specs.declared.addr.Addr.{Addr}
 use Rattle.dns_text.specs.declared.record.Question.{Question}
 use Rattle.dns_query.specs.declared.over.Over.{Over}
-use Rattle.dns_query.specs.Query.{IsQuery}
+use Rattle.dns_query.specs.Query.{IsQuery, address_question}
 use Rattle.rand_core.specs.Stream.{Stream, next_u32}
 use Rattle.history.specs.declared.event.Event.TheVariants.{Look}
 use Rattle.iterate.specs.declared.answer.Answer.TheVariants.{Reply as Replies}
@@ -32,7 +32,7 @@ use Rattle.iterate.specs.Resolved.{ResolvedAs, Fails, Exhausted}
 use Rattle.iterate.specs.Searching.{IsPath, IsHunt, IsBase, AreFrames, IsSearch, hunt_behind, hunt_of, question_behind, question_of}
 use Rattle.iterate.specs.Wanted.{IsAskedFor, MayCall, MayGo, id_drawn}
 use Rattle.iterate.proofs.Falling.{few_is, less_than, less_twice, begun_falls, sending_falls, coming_falls, looks_fall, ended_falls, path_digits}
-use Rattle.iterate.proofs.Growing.{unknown_since}
+use Rattle.iterate.proofs.Growing.{last_asked, unknown_since}
 use Rattle.iterate.proofs.Hunts.{search_digits}
 
 -- A turn is what its phase and its want are.
@@ -139,8 +139,7 @@ early_within n xs x rest next early =
 
 asked_behind : (port : ℕ) (question : Question) (log since : List Exchange) (fs : List Nested) (base : Hunt) (path : Path) → IsPath port question log path → IsHunt port log path.last.owner base
     → AreFrames port log since base fs → IsAskedFor port log question (question_behind fs path.last)
-asked_behind port question log since [] base path p h all =
-    subst (λ (k : ℕ). IsAskedFor port log question (record { owner = path.last.owner; kind = k })) (sym p.kind) (IsAskedFor.of_name p.chain)
+asked_behind port question log since [] base path p h all = last_asked p
 asked_behind port question log since (f ∷ fs) base path p h all =
     let behind = hunt_known port log since fs base path.last h all.1 in
     IsAskedFor.of_server behind.listed (early_within (hunt_behind fs base).sought (hunt_behind fs base).servers.missing f.target all.0.next.rest all.0.next.next all.0.early)
@@ -186,15 +185,18 @@ sending_less search looks s few =
 -- ---- a server is looked for
 
 -- Each of these looks may be wanted.
-may_look : (port : ℕ) (log : List Exchange) (moment : ℕ) (target : Labels) (then : Stage) → MayCall port log moment (Look moment (ask_at then target))
-may_look port log moment target stage.Address = refl
-may_look port log moment target stage.Alias = refl
-may_look port log moment target stage.Servers = refl
+may_look : (port : ℕ) (question : Question) (log : List Exchange) (moment : ℕ) (search : Search) (target : Labels) (then : Stage) → IsSeeking port question log search target then
+    → MayCall port question log moment (Look moment (ask_at then target))
+may_look port question log moment search target stage.Address s = refl
+may_look port question log moment search target stage.Alias s = refl
+may_look port question log moment search target stage.Servers s =
+    let asked = IsAskedFor.of_server (innermost_hunt search s.is_search).listed (early_within (hunt_of search).sought (hunt_of search).servers.missing target s.next.rest s.next.next s.early) in
+    (refl, record { question = address_question target; asked = asked; serves = refl })
 
 pub seeking : (port : ℕ) (question : Question) (log : List Exchange) (moment : ℕ) (id : Stream) (left : ℕ) (search : Search) (target : Labels) (then : Stage) → IsSeeking port question log search target then
     → left_of_seek search then < left → (kept : Box Search) → kept.value ≡ search → Goes port question log moment (idle id) left (Seeking kept target then) (Book (Look moment (ask_at then target)))
 seeking port question log moment id left search target then s less kept is = record {
-  wants = may_look port log moment target then;
+  wants = may_look port question log moment search target then s;
   drawn = refl;
   fits = (subst (λ (x : Search). IsSeeking port question log x target then) (sym is) s, record { moment = moment; wanted = refl });
   falls = subst (λ (x : Search). left_of_seek x then < left) (sym is) less;

@@ -194,7 +194,7 @@ struck_frame {port} {question} {log} {server} {rest} searching after frame frame
     let first : drop frame.hunt.asked frame.hunt.addrs.items ≡ server ∷ rest = subst (λ (h : Hunt). drop h.asked h.addrs.items ≡ server ∷ rest) inner next in
     let known : AreFrames port log s.since searching.base (frame ∷ frames) = subst (λ (fs : List Nested). AreFrames port log s.since searching.base fs) some s.frames in
     let after_known : AreFrames port log s.since searching.base (struck_frame_of frame ∷ frames) =
-    (record { next = known.0.next; unknown = known.0.unknown; hunt = struck_known frame.hunt known.0.hunt first }, known.1) in
+    (record { next = known.0.next; early = known.0.early; unknown = known.0.unknown; hunt = struck_known frame.hunt known.0.hunt first }, known.1) in
     let deep : length (frame ∷ frames) ≤ 8 = subst (λ (fs : List Nested). length fs ≤ 8) some s.deep in
     record {
       path = subst (λ (p : Path). IsPath port question log p) (sym path) s.path;

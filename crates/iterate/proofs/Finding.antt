@@ -1,9 +1,9 @@
 -- Servers without an address are looked for, and servers are named.
-use Rattle.std.proofs.Common.{◌≡◌, ℕ, ◌<◌, List, [], ◌∷◌, ◌++◌, take, drop, false, None, sym, subst, refl, arith}
+use Rattle.std.proofs.Common.{◌≡◌, ℕ, ◌<◌, List, [], ◌∷◌, ◌++◌, take, drop, true, false, None, ◌==◌, if◌then◌else◌, unwrap_or, sym, ap, subst, refl, arith}
 use Rattle.std.specs.List.{AllByRecursion, Contains}
 use Rattle.std.proofs.lemmas.List.{take-append-drop}
 use Rattle.std.proofs.lemmas.List.Elements.{Contains-append_right}
-use Rattle.dns_name.specs.Labels.{Labels}
+use Rattle.dns_name.specs.Labels.{Labels, IsAtOrBelow, parent_of}
 use Rattle.dns_text.specs.declared.addr.Addr.{Addr}
 use Rattle.dns_text.specs.declared.record.Question.{Question}
 use Rattle.dns_query.specs.Query.{address_question}
@@ -33,6 +33,8 @@ use Rattle.iterate.specs.Looked.{IsSetSeen}
 use Rattle.iterate.specs.Measure.{top, left_of_path, left_of_seek}
 use Rattle.iterate.specs.Phase.{Goes, IsSeeking, IsUnknownAt, ask_at, idle}
 use Rattle.iterate.specs.Resolved.{Fails, ReachedFor, Sought}
+use Rattle.iterate.specs.Served.{served_name}
+use Rattle.iterate.specs.declared.served.TheConstants.{DS}
 use Rattle.iterate.specs.Searching.{IsPath, IsAskable, IsSearch, hunt_of}
 use Rattle.iterate.specs.Shown.{IsLookReply, IsMisanswered}
 use Rattle.iterate.proofs.Growing.{happened_last, path_more, askable_more, base_more, frames_more, search_looked, since_more, sought_more, unknown_more}
@@ -41,32 +43,43 @@ use Rattle.iterate.proofs.Asking.{failing, ended_seek, innermost_hunt}
 
 -- ---- servers are named
 
+below_above : (name zone : Labels) → IsAtOrBelow (unwrap_or (parent_of name) name) zone → IsAtOrBelow name zone
+below_above [] zone at = at
+below_above (label ∷ labels) zone at = (label ∷ at.0, ap (λ (n : Labels). label ∷ n) at.1)
+
 pub path_named : (port : ℕ) (question : Question) (before log : List Exchange) (m : ℕ) (path : Path) (list : Servers) → IsAskable port question before path
-    → Adds before (exchange (Book (Look m (ServersFor path.last.owner))) (Reply (Seen (SeenServers list)))) log → IsAskable port question log path
+    → Adds before (exchange (Book (Look m (ServersFor (served_name path.last)))) (Reply (Seen (SeenServers list)))) log → IsAskable port question log path
 path_named port question before log m path list p a = askable_more p a refl
 
 pub reached_named : (port : ℕ) (before log : List Exchange) (m : ℕ) (question : Question) (list : Servers)
-    → Adds before (exchange (Book (Look m (ServersFor question.owner))) (Reply (Seen (SeenServers list)))) log → ReachedFor port log question list []
+    → Adds before (exchange (Book (Look m (ServersFor (served_name question)))) (Reply (Seen (SeenServers list)))) log → ReachedFor port log question list []
 reached_named port before log m question list a = ReachedFor.by_book before m a.adds
+
+-- A zone at or above the name whose servers are asked is at or above that of the question.
+pub below_served : (question : Question) (zone : Labels) → IsAtOrBelow (served_name question) zone → IsAtOrBelow question.owner zone
+below_served question zone below = elim (question.kind == DS) as (λ b. IsAtOrBelow (if b then unwrap_or (parent_of question.owner) question.owner else question.owner) zone → IsAtOrBelow question.owner zone) [
+  | true ↦ below_above question.owner zone
+  | false ↦ λ at. at
+] below
 
 pub listed_named : (port : ℕ) (before log : List Exchange) (m : ℕ) (name : Labels) (list : Servers)
     → Adds before (exchange (Book (Look m (ServersFor name))) (Reply (Seen (SeenServers list)))) log → Known port log (Listed list)
 listed_named port before log m name list a = Known.named a
 
 pub failing_listing : (port m : ℕ) (question : Question) (before log : List Exchange) (moment : ℕ) (id : Stream) (path : Path) (input : Input) → IsPath port question before path
-    → Adds before (exchange (Book (Look m (ServersFor path.last.owner))) input) log → IsMisanswered (Look m (ServersFor path.last.owner)) input
+    → Adds before (exchange (Book (Look m (ServersFor (served_name path.last)))) input) log → IsMisanswered (Look m (ServersFor (served_name path.last))) input
     → Goes port question log moment (idle id) (left_of_path path 1) Ended (Finish (Replies 2 false [] None None))
 failing_listing port m question before log moment id path input p a bad =
     failing port question log moment id (left_of_path path 1) path (ended_falls path 0 0 top 1 p.short) (path_more p a refl) (Fails.misanswered (happened_last a) bad)
 
 -- ---- a look for a server without an address
 
-pub failing_seeking : (port m : ℕ) (question : Question) (before log : List Exchange) (moment : ℕ) (id : Stream) (then : Stage) (search : Search) (ask : Ask) (input : Input) → IsSearch port question before search
+pub failing_seeking : (port m : ℕ) (question : Question) (before log : List Exchange) (moment : ℕ) (id : Stream) (sought : Stage) (search : Search) (ask : Ask) (input : Input) → IsSearch port question before search
     → Adds before (exchange (Book (Look m ask)) input) log → IsMisanswered (Look m ask) input
-    → Goes port question log moment (idle id) (left_of_seek search then) Ended (Finish (Replies 2 false [] None None))
-failing_seeking port m question before log moment id then search ask input s a bad =
+    → Goes port question log moment (idle id) (left_of_seek search sought) Ended (Finish (Replies 2 false [] None None))
+failing_seeking port m question before log moment id sought search ask input s a bad =
     let after = search_looked s a refl in
-    failing port question log moment id (left_of_seek search then) search.path (ended_seek search then after) after.path (Fails.misanswered (happened_last a) bad)
+    failing port question log moment id (left_of_seek search sought) search.path (ended_seek search sought after) after.path (Fails.misanswered (happened_last a) bad)
 
 -- a search behind a look
 abbrev after_look : {port : ℕ} {question : Question} {before log : List Exchange} (m : ℕ) (ask : Ask) (input : Input) (search : Search) → IsSearch port question before search

@@ -16,6 +16,7 @@ use Rattle.iterate.specs.Exchanges.{Exchange, Adds, Happened, is_send, count_sen
 use Rattle.iterate.specs.Known.{Known, Serves, WasUnknown}
 use Rattle.iterate.specs.Resolved.{BeganUnanswered, Chain, ReachedFor, Struck, Sought}
 use Rattle.iterate.specs.Searching.{IsPath, IsAskable, IsHunt, IsBase, AreFrames, IsSearch}
+use Rattle.iterate.specs.Wanted.{IsAskedFor}
 
 -- ---- exchanges
 
@@ -66,6 +67,11 @@ chain_more a (Chain.alias front known target is) = Chain.alias (chain_more a fro
 -- with an exchange that is no query
 pub path_more : {port : ℕ} {question : Question} {log after : List Exchange} {y : Exchange} {path : Path} → IsPath port question log path → Adds log y after → is_send y ≡ false → IsPath port question after path
 path_more p a is = record { began = began_more p.began a; chain = chain_more a p.chain; kind = p.kind; short = p.short; counted = p.counted ∙ sym (sends_same a is); few = p.few }
+
+-- The last question may be asked.
+pub last_asked : {port : ℕ} {question : Question} {log : List Exchange} {path : Path} → IsPath port question log path → IsAskedFor port log question path.last
+last_asked {port} {question} {log} {path} p =
+    subst (λ (k : ℕ). IsAskedFor port log question (record { owner = path.last.owner; kind = k })) (sym p.kind) (IsAskedFor.of_name p.chain)
 
 pub askable_more : {port : ℕ} {question : Question} {log after : List Exchange} {y : Exchange} {path : Path} → IsAskable port question log path → Adds log y after → is_send y ≡ false → IsAskable port question after path
 askable_more p a is = record { is_path = path_more p.is_path a is; unknown = unknown_more p.unknown a }

@@ -9,7 +9,7 @@ use Rattle.local_zone.specs.declared.local.Local.{Local as LocalAnswer}
 use Rattle.local_zone.specs.declared.local.Local.TheVariants as local
 use Rattle.rand_core.specs.Stream.{Stream}
 use Rattle.history.specs.declared.event.Ask.{Ask}
-use Rattle.history.specs.declared.event.Ask.TheVariants.{Answer as Asked}
+use Rattle.history.specs.declared.event.Ask.TheVariants.{Answer as Asked, Servers as ServersFor}
 use Rattle.history.specs.declared.event.Event.TheVariants.{Look}
 use Rattle.history.specs.declared.event.Reply.TheVariants.{Taken, Outranked, Seen, Swept, Done, Refused as RefusedCommand, Undone, Redone, NothingToUndo, NothingToRedo}
 use Rattle.history.specs.declared.event.Seen.{Seen as SeenValue}
@@ -20,7 +20,7 @@ use Rattle.iterate.specs.declared.answer.Soa.{Soa}
 use Rattle.iterate.specs.declared.answer.AnswerSet.{AnswerSet}
 use Rattle.iterate.specs.declared.path.Path.{Path}
 use Rattle.iterate.specs.declared.phase.Phase.{Phase}
-use Rattle.iterate.specs.declared.phase.Phase.TheVariants.{First, Ended}
+use Rattle.iterate.specs.declared.phase.Phase.TheVariants.{First, Listing, Ended}
 use Rattle.iterate.specs.declared.want.Input.{Input}
 use Rattle.iterate.specs.declared.want.Input.TheVariants.{Begin, Reply, Refused, Came, Failed}
 use Rattle.iterate.specs.declared.want.Want.{Want}
@@ -31,11 +31,12 @@ use Rattle.iterate.specs.Looked.{IsReplied, IsSetSeen}
 use Rattle.iterate.specs.Measure.{top, Falls, left_in, left_of_path, digits_of_path}
 use Rattle.iterate.specs.Phase.{Goes, Drawing, idle}
 use Rattle.iterate.specs.Resolved.{Began, BeganUnanswered, IsNoAnswer, is_local, Chain, IsDenied, Fails, IsBarred, ResolvedAs, IsResolved, question_at}
-use Rattle.iterate.specs.Searching.{IsPath, IsLonger}
+use Rattle.iterate.specs.Searching.{IsPath, IsAskable, IsLonger}
+use Rattle.iterate.specs.Served.{served_name}
 use Rattle.iterate.specs.Shown.{EndsQuestion, IsMisanswered}
 use Rattle.iterate.specs.Told.{IsTarget}
 use Rattle.iterate.proofs.Falling.{Digits, weight_falls, path_digits, looks_fall, alias_falls, ended_falls}
-use Rattle.iterate.proofs.Growing.{happened_last, path_more, sends_same}
+use Rattle.iterate.proofs.Growing.{happened_last, last_asked, path_more, sends_same}
 
 -- A turn is what its phase and its want are.
 pub turned : {port : ℕ} {question : Question} {log : List Exchange} {moment : ℕ} {id : Drawing} {left : ℕ} {phase phase' : Phase} {want want' : Want}
@@ -275,3 +276,15 @@ first_path {port} {question} {log} path adds last none unsent =
 pub barred_refused : {answer : LocalAnswer (List Record) Record} → IsBarred (LocalSeen answer) → ¬ (answer ≡ local.Drop) → answer ≡ local.Refuse
 barred_refused IsBarred.refused not_dropped = refl
 barred_refused IsBarred.dropped not_dropped = absurd (not_dropped refl)
+
+-- ---- servers
+
+-- The servers that are asked about the last question are looked for.
+pub listing : (port : ℕ) (question : Question) (log : List Exchange) (moment : ℕ) (id : Stream) (path : Path) (name : Labels) → name ≡ served_name path.last → IsAskable port question log path
+    → Goes port question log moment (idle id) (left_of_path path 2) (Listing path) (Book (Look moment (ServersFor name)))
+listing port question log moment id path name same p = record {
+  wants = (refl, record { question = path.last; asked = last_asked p.is_path; serves = same });
+  drawn = refl;
+  fits = (p, record { moment = moment; wanted = ap (λ (n : Labels). Book (Look moment (ServersFor n))) same });
+  falls = looks_less path 1 2 (omega arith) (omega arith);
+}

@@ -3,6 +3,7 @@ pub mod Exchanges
 pub mod Told
 pub mod Shown
 pub mod Known
+pub mod Served
 pub mod Resolved
 pub mod Wanted
 -- What its code remembers, and how far it is.

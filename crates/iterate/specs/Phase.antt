@@ -33,6 +33,7 @@ use Rattle.iterate.specs.Exchanges.{Exchange, exchange, Adds, last_behind, count
 use Rattle.iterate.specs.Known.{Known, Responds, WasUnknown}
 use Rattle.iterate.specs.Measure.{left_in}
 use Rattle.iterate.specs.Searching.{IsPath, IsAskable, IsSearch, IsNext, IsNextServer, hunt_of, question_of}
+use Rattle.iterate.specs.Served.{served_name}
 use Rattle.iterate.specs.Wanted.{MayWant, id_drawn, stream_behind}
 
 -- ---- what comes next
@@ -122,7 +123,7 @@ Remembers port question log want Fresh = ⊥
 Remembers port question log want First = (log ≡ []) × IsLook want (Asked question)
 Remembers port question log want (Aliasing path) = IsAskable port question log path × IsLook want (Asked (alias_question path.last.owner))
 Remembers port question log want (Looking path) = IsPath port question log path × (1 ≤ length path.sets.items) × IsLook want (Asked path.last)
-Remembers port question log want (Listing path) = IsAskable port question log path × IsLook want (ServersFor path.last.owner)
+Remembers port question log want (Listing path) = IsAskable port question log path × IsLook want (ServersFor (served_name path.last))
 Remembers port question log want (Seeking search target stage) = IsSeeking port question log search.value target stage × IsLook want (ask_at stage target)
 Remembers port question log want (Sent search server id over) = IsWaiting port question log want search.value server id over
 Remembers port question log want (Admitting search heard next) = IsHearing port question log search.value heard.value × (next < length heard.value.harvest.finds) × IsAdmission want

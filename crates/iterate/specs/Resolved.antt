@@ -31,6 +31,7 @@ use Rattle.iterate.specs.declared.want.Input.TheVariants.{Reply, Came, Failed}
 use Rattle.iterate.specs.declared.want.Want.TheVariants.{Book, Send}
 use Rattle.iterate.specs.Exchanges.{Exchange, exchange, Adds, Happened, count_sends}
 use Rattle.iterate.specs.Known.{WasUnknown, Known, Had, Responds, servers_referred}
+use Rattle.iterate.specs.Served.{served_name}
 use Rattle.iterate.specs.Shown.{IsShownFor, IsLocalFor, IsMisanswered, EndsQuestion}
 use Rattle.iterate.specs.Told.{IsTarget, soa_whole}
 
@@ -102,7 +103,7 @@ pub record Struck (port : ℕ) (log : List Exchange) (zone : Labels) (question :
 -- The exchanges since a list of servers was reached for a question.
 pub data ReachedFor (port : ℕ) (log : List Exchange) (question : Question) (servers : Servers) (since : List Exchange) : Type 0 where
   by_book : (before : List Exchange) (moment : ℕ)
-      → log ≡ before ++ exchange (Book (Look moment (ServersFor question.owner))) (Reply (Seen (SeenServers servers))) ∷ since
+      → log ≡ before ++ exchange (Book (Look moment (ServersFor (served_name question)))) (Reply (Seen (SeenServers servers))) ∷ since
       → ReachedFor port log question servers since
   by_referral : (before upto : List Exchange) (server : Addr) (over : Over) (bytes octets : List ℕ) {zone : Labels} {v : Message} {referral : Referral}
       → log ≡ before ++ exchange (Send server over bytes) (Came octets) ∷ since

@@ -25,6 +25,7 @@ use Rattle.iterate.specs.declared.want.Want.TheVariants.{Book, Send, Finish}
 use Rattle.iterate.specs.Exchanges.{Exchange, exchange, Happened}
 use Rattle.iterate.specs.Known.{Known, Listed, Serves, Responds, WasUnknown}
 use Rattle.iterate.specs.Resolved.{IsResolved, Chain, question_at}
+use Rattle.iterate.specs.Served.{served_name}
 
 -- A find is in the harvest of a response.
 pub record IsHarvested (port : ℕ) (log : List Exchange) (find : Find) : Type 0 where
@@ -78,15 +79,21 @@ stream_behind want stream = stream
 abbrev pub id_drawn : Stream → ℕ
 id_drawn stream = (next_u32 stream).0 % 2 ^ 16
 
+-- A look for servers is for those that are asked about a question that may be asked.
+pub record IsListedFor (port : ℕ) (log : List Exchange) (whole : Question) (name : Labels) : Type 0 where
+  pub question : Question
+  pub asked : IsAskedFor port log whole question
+  pub serves : name ≡ served_name question
+
 -- An event with the moment that was handed in: a look at a question or for servers, or an admission of what was harvested.
-abbrev pub MayCall : ℕ → List Exchange → ℕ → Event → Type 0
-MayCall port log moment (Look m (Asked question)) = m ≡ moment
-MayCall port log moment (Look m (ServersFor name)) = m ≡ moment
-MayCall port log moment (Admit m find) = (m ≡ moment) × IsHarvested port log find
-MayCall port log moment event = ⊥
+abbrev pub MayCall : ℕ → Question → List Exchange → ℕ → Event → Type 0
+MayCall port whole log moment (Look m (Asked question)) = m ≡ moment
+MayCall port whole log moment (Look m (ServersFor name)) = (m ≡ moment) × IsListedFor port log whole name
+MayCall port whole log moment (Admit m find) = (m ≡ moment) × IsHarvested port log find
+MayCall port whole log moment event = ⊥
 
 -- What may be wanted after these exchanges, at this moment, by a task that draws this identifier.
 abbrev pub MayWant : ℕ → Question → List Exchange → ℕ → ℕ → Want → Type 0
-MayWant port question log moment id (Book event) = MayCall port log moment event
+MayWant port question log moment id (Book event) = MayCall port question log moment event
 MayWant port question log moment id (Send server over bytes) = AsksZone port question log id server over bytes
 MayWant port question log moment id (Finish answer) = IsResolved port question log answer

@@ -126,7 +126,7 @@ fn seen_first(
 {
     match answer_seen(alloc, what)? {
         Some(answer) => Ok(finish(answer)),
-        None => alias(start(alloc, question)?, moment),
+        None => alias(alloc, start(alloc, question)?, moment),
     }
 }
 

@@ -98,13 +98,13 @@ fn next_hop(harvest: &Harvest, last: &Question) -> Result<Hop, NoMemory>
 
 /// Continues where a harvest ends. Behind an alias the last name is looked up before any server is asked for it, so the
 /// operator's local zones and flushes apply to it.
-fn leave(path: Path, moment: u64) -> Result<Advance, NoMemory>
+fn leave(alloc: Global, path: Path, moment: u64) -> Result<Advance, NoMemory>
     ensures { (port : ℕ) (ids : Stream) (question : Question) (log : List Exchange) → IsPath port question log path
         → (path.sets.items ≡ [] → WasUnknown log path.last)
         → IfOk result (Advances port question log moment (idle ids) (left_of_path path 4)) }
 {
     if path.sets.is_empty() {
-        return list(path, moment);
+        return list(alloc, path, moment);
     }
     look_on(path, moment)
 }
@@ -126,6 +126,6 @@ pub(crate) fn follow_in(
             Some(next) => follow_in(alloc, next, harvest, moment),
             None => Ok(failed(alloc)),
         },
-        Hop::Nowhere => leave(path, moment),
+        Hop::Nowhere => leave(alloc, path, moment),
     }
 }

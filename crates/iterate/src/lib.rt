@@ -14,6 +14,8 @@ mod want;
 mod shown;
 // Endings of a question.
 mod finishing;
+// The name whose servers are asked about a question.
+mod served;
 // The aliases so far, and the question to which they lead.
 mod path;
 // The first lookup, of the question itself.

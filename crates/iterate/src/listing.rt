@@ -13,11 +13,13 @@ ghost use Rattle.iterate.specs.Hunting.{IsUnlisted, IsUnnamed, Names};
 ghost use Rattle.iterate.specs.Measure.{left_of_path};
 ghost use Rattle.iterate.specs.Phase.{Advances, Suits, drawing};
 ghost use Rattle.iterate.specs.Searching.{IsAskable};
+ghost use Rattle.iterate.specs.Served.{served_name};
 
 use crate::finishing::failed;
 use crate::path::Path;
 use crate::phase::Advance;
 use crate::search::{go_on, reach};
+use crate::served::served_name;
 use crate::want::Input;
 use dns_name::{Name, NoMemory};
 use dns_text::Shared;
@@ -50,7 +52,7 @@ pub(crate) fn servers_for<'a>(name: &Name, input: &'a Input) -> Option<&'a Share
     }
 }
 
-/// Continues with the reply to the lookup of the last name's servers.
+/// Continues with the reply to the lookup of the servers that are asked about the last question.
 pub(crate) fn listed<R: Rng>(
     alloc: Global,
     ids: &mut R,
@@ -59,10 +61,12 @@ pub(crate) fn listed<R: Rng>(
     input: &Input,
 ) -> Result<Advance, NoMemory>
     ensures { (port m : ℕ) (question : Question) (before log : List Exchange) → IsAskable port question before path
-        → AddsLook before m (ServersFor path.last.owner) input.now log → Suits (Book (Look m (ServersFor path.last.owner))) input.now
+        → AddsLook before m (ServersFor (served_name path.last)) input.now log
+        → Suits (Book (Look m (ServersFor (served_name path.last)))) input.now
         → IfOk result (Advances port question log moment (drawing (R.stream ids.old) (R.stream ids.new)) (left_of_path path 1)) }
 {
-    match servers_for(&path.last.owner, input) {
+    let name = served_name(alloc, &path.last)?;
+    match servers_for(&name, input) {
         Some(servers) => {
             let list = servers.share()?;
             let search = reach(alloc, path, list)?;

@@ -23,6 +23,7 @@ use crate::answer::AnswerSet;
 use crate::finishing::{ended, failed, held_ending, local_ending};
 use crate::limits::MOST_ALIASES;
 use crate::phase::{Advance, Phase};
+use crate::served::served_name;
 use crate::shown::{Looked, first_target, replied, set_in};
 use crate::want::{Input, Want};
 use dns_name::{Name, NoMemory};
@@ -45,12 +46,12 @@ pub struct Path {
     pub begun: usize,
 }
 
-/// Looks up the servers of the last name.
-pub(crate) fn list(path: Path, moment: u64) -> Result<Advance, NoMemory>
+/// Looks up the servers that are asked about the last question.
+pub(crate) fn list(alloc: Global, path: Path, moment: u64) -> Result<Advance, NoMemory>
     ensures { (port : ℕ) (ids : Stream) (question : Question) (log : List Exchange) → IsAskable port question log path
         → IfOk result (Advances port question log moment (idle ids) (left_of_path path 2)) }
 {
-    let name = path.last.owner.clone()?;
+    let name = served_name(alloc, &path.last)?;
     Ok(Advance {
         phase: Phase::Listing { path },
         want: Want::Book(Event::Look {
@@ -61,12 +62,12 @@ pub(crate) fn list(path: Path, moment: u64) -> Result<Advance, NoMemory>
 }
 
 /// Looks up an alias of the last name, unless the question asks for CNAME records.
-pub(crate) fn alias(path: Path, moment: u64) -> Result<Advance, NoMemory>
+pub(crate) fn alias(alloc: Global, path: Path, moment: u64) -> Result<Advance, NoMemory>
     ensures { (port : ℕ) (ids : Stream) (question : Question) (log : List Exchange) → IsAskable port question log path
         → IfOk result (Advances port question log moment (idle ids) (left_of_path path 3)) }
 {
     if path.last.kind == CNAME {
-        return list(path, moment);
+        return list(alloc, path, moment);
     }
     let owner = path.last.owner.clone()?;
     Ok(Advance {
@@ -145,7 +146,7 @@ fn alias_told(alloc: Global, path: Path, told: AnswerSet, moment: u64) -> Result
 {
     match first_target(&told)? {
         Some(to) => go_behind(alloc, path, told, to, moment),
-        None => list(path, moment),
+        None => list(alloc, path, moment),
     }
 }
 
@@ -158,7 +159,7 @@ fn alias_seen(alloc: Global, path: Path, moment: u64, what: Looked<'_>) -> Resul
 {
     match set_in(alloc, what)? {
         Some(told) => alias_told(alloc, path, told, moment),
-        None => list(path, moment),
+        None => list(alloc, path, moment),
     }
 }
 
@@ -205,7 +206,7 @@ fn seen_on(alloc: Global, path: Path, moment: u64, what: Looked<'_>) -> Result<A
         → IfOk result (Advances port question log moment (idle ids) (left_of_path path 3)) }
 {
     match what {
-        Looked::Unknown => alias(path, moment),
+        Looked::Unknown => alias(alloc, path, moment),
         Looked::Held(shown) => Ok(ended(false, path.sets, held_ending(shown)?)),
         Looked::Local(answer) => local_on(alloc, path, answer),
     }

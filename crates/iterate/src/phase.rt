@@ -46,7 +46,7 @@ pub enum Phase {
     Looking {
         path: Path,
     },
-    /// It looks up the servers of the last name.
+    /// It looks up the servers that are asked about the last question.
     Listing {
         path: Path,
     },
