@@ -2,7 +2,10 @@
 sockets that are interrupted or move little."""
 
 import select
+import shutil
 import socket
+import subprocess
+import sys
 import threading
 import time
 from concurrent.futures import ThreadPoolExecutor
@@ -14,6 +17,8 @@ from lib.replies import reply_in
 from lib.service import STOPPED, Service, disturbed, query, until
 
 HOST = "127.0.0.1"
+# The argument with which this file runs again, within `unshare`.
+OWN_NETWORK = "own-network"
 GOOD = "aa | answer {name} 60 A 192.0.2.1"
 
 
@@ -265,6 +270,32 @@ def check_itself(checks, over):
     check_never_asked(checks, "the machine's address, of all addresses", [own], over, "0.0.0.0")
 
 
+# In a network of its own this machine has two addresses of one subnet. What goes from it to the second leaves from the first.
+FIRST, SECOND = "192.0.2.10", "192.0.2.11"
+
+
+def in_own_network(checks):
+    """Runs within `unshare`, on an empty network."""
+    for words in (["link", "set", "lo", "up"], *(["addr", "add", f"{address}/24", "dev", "lo"] for address in (FIRST, SECOND))):
+        subprocess.run(["ip", *words], check=True)
+    with socket.socket(socket.AF_INET, socket.SOCK_DGRAM) as sock:
+        sock.connect((SECOND, 53))
+        checks.equal("the address from which the machine asks itself", sock.getsockname()[0], FIRST)
+    for over in ("udp", "tcp"):
+        check_never_asked(checks, "a second address, of all addresses", [FIRST, SECOND, f"::ffff:{SECOND}"], over, "0.0.0.0")
+
+
+def check_second_address(checks):
+    """A name server at another address of this machine than that from which the machine asks there."""
+    if not shutil.which("unshare") or not shutil.which("ip"):
+        return checks.skip("a second address of the machine", "unshare or ip is not installed")
+    apart = ["unshare", "--map-root-user", "--net"]
+    if subprocess.run([*apart, "true"], capture_output=True).returncode:
+        return checks.skip("a second address of the machine", "this user may make no network")
+    done = subprocess.run([*apart, sys.executable, __file__, OWN_NETWORK], capture_output=True, text=True)
+    checks.equal("a second address of the machine", (done.returncode, done.stdout, done.stderr), (0, "19 passed, 0 failed\n", ""))
+
+
 def check_many_targets(checks):
     """A referral to 50 names of a victim: the service asks the victim for the first five (NXNSAttack)."""
     names = [f"n{place}.victim." for place in range(50)]
@@ -434,6 +465,10 @@ def check_descriptors(checks):
 
 def main():
     checks = Checks()
+    if sys.argv[1:] == [OWN_NETWORK]:
+        checks.make(in_own_network)
+        checks.end()
+    checks.make(check_second_address)
     checks.make(check_servers)
     checks.make(check_servers_of_tcp_clients)
     for over in ("udp", "tcp"):

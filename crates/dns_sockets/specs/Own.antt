@@ -42,6 +42,13 @@ pub record IsOwn (service from place : SocketAddr) : Type 0 where
   pub is_asked : StandsFor (socket_ip place) asked
   pub here : IsHere listens asks asked
 
+-- A service that listens at all addresses of its machine may be at a place with its port.
+pub record MayBeOwn (service place : SocketAddr) : Type 0 where
+  pub port : socket_port place ≡ socket_port service
+  pub listens : IpAddr
+  pub is_listens : StandsFor (socket_ip service) listens
+  pub all : MatchIp listens IsUnspecifiedV4 IsUnspecifiedV6
+
 -- The service may ask at this place by this socket, of which the relation gives the place from which it sends: the address belongs to a host, and the service would not ask itself.
 abbrev pub MayAsk : {S : Type 0} → (S → SocketAddr → Type 0) → SocketAddr → SocketAddr → S → Type 0
 MayAsk is_at service place socket = ¬ (IsNoHost (socket_ip place)) × ((from : SocketAddr) × is_at socket from × ¬ (IsOwn service from place))

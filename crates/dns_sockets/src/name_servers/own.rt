@@ -2,7 +2,7 @@
 
 ghost use Rattle.std.specs.Prelude.{◌↔◌, IsTrue, OnErr, OnOk};
 ghost use Rattle.std.specs.Net.Socket.{socket_ip};
-ghost use Rattle.dns_sockets.specs.Own.{IsHere, IsNoHost, IsNoHostV4, IsNoHostV6, IsOwn};
+ghost use Rattle.dns_sockets.specs.Own.{IsHere, IsNoHost, IsNoHostV4, IsNoHostV6, IsOwn, MayBeOwn};
 
 use std::io;
 use std::io::ErrorKind;
@@ -50,6 +50,13 @@ pub(crate) fn is_own(service: SocketAddr, from: SocketAddr, place: SocketAddr) -
     place.port() == service.port() && is_here(listens, asks, asked)
 }
 
+/// Whether the service may be at `place` by one more address of its machine: it listens at all of them, and at this port.
+pub(crate) fn may_be_own(service: SocketAddr, place: SocketAddr) -> bool
+    ensures { IsTrue result ↔ MayBeOwn service place }
+{
+    place.port() == service.port() && service.ip().to_canonical().is_unspecified()
+}
+
 /// The error of an exchange with a place that the service never asks.
 fn never_asked() -> io::Error {
     io::Error::from(ErrorKind::AddrNotAvailable)
@@ -67,7 +74,11 @@ pub(crate) fn check_host(place: SocketAddr) -> io::Result<()>
 }
 
 /// Fails if a service that listens at `service` would ask itself, if it sent a query from `from` to `place`.
-pub(crate) fn check_other(service: SocketAddr, from: SocketAddr, place: SocketAddr) -> io::Result<()>
+pub(crate) fn check_other(
+    service: SocketAddr,
+    from: SocketAddr,
+    place: SocketAddr,
+) -> io::Result<()>
     ensures other { OnOk result (¬ (IsOwn service from place)) }
     ensures own { OnErr result (IsOwn service from place) }
 {

@@ -6,7 +6,7 @@ ghost use Rattle.std.specs.declared.net.SocketAddr.{SocketAddr};
 ghost use Rattle.mio.specs.declared.token.Token.{Token};
 ghost use Rattle.dns_sockets.specs.Failures.{IsFailure};
 
-use crate::name_servers::drawn_port::bind_any;
+use crate::name_servers::drawn_port::bind_for;
 use mio::net::{TcpStream, UdpSocket};
 use mio::{Interest, Registry, Token};
 use std::io;
@@ -108,12 +108,14 @@ pub trait ReadyNet {
     /// No socket was left, or the system knows no way to a place.
     ghost failed: { Type 0 };
 
-    /// A socket at a port that the system draws, watched by the poll.
+    /// A socket at a port that the system draws, watched by the poll. If the place may be the service itself, and its address is one
+    /// of this machine's, the socket has that address.
     fn open_socket(
         &self,
         registry: &Registry,
         token: Token,
         place: SocketAddr,
+        may_be_own: bool,
     ) -> io::Result<Self::Datagrams>
         ensures opened { IfOk result (λ socket. Self.Datagrams.opened socket place) }
         ensures reported { IfOk result (λ socket. Self.Datagrams.reported socket token) }
@@ -207,8 +209,9 @@ impl<R: Net> ReadyNet for R {
         registry: &Registry,
         token: Token,
         place: SocketAddr,
+        may_be_own: bool,
     ) -> io::Result<UdpSocket> {
-        let socket = bind_any(self, place)?;
+        let socket = bind_for(self, place, may_be_own)?;
         socket.set_nonblocking(true)?;
         socket.connect(place)?;
         let mut socket = UdpSocket::from_std(socket);

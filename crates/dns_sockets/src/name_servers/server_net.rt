@@ -3,7 +3,7 @@
 ghost use Rattle.std.specs.Prelude.{ℕ, List, ◌≤◌, length, take, IfOk, OnOk};
 ghost use Rattle.std.specs.declared.net.SocketAddr.{SocketAddr};
 
-use crate::name_servers::drawn_port::bind_any;
+use crate::name_servers::drawn_port::bind_for;
 use crate::timeouts::Timeouts;
 use std::io;
 use std::io::{Read, Write};
@@ -36,8 +36,9 @@ pub trait ServerNet {
     /// The connection's octets leave from this place.
     ghost connected_at: { Self.Connection → SocketAddr → Type 0 };
 
-    /// A socket at a port that the system draws.
-    fn open_socket(&self, place: SocketAddr) -> io::Result<Self::Datagrams>
+    /// A socket at a port that the system draws. If the place may be the service itself, and its address is one of this machine's, the
+    /// socket has that address.
+    fn open_socket(&self, place: SocketAddr, may_be_own: bool) -> io::Result<Self::Datagrams>
         ensures { IfOk result (λ socket. opened socket place) };
 
     /// The place from which a socket's datagrams leave.
@@ -85,8 +86,8 @@ impl<R: Net<Stream = TcpStream>> ServerNet for R {
 
     ghost connected_at = { λ _ _. Unit {0} };
 
-    fn open_socket(&self, place: SocketAddr) -> io::Result<UdpSocket> {
-        let socket = bind_any(self, place)?;
+    fn open_socket(&self, place: SocketAddr, may_be_own: bool) -> io::Result<UdpSocket> {
+        let socket = bind_for(self, place, may_be_own)?;
         socket.connect(place)?;
         Ok(socket)
     }

@@ -12,7 +12,7 @@ ghost use Rattle.dns_sockets.specs.Own.{MayAskAt, MayAskServer};
 use crate::deadline::Deadline;
 use crate::lengths::MOST_FRAMED;
 use crate::name_servers::fitting::fits;
-use crate::name_servers::own::{check_host, check_other};
+use crate::name_servers::own::{check_host, check_other, may_be_own};
 use crate::name_servers::place::place_of;
 use crate::name_servers::server_net::ServerNet;
 use crate::name_servers::timed::Timed;
@@ -85,7 +85,7 @@ fn ask_udp<R: ServerNet + Clock>(
 {
     check_host(place)?;
     let deadline = Deadline::set(rt)?;
-    let socket = rt.open_socket(place)?;
+    let socket = rt.open_socket(place, may_be_own(service, place))?;
     check_other(service, rt.place_of_socket(&socket)?, place)?;
     rt.send_datagram(&socket, query)?;
     for _ in 0..MOST_DATAGRAMS {

@@ -7,7 +7,7 @@ ghost use Rattle.dns_sockets.specs.Fits.{Fits};
 ghost use Rattle.dns_sockets.specs.Own.{IsNoLine, MayAsk};
 
 use crate::name_servers::fitting::fits;
-use crate::name_servers::own::{check_host, check_other};
+use crate::name_servers::own::{check_host, check_other, may_be_own};
 use crate::name_servers::ready_net::{ReadyNet, ReadySocket};
 use crate::waiting::would_wait;
 use front_workers::MOST_MESSAGE;
@@ -50,7 +50,7 @@ impl<S: ReadySocket> UdpLine<S> {
         ensures failed { OnErr result (IsNoLine R.failed S.opened S.is_at S.failed service place) }
     {
         check_host(place)?;
-        let mut socket = rt.open_socket(registry, token, place)?;
+        let mut socket = rt.open_socket(registry, token, place, may_be_own(service, place))?;
         check_other(service, socket.place()?, place)?;
         socket.send_datagram(query)?;
         Ok(UdpLine { socket })
