@@ -10,7 +10,7 @@ use Rattle.dns_text.specs.Data.{data_in}
 use Rattle.dns_text.specs.Field.{named}
 use Rattle.ranked.specs.declared.rank.Rank.{Rank}
 use Rattle.ranked.specs.Rank.{rank_at}
-use Rattle.command_text.specs.declared.admit.AdmitWords.{AdmitWords as LentWords}
+use Rattle.command_text.specs.declared.admission_words.AdmitWords.{AdmitWords as LentWords}
 use Rattle.command_text.specs.declared.fault.LineFault.{LineFault}
 use Rattle.command_text.specs.declared.fault.LineFault.TheVariants.{BadName, BadType, BadData}
 use Rattle.command_text.specs.Bar.{pieces}

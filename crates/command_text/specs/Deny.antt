@@ -7,9 +7,9 @@ use Rattle.dns_text.specs.Kind.{type_in}
 use Rattle.dns_text.specs.Data.{data_in}
 use Rattle.dns_text.specs.Field.{named}
 use Rattle.ranked.specs.declared.find.Scope.TheVariants.{One, Whole}
-use Rattle.command_text.specs.declared.deny.SoaWords.{SoaWords as LentSoaWords}
-use Rattle.command_text.specs.declared.deny.NoDataWords.{NoDataWords as LentNoDataWords}
-use Rattle.command_text.specs.declared.deny.NoNameWords.{NoNameWords as LentNoNameWords}
+use Rattle.command_text.specs.declared.denial_words.SoaWords.{SoaWords as LentSoaWords}
+use Rattle.command_text.specs.declared.denial_words.NoDataWords.{NoDataWords as LentNoDataWords}
+use Rattle.command_text.specs.declared.denial_words.NoNameWords.{NoNameWords as LentNoNameWords}
 use Rattle.command_text.specs.declared.fault.LineFault.{LineFault}
 use Rattle.command_text.specs.declared.fault.LineFault.TheVariants.{BadName, BadType, BadData}
 use Rattle.command_text.specs.Parts.{word_in}

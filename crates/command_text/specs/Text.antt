@@ -16,8 +16,8 @@ use Rattle.ranked.specs.declared.find.Body.{Body}
 use Rattle.ranked.specs.declared.find.Body.TheVariants.{Set, NoData, NoName}
 use Rattle.ranked.specs.Body.{is_negative}
 use Rattle.ranked.specs.Rank.{level_of}
-use Rattle.local_zone.specs.declared.local.Local.{Local}
-use Rattle.local_zone.specs.declared.local.Local.TheVariants as local
+use Rattle.local_zone.specs.declared.local_answer.Local.{Local}
+use Rattle.local_zone.specs.declared.local_answer.Local.TheVariants as local
 use Rattle.local_zone.specs.declared.zone.Zone.{Zone}
 use Rattle.local_zone.specs.ZoneType.{word_of}
 use Rattle.stub_table.specs.declared.stub.Stub.{Stub}

@@ -10,15 +10,15 @@ mod request;
 // Lines, read from their words.
 mod line;
 // Words that many commands have.
-mod parts;
+mod common_words;
 // The find that an `admit` line admits.
-mod admission;
+mod admission_find;
 // The words of `admit`.
-mod admit;
+mod admission_words;
 // The negative answer that a `nodata` or `noname` line admits.
-mod denial;
+mod denial_find;
 // The words of `nodata` and `noname`.
-mod deny;
+mod denial_words;
 // Addresses of servers, each a word.
 mod addrs;
 // The words of the commands on stubs.
@@ -26,7 +26,7 @@ mod stubs;
 // The words of the commands on local zones and local data.
 mod local;
 // The data of a set, separated by bars.
-mod bar;
+mod set_data;
 // Commands, written as the lines that give them.
 mod command_words;
 // The text of local answers.
@@ -52,11 +52,11 @@ mod control;
 // Laws of the definitions alone.
 mod laws;
 
-pub use admission::Admission;
+pub use admission_find::Admission;
 pub use clock::Clock;
 pub use command_words::push_command;
 pub use control::serve_control;
-pub use denial::Denial;
+pub use denial_find::Denial;
 pub use fault::LineFault;
 pub use laws::{bars_are, channels_are_apart, commands_are_read_back, words_are};
 pub use line::{Line, read_line};

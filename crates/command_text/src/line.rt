@@ -5,13 +5,13 @@ ghost use Rattle.command_text.specs.declared.fault.LineFault.TheVariants.{BadDat
 ghost use Rattle.command_text.specs.Fault.{Gives};
 ghost use Rattle.command_text.specs.Line.{is_silent, alone, at_in, admit_in, no_data_in, no_name_in, look_in, servers_in, flush_in, flush_type_in, flush_zone_in, local_zone_in, local_zone_remove_in, local_data_in, local_data_remove_in, stub_add_in, stub_remove_in, said_by, takes_by, read_of, takes_memory};
 
-use crate::admission::Admission;
-use crate::admit::{admit_words, read_admission};
-use crate::denial::Denial;
-use crate::deny::{no_data_words, no_name_words, read_no_data, read_no_name};
+use crate::admission_find::Admission;
+use crate::admission_words::{admit_words, read_admission};
+use crate::common_words::{read_end, read_only_name, read_question, read_word};
+use crate::denial_find::Denial;
+use crate::denial_words::{no_data_words, no_name_words, read_no_data, read_no_name};
 use crate::fault::LineFault;
 use crate::local::{read_add_record, read_drop_name, read_drop_zone, read_set_zone};
-use crate::parts::{read_end, read_only_name, read_question, read_word};
 use crate::request::Request;
 use crate::stubs::{read_drop_stub, read_set_stub};
 use crate::words::{Channel, Verb, verb_in};

@@ -9,8 +9,8 @@ ghost use Rattle.command_text.specs.Fault.{Gives};
 ghost use Rattle.command_text.specs.Parts.{word_in, question_words};
 ghost use Rattle.command_text.specs.Local.{set_zone_in, drop_zone_in, drop_name_in, record_fault, of_line, record_words, add_record_in};
 
+use crate::common_words::{read_end, read_name, read_only_name, read_word};
 use crate::fault::LineFault;
-use crate::parts::{read_end, read_name, read_only_name, read_word};
 use dns_text::{Record, Shared, TextFault, read_record};
 use history::Command;
 use local_zone::{ZoneType, read_zone_type};

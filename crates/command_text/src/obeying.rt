@@ -9,8 +9,8 @@ ghost use Rattle.command_text.specs.Admission.{IsFindOf};
 ghost use Rattle.command_text.specs.Denial.{IsDenialOf};
 ghost use Rattle.command_text.specs.Obeying.{Place, Asks, Does, GoesByHistory, Obeys};
 
-use crate::admission::Admission;
-use crate::denial::Denial;
+use crate::admission_find::Admission;
+use crate::denial_find::Denial;
 use crate::fault::LineFault;
 use crate::line::{Line, is_silent, read_line};
 use crate::request::{Request, event_at};

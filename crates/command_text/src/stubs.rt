@@ -7,8 +7,8 @@ ghost use Rattle.command_text.specs.Parts.{word_in};
 ghost use Rattle.command_text.specs.Stubs.{stub_words, set_stub_in, drop_stub_in};
 
 use crate::addrs::read_addrs;
+use crate::common_words::{read_name, read_only_name, read_word};
 use crate::fault::LineFault;
-use crate::parts::{read_name, read_only_name, read_word};
 use dns_name::Name;
 use dns_text::{Addr, Items, Shared};
 use history::Command;

@@ -12,8 +12,8 @@ use Rattle.dns_sockets.specs.Line.{LineState}
 use Rattle.flight.specs.declared.outside.Listened.{Listened}
 use Rattle.flight.specs.declared.outside.Listened.TheVariants.{Nothing, Came, Broken, NoMemory}
 use Rattle.flight.specs.Told.{IsHeard}
-use Rattle.flight_sockets.specs.declared.way.Way.{Way}
-use Rattle.flight_sockets.specs.declared.way.Way.TheVariants.{Udp, Tcp, Closed}
+use Rattle.flight_sockets.specs.declared.transport.Way.{Way}
+use Rattle.flight_sockets.specs.declared.transport.Way.TheVariants.{Udp, Tcp, Closed}
 use Rattle.flight_sockets.specs.Exchanges.{ExchangeState, AsksOn, HasNoneYet, IsQuiet, IsUnderWay, OnUnbroken, WentOn}
 use Rattle.flight_sockets.specs.Replies.{IsReply, IsServerReply, IsWholeReply}
 

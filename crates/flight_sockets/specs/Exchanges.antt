@@ -12,8 +12,8 @@ use Rattle.dns_sockets.specs.Own.{IsNoLine}
 use Rattle.flight.specs.declared.outside.Listened.{Listened}
 use Rattle.flight.specs.declared.outside.Listened.TheVariants.{Nothing, Came}
 use Rattle.flight.specs.Flight.{Sent}
-use Rattle.flight_sockets.specs.declared.way.Way.{Way}
-use Rattle.flight_sockets.specs.declared.way.Way.TheVariants.{Udp, Tcp, Closed}
+use Rattle.flight_sockets.specs.declared.transport.Way.{Way}
+use Rattle.flight_sockets.specs.declared.transport.Way.TheVariants.{Udp, Tcp, Closed}
 
 -- the visible state of an exchange
 pub record ExchangeState : Type 0 where

@@ -12,7 +12,7 @@ mod listener;
 // The client of a datagram, which waits for its reply.
 mod client;
 // The transport of an exchange.
-mod way;
+mod transport;
 // An exchange over a socket of its own.
 mod socket_line;
 // The datagrams that have come in.

@@ -9,7 +9,7 @@ ghost use Rattle.flight.specs.Told.{IsHeard};
 ghost use Rattle.flight_sockets.specs.Exchanges.{IsNotToBeHad, IsQuiet};
 ghost use Rattle.flight_sockets.specs.Replies.{IsServerReply};
 
-use crate::way::Way;
+use crate::transport::Way;
 use dns_query::Over;
 use dns_sockets::{ReadyNet, TcpLine, UdpLine, place_of};
 use dns_text::{Addr, Octets, Shared};

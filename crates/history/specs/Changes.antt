@@ -17,7 +17,7 @@ use Rattle.history.specs.declared.event.Event.TheVariants.{Do}
 use Rattle.history.specs.declared.event.Entry.{Entry}
 use Rattle.history.specs.declared.event.Reason.{Reason}
 use Rattle.history.specs.declared.event.Reason.TheVariants.{BelowRedirect, DataBelow, CnameClash, TooMany}
-use Rattle.history.specs.declared.made.Tables.{Tables}
+use Rattle.history.specs.declared.tables.Tables.{Tables}
 
 -- no zones, no records and no stubs
 abbrev pub no_tables : Tables

@@ -12,8 +12,8 @@ use Rattle.dns_text.specs.EqualLaws.{question_eq_exact, question_eq_itself, reco
 use Rattle.ranked.specs.declared.find.Find.{Find}
 use Rattle.ranked.specs.declared.cell.Shown.{Shown}
 use Rattle.ranked.specs.EqualLaws.{rank_eq_exact, rank_eq_itself, find_eq_exact, find_eq_itself}
-use Rattle.local_zone.specs.declared.local.Local.{Local}
-use Rattle.local_zone.specs.declared.local.Local.TheVariants as local
+use Rattle.local_zone.specs.declared.local_answer.Local.{Local}
+use Rattle.local_zone.specs.declared.local_answer.Local.TheVariants as local
 use Rattle.local_zone.specs.declared.zone.Zone.{Zone}
 use Rattle.local_zone.specs.declared.zone_type.ZoneType.{ZoneType}
 use Rattle.local_zone.specs.Equal.{zone_eq}

@@ -6,7 +6,7 @@ use Rattle.history.specs.declared.event.Command.{Command}
 use Rattle.history.specs.declared.event.Reason.{Reason}
 use Rattle.history.specs.declared.event.Entry.{Entry}
 use Rattle.stub_table.specs.Stubs.{Stubs}
-use Rattle.history.specs.declared.made.Tables.{Tables}
+use Rattle.history.specs.declared.tables.Tables.{Tables}
 use Rattle.history.specs.Event.{moment_of}
 use Rattle.history.specs.Changes.{tables_by, reason_on}
 use Rattle.history.specs.Marks.{Marks, no_marks, is_struck, after_command, after_undo, after_redo}

@@ -8,8 +8,8 @@ use Rattle.ranked.specs.Rank.{level_of}
 use Rattle.ranked.specs.Cell.{turns_away, shown_map}
 use Rattle.ranked.specs.Find.{admission_of}
 use Rattle.dns_text.specs.declared.record.Record.{Record}
-use Rattle.local_zone.specs.declared.local.Local.{Local}
-use Rattle.local_zone.specs.declared.local.Local.TheVariants as local
+use Rattle.local_zone.specs.declared.local_answer.Local.{Local}
+use Rattle.local_zone.specs.declared.local_answer.Local.TheVariants as local
 use Rattle.local_zone.specs.Answer.{local_of, local_now}
 use Rattle.history.specs.declared.event.Event.{Event}
 use Rattle.history.specs.declared.event.Event.TheVariants.{Admit, Look as LookEvent, Sweep, Do, Undo, Redo}

@@ -4,7 +4,7 @@ ghost use Rattle.std.specs.Prelude.{◌≡◌, IfOk, OnErr, OnOk, None, Some};
 ghost use Rattle.history.specs.Changes.{after_command_on, reason_on, reason_told, stub_reason_told, unless_refused};
 
 use crate::event::{Command, Reason};
-use crate::made::Tables;
+use crate::tables::Tables;
 use dns_name::{Name, NoMemory};
 use dns_text::{Record, Shared};
 use local_zone::{TableFault, ZoneType};

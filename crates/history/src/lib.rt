@@ -6,11 +6,11 @@ mod servers;
 // Events, lookups and replies.
 mod event;
 // Copies of events and replies.
-mod copying;
+mod copies;
 // Limits of moments, counts and settings.
 mod limits;
 // The tables that the operator's commands make: local zones, records and stubs.
-mod made;
+mod tables;
 // The change that a command makes of the tables.
 mod changes;
 // The promise that every book keeps.
@@ -28,7 +28,7 @@ mod delegation;
 // The servers that are closest to a name.
 mod closest;
 // The reply to a lookup, with a share of the data.
-mod sight;
+mod lookup;
 
 pub use book::{Book, StepFault};
 pub use closest::servers as closest_servers;
@@ -42,8 +42,8 @@ pub use limits::{
     MOMENT_END, MOST_CELLS, MOST_COMMANDS, MOST_EVENTS, MOST_HINTS, MakeFault, are_settings,
     limits_law,
 };
-pub use made::Tables;
+pub use lookup::{share_records, share_stubs, share_zones, sight as question_sight};
 pub use runs::{RunFault, run};
 pub use servers::{Origin, Servers};
-pub use sight::{share_records, share_stubs, share_zones, sight as question_sight};
 pub use source::CellSource;
+pub use tables::Tables;

@@ -7,7 +7,7 @@ use Rattle.dns_name.specs.Labels.{Labels, IsAtOrBelow, parent_of}
 use Rattle.dns_text.specs.declared.addr.Addr.{Addr}
 use Rattle.dns_text.specs.declared.record.Question.{Question}
 use Rattle.dns_query.specs.Query.{address_question}
-use Rattle.local_zone.specs.declared.local.Local.TheVariants as local
+use Rattle.local_zone.specs.declared.local_answer.Local.TheVariants as local
 use Rattle.rand_core.specs.Stream.{Stream}
 use Rattle.history.specs.declared.event.Ask.{Ask}
 use Rattle.history.specs.declared.event.Ask.TheVariants.{Answer as Asked, Servers as ServersFor}

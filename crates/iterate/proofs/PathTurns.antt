@@ -5,8 +5,8 @@ use Rattle.dns_name.specs.Labels.{Labels}
 use Rattle.dns_query.specs.Query.{alias_question}
 use Rattle.dns_text.specs.declared.record.Question.{Question}
 use Rattle.dns_text.specs.declared.record.Record.{Record}
-use Rattle.local_zone.specs.declared.local.Local.{Local as LocalAnswer}
-use Rattle.local_zone.specs.declared.local.Local.TheVariants as local
+use Rattle.local_zone.specs.declared.local_answer.Local.{Local as LocalAnswer}
+use Rattle.local_zone.specs.declared.local_answer.Local.TheVariants as local
 use Rattle.rand_core.specs.Stream.{Stream}
 use Rattle.history.specs.declared.event.Ask.{Ask}
 use Rattle.history.specs.declared.event.Ask.TheVariants.{Answer as Asked, Servers as ServersFor}

@@ -19,7 +19,7 @@ use Rattle.iterate.specs.Measure.{left_of_search}
 use Rattle.iterate.specs.Resolved.{MaySeek, ReachedFor, Sought}
 use Rattle.iterate.specs.Searching.{IsSearch, IsNext, hunt_of}
 use Rattle.dns_name.specs.Labels.{IsAtOrBelow}
-use Rattle.local_zone.specs.declared.local.Local.TheVariants.{Data as LocalData}
+use Rattle.local_zone.specs.declared.local_answer.Local.TheVariants.{Data as LocalData}
 use Rattle.ranked.specs.declared.find.Body.{Body}
 use Rattle.ranked.specs.declared.find.Body.TheVariants.{Set}
 use Rattle.history.specs.declared.event.Ask.TheVariants.{Servers as ServersFor}

@@ -16,7 +16,7 @@ use Rattle.dns_query.specs.Verdict.{IsUseful}
 use Rattle.harvest.specs.Harvest.{finds_in, passing_in}
 use Rattle.harvest.specs.Learnt.{set_of}
 use Rattle.harvest.specs.declared.passing.PassingSet.{PassingSet}
-use Rattle.local_zone.specs.declared.local.Local.TheVariants.{Data as LocalData}
+use Rattle.local_zone.specs.declared.local_answer.Local.TheVariants.{Data as LocalData}
 use Rattle.neg_rule.specs.Negative.{said_by}
 use Rattle.ranked.specs.declared.cell.Shown.{Shown}
 use Rattle.ranked.specs.declared.find.Find.{Find}

@@ -1,7 +1,7 @@
 -- What a look was answered, as the code tells it.
 use Rattle.std.specs.Prelude.{◌≡◌, false, Option, MatchOption}
 use Rattle.dns_text.specs.declared.record.Question.{Question}
-use Rattle.local_zone.specs.declared.local.Local.TheVariants.{Data as LocalData}
+use Rattle.local_zone.specs.declared.local_answer.Local.TheVariants.{Data as LocalData}
 use Rattle.ranked.specs.Body.{is_negative}
 use Rattle.history.specs.declared.event.Ask.TheVariants.{Answer as Asked}
 use Rattle.history.specs.declared.event.Reply.TheVariants.{Seen}
@@ -10,8 +10,8 @@ use Rattle.history.specs.declared.event.Seen.TheVariants.{Unknown as SeenUnknown
 use Rattle.iterate.specs.declared.answer.AnswerSet.{AnswerSet}
 use Rattle.iterate.specs.declared.answer.AnswerSet.TheVariants.{Local as LocalTold}
 use Rattle.iterate.specs.declared.finishing.Ending.{Ending}
-use Rattle.iterate.specs.declared.shown.Looked.{Looked}
-use Rattle.iterate.specs.declared.shown.Looked.TheVariants.{Unknown, Held, Local}
+use Rattle.iterate.specs.declared.lookup_reply.Looked.{Looked}
+use Rattle.iterate.specs.declared.lookup_reply.Looked.TheVariants.{Unknown, Held, Local}
 use Rattle.iterate.specs.declared.want.Input.{Input}
 use Rattle.iterate.specs.declared.want.Input.TheVariants.{Reply}
 use Rattle.iterate.specs.Shown.{EndsQuestion, IsLookReply}

@@ -11,7 +11,7 @@ use Rattle.dns_query.specs.declared.verdict.Referral.{Referral}
 use Rattle.dns_query.specs.Query.{IsQuery, address_question, alias_question}
 use Rattle.dns_query.specs.Referral.{IsReferral}
 use Rattle.dns_query.specs.Verdict.{IsDenial, IsUseless}
-use Rattle.local_zone.specs.declared.local.Local.TheVariants as local
+use Rattle.local_zone.specs.declared.local_answer.Local.TheVariants as local
 use Rattle.neg_rule.specs.Negative.{said_by, negative_in}
 use Rattle.ranked.specs.declared.find.Find.{Find}
 use Rattle.history.specs.declared.event.Ask.TheVariants.{Answer as Asked, Servers as ServersFor}

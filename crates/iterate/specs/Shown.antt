@@ -6,8 +6,8 @@ use Rattle.dns_name.specs.Labels.{IsAtOrBelow}
 use Rattle.dns_text.specs.declared.record.Question.{Question}
 use Rattle.dns_text.specs.declared.record.Record.{Record}
 use Rattle.dns_query.specs.Query.{alias_question}
-use Rattle.local_zone.specs.declared.local.Local.{Local}
-use Rattle.local_zone.specs.declared.local.Local.TheVariants as local
+use Rattle.local_zone.specs.declared.local_answer.Local.{Local}
+use Rattle.local_zone.specs.declared.local_answer.Local.TheVariants as local
 use Rattle.ranked.specs.Body.{is_negative}
 use Rattle.ranked.specs.Find.{touches}
 use Rattle.ranked.specs.Rank.{level_of}

@@ -17,9 +17,9 @@ ghost use Rattle.iterate.specs.Told.{soa_whole};
 ghost use Rattle.rand_core.specs.Stream.{Stream};
 
 use crate::answer::{Answer, AnswerSet, Soa};
+use crate::lookup_reply::{copy_set, held_set};
 use crate::path::Path;
 use crate::phase::{Advance, Phase};
-use crate::shown::{copy_set, held_set};
 use crate::want::Want;
 use dns_name::NoMemory;
 use dns_text::Items;

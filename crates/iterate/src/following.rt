@@ -12,9 +12,9 @@ ghost use Rattle.rand_core.specs.Stream.{Stream};
 
 use crate::answer::AnswerSet;
 use crate::finishing::{failed, found};
+use crate::lookup_reply::first_target;
 use crate::path::{Path, follow, list, look_on};
 use crate::phase::Advance;
-use crate::shown::first_target;
 use dns_name::{Name, NoMemory};
 use dns_query::{Believed, believed};
 use dns_text::Question;

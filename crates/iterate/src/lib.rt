@@ -11,7 +11,7 @@ mod answer;
 // The inputs of a task, and its wants.
 mod want;
 // The reply to a lookup, narrowed to what is valid for it.
-mod shown;
+mod lookup_reply;
 // Endings of a question.
 mod finishing;
 // The name whose servers are asked about a question.
@@ -19,7 +19,7 @@ mod served;
 // The aliases so far, and the question to which they lead.
 mod path;
 // The first lookup, of the question itself.
-mod first;
+mod first_lookup;
 // Aliases inside a response.
 mod following;
 // Lists of addresses joined, each address once.
@@ -41,7 +41,7 @@ mod concluding;
 // The finds of a response, handed to the book one by one.
 mod admitting;
 // The outcome of a query.
-mod came;
+mod outcome;
 // The phases of a task, and the step from one to the next.
 mod phase;
 // The task.
@@ -51,7 +51,7 @@ mod task;
 mod laws;
 
 pub use answer::{Answer, AnswerSet, Soa};
-pub use first::{first_look, settled};
+pub use first_lookup::{first_look, settled};
 pub use laws::{due_law, limits_law, resolved_law, servfail_law};
 pub use limits::{MOST_ALIASES, MOST_BEGUN, MOST_DEPTH, MOST_SENDS, MOST_TARGETS};
 pub use path::Path;

@@ -7,9 +7,9 @@ ghost use Rattle.iterate.specs.Measure.{left_in};
 ghost use Rattle.iterate.specs.Phase.{Remembers, Advances, Suits, drawing};
 
 use crate::admitting::admitted;
-use crate::came::came;
-use crate::first::{begin, looked_first};
+use crate::first_lookup::{begin, looked_first};
 use crate::listing::listed;
+use crate::outcome::came;
 use crate::path::{Path, aliased, looked_on};
 use crate::search::Search;
 use crate::seeking::sought;

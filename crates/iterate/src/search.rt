@@ -15,11 +15,11 @@ ghost use Rattle.iterate.specs.Searching.{IsAskable, IsSearch, hunt_of, hunt_beh
 use crate::finishing::failed;
 use crate::joining::join_addrs;
 use crate::limits::MOST_DEPTH;
+use crate::lookup_reply::is_name;
 use crate::path::Path;
 use crate::phase::{Advance, Stage};
 use crate::seeking::seek;
 use crate::sending::ask;
-use crate::shown::is_name;
 use dns_name::{Name, NoMemory};
 use dns_text::types::A;
 use dns_text::{Addr, Question, Shared};

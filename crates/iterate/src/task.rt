@@ -8,7 +8,7 @@ ghost use Rattle.iterate.specs.declared.want.Want.TheVariants.{Book};
 ghost use Rattle.iterate.specs.Phase.{drawing};
 ghost use Rattle.iterate.specs.Task.{IsTask, IsDueAt, IsKept, IsSameTask, StepsOn, StepFails};
 
-use crate::first::first_look;
+use crate::first_lookup::first_look;
 use crate::phase::{Advance, Phase, step_on};
 use crate::want::{Input, Step, Want};
 use dns_name::NoMemory;

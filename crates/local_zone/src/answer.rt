@@ -9,8 +9,8 @@ ghost use Rattle.local_zone.specs.Answer.{absent_in, absent_or_pass, answer_in, 
 ghost use Rattle.local_zone.specs.Answer.{in_redirect, in_static, in_transparent, local_now, local_of, soa_of};
 ghost use Rattle.local_zone.specs.Show.{data_shown, is_for};
 
-use crate::local::{Local, LocalSet};
-use crate::next::is_for;
+use crate::local_answer::{Local, LocalSet};
+use crate::owner_records::is_for;
 use crate::record::LocalRecord;
 use crate::record_list::RecordList;
 use crate::sought::Sought;

@@ -32,9 +32,9 @@ mod gaps;
 mod reason;
 // The answer to a question.
 mod answer;
-mod local;
-mod next;
-mod seen;
+mod local_answer;
+mod owner_records;
+mod shared_answer;
 // The two lists together.
 mod table;
 // The way back of a change.
@@ -46,10 +46,10 @@ pub use closest::closest_law;
 pub use counts::counts_law;
 pub use fault::TableFault;
 pub use gaps::gaps_law;
-pub use local::{Local, LocalSet, ShownRecord};
+pub use local_answer::{Local, LocalSet, ShownRecord};
 pub use record::LocalRecord;
 pub use saved::SavedTables;
-pub use seen::{SeenRecord, share_seen};
+pub use shared_answer::{SeenRecord, share_seen};
 pub use table::{MOST_RECORDS, MOST_ZONES, ZoneTable, limits_law};
 pub use zone::Zone;
 pub use zone_type::{ZoneType, read_zone_type};

@@ -8,7 +8,7 @@ ghost use Rattle.local_zone.specs.Closest.{lies_in};
 use crate::added::RecordTurn;
 use crate::answer::answer;
 use crate::fault::TableFault;
-use crate::local::{Local, LocalSet};
+use crate::local_answer::{Local, LocalSet};
 use crate::reason::{reason_of_add, reason_of_set};
 use crate::record::LocalRecord;
 use crate::record_list::RecordList;

@@ -6,8 +6,8 @@ ghost use Rattle.shared_book.specs.declared.kept.TheConstants.{MOST_RECORDED};
 ghost use Rattle.shared_book.specs.Pass.{PassState, first_pass};
 ghost use Rattle.shared_book.specs.Kept.{first_kept, IsKept, IsWholeRecord, IsStep};
 
-use crate::ahead::{make_ready, told_again};
 use crate::ledger::{Blank, CallLedger};
+use crate::next_reply::{make_ready, told_again};
 use crate::pass::Pass;
 use crate::receipt::Receipt;
 use crate::record::CallRecord;

@@ -12,7 +12,7 @@ mod pass;
 // The calls that are recorded.
 mod record;
 // The reply that a lookup is about to get, of which the record needs a copy.
-mod ahead;
+mod next_reply;
 // The state under the lock: the book, the record of its calls, their total.
 mod kept;
 // The calls to that state, by callers with a pass.

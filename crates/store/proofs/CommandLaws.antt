@@ -12,7 +12,7 @@ use Rattle.local_zone.specs.Reason.{reason_of_set, reason_of_add}
 use Rattle.stub_table.specs.Reason.{reason_of_stub}
 use Rattle.history.specs.declared.event.Command.{Command}
 use Rattle.history.specs.declared.event.Command.TheVariants.{FlushType, Flush, FlushZone, SetZone, DropZone, AddRecord, DropName, SetStub, DropStub}
-use Rattle.history.specs.declared.made.Tables.{Tables}
+use Rattle.history.specs.declared.tables.Tables.{Tables}
 use Rattle.history.specs.Changes.{after_command_on, reason_on, reason_in, stub_reason_in}
 use Rattle.history.specs.Event.{covers, flush_of}
 use Rattle.table_changes.specs.Both.{change_of, change_after, change_reason, change_table}

@@ -4,7 +4,7 @@ use Rattle.dns_text.specs.declared.record.Question.{Question}
 use Rattle.ranked.specs.Flush.{covers}
 use Rattle.change_law.specs.declared.kept.KeptChange.{KeptChange}
 use Rattle.change_law.specs.Face.{Face}
-use Rattle.history.specs.declared.made.Tables.{Tables}
+use Rattle.history.specs.declared.tables.Tables.{Tables}
 use Rattle.table_changes.specs.Both.{saved_table, change_table, change_after, change_reason, shown_tables, KeepsBoth}
 use Rattle.table_changes.specs.Both as tables
 use Rattle.table_changes.specs.declared.tables.TableWorld.{TableWorld}

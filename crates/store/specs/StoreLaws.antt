@@ -16,7 +16,7 @@ use Rattle.change_law.specs.Face.{Face, IsSame, face_with, fate_in}
 use Rattle.change_law.specs.Pairs.{IsAliveIn}
 use Rattle.change_law.specs.Row.{IsRowAfter, IsEachRowFrom, IsSameRow, IsMade, CanGoBack, CanGoAgain, GoesBack, GoesAgain, any, same_face, where_chosen, kept_as}
 use Rattle.history.specs.declared.event.Command.{Command}
-use Rattle.history.specs.declared.made.Tables.{Tables}
+use Rattle.history.specs.declared.tables.Tables.{Tables}
 use Rattle.table_changes.specs.Part.{part}
 use Rattle.table_changes.specs.PartLaws.{part_at}
 use Rattle.table_changes.specs.Both.{saved_table, change_after, shown_tables, KeepsBoth}

@@ -8,7 +8,7 @@ use Rattle.stub_table.specs.Stubs.{Stubs}
 use Rattle.table_changes.specs.Both.{of_zones, of_stubs, KeepsBoth}
 use Rattle.table_changes.specs.Part.{part}
 use Rattle.table_changes.specs.TableRow.{KeepsRow}
-use Rattle.history.specs.declared.made.Tables.{Tables}
+use Rattle.history.specs.declared.tables.Tables.{Tables}
 use Rattle.table_changes.specs.declared.tables.TableWorld.{TableWorld}
 use Rattle.table_changes.specs.declared.tables.SavedTable.{SavedTable}
 

@@ -8,7 +8,7 @@ use Rattle.stub_table.specs.declared.saved.SavedStubs.{SavedStubs}
 use Rattle.stub_table.specs.Saved as stub
 use Rattle.history.specs.declared.event.Command.{Command}
 use Rattle.history.specs.declared.event.Command.TheVariants.{SetZone, DropZone, AddRecord, DropName, SetStub, DropStub}
-use Rattle.history.specs.declared.made.Tables.{Tables}
+use Rattle.history.specs.declared.tables.Tables.{Tables}
 use Rattle.table_changes.specs.Part.{part}
 use Rattle.table_changes.specs.TableRow.{table_by, face_of, KeepsRow}
 use Rattle.table_changes.specs.Stubs.{stubs_after, stub_reason}

@@ -1,6 +1,6 @@
 -- What the history of a plain book comes to, and what the book may answer after it.
 use Rattle.std.specs.Prelude.{◌≡◌, ◌<◌, IsTrue, IsErrOf, Result, length, vec_len, vec_capacity}
-use Rattle.undo_book.specs.declared.past.PlainPast.{PlainPast}
+use Rattle.undo_book.specs.declared.plain_history.PlainPast.{PlainPast}
 use Rattle.history.specs.declared.book.StepFault.{StepFault}
 use Rattle.history.specs.declared.book.StepFault.TheVariants.{Full}
 use Rattle.history.specs.declared.event.Event.{Event}

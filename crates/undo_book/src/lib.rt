@@ -10,13 +10,13 @@ mod replay;
 // The index of the entries that can change a cell.
 mod index;
 // The history of a plain book: its log and its marks.
-mod past;
+mod plain_history;
 // Local zones, records and stubs, by a replay of a log.
 mod tables;
 // The list of commands that can be undone or redone.
 mod listing;
 // What a lookup sees.
-mod seen;
+mod lookup_result;
 // The reply to an event, and the tables after it.
 mod replies;
 // The book that keeps its history and replays it.

@@ -7,7 +7,7 @@ ghost use Rattle.undo_book.specs.Plain.{marks_in, held_of};
 ghost use Rattle.undo_book.specs.PlainPast.{past_in};
 
 use crate::marks::PlainMarks;
-use crate::past::PlainPast;
+use crate::plain_history::PlainPast;
 use dns_name::NoMemory;
 use history::{Command, Entry, Event, Journalled};
 use std::alloc::Global;

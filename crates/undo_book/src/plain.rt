@@ -5,9 +5,9 @@ ghost use Rattle.history.specs.Event.{AreSettings};
 ghost use Rattle.history.specs.History.{tables_of};
 ghost use Rattle.undo_book.specs.PlainPast.{past_in};
 
-use crate::past::PlainPast;
+use crate::lookup_result::seen;
+use crate::plain_history::PlainPast;
 use crate::replies::reply;
-use crate::seen::seen;
 use dns_name::{Name, NoMemory};
 use dns_text::Question;
 use history::{

@@ -9,8 +9,8 @@ ghost use Rattle.undo_book.specs.PlainPast.{past_in};
 ghost use Rattle.undo_book.specs.Replayed.{tables_by_reply};
 ghost use Rattle.history.specs.Reply.{reply_of, reply_to_command, reply_to_redo, reply_to_undo};
 
-use crate::past::PlainPast;
-use crate::seen::seen;
+use crate::lookup_result::seen;
+use crate::plain_history::PlainPast;
 use crate::tables::replay_tables;
 use dns_name::NoMemory;
 use history::{Command, Event, Reply, Tables};

@@ -19,7 +19,7 @@ use Rattle.history.specs.declared.event.Event.{Event}
 use Rattle.history.specs.declared.event.Reply.{Reply}
 use Rattle.history.specs.declared.event.Settings.{Settings}
 use Rattle.history.specs.declared.limits.TheConstants.{MOMENT_END, MOST_EVENTS}
-use Rattle.history.specs.declared.made.Tables.{Tables}
+use Rattle.history.specs.declared.tables.Tables.{Tables}
 use Rattle.history.specs.Answers.{Answers}
 use Rattle.history.specs.Event.{moment_of, is_admission}
 use Rattle.history.specs.History.{Past, past_of, nothing, followed_by}

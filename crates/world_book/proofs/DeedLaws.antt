@@ -8,7 +8,7 @@ use Rattle.course.specs.Course.{face_by}
 use Rattle.history.specs.declared.event.Event.{Event}
 use Rattle.history.specs.declared.event.Event.TheVariants.{Admit, Look, Sweep, Do, Undo, Redo}
 use Rattle.history.specs.declared.event.Entry.{Entry}
-use Rattle.history.specs.declared.made.Tables.{Tables}
+use Rattle.history.specs.declared.tables.Tables.{Tables}
 use Rattle.history.specs.Event.{covers}
 use Rattle.history.specs.Changes.{tables_after, after_command_on}
 use Rattle.history.specs.Cells.{cell_after}

@@ -22,7 +22,7 @@ use Rattle.history.specs.declared.event.Command.{Command}
 use Rattle.history.specs.Changes.{reason_on}
 use Rattle.history.specs.declared.event.Reason.{Reason}
 use Rattle.history.specs.declared.event.Reply.TheVariants.{Taken, Outranked}
-use Rattle.history.specs.declared.made.Tables.{Tables}
+use Rattle.history.specs.declared.tables.Tables.{Tables}
 use Rattle.history.specs.Cells.{cell_of, shows}
 use Rattle.history.specs.History.{Past, is_unstruck, reason_of, tables_of}
 use Rattle.history.specs.declared.event.Settings.{Settings}

@@ -18,7 +18,7 @@ use Rattle.dns_name.specs.ListLaws.{all-append, all_weaker}
 use Rattle.std.proofs.lemmas.List.{take-append-drop}
 use Rattle.history.specs.declared.event.Command.{Command}
 use Rattle.history.specs.declared.event.Journalled.{Journalled}
-use Rattle.history.specs.declared.made.Tables.{Tables}
+use Rattle.history.specs.declared.tables.Tables.{Tables}
 use Rattle.history.specs.History.{Past}
 use Rattle.history.specs.Journal.{commands_of}
 use Rattle.history.specs.Marks.{is_struck, last_of}

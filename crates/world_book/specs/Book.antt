@@ -8,7 +8,7 @@ use Rattle.undo_journal.specs.Journal.{Changes}
 use Rattle.history.specs.declared.event.Command.{Command}
 use Rattle.history.specs.declared.event.Event.{Event}
 use Rattle.history.specs.declared.event.Settings.{Settings}
-use Rattle.history.specs.declared.made.Tables.{Tables}
+use Rattle.history.specs.declared.tables.Tables.{Tables}
 use Rattle.history.specs.declared.limits.TheConstants.{MOST_EVENTS}
 use Rattle.history.specs.Event.{is_admission}
 use Rattle.history.specs.History.{past_of}

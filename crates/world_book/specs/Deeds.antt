@@ -6,7 +6,7 @@ use Rattle.history.specs.declared.event.Command.{Command}
 use Rattle.history.specs.declared.event.Event.{Event}
 use Rattle.history.specs.declared.event.Event.TheVariants.{Admit, Do}
 use Rattle.history.specs.declared.event.Entry.{Entry}
-use Rattle.history.specs.declared.made.Tables.{Tables}
+use Rattle.history.specs.declared.tables.Tables.{Tables}
 use Rattle.history.specs.Event.{covers}
 use Rattle.history.specs.Changes.{no_tables, tables_by, after_command_on}
 use Rattle.history.specs.Cells.{cell_by}

@@ -9,7 +9,7 @@ use Rattle.history.specs.declared.event.Command.{Command}
 use Rattle.history.specs.declared.event.Event.{Event}
 use Rattle.history.specs.declared.event.Reply.{Reply}
 use Rattle.history.specs.declared.event.Settings.{Settings}
-use Rattle.history.specs.declared.made.Tables.{Tables}
+use Rattle.history.specs.declared.tables.Tables.{Tables}
 use Rattle.history.specs.Event.{moment_of}
 use Rattle.history.specs.Marks.{is_struck}
 use Rattle.history.specs.History.{Past, followed_by}

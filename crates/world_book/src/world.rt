@@ -8,7 +8,7 @@ ghost use Rattle.dns_text.specs.declared.record.Question.{Question};
 ghost use Rattle.ranked.specs.declared.find.Find.{Find};
 ghost use Rattle.ranked.specs.declared.find.Scope.{Scope};
 ghost use Rattle.ranked.specs.Cell.{shown_at};
-ghost use Rattle.history.specs.declared.made.Tables.{Tables};
+ghost use Rattle.history.specs.declared.tables.Tables.{Tables};
 ghost use Rattle.history.specs.Changes.{after_command_on, reason_on};
 ghost use Rattle.history.specs.Event.{covers};
 ghost use Rattle.change_law.specs.declared.kept.KeptChange.{KeptChange};

@@ -1,7 +1,7 @@
 use Rattle.std.proofs.Common.{◌≡◌, List, Some, None, sym, subst}
 use Rattle.std.specs.Option.{option_map}
 use Rattle.dns_text.specs.declared.record.Record.{Record}
-use Rattle.local_zone.specs.declared.local.Local.{Local}
+use Rattle.local_zone.specs.declared.local_answer.Local.{Local}
 use Rattle.history.specs.declared.event.Seen.TheVariants.{Local as LocalSeen}
 use Rattle.iterate.specs.declared.answer.Soa.TheVariants.{Local as LocalSoa}
 use Rattle.iterate.specs.declared.answer.AnswerSet.TheVariants.{Local as LocalTold}

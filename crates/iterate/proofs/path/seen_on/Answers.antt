@@ -2,7 +2,7 @@ use Rattle.std.proofs.Common.{subst, refl}
 use Rattle.history.specs.declared.event.Ask.TheVariants.{Answer as Asked}
 use Rattle.history.specs.declared.event.Event.TheVariants.{Look}
 use Rattle.history.specs.declared.event.Seen.TheVariants.{Held}
-use Rattle.iterate.specs.declared.shown.Looked.{Looked}
+use Rattle.iterate.specs.declared.lookup_reply.Looked.{Looked}
 use Rattle.iterate.specs.declared.want.Input.{Input}
 use Rattle.iterate.specs.declared.want.Want.TheVariants.{Book}
 use Rattle.iterate.specs.Exchanges.{exchange, Adds}

@@ -2,7 +2,7 @@
 use Rattle.std.proofs.Common.{◌≡◌, sym, ◌∙◌, ap}
 use Rattle.std.specs.Prelude.{OnOk}
 use Rattle.std.proofs.lemmas.Result.{on_ok_weaker}
-use Rattle.history.specs.declared.made.Tables.{Tables}
+use Rattle.history.specs.declared.tables.Tables.{Tables}
 use Rattle.history.specs.declared.event.Event.TheVariants.{Do, Undo, Redo}
 use Rattle.history.specs.declared.event.Reply.{Reply}
 use Rattle.history.specs.Changes.{reason_on, unless_refused}

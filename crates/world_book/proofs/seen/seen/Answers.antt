@@ -1,7 +1,7 @@
 use Rattle.std.proofs.Common.{◌∙◌, sym, ap}
 use Rattle.history.specs.declared.event.Ask.{Ask}
 use Rattle.history.specs.declared.event.Seen.TheVariants.{Zones, Records, Stubs, Commands, Servers}
-use Rattle.history.specs.declared.made.Tables.{Tables}
+use Rattle.history.specs.declared.tables.Tables.{Tables}
 use Rattle.history.specs.Reply.{seen_of}
 use Rattle.history.specs.Servers.{servers_by}
 use Rattle.world_book.proofs.TiedLaws.{tied_shows}

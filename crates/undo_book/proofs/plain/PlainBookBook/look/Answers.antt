@@ -1,7 +1,7 @@
 -- The tables are those of the history, and so is each cell.
 use Rattle.std.proofs.Common.{ap, ◌∙◌}
 use Rattle.local_zone.specs.Answer.{local_of}
-use Rattle.history.specs.declared.made.Tables.{Tables}
+use Rattle.history.specs.declared.tables.Tables.{Tables}
 use Rattle.history.specs.Cells.{shows}
 use Rattle.history.specs.History.{Past, tables_of}
 use Rattle.undo_book.specs.PlainPast.{past_in}

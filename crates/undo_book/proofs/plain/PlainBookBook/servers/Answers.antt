@@ -1,7 +1,7 @@
 -- The stubs are those of the history, and so is what its cells show.
 use Rattle.std.proofs.Common.{◌≡◌, ◌∙◌, ap, subst}
 use Rattle.std.specs.Prelude.{IfOk}
-use Rattle.history.specs.declared.made.Tables.{Tables}
+use Rattle.history.specs.declared.tables.Tables.{Tables}
 use Rattle.history.specs.declared.servers.Servers.{Servers}
 use Rattle.history.specs.Cells.{shows}
 use Rattle.history.specs.History.{Past}

@@ -1,5 +1,5 @@
 use Rattle.std.proofs.Common.{◌∙◌, ap}
-use Rattle.history.specs.declared.made.Tables.{Tables}
+use Rattle.history.specs.declared.tables.Tables.{Tables}
 use Rattle.history.specs.History.{past_of}
 use Rattle.world_book.proofs.TiedLaws.{tied_shows}
 use Rattle.world_book.proofs.book.WorldBookBook.zones.Goals as goal

@@ -1,0 +1,6 @@
+use Rattle.flight_sockets.proofs.Hearing.{heard_on}
+use Rattle.flight_sockets.proofs.transport.Way.hear.Goals as goal
+
+pub returns-in-Tcp-clause-heard : goal.returns-in-Tcp-clause-heard
+returns-in-Tcp-clause-heard g c =
+    λ exchange query way. heard_on _ _ _ _ _ _ _ exchange _ _ _ _ query (rw c.in-Tcp.is at way) c.hear_tcp.ensures.asks c.hear_tcp.ensures.went c.hear_tcp.ensures.heard

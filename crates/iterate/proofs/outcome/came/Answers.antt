@@ -1,0 +1,52 @@
+use Rattle.std.proofs.Common.{◌≡◌, ◌-◌, length, sym, ap, ◌∙◌, subst, arith}
+use Rattle.std.proofs.lemmas.Result.{IfOk-weaker}
+use Rattle.dns_query.specs.declared.verdict.Heard.{Heard}
+use Rattle.iterate.specs.declared.search.Hunt.{Hunt}
+use Rattle.iterate.specs.declared.search.Search.{Search}
+use Rattle.iterate.specs.declared.want.Want.{Want}
+use Rattle.iterate.specs.Measure.{left_of_sending}
+use Rattle.iterate.specs.Phase.{IsHearing, Suits}
+use Rattle.iterate.specs.Searching.{hunt_of, question_of}
+use Rattle.history.specs.declared.servers.Servers.{Servers}
+use Rattle.iterate.proofs.Coming.{counted, asked_once, same_next, meant, useless, vain, was_truncated, from_less, below, going_less, again_less, ended_less, hearing_less, hearing}
+use Rattle.iterate.proofs.outcome.came.Goals as goal
+
+pub returns-in-Struck : goal.returns-in-Struck
+returns-in-Struck g c = λ question before log want w suits adds.
+    let search_in = c.args.search in
+    let here = subst (λ (v : Want). Suits v c.args.input.now) w.wanted suits in
+    let zone : c.get.result.now.zone ≡ (hunt_of search_in).servers.zone = ap (λ (s : Servers). s.zone) c.get.ensures ∙ ap (λ (h : Hunt). h.servers.zone) c.hunt.ensures in
+    let judged = meant c.args.port c.args.over c.args.id c.args.input.now _ zone c.in_ok-question.ensures (rw c.in-Struck.is at (c.in_ok-judged.ensures c.args.server w.bytes here)) in
+    let same : c.counted.result ≡ counted search_in = c.counted.ensures (omega (arith, w.some)) in
+    let v = vain c.counted.result same w adds (useless c.args.port c.args.over (hunt_of search_in).servers.zone c.args.id (question_of search_in) c.args.input.now judged) in
+    let after = c.in_ok-strike-in-Struck.field-0 in
+    let s = c.in_ok-strike-in-Struck.ensures.further c.args.port question log c.args.server w.rest v.is_search (same_next c.counted.result same w) v.struck in
+    let path = c.in_ok-strike-in-Struck.ensures.path ∙ ap (λ (x : Search). x.path) same in
+    IfOk-weaker c.go_on.result _ _ (λ t goes. from_less (going_less search_in.path after path s) goes) (c.go_on.ensures c.args.port question log s)
+
+pub returns-in-Cut : goal.returns-in-Cut
+returns-in-Cut g c = λ question before log want w suits adds.
+    let search_in = c.args.search in
+    let here = subst (λ (v : Want). Suits v c.args.input.now) w.wanted suits in
+    let zone : c.get.result.now.zone ≡ (hunt_of search_in).servers.zone = ap (λ (s : Servers). s.zone) c.get.ensures ∙ ap (λ (h : Hunt). h.servers.zone) c.hunt.ensures in
+    let judged = meant c.args.port c.args.over c.args.id c.args.input.now _ zone c.in_ok-question.ensures (rw c.in-Cut.is at (c.in_ok-judged.ensures c.args.server w.bytes here)) in
+    let same : c.counted-in-Cut.result ≡ counted search_in = c.counted-in-Cut.ensures (omega (arith, w.some)) in
+    let path = ap (λ (x : Search). x.path) same in
+    c.again.ensures c.args.port c.args.moment (left_of_sending search_in.path) question log w.rest (asked_once c.counted-in-Cut.result same w adds) (same_next c.counted-in-Cut.result same w)
+    (was_truncated c.args.port (hunt_of search_in).servers.zone c.args.input.now c.counted-in-Cut.result same w adds judged) (λ few. again_less search_in.path c.counted-in-Cut.result.path path few) (ended_less search_in.path w.is_search.path)
+
+pub returns : goal.returns
+returns g c = λ question before log want w suits adds.
+    let search_in = c.args.search in
+    let here = subst (λ (v : Want). Suits v c.args.input.now) w.wanted suits in
+    let zone : c.get.result.now.zone ≡ (hunt_of search_in).servers.zone = ap (λ (s : Servers). s.zone) c.get.ensures ∙ ap (λ (h : Hunt). h.servers.zone) c.hunt.ensures in
+    let judged = meant c.args.port c.args.over c.args.id c.args.input.now _ zone c.in_ok-question.ensures (rw c.in-Heard.is at (c.in_ok-judged.ensures c.args.server w.bytes here)) in
+    let after = c.in_ok-search-in-Heard.search.value in
+    let heard = c.in_ok-heard-in-Heard.heard.value in
+    let same : after ≡ counted search_in = c.in_ok-search-in-Heard.ensures.ok ∙ c.counted-in-Heard.ensures (omega (arith, w.some)) in
+    let path = ap (λ (x : Search). x.path) same in
+    c.admit.ensures question log (left_of_sending search_in.path)
+    (subst (λ (h : Heard). IsHearing c.args.port question log after h) (sym c.in_ok-heard-in-Heard.ensures.ok)
+    (hearing c.args.port question before log want search_in c.args.server c.args.id c.args.over c.args.input.now after c.in-Heard.heard same w adds judged))
+    (below _ _ (hearing_less search_in.path after.path 1 path (omega arith)))
+    (λ few. hearing_less search_in.path after.path (length heard.harvest.finds - 0) path (omega (arith, few)))
