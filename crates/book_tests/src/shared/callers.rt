@@ -1,55 +1,71 @@
 //! Two callers of one book, and their receipts.
 
-ghost use Rattle.std.specs.Prelude.{◌≡◌, [], IfOk};
-
-use dns_text::{Items, Shared};
-use history::{Book, Event, MakeFault, Reply, Seen, Settings, StepFault};
+use crate::outcome::{Outcome, outcome_of};
+use dns_text::Shared;
+use history::{Book, Event, Reply, Seen, StepFault};
 use shared_book::{CallFault, CallLedger, Pass, Receipt, SharedBook};
 use std::alloc::Global;
 use std::sync::Wait;
 use std::test::*;
 use std::thread;
 use std::thread::Threads;
-use undo_book::PlainBook;
 
-pub fn plain(alloc: Global) -> Result<PlainBook, MakeFault>
-    ensures { IfOk result (λ b. ⟦<PlainBook as Book>⟧.stands_for b []) }
-{
-    let settings = Settings {
-        journal: 64,
-        cells: 100,
-        hints: Items::new(Vec::new(alloc)),
-        server_port: 53,
-    };
-    PlainBook::new(alloc, settings)
+/// Calls with an event, and keeps the receipt.
+fn call_one<B: Book, L: CallLedger, R: Wait>(
+    rt: &R,
+    book: &SharedBook<B, L>,
+    pass: &mut Pass<L>,
+    event: Shared<Event>,
+    receipts: &mut Vec<Receipt>,
+) -> Result<(), CallFault> {
+    match receipts.reserve(1) {
+        Ok(()) => {}
+        Err(_) => return Err(CallFault::Step(StepFault::NoMemory)),
+    }
+    match book.call(rt, pass, event) {
+        Ok(receipt) => {
+            receipts.push_reserved(receipt);
+            Ok(())
+        }
+        Err(fault) => Err(fault),
+    }
 }
 
 /// Calls with each event, and keeps the receipts.
-pub fn call_all<L: CallLedger, R: Wait>(
+fn call_each<B: Book, L: CallLedger, R: Wait>(
     rt: &R,
-    alloc: Global,
-    book: &SharedBook<PlainBook, L>,
-    mut pass: Pass<L>,
+    book: &SharedBook<B, L>,
+    pass: &mut Pass<L>,
     events: Vec<Shared<Event>>,
-) -> Result<(Pass<L>, Vec<Receipt>), CallFault> {
-    let mut receipts = Vec::new(alloc);
+    receipts: &mut Vec<Receipt>,
+) -> Result<(), CallFault> {
     for event in events {
-        let receipt = book.call(rt, &mut pass, event)?;
-        if receipts.push(receipt).is_err() {
-            return Err(CallFault::Step(StepFault::NoMemory));
-        }
+        call_one(rt, book, pass, event, receipts)?;
     }
-    Ok((pass, receipts))
+    Ok(())
 }
 
 /// What a caller hands in at the end: its pass, and its receipts in the order in which it got them.
 pub type HandedIn<L> = (Pass<L>, Vec<Receipt>);
 
-/// Both callers, each in a thread of its own.
-pub fn both<L: CallLedger + Send + Sync, R: Threads + Wait + Sync>(
+/// Calls with each event.
+pub fn call_all<B: Book, L: CallLedger, R: Wait>(
     rt: &R,
     alloc: Global,
-    book: &SharedBook<PlainBook, L>,
+    book: &SharedBook<B, L>,
+    mut pass: Pass<L>,
+    events: Vec<Shared<Event>>,
+) -> Result<HandedIn<L>, CallFault> {
+    let mut receipts = Vec::new(alloc);
+    call_each(rt, book, &mut pass, events, &mut receipts)?;
+    Ok((pass, receipts))
+}
+
+/// Both callers, each in a thread of its own.
+pub fn both<B: Book + Send + Sync, L: CallLedger + Send + Sync, R: Threads + Wait + Sync>(
+    rt: &R,
+    alloc: Global,
+    book: &SharedBook<B, L>,
     passes: (Pass<L>, Pass<L>),
     events: (Vec<Shared<Event>>, Vec<Shared<Event>>),
 ) -> Result<(HandedIn<L>, HandedIn<L>), Fail> {
@@ -82,10 +98,10 @@ pub fn are_told(ones: &[Receipt], twos: &[Receipt]) -> bool {
     if ones.len() != 4 || twos.len() != 2 || ones[0].caller == twos[0].caller {
         return false;
     }
-    ones[0].reply == Reply::Done { ticket: 1 }
+    outcome_of(&ones[0].reply) == Outcome::Done(1)
         && sees_zones(&ones[1].reply, 1)
-        && ones[2].reply == Reply::Undone { ticket: 1 }
+        && outcome_of(&ones[2].reply) == Outcome::Undone(1)
         && sees_zones(&ones[3].reply, 0)
-        && twos[0].reply == Reply::Taken
+        && outcome_of(&twos[0].reply) == Outcome::Taken
         && sees_left(&twos[1].reply, 60)
 }

@@ -2,7 +2,9 @@
 
 ghost use Rattle.std.specs.Prelude.{◌≡◌, []};
 
-use crate::shared::callers::{are_told, both, plain};
+use crate::books::book;
+use crate::outcome::{Outcome, outcome_of};
+use crate::shared::callers::{HandedIn, are_told, both};
 use crate::shared::events::{of_the_first, of_the_second};
 use history::{Book, Reply};
 use shared_book::{Blank, CallLedger, CloseFault, Kept, NotClosed, Pass, Receipt, SharedBook};
@@ -34,88 +36,85 @@ enum Case {
     FirstPassLess,
 }
 
+/// A receipt of this number and reply, and else like another.
 fn receipt(number: u64, like: &Receipt, reply: Reply) -> Result<Receipt, Fail> {
-    Ok(Receipt {
-        number,
-        caller: like.caller,
-        event: like.event.share()?,
-        reply,
-    })
-}
-
-/// The same receipt, where its reply has no more than a ticket.
-fn again(like: &Receipt) -> Result<Receipt, Fail> {
-    match &like.reply {
-        Reply::Done { ticket } => receipt(like.number, like, Reply::Done { ticket: *ticket }),
-        Reply::Undone { ticket } => receipt(like.number, like, Reply::Undone { ticket: *ticket }),
-        _ => receipt(like.number, like, Reply::Taken),
+    match like.event.share() {
+        Ok(event) => Ok(Receipt {
+            number,
+            caller: like.caller,
+            event,
+            reply,
+        }),
+        Err(fault) => {
+            drop(reply);
+            Err(fault.into())
+        }
     }
 }
 
-/// The place of a receipt by its number.
-fn place_of(receipts: &[Receipt], number: u64) -> Option<usize> {
-    receipts.iter().position(|receipt| receipt.number == number)
+/// The same receipt, if its reply has no more than a ticket.
+fn again(like: &Receipt) -> Result<Receipt, Fail> {
+    let reply = match outcome_of(&like.reply) {
+        Outcome::Done(ticket) => Reply::Done { ticket },
+        Outcome::Undone(ticket) => Reply::Undone { ticket },
+        _ => Reply::Taken,
+    };
+    receipt(like.number, like, reply)
 }
 
-/// Takes out the receipt of a number.
-fn without(mut receipts: Vec<Receipt>, number: u64) -> Vec<Receipt> {
-    receipts.retain(|receipt| receipt.number != number);
-    receipts
-}
-
-fn with(mut receipts: Vec<Receipt>, new: Receipt) -> Result<Vec<Receipt>, Fail> {
-    receipts.push(new)?;
-    Ok(receipts)
-}
-
-fn third_again(receipts: &[Receipt]) -> Result<Receipt, Fail> {
-    let place = place_of(receipts, 3).ok_or("a third")?;
-    again(receipts.get(place).ok_or("a third")?)
-}
-
-/// A receipt of this number which no book gave.
-fn invented(receipts: &[Receipt], number: u64) -> Result<Receipt, Fail> {
-    receipt(
-        number,
-        receipts.first().ok_or("a first")?,
-        Reply::NothingToRedo,
+/// The receipt of a number.
+fn numbered(receipts: &[Receipt], number: u64) -> Result<&Receipt, Fail> {
+    Ok(
+        receipts
+            .iter()
+            .find(|receipt| receipt.number == number)
+            .ok_or("a receipt")?,
     )
 }
 
-fn changed(case: Case, mut receipts: Vec<Receipt>) -> Result<Vec<Receipt>, Fail> {
+/// Takes out the receipt of a number.
+fn take_out(receipts: &mut Vec<Receipt>, number: u64) {
+    receipts.retain(|receipt| receipt.number != number);
+}
+
+/// Adds the third receipt once more.
+fn add_third(receipts: &mut Vec<Receipt>) -> Result<(), Fail> {
+    let third = again(numbered(receipts.as_slice(), 3)?)?;
+    Ok(receipts.push(third)?)
+}
+
+/// Adds a receipt of this number which no book gave.
+fn add_invented(receipts: &mut Vec<Receipt>, number: u64) -> Result<(), Fail> {
+    let first = numbered(receipts.as_slice(), 1)?;
+    let invented = receipt(number, first, Reply::NothingToRedo)?;
+    Ok(receipts.push(invented)?)
+}
+
+fn change(case: Case, receipts: &mut Vec<Receipt>) -> Result<(), Fail> {
     match case {
-        Case::Whole => Ok(receipts),
-        Case::FirstPassLess => Ok(receipts),
-        Case::Reversed => {
-            receipts.reverse();
-            Ok(receipts)
-        }
-        Case::OneLess => Ok(without(receipts, 5)),
+        Case::Whole | Case::FirstPassLess => {}
+        Case::Reversed => receipts.reverse(),
+        Case::OneLess => take_out(receipts, 5),
         Case::ThirdForFourth => {
-            let third = third_again(&receipts)?;
-            with(without(receipts, 4), third)
+            add_third(receipts)?;
+            take_out(receipts, 4);
         }
-        Case::ThirdTwice => {
-            let third = third_again(&receipts)?;
-            with(receipts, third)
-        }
+        Case::ThirdTwice => add_third(receipts)?,
         Case::OfAnotherBook => {
-            let other = invented(&receipts, 2)?;
-            with(without(receipts, 2), other)
+            take_out(receipts, 2);
+            add_invented(receipts, 2)?;
         }
-        Case::PastTheEnd => {
-            let seventh = invented(&receipts, 7)?;
-            with(receipts, seventh)
-        }
+        Case::PastTheEnd => add_invented(receipts, 7)?,
     }
+    Ok(())
 }
 
 /// What closing tells, how many entries there are, and what it tells when it is asked again with nothing.
 pub type Told = (Option<CloseFault>, usize, Option<CloseFault>);
 
-fn asked_again<L: CallLedger>(
+fn asked_again<B: Book, L: CallLedger>(
     alloc: Global,
-    kept: Kept<PlainBook, L>,
+    kept: Kept<B, L>,
 ) -> (usize, Option<CloseFault>) {
     let entries = kept.entries().len();
     match kept.close(Vec::new(alloc), Vec::new(alloc)) {
@@ -124,28 +123,16 @@ fn asked_again<L: CallLedger>(
     }
 }
 
-pub fn told<L: CallLedger>(
+pub fn told<B: Book, L: CallLedger>(
     alloc: Global,
-    closed: Result<Kept<PlainBook, L>, NotClosed<PlainBook, L>>,
+    closed: Result<Kept<B, L>, NotClosed<B, L>>,
 ) -> Told {
-    match closed {
-        Ok(kept) => {
-            let (entries, again) = asked_again(alloc, kept);
-            (None, entries, again)
-        }
-        Err(not_closed) => {
-            let NotClosed { fault, kept } = not_closed;
-            let (entries, again) = asked_again(alloc, kept);
-            (Some(fault), entries, again)
-        }
-    }
-}
-
-fn all_of(mut ones: Vec<Receipt>, twos: Vec<Receipt>) -> Result<Vec<Receipt>, Fail> {
-    for receipt in twos {
-        ones.push(receipt)?;
-    }
-    Ok(ones)
+    let (fault, kept) = match closed {
+        Ok(kept) => (None, kept),
+        Err(NotClosed { fault, kept }) => (Some(fault), kept),
+    };
+    let (entries, again) = asked_again(alloc, kept);
+    (fault, entries, again)
 }
 
 fn passes_of<L: CallLedger>(
@@ -160,26 +147,50 @@ fn passes_of<L: CallLedger>(
     Ok(vec![in alloc; two, one]?)
 }
 
-fn two_callers<L: CallLedger + Send + Sync, R: Threads + Wait + Sync + Abort>(
+/// Both callers call, and each is told what it did.
+fn called<B: Book + Send + Sync, L: CallLedger + Send + Sync, R: Threads + Wait + Sync + Abort>(
     rt: &R,
     alloc: Global,
-    blank: Blank,
-    book: PlainBook,
+    book: &SharedBook<B, L>,
+    mut one: Pass<L>,
+) -> Result<(HandedIn<L>, HandedIn<L>), Fail> {
+    let two = book.split(rt, &mut one)?;
+    let events = (of_the_first(alloc)?, of_the_second(alloc)?);
+    let ((one, ones), (two, twos)) = both(rt, alloc, book, (one, two), events)?;
+    assert!(rt; are_told(&ones, &twos));
+    Ok(((one, ones), (two, twos)))
+}
+
+/// What both hand in, with something wrong.
+fn handed_in<L: CallLedger>(
+    alloc: Global,
     case: Case,
-) -> Result<Told, Fail>
+    first: HandedIn<L>,
+    second: HandedIn<L>,
+) -> Result<(Vec<Pass<L>>, Vec<Receipt>), Fail> {
+    let (one, mut receipts) = first;
+    let (two, twos) = second;
+    for receipt in twos {
+        receipts.push(receipt)?;
+    }
+    change(case, &mut receipts)?;
+    Ok((passes_of(alloc, case, one, two)?, receipts))
+}
+
+fn two_callers<
+    B: Book + Send + Sync,
+    L: CallLedger + Send + Sync,
+    R: Threads + Wait + Sync + Abort,
+>(rt: &R, alloc: Global, blank: Blank, book: B, case: Case) -> Result<Told, Fail>
     requires name { blank.name ≡ L.name }
     requires parts { blank.parts ≡ L.parts }
     requires limit { 100 ≡ L.limit }
-    requires settings { ⟦<PlainBook as Book>⟧.settings book ≡ L.settings }
-    requires fresh { ⟦<PlainBook as Book>⟧.stands_for book [] }
+    requires settings { B.settings book ≡ L.settings }
+    requires fresh { B.stands_for book [] }
 {
-    let (book, mut one) = SharedBook::<PlainBook, L>::new(alloc, blank, book, 100)?;
-    let two = book.split(rt, &mut one)?;
-    let events = (of_the_first(alloc)?, of_the_second(alloc)?);
-    let ((one, ones), (two, twos)) = both(rt, alloc, &book, (one, two), events)?;
-    assert!(rt; are_told(&ones, &twos));
-    let receipts = changed(case, all_of(ones, twos)?)?;
-    let passes = passes_of(alloc, case, one, two)?;
+    let (book, pass) = SharedBook::<B, L>::new(alloc, blank, book, 100)?;
+    let (first, second) = called(rt, alloc, &book, pass)?;
+    let (passes, receipts) = handed_in(alloc, case, first, second)?;
     Ok(told(alloc, book.close(passes, receipts)))
 }
 
@@ -188,7 +199,8 @@ fn closed_as<R: Threads + Wait + Sync + Abort>(
     alloc: Global,
     case: Case,
 ) -> Result<Told, Fail> {
-    two_callers::<Brand, R>(rt, alloc, Blank::new(1 << 20), plain(alloc)?, case)
+    let book = book(alloc, 64, 100)?;
+    two_callers::<PlainBook, Brand, R>(rt, alloc, Blank::new(1 << 20), book, case)
 }
 
 /// The passes are given up when closing is asked first, so all six calls are missing then.

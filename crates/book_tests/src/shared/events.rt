@@ -1,11 +1,12 @@
 //! What the callers hand in. Each event but one gives the moment 0.
 
+use crate::cells::address;
 use dns_name::Name;
 use dns_text::types::A;
-use dns_text::{Items, Question, Shared, read_record};
+use dns_text::{Question, Shared};
 use history::{Ask, Command, Event, MOMENT_END};
 use local_zone::ZoneType;
-use ranked::{Find, Rank, SharedFind};
+use ranked::Rank;
 use std::alloc::Global;
 use std::test::*;
 
@@ -17,17 +18,9 @@ fn look(alloc: Global, ask: Ask) -> Result<Shared<Event>, Fail> {
     share(alloc, Event::Look { moment: 0, ask })
 }
 
-/// The address 192.0.2.1 of `b.test.`, of rank 4, for a minute.
-fn address(alloc: Global) -> Result<SharedFind, Fail> {
-    let record = read_record(alloc, b"b.test A 192.0.2.1")?;
-    let data = Items::new(vec![in alloc; record.body]?);
-    let rank = Rank::AuthoritativeAnswer;
-    let find = Find::new(record.owner, record.kind, rank, 60, data).ok_or("a find")?;
-    Ok(SharedFind::new(alloc, find)?)
-}
-
+/// Admits the address 192.0.2.1 of `b.test.`, of rank 4, for a minute.
 pub fn admit(alloc: Global) -> Result<Shared<Event>, Fail> {
-    let find = address(alloc)?;
+    let find = address(alloc, b"b.test", Rank::AuthoritativeAnswer, 60)?;
     share(alloc, Event::Admit { moment: 0, find })
 }
 

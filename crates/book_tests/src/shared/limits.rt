@@ -2,7 +2,8 @@
 
 ghost use Rattle.std.specs.Prelude.{◌≡◌, []};
 
-use crate::shared::callers::{call_all, plain};
+use crate::books::book;
+use crate::shared::callers::call_all;
 use crate::shared::events::of_the_second;
 use history::{Book, MakeFault};
 use shared_book::{Blank, CallLedger, CloseFault, MOST_RECORDED, SharedBook, SplitFault};
@@ -14,19 +15,19 @@ use std::test::*;
 use undo_book::PlainBook;
 
 /// One call more than is recorded.
-fn past_the_record<L: CallLedger, R: Wait + Abort>(
+fn past_the_record<B: Book, L: CallLedger, R: Wait + Abort>(
     rt: &R,
     alloc: Global,
     blank: Blank,
-    book: PlainBook,
+    book: B,
 ) -> Result<Option<CloseFault>, Fail>
     requires name { blank.name ≡ L.name }
     requires parts { blank.parts ≡ L.parts }
     requires limit { 1 ≡ L.limit }
-    requires settings { ⟦<PlainBook as Book>⟧.settings book ≡ L.settings }
-    requires fresh { ⟦<PlainBook as Book>⟧.stands_for book [] }
+    requires settings { B.settings book ≡ L.settings }
+    requires fresh { B.stands_for book [] }
 {
-    let (book, pass) = SharedBook::<PlainBook, L>::new(alloc, blank, book, 1)?;
+    let (book, pass) = SharedBook::<B, L>::new(alloc, blank, book, 1)?;
     let (pass, receipts) = call_all(rt, alloc, &book, pass, of_the_second(alloc)?)?;
     assert!(rt; receipts.len() == 2);
     match book.close(vec![in alloc; pass]?, receipts) {
@@ -36,7 +37,8 @@ fn past_the_record<L: CallLedger, R: Wait + Abort>(
 }
 
 fn past_the_record_as<R: Wait + Abort>(rt: &R, alloc: Global) -> Result<Option<CloseFault>, Fail> {
-    past_the_record::<Brand, R>(rt, alloc, Blank::new(1), plain(alloc)?)
+    let book = book(alloc, 64, 100)?;
+    past_the_record::<PlainBook, Brand, R>(rt, alloc, Blank::new(1), book)
 }
 
 #[test]
@@ -47,20 +49,20 @@ fn a_record_is_not_whole(rt: HostRuntime) -> Result<(), Fail> {
 }
 
 /// Whether a book is refused that is made with these, and whether its first pass can be split.
-fn made<L: CallLedger, R: Wait>(
+fn made<B: Book, L: CallLedger, R: Wait>(
     rt: &R,
     alloc: Global,
     blank: Blank,
-    book: PlainBook,
+    book: B,
     limit: u64,
 ) -> Result<Option<SplitFault>, MakeFault>
     requires name { blank.name ≡ L.name }
     requires parts { blank.parts ≡ L.parts }
     requires limit { limit ≡ L.limit }
-    requires settings { ⟦<PlainBook as Book>⟧.settings book ≡ L.settings }
-    requires fresh { ⟦<PlainBook as Book>⟧.stands_for book [] }
+    requires settings { B.settings book ≡ L.settings }
+    requires fresh { B.stands_for book [] }
 {
-    let (book, mut pass) = SharedBook::<PlainBook, L>::new(alloc, blank, book, limit)?;
+    let (book, mut pass) = SharedBook::<B, L>::new(alloc, blank, book, limit)?;
     Ok(book.split(rt, &mut pass).err())
 }
 
@@ -70,7 +72,8 @@ fn made_as<R: Wait>(
     parts: u64,
     limit: u64,
 ) -> Result<Option<SplitFault>, MakeFault> {
-    made::<Brand, R>(rt, alloc, Blank::new(parts), plain(alloc)?, limit)
+    let book = book(alloc, 64, 100)?;
+    made::<PlainBook, Brand, R>(rt, alloc, Blank::new(parts), book, limit)
 }
 
 #[test]

@@ -2,7 +2,8 @@
 
 ghost use Rattle.std.specs.Prelude.{◌≡◌, []};
 
-use crate::shared::callers::{call_all, plain};
+use crate::books::book;
+use crate::shared::callers::call_all;
 use crate::shared::closing::{Told, told};
 use crate::shared::events::{of_the_second, too_late};
 use history::{Book, StepFault};
@@ -15,19 +16,19 @@ use std::test::*;
 use undo_book::PlainBook;
 
 /// A call that the book refuses, and two that it takes.
-fn refused_and_taken<L: CallLedger, R: Wait + Abort>(
+fn refused_and_taken<B: Book, L: CallLedger, R: Wait + Abort>(
     rt: &R,
     alloc: Global,
     blank: Blank,
-    book: PlainBook,
+    book: B,
 ) -> Result<Told, Fail>
     requires name { blank.name ≡ L.name }
     requires parts { blank.parts ≡ L.parts }
     requires limit { 100 ≡ L.limit }
-    requires settings { ⟦<PlainBook as Book>⟧.settings book ≡ L.settings }
-    requires fresh { ⟦<PlainBook as Book>⟧.stands_for book [] }
+    requires settings { B.settings book ≡ L.settings }
+    requires fresh { B.stands_for book [] }
 {
-    let (book, mut pass) = SharedBook::<PlainBook, L>::new(alloc, blank, book, 100)?;
+    let (book, mut pass) = SharedBook::<B, L>::new(alloc, blank, book, 100)?;
     let fault = book.call(rt, &mut pass, too_late(alloc)?).err();
     assert!(rt; fault == Some(CallFault::Step(StepFault::BadMoment)));
     let (pass, receipts) = call_all(rt, alloc, &book, pass, of_the_second(alloc)?)?;
@@ -35,7 +36,8 @@ fn refused_and_taken<L: CallLedger, R: Wait + Abort>(
 }
 
 fn refused_and_taken_as<R: Wait + Abort>(rt: &R, alloc: Global) -> Result<Told, Fail> {
-    refused_and_taken::<Brand, R>(rt, alloc, Blank::new(1), plain(alloc)?)
+    let book = book(alloc, 64, 100)?;
+    refused_and_taken::<PlainBook, Brand, R>(rt, alloc, Blank::new(1), book)
 }
 
 #[test]
@@ -46,20 +48,20 @@ fn a_refused_call_is_not_recorded(rt: HostRuntime) -> Result<(), Fail> {
 }
 
 /// What two passes have seen once they are one, where the second made both calls.
-fn seen_by_both<L: CallLedger, R: Wait>(
+fn seen_by_both<B: Book, L: CallLedger, R: Wait>(
     rt: &R,
     alloc: Global,
     blank: Blank,
-    book: PlainBook,
+    book: B,
     in_order: bool,
 ) -> Result<u64, Fail>
     requires name { blank.name ≡ L.name }
     requires parts { blank.parts ≡ L.parts }
     requires limit { 100 ≡ L.limit }
-    requires settings { ⟦<PlainBook as Book>⟧.settings book ≡ L.settings }
-    requires fresh { ⟦<PlainBook as Book>⟧.stands_for book [] }
+    requires settings { B.settings book ≡ L.settings }
+    requires fresh { B.stands_for book [] }
 {
-    let (book, mut one) = SharedBook::<PlainBook, L>::new(alloc, blank, book, 100)?;
+    let (book, mut one) = SharedBook::<B, L>::new(alloc, blank, book, 100)?;
     let two = book.split(rt, &mut one)?;
     let (two, _) = call_all(rt, alloc, &book, two, of_the_second(alloc)?)?;
     let joined = if in_order {
@@ -71,7 +73,8 @@ fn seen_by_both<L: CallLedger, R: Wait>(
 }
 
 fn seen_by_both_as<R: Wait>(rt: &R, alloc: Global, in_order: bool) -> Result<u64, Fail> {
-    seen_by_both::<Brand, R>(rt, alloc, Blank::new(2), plain(alloc)?, in_order)
+    let book = book(alloc, 64, 100)?;
+    seen_by_both::<PlainBook, Brand, R>(rt, alloc, Blank::new(2), book, in_order)
 }
 
 #[test]
