@@ -1,7 +1,7 @@
 //! Eight callers of one book: a pass is split for each, and all are joined again.
 
-use crate::draws::event;
-use dns_text::Shared;
+use crate::draws::shared_event;
+use history::Book;
 use rand_core::SeedableRng;
 use rand_pcg::Pcg32;
 use shared_book::{CallLedger, Pass, Receipt, SharedBook};
@@ -10,7 +10,6 @@ use std::sync::Wait;
 use std::thread;
 use std::thread::Threads;
 use thiserror::Error;
-use undo_book::PlainBook;
 
 /// A draw or a call came to nothing.
 #[derive(Clone, Copy, Debug, PartialEq, Eq, Error)]
@@ -27,31 +26,40 @@ pub struct Handed<L: CallLedger> {
 /// How many calls a caller makes, so that eight and the four between them make 500.
 const CALLS: u32 = 62;
 
-/// One drawn call.
-fn one_call<L: CallLedger, R: Wait>(
+/// Adds a receipt. What is not added is dropped by a call, since the prover follows any other drop variant by variant.
+fn keep(receipts: &mut Vec<Receipt>, receipt: Receipt) -> Result<(), Stop> {
+    match receipts.push(receipt) {
+        Ok(()) => Ok(()),
+        Err(refused) => {
+            drop(refused);
+            Err(Stop)
+        }
+    }
+}
+
+/// One drawn call, of which the receipt is kept.
+fn one_call<B: Book, L: CallLedger, R: Wait>(
     rt: &R,
     alloc: Global,
-    book: &SharedBook<PlainBook, L>,
+    book: &SharedBook<B, L>,
     pass: &mut Pass<L>,
     rng: &mut Pcg32,
-) -> Result<Receipt, Stop> {
-    let Ok(drawn) = event(rng, alloc, 0) else {
+    receipts: &mut Vec<Receipt>,
+) -> Result<(), Stop> {
+    let Ok(event) = shared_event(rng, alloc, 0) else {
         return Err(Stop);
     };
-    let Ok(shared) = Shared::new(alloc, drawn) else {
-        return Err(Stop);
-    };
-    match book.call(rt, pass, shared) {
-        Ok(receipt) => Ok(receipt),
+    match book.call(rt, pass, event) {
+        Ok(receipt) => keep(receipts, receipt),
         Err(_) => Err(Stop),
     }
 }
 
 /// One caller's drawn calls.
-fn calls<L: CallLedger, R: Wait>(
+fn calls<B: Book, L: CallLedger, R: Wait>(
     rt: &R,
     alloc: Global,
-    book: &SharedBook<PlainBook, L>,
+    book: &SharedBook<B, L>,
     mut pass: Pass<L>,
     seed: u64,
     count: u32,
@@ -59,10 +67,7 @@ fn calls<L: CallLedger, R: Wait>(
     let mut rng = Pcg32::seed_from_u64(seed);
     let mut receipts = Vec::new(alloc);
     for _ in 0..count {
-        let receipt = one_call(rt, alloc, book, &mut pass, &mut rng)?;
-        if receipts.push(receipt).is_err() {
-            return Err(Stop);
-        }
+        one_call(rt, alloc, book, &mut pass, &mut rng, &mut receipts)?;
     }
     Ok(Handed { pass, receipts })
 }
@@ -71,17 +76,15 @@ fn calls<L: CallLedger, R: Wait>(
 fn with_receipts<L: CallLedger>(handed: Handed<L>, more: Vec<Receipt>) -> Result<Handed<L>, Stop> {
     let Handed { pass, mut receipts } = handed;
     for receipt in more {
-        if receipts.push(receipt).is_err() {
-            return Err(Stop);
-        }
+        keep(&mut receipts, receipt)?;
     }
     Ok(Handed { pass, receipts })
 }
 
 /// What two have to hand in, as one.
-fn joined<L: CallLedger, R: Wait>(
+fn joined<B: Book, L: CallLedger, R: Wait>(
     rt: &R,
-    book: &SharedBook<PlainBook, L>,
+    book: &SharedBook<B, L>,
     one: Handed<L>,
     two: Handed<L>,
 ) -> Result<Handed<L>, Stop> {
@@ -95,10 +98,10 @@ fn joined<L: CallLedger, R: Wait>(
 }
 
 /// Two callers, of whom the first calls once more when the second is done.
-fn two<L: CallLedger + Send + Sync, R: Threads + Wait + Sync>(
+fn two<B: Book + Send + Sync, L: CallLedger + Send + Sync, R: Threads + Wait + Sync>(
     rt: &R,
     alloc: Global,
-    book: &SharedBook<PlainBook, L>,
+    book: &SharedBook<B, L>,
     mut pass: Pass<L>,
     seed: u64,
 ) -> Result<Handed<L>, Stop> {
@@ -115,10 +118,10 @@ fn two<L: CallLedger + Send + Sync, R: Threads + Wait + Sync>(
     with_receipts(last, receipts)
 }
 
-fn four<L: CallLedger + Send + Sync, R: Threads + Wait + Sync>(
+fn four<B: Book + Send + Sync, L: CallLedger + Send + Sync, R: Threads + Wait + Sync>(
     rt: &R,
     alloc: Global,
-    book: &SharedBook<PlainBook, L>,
+    book: &SharedBook<B, L>,
     mut pass: Pass<L>,
     seed: u64,
 ) -> Result<Handed<L>, Stop> {
@@ -134,10 +137,10 @@ fn four<L: CallLedger + Send + Sync, R: Threads + Wait + Sync>(
 }
 
 /// Eight callers, each in a thread of its own.
-pub fn eight<L: CallLedger + Send + Sync, R: Threads + Wait + Sync>(
+pub fn eight<B: Book + Send + Sync, L: CallLedger + Send + Sync, R: Threads + Wait + Sync>(
     rt: &R,
     alloc: Global,
-    book: &SharedBook<PlainBook, L>,
+    book: &SharedBook<B, L>,
     mut pass: Pass<L>,
     seed: u64,
 ) -> Result<Handed<L>, Stop> {

@@ -95,6 +95,7 @@ fn denial(rng: &mut Pcg32, alloc: Global) -> Result<SharedFind, AllocError> {
         return Err(AllocError);
     };
     if soa.kind != SOA {
+        drop(soa);
         return Err(AllocError);
     }
     match Find::no_name(owner, ttl, soa) {
@@ -202,6 +203,16 @@ pub fn event(rng: &mut Pcg32, alloc: Global, from: u64) -> Result<Event, AllocEr
             ask: ask(rng, alloc)?,
         }),
     }
+}
+
+/// Such an event, which can have many owners.
+pub fn shared_event(
+    rng: &mut Pcg32,
+    alloc: Global,
+    from: u64,
+) -> Result<Shared<Event>, AllocError> {
+    let event = event(rng, alloc, from)?;
+    Ok(Shared::new(alloc, event)?)
 }
 
 /// An event of any kind, within 100 seconds from a moment on. It is more often an admission, and at times that of a denial.

@@ -32,20 +32,20 @@ use steps::steps;
 use undo_book::PlainBook;
 
 /// How many entries a book's record has, and to how many of them a fresh book replies the same. None where it is not closed.
-fn one_book<L: CallLedger + Send + Sync, R: Threads + Wait + Sync>(
+fn one_book<B: Book + Send + Sync, L: CallLedger + Send + Sync, R: Threads + Wait + Sync>(
     rt: &R,
     alloc: Global,
     blank: Blank,
-    book: PlainBook,
+    book: B,
     seed: u64,
 ) -> Result<Option<(usize, usize)>, Stop>
     requires name { blank.name ≡ L.name }
     requires parts { blank.parts ≡ L.parts }
     requires limit { 500 ≡ L.limit }
-    requires settings { ⟦<PlainBook as Book>⟧.settings book ≡ L.settings }
-    requires fresh { ⟦<PlainBook as Book>⟧.stands_for book [] }
+    requires settings { B.settings book ≡ L.settings }
+    requires fresh { B.stands_for book [] }
 {
-    let Ok((shared, pass)) = SharedBook::<PlainBook, L>::new(alloc, blank, book, 500) else {
+    let Ok((shared, pass)) = SharedBook::<B, L>::new(alloc, blank, book, 500) else {
         return Err(Stop);
     };
     let Handed { pass, receipts } = eight(rt, alloc, &shared, pass, seed)?;
@@ -67,7 +67,7 @@ fn one_book_as<R: Threads + Wait + Sync>(
     let Ok(book) = plain(alloc) else {
         return Err(Stop);
     };
-    one_book::<Brand, R>(rt, alloc, Blank::new(1 << 10), book, seed)
+    one_book::<PlainBook, Brand, R>(rt, alloc, Blank::new(1 << 10), book, seed)
 }
 
 fn books<R: Print + Threads + Wait + Sync>(rt: &R, alloc: Global) -> io::Result<()> {
@@ -107,7 +107,7 @@ fn steps_as<R: Print>(rt: &R, alloc: Global) -> Result<(), Stop> {
     let Ok(book) = plain(alloc) else {
         return Err(Stop);
     };
-    steps::<Brand, R>(rt, alloc, Blank::new(1), book)
+    steps::<PlainBook, Brand, R>(rt, alloc, Blank::new(1), book)
 }
 
 fn main(rt: HostRuntime) -> anyhow::Result<()> {

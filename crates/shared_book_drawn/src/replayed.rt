@@ -4,7 +4,7 @@ ghost use Rattle.std.specs.Prelude.{◌≡◌, [], IfOk};
 
 use crate::callers::Stop;
 use dns_text::Items;
-use history::{Book, MakeFault, Settings};
+use history::{Book, Event, MakeFault, Reply, Settings};
 use shared_book::Receipt;
 use std::alloc::Global;
 use undo_book::PlainBook;
@@ -21,15 +21,30 @@ pub fn plain(alloc: Global) -> Result<PlainBook, MakeFault>
     PlainBook::new(alloc, settings)
 }
 
-/// Whether the book replies to an entry's event as the entry says.
-fn is_alike(book: &mut PlainBook, entry: &Receipt) -> bool {
-    let Ok(event) = entry.event.get().copy() else {
-        return false;
-    };
+/// Whether a book replies so to an event. Its reply is dropped by a call, since the prover follows any other drop variant by
+/// variant.
+pub fn replies<B: Book>(book: &mut B, event: Event, expected: &Reply) -> bool {
     match book.step(event) {
-        Ok(reply) => reply == entry.reply,
+        Ok(reply) => {
+            let is_alike = reply == *expected;
+            drop(reply);
+            is_alike
+        }
         Err(_) => false,
     }
+}
+
+/// To how many entries' events a book replies as the entry says.
+fn alike_among<B: Book>(book: &mut B, entries: &[Receipt]) -> usize {
+    let mut alike = 0usize;
+    for entry in entries {
+        if let Ok(event) = entry.event.get().copy() {
+            if replies(book, event, &entry.reply) {
+                alike = alike.wrapping_add(1);
+            }
+        }
+    }
+    alike
 }
 
 /// How many entries there are, and to how many of them a fresh book replies the same.
@@ -37,11 +52,5 @@ pub fn replayed(alloc: Global, entries: &[Receipt]) -> Result<(usize, usize), St
     let Ok(mut book) = plain(alloc) else {
         return Err(Stop);
     };
-    let mut alike = 0usize;
-    for entry in entries {
-        if is_alike(&mut book, entry) {
-            alike = alike.wrapping_add(1);
-        }
-    }
-    Ok((entries.len(), alike))
+    Ok((entries.len(), alike_among(&mut book, entries)))
 }

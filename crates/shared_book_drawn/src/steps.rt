@@ -3,7 +3,7 @@
 ghost use Rattle.std.specs.Prelude.{◌≡◌, []};
 
 use crate::callers::Stop;
-use crate::draws::event;
+use crate::draws::shared_event;
 use crate::texts::{entry_shown, fault_shown, reply_shown};
 use dns_text::Shared;
 use history::{Book, Event, Reply, StepFault};
@@ -11,7 +11,6 @@ use rand_core::SeedableRng;
 use rand_pcg::Pcg32;
 use shared_book::{Blank, CallLedger, Kept, Pass};
 use std::alloc::Global;
-use undo_book::PlainBook;
 
 /// How many calls are made, and how many of them are recorded.
 const CALLS: u32 = 80;
@@ -23,13 +22,10 @@ fn events(alloc: Global) -> Result<Vec<Shared<Event>>, Stop> {
     let mut rng = Pcg32::seed_from_u64(21);
     let mut events = Vec::new(alloc);
     for _ in 0..CALLS {
-        let Ok(drawn) = event(&mut rng, alloc, 0) else {
+        let Ok(event) = shared_event(&mut rng, alloc, 0) else {
             return Err(Stop);
         };
-        let Ok(shared) = Shared::new(alloc, drawn) else {
-            return Err(Stop);
-        };
-        if events.push(shared).is_err() {
+        if events.push(event).is_err() {
             return Err(Stop);
         }
     }
@@ -37,10 +33,10 @@ fn events(alloc: Global) -> Result<Vec<Shared<Event>>, Stop> {
 }
 
 /// Prints the numbers after a call, and what the call gave.
-fn show<L: CallLedger, R: Print>(
+fn show<B: Book, L: CallLedger, R: Print>(
     rt: &R,
     alloc: Global,
-    kept: &Kept<PlainBook, L>,
+    kept: &Kept<B, L>,
     pass: &Pass<L>,
     told: &Result<Reply, StepFault>,
 ) -> Result<(), Stop> {
@@ -62,41 +58,45 @@ fn show<L: CallLedger, R: Print>(
     }
 }
 
-fn step<L: CallLedger, R: Print>(
+/// Makes a call and shows it. Whether it found no memory.
+fn step<B: Book, L: CallLedger, R: Print>(
     rt: &R,
     alloc: Global,
-    kept: &mut Kept<PlainBook, L>,
+    kept: &mut Kept<B, L>,
     pass: &mut Pass<L>,
     event: &Shared<Event>,
-) -> Result<Result<Reply, StepFault>, Stop> {
+) -> Result<bool, Stop> {
     let Ok(event) = event.share() else {
         return Err(Stop);
     };
     let told = kept.step(pass, event);
-    show(rt, alloc, kept, pass, &told)?;
-    Ok(told)
+    let shown = show(rt, alloc, kept, pass, &told);
+    let found_none = matches!(&told, Err(StepFault::NoMemory));
+    drop(told);
+    shown?;
+    Ok(found_none)
 }
 
 /// Makes the calls, and shows the record.
-pub fn steps<L: CallLedger, R: Print>(
+pub fn steps<B: Book, L: CallLedger, R: Print>(
     rt: &R,
     alloc: Global,
     blank: Blank,
-    book: PlainBook,
+    book: B,
 ) -> Result<(), Stop>
     requires name { blank.name ≡ L.name }
     requires parts { blank.parts ≡ L.parts }
     requires limit { RECORDED ≡ L.limit }
-    requires settings { ⟦<PlainBook as Book>⟧.settings book ≡ L.settings }
-    requires fresh { ⟦<PlainBook as Book>⟧.stands_for book [] }
+    requires settings { B.settings book ≡ L.settings }
+    requires fresh { B.stands_for book [] }
 {
     let events = events(alloc)?;
-    let Ok((mut kept, mut pass)) = Kept::<PlainBook, L>::new(alloc, blank, book, RECORDED) else {
+    let Ok((mut kept, mut pass)) = Kept::<B, L>::new(alloc, blank, book, RECORDED) else {
         return Err(Stop);
     };
     for event in events.iter() {
-        if let Err(StepFault::NoMemory) = step(rt, alloc, &mut kept, &mut pass, event)? {
-            let _ = step(rt, alloc, &mut kept, &mut pass, event)?;
+        if step(rt, alloc, &mut kept, &mut pass, event)? {
+            step(rt, alloc, &mut kept, &mut pass, event)?;
         }
     }
     for entry in kept.entries() {

@@ -26,7 +26,10 @@ fn push_find(alloc: Global, found: &SharedFind, out: &mut Vec<u8>) -> Result<(),
         left: find.ttl,
         body: found.share()?,
     };
-    push_reply(alloc, &Reply::Seen(Seen::Held(shown)), out)
+    let reply = Reply::Seen(Seen::Held(shown));
+    let pushed = push_reply(alloc, &reply, out);
+    drop(reply);
+    pushed
 }
 
 fn push_question(question: &Question, out: &mut Vec<u8>) -> Result<(), NoMemory> {
