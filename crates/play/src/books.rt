@@ -5,6 +5,7 @@ use command_text::run_script;
 use dns_text::{Addr, Items};
 use history::Settings;
 use std::alloc::Global;
+use std::mem;
 use streams::{CountedReader, CountedWriter};
 use undo_book::PlainBook;
 
@@ -23,6 +24,18 @@ pub fn book_with(alloc: Global, hints: Vec<Addr>, port: u16) -> Result<PlainBook
         Ok(book) => Ok(book),
         Err(_) => Err(Stop::NoMemory),
     }
+}
+
+/// Begins anew with an empty book. The old one is dropped by a call, since the prover follows any other drop field by field.
+pub fn begin_book(
+    alloc: Global,
+    book: &mut PlainBook,
+    hints: Vec<Addr>,
+    port: u16,
+) -> Result<(), Stop> {
+    let new = book_with(alloc, hints, port)?;
+    drop(mem::replace(book, new));
+    Ok(())
 }
 
 /// Hands a line of a script to a book after a line with the moment, and writes the replies to both.

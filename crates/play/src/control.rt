@@ -32,5 +32,7 @@ pub fn play_control(rt: &HostRuntime, words: &[String]) -> Result<u8, Stop> {
         return Ok(serve(rt, &mut Late));
     }
     let mut book = book_with(rt.alloc(), Vec::new(rt.alloc()), DNS_PORT)?;
-    Ok(serve(rt, &mut book))
+    let status = serve(rt, &mut book);
+    drop(book);
+    Ok(status)
 }

@@ -23,27 +23,25 @@ pub mod obeying; // a line is obeyed
 use crate::in_flight::desk::{LineDesk, NumberedBook};
 use crate::in_flight::obeying::obey_flight;
 use crate::in_flight::worker::Worker;
+use crate::lines::{Obeys, obey_input};
 use crate::stop::Stop;
-use crate::words::next_line;
-use std::io::{Input, Write};
+use std::io::{BufRead, Write};
 
 /// How many exchanges may be under way before a line says it.
 const MOST_EXCHANGES: usize = 512;
 
+impl<D: LineDesk> Obeys for Worker<D> {
+    fn obey<I: BufRead>(&mut self, rt: &HostRuntime, _: &mut I, line: &[u8]) -> Result<(), Stop> {
+        obey_flight(rt, self, line)?;
+        rt.stdout().write_all(self.sockets.told())?;
+        self.sockets.forget();
+        Ok(rt.stdout().write_all(b".\n")?)
+    }
+}
+
 fn obey_all<D: LineDesk>(rt: &HostRuntime, desk: D) -> Result<(), Stop> {
     let mut worker = Worker::new(rt.alloc(), desk, MOST_EXCHANGES)?;
-    let mut input = rt.reader();
-    let mut line = Vec::new(rt.alloc());
-    for _ in 0..u64::MAX {
-        if !next_line(&mut input, &mut line)? {
-            break;
-        }
-        obey_flight(rt, &mut worker, line.as_slice())?;
-        rt.stdout().write_all(worker.sockets.told())?;
-        worker.sockets.forget();
-        rt.stdout().write_all(b".\n")?;
-    }
-    Ok(())
+    obey_input(rt, &mut worker)
 }
 
 /// Obeys lines to questions in flight.

@@ -17,10 +17,11 @@ pub mod obeying; // a line is obeyed
 
 use crate::in_journal::obeying::obey_journal;
 use crate::in_journal::undoable::Undoable;
+use crate::lines::{Obeys, obey_input};
 use crate::stop::Stop;
-use crate::words::{next_line, number_in};
+use crate::words::number_in;
 use history::MOST_COMMANDS;
-use std::io::{Input, Write};
+use std::io::{BufRead, Write};
 use table_changes::{TableChange, TableWorld};
 
 /// How many changes the words say that the journal keeps.
@@ -37,19 +38,17 @@ fn limit_in(words: &[String]) -> Result<usize, Stop>
     Ok(limit as usize)
 }
 
+impl Obeys for Undoable<TableChange> {
+    fn obey<I: BufRead>(&mut self, rt: &HostRuntime, _: &mut I, line: &[u8]) -> Result<(), Stop> {
+        let text = obey_journal(rt.alloc(), self, line)?;
+        Ok(rt.stdout().write_all(text.as_slice())?)
+    }
+}
+
 /// Obeys lines over empty tables and an empty journal.
 pub fn play_journal(rt: &HostRuntime, words: &[String]) -> Result<(), Stop> {
     let limit = limit_in(words)?;
     let world = TableWorld::new(rt.alloc());
     let mut tables: Undoable<TableChange> = Undoable::new(rt.alloc(), world, limit)?;
-    let mut input = rt.reader();
-    let mut line = Vec::new(rt.alloc());
-    for _ in 0..u64::MAX {
-        if !next_line(&mut input, &mut line)? {
-            break;
-        }
-        let text = obey_journal(rt.alloc(), &mut tables, line.as_slice())?;
-        rt.stdout().write_all(text.as_slice())?;
-    }
-    Ok(())
+    obey_input(rt, &mut tables)
 }

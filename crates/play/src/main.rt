@@ -18,6 +18,7 @@
 
 mod stop; // why the program ends
 mod words; // lines, and what their words say
+mod lines; // lines of standard input, one after another
 mod questions; // names and questions in a line
 mod books; // a book, and lines of a script for it
 mod queries; // queries to name servers, as they are written

@@ -21,22 +21,27 @@ pub mod asking; // a question is resolved
 pub mod lying; // replies that are not true
 pub mod obeying; // a line is obeyed
 
+use crate::lines::{Obeys, obey_input};
 use crate::resolve::obeying::obey_resolve;
 use crate::resolve::world::World;
 use crate::stop::Stop;
-use crate::words::next_line;
-use std::io::Input;
+use std::io::BufRead;
+
+impl Obeys for World {
+    fn obey<I: BufRead>(
+        &mut self,
+        rt: &HostRuntime,
+        input: &mut I,
+        line: &[u8],
+    ) -> Result<(), Stop> {
+        obey_resolve(rt, input, self, line)
+    }
+}
 
 /// Obeys lines, and resolves the questions among them.
 pub fn play_resolve(rt: &HostRuntime) -> Result<(), Stop> {
     let mut world = World::new(rt.alloc())?;
-    let mut input = rt.reader();
-    let mut line = Vec::new(rt.alloc());
-    for _ in 0..u64::MAX {
-        if !next_line(&mut input, &mut line)? {
-            break;
-        }
-        obey_resolve(rt, &mut input, &mut world, line.as_slice())?;
-    }
-    Ok(())
+    let done = obey_input(rt, &mut world);
+    drop(world);
+    done
 }

@@ -3,6 +3,7 @@
 
 use crate::stop::Stop;
 use command_text::run_script;
+use history::{Book, Settings};
 use resolver_args::{Mode, read_args};
 use std::alloc::{AllocError, Global};
 use streams::{CountedReader, CountedWriter};
@@ -16,19 +17,36 @@ fn texts_of(alloc: Global, words: &[String]) -> Result<Vec<&str>, AllocError> {
     Ok(texts)
 }
 
-/// Obeys standard input, with the settings that the program's name and its arguments say.
-pub fn play_script(rt: &HostRuntime, words: &[String]) -> Result<(), Stop> {
-    let texts = texts_of(rt.alloc(), words)?;
-    let Ok(Mode::Script(settings)) = read_args(rt.alloc(), texts.as_slice()) else {
-        return Err(Stop::Device);
-    };
+fn obey<B: Book>(rt: &HostRuntime, book: &mut B) -> Result<(), Stop> {
+    let mut reader = CountedReader::new(rt.stdin());
+    let mut writer = CountedWriter::new(rt.stdout());
+    match run_script(rt.alloc(), book, &mut reader, &mut writer) {
+        Ok(()) => Ok(()),
+        Err(_) => Err(Stop::Device),
+    }
+}
+
+fn obey_script(rt: &HostRuntime, settings: Settings) -> Result<(), Stop> {
     let Ok(mut book) = PlainBook::new(rt.alloc(), settings) else {
         return Err(Stop::NoMemory);
     };
-    let mut reader = CountedReader::new(rt.stdin());
-    let mut writer = CountedWriter::new(rt.stdout());
-    match run_script(rt.alloc(), &mut book, &mut reader, &mut writer) {
-        Ok(()) => Ok(()),
-        Err(_) => Err(Stop::Device),
+    let done = obey(rt, &mut book);
+    drop(book);
+    done
+}
+
+/// Obeys standard input, with the settings that the program's name and its arguments say.
+pub fn play_script(rt: &HostRuntime, words: &[String]) -> Result<(), Stop> {
+    let texts = texts_of(rt.alloc(), words)?;
+    match read_args(rt.alloc(), texts.as_slice()) {
+        Ok(Mode::Script(settings)) => obey_script(rt, settings),
+        Ok(other) => {
+            drop(other);
+            Err(Stop::Device)
+        }
+        Err(fault) => {
+            drop(fault);
+            Err(Stop::Device)
+        }
     }
 }

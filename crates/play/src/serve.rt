@@ -25,24 +25,37 @@ pub mod coming; // what comes to a worker
 pub mod serving; // queries and streams are served
 pub mod obeying; // a line is obeyed
 
+use crate::lines::{Obeys, obey_input};
 use crate::serve::obeying::obey_serve;
 use crate::serve::world::World;
 use crate::stop::Stop;
-use crate::words::next_line;
 use log::Log;
-use std::io::Input;
+use std::io::BufRead;
 use std::sync::Wait;
+
+/// The book and what is lent with it, and what a worker waits by.
+#[derive(Drop)]
+struct Waiting<'a, W> {
+    world: &'a mut World,
+    waiting: &'a W,
+}
+
+impl<'a, W: Wait + Log> Obeys for Waiting<'a, W> {
+    fn obey<I: BufRead>(&mut self, rt: &HostRuntime, _: &mut I, line: &[u8]) -> Result<(), Stop> {
+        obey_serve(rt, self.waiting, self.world, line)
+    }
+}
 
 /// Obeys lines, and serves the queries and streams among them.
 pub fn play_serve<W: Wait + Log>(rt: &HostRuntime, waiting: &W) -> Result<(), Stop> {
     let mut world = World::new(rt.alloc())?;
-    let mut input = rt.reader();
-    let mut line = Vec::new(rt.alloc());
-    for _ in 0..u64::MAX {
-        if !next_line(&mut input, &mut line)? {
-            break;
-        }
-        obey_serve(rt, waiting, &mut world, line.as_slice())?;
-    }
-    Ok(())
+    let done = obey_input(
+        rt,
+        &mut Waiting {
+            world: &mut world,
+            waiting,
+        },
+    );
+    drop(world);
+    done
 }

@@ -12,24 +12,21 @@ pub mod change; // the change that a line asks for, and making it
 pub mod shown; // stubs as text
 pub mod lines; // a line, obeyed
 
+use crate::lines::{Obeys, obey_input};
 use crate::stop::Stop;
 use crate::stubs::lines::obey_stubs;
-use crate::words::next_line;
-use std::io::{Input, Write};
+use std::io::{BufRead, Write};
 use stub_table::StubTable;
+
+impl Obeys for StubTable {
+    fn obey<I: BufRead>(&mut self, rt: &HostRuntime, _: &mut I, line: &[u8]) -> Result<(), Stop> {
+        let mut out = Vec::new(rt.alloc());
+        obey_stubs(rt.alloc(), self, line, &mut out)?;
+        Ok(rt.stdout().write_all(out.as_slice())?)
+    }
+}
 
 /// Obeys lines over stubs.
 pub fn play_stubs(rt: &HostRuntime) -> Result<(), Stop> {
-    let mut table = StubTable::new(rt.alloc());
-    let mut input = rt.reader();
-    let mut line = Vec::new(rt.alloc());
-    for _ in 0..u64::MAX {
-        if !next_line(&mut input, &mut line)? {
-            break;
-        }
-        let mut out = Vec::new(rt.alloc());
-        obey_stubs(rt.alloc(), &mut table, line.as_slice(), &mut out)?;
-        rt.stdout().write_all(out.as_slice())?;
-    }
-    Ok(())
+    obey_input(rt, &mut StubTable::new(rt.alloc()))
 }

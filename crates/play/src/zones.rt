@@ -14,24 +14,21 @@ pub mod full; // a table of as many zones as there may be
 pub mod shown; // tables and answers as text
 pub mod lines; // a line, obeyed
 
+use crate::lines::{Obeys, obey_input};
 use crate::stop::Stop;
-use crate::words::next_line;
 use crate::zones::lines::obey_zones;
 use local_zone::ZoneTable;
-use std::io::{Input, Write};
+use std::io::{BufRead, Write};
+
+impl Obeys for ZoneTable {
+    fn obey<I: BufRead>(&mut self, rt: &HostRuntime, _: &mut I, line: &[u8]) -> Result<(), Stop> {
+        let mut out = Vec::new(rt.alloc());
+        obey_zones(rt.alloc(), self, line, &mut out)?;
+        Ok(rt.stdout().write_all(out.as_slice())?)
+    }
+}
 
 /// Obeys lines over local zones.
 pub fn play_zones(rt: &HostRuntime) -> Result<(), Stop> {
-    let mut table = ZoneTable::new(rt.alloc());
-    let mut input = rt.reader();
-    let mut line = Vec::new(rt.alloc());
-    for _ in 0..u64::MAX {
-        if !next_line(&mut input, &mut line)? {
-            break;
-        }
-        let mut out = Vec::new(rt.alloc());
-        obey_zones(rt.alloc(), &mut table, line.as_slice(), &mut out)?;
-        rt.stdout().write_all(out.as_slice())?;
-    }
-    Ok(())
+    obey_input(rt, &mut ZoneTable::new(rt.alloc()))
 }

@@ -1,6 +1,6 @@
 //! A book that numbers its calls.
 
-use crate::books::{DNS_PORT, book_with, obey_line};
+use crate::books::{DNS_PORT, begin_book, book_with, obey_line};
 use crate::stop::Stop;
 use dns_text::Addr;
 use flight::Numbered;
@@ -53,8 +53,7 @@ impl Numbered for NumberedBook {
 
 impl LineDesk for NumberedBook {
     fn begin(&mut self, alloc: Global, hints: Vec<Addr>) -> Result<(), Stop> {
-        self.book = book_with(alloc, hints, DNS_PORT)?;
-        Ok(())
+        begin_book(alloc, &mut self.book, hints, DNS_PORT)
     }
 
     fn obey(&mut self, rt: &HostRuntime, moment: u64, line: &[u8]) -> Result<(), Stop> {

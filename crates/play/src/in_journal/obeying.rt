@@ -52,7 +52,12 @@ fn redo(tables: &mut Undoable<TableChange>) -> Result<Reply, Stop> {
 fn answer(alloc: Global, tables: &Tables, question: &Question) -> Result<Seen, NoMemory> {
     match tables.local.answer(question) {
         Local::Pass => Ok(Seen::Unknown),
-        answer => Look::Local(answer).to_seen(alloc),
+        answer => {
+            let look = Look::Local(answer);
+            let seen = look.to_seen(alloc);
+            drop(look);
+            seen
+        }
     }
 }
 
@@ -93,6 +98,34 @@ fn reply(
     }
 }
 
+/// The text of the reply to a request. Replies, requests and lines are dropped by calls, since the prover follows any other
+/// drop variant by variant.
+fn told(
+    alloc: Global,
+    tables: &mut Undoable<TableChange>,
+    request: &Request,
+) -> Result<Text, Stop> {
+    let reply = reply(alloc, tables, request)?;
+    let text = reply_text(alloc, &reply);
+    drop(reply);
+    Ok(text?)
+}
+
+fn obey_said(alloc: Global, tables: &mut Undoable<TableChange>, line: Line) -> Result<Text, Stop> {
+    match line {
+        Line::Request(request) => {
+            let text = told(alloc, tables, &request);
+            drop(request);
+            text
+        }
+        Line::Silent => Ok(Text::Fixed(b"")),
+        other => {
+            drop(other);
+            Err(Stop::Device)
+        }
+    }
+}
+
 /// Does what a line says, and returns the reply.
 pub fn obey_journal(
     alloc: Global,
@@ -100,11 +133,7 @@ pub fn obey_journal(
     line: &[u8],
 ) -> Result<Text, Stop> {
     match read_line(alloc, Channel::Script, line) {
-        Ok(Line::Request(request)) => {
-            let reply = reply(alloc, tables, &request)?;
-            Ok(reply_text(alloc, &reply)?)
-        }
-        Ok(Line::Silent) => Ok(Text::Fixed(b"")),
-        _ => Err(Stop::Device),
+        Ok(line) => obey_said(alloc, tables, line),
+        Err(_) => Err(Stop::Device),
     }
 }

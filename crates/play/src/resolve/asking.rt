@@ -3,7 +3,7 @@
 ghost use Rattle.std.specs.Prelude.{ℕ, List, IfOk, IfSome};
 ghost use Rattle.iterate.specs.Phase.{Suits};
 ghost use Rattle.iterate.specs.Task.{IsDueAt};
-ghost use Rattle.iterate.specs.declared.want.Want.TheVariants.{Send as SendWant};
+ghost use Rattle.iterate.specs.declared.want.Want.TheVariants.{Book as BookWant, Send as SendWant};
 ghost use Rattle.dns_text.specs.declared.addr.Addr.{Addr as AddrValue};
 ghost use Rattle.dns_query.specs.declared.over.Over.{Over as OverValue};
 
@@ -15,7 +15,8 @@ use crate::stop::Stop;
 use crate::words::next_line;
 use dns_query::Over;
 use dns_text::{Addr, Octets, Question, Shared};
-use iterate::{Input, Task, Want, due_law};
+use history::Event;
+use iterate::{Answer, Input, Task, Want, due_law};
 use std::alloc::Global;
 use std::io::{BufRead, Write};
 
@@ -59,6 +60,43 @@ fn exchange<I: BufRead>(
     came_in(rt.alloc(), query, line.as_slice())
 }
 
+fn tell_event(rt: &HostRuntime, event: &Event) -> Result<(), Stop> {
+    tell(rt, event_words(rt.alloc(), event)?)
+}
+
+fn tell_came(rt: &HostRuntime, came: &Input) -> Result<(), Stop> {
+    tell(rt, came_words(rt.alloc(), came)?)
+}
+
+/// Gives the book an event, and writes it and what comes of it. Calls drop what is owned: the prover follows any other drop
+/// variant by variant.
+fn look(rt: &HostRuntime, world: &mut World, event: Event) -> Result<Input, Stop>
+    ensures { IfOk result (λ input. Suits (BookWant event) input) }
+{
+    match tell_event(rt, &event) {
+        Ok(()) => {}
+        Err(stop) => {
+            drop(event);
+            return Err(stop);
+        }
+    }
+    let came = world.call(event);
+    match tell_came(rt, &came) {
+        Ok(()) => Ok(came),
+        Err(stop) => {
+            drop(came);
+            Err(stop)
+        }
+    }
+}
+
+/// Writes an answer.
+fn finish(rt: &HostRuntime, answer: Answer) -> Result<(), Stop> {
+    let words = answer_words(rt.alloc(), &answer);
+    drop(answer);
+    tell(rt, words?)
+}
+
 /// One step of a task, and what comes of its want; none where it wants no more.
 fn turn<I: BufRead>(
     rt: &HostRuntime,
@@ -72,19 +110,14 @@ fn turn<I: BufRead>(
 {
     due_law();
     match task.step(world.moment, &mut world.ids, input)? {
-        Want::Book(event) => {
-            tell(rt, event_words(rt.alloc(), &event)?)?;
-            let came = world.call(event);
-            tell(rt, came_words(rt.alloc(), &came)?)?;
-            Ok(Some(came))
-        }
+        Want::Book(event) => Ok(Some(look(rt, world, event)?)),
         Want::Send {
             server,
             over,
             bytes,
         } => Ok(Some(exchange(rt, lines, &server, over, &bytes)?)),
         Want::Finish(answer) => {
-            tell(rt, answer_words(rt.alloc(), &answer)?)?;
+            finish(rt, answer)?;
             Ok(None)
         }
     }

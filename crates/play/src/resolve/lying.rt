@@ -24,13 +24,23 @@ fn seen_now(world: &mut World, ask: Ask) -> Result<Reply, Stop> {
     }
 }
 
+fn lie_of(alloc: Global, world: &mut World, line: Line) -> Result<Reply, Stop> {
+    match line {
+        Line::Admit(admission) => held(alloc, admission.into_find()),
+        Line::Deny(denial) => held(alloc, denial.into_find()),
+        Line::Request(Request::Look(ask)) => seen_now(world, ask),
+        other => {
+            drop(other);
+            Err(Stop::Device)
+        }
+    }
+}
+
 /// The reply of a line: that what it admits is held, or what the book says now where it looks.
 pub fn lie_in(alloc: Global, world: &mut World, line: &[u8]) -> Result<Reply, Stop> {
     match read_line(alloc, Channel::Script, line) {
-        Ok(Line::Admit(admission)) => held(alloc, admission.into_find()),
-        Ok(Line::Deny(denial)) => held(alloc, denial.into_find()),
-        Ok(Line::Request(Request::Look(ask))) => seen_now(world, ask),
+        Ok(line) => lie_of(alloc, world, line),
         Err(LineFault::NoMemory) => Err(Stop::NoMemory),
-        _ => Err(Stop::Device),
+        Err(_) => Err(Stop::Device),
     }
 }

@@ -1,6 +1,6 @@
 //! A line is obeyed.
 
-use crate::books::{book_with, obey_line};
+use crate::books::{begin_book, obey_line};
 use crate::questions::question_in;
 use crate::resolve::asking::ask;
 use crate::resolve::lying::lie_in;
@@ -9,6 +9,7 @@ use crate::said::said_in;
 use crate::stop::Stop;
 use crate::words::{addrs_in, number_and_rest, number_in};
 use std::io::BufRead;
+use std::mem;
 
 /// A port.
 fn port_in(text: &[u8]) -> Result<u16, Stop> {
@@ -21,14 +22,16 @@ fn port_in(text: &[u8]) -> Result<u16, Stop> {
 /// Which event is lied to, and what it is told.
 fn obey_lie(rt: &HostRuntime, world: &mut World, text: &[u8]) -> Result<(), Stop> {
     let (nth, line) = number_and_rest(text)?;
-    world.lie = lie_in(rt.alloc(), world, line)?;
+    let lie = lie_in(rt.alloc(), world, line)?;
+    drop(mem::replace(&mut world.lie, lie));
     world.lied = nth;
     Ok(())
 }
 
 /// Begins with an empty book.
 fn begin(rt: &HostRuntime, world: &mut World, text: &[u8]) -> Result<(), Stop> {
-    world.book = book_with(rt.alloc(), addrs_in(rt.alloc(), text)?, world.port)?;
+    let hints = addrs_in(rt.alloc(), text)?;
+    begin_book(rt.alloc(), &mut world.book, hints, world.port)?;
     world.moment = 0;
     Ok(())
 }

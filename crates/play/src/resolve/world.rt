@@ -52,13 +52,17 @@ impl World {
         ensures { Suits (BookWant event) result }
     {
         self.calls = self.calls.wrapping_add(1);
+        // Calls drop the event: the prover follows any other drop variant by variant.
         if self.calls == self.refused {
+            drop(event);
             return Input::Refused(DeskFault::Step(StepFault::NoMemory));
         }
         if self.calls == self.confused {
+            drop(event);
             return Input::Reply(Reply::Swept);
         }
         if self.calls == self.lied {
+            drop(event);
             return Input::Reply(mem::replace(&mut self.lie, Reply::Swept));
         }
         match self.book.call(event) {

@@ -41,6 +41,16 @@ pub fn made(table: &mut StubTable, change: Change) -> Result<SavedStubs, StubFau
     }
 }
 
+fn is_made(table: &mut StubTable, change: Change) -> bool {
+    match made(table, change) {
+        Ok(saved) => {
+            drop(saved);
+            true
+        }
+        Err(_) => false,
+    }
+}
+
 /// Sets one stub more than there may be, each of a label that no other has; gives how many were refused.
 pub fn fill(alloc: Global, table: &mut StubTable) -> Result<u32, NoMemory> {
     let mut refused: u32 = 0;
@@ -49,7 +59,7 @@ pub fn fill(alloc: Global, table: &mut StubTable) -> Result<u32, NoMemory> {
         let Some(new) = change_in(alloc, text.as_str().as_bytes()) else {
             break;
         };
-        if made(table, new).is_err() {
+        if !is_made(table, new) {
             refused = refused.saturating_add(1);
         }
     }

@@ -6,6 +6,7 @@ use crate::stubs::shown::{push_list, push_stub};
 use dns_name::{Name, NoMemory};
 use dns_text::next_word;
 use std::alloc::Global;
+use std::mem;
 use stub_table::{StubFault, StubTable};
 
 fn push_fault(alloc: Global, fault: StubFault, out: &mut Vec<u8>) -> Result<(), NoMemory> {
@@ -20,7 +21,10 @@ fn change_kept(
     out: &mut Vec<u8>,
 ) -> Result<(), NoMemory> {
     match made(table, new) {
-        Ok(_) => Ok(()),
+        Ok(saved) => {
+            drop(saved);
+            Ok(())
+        }
         Err(fault) => push_fault(alloc, fault, out),
     }
 }
@@ -34,8 +38,12 @@ fn change_and_back(
     match made(table, new) {
         Ok(saved) => {
             let mut saved = saved;
-            push_list(table, out)?;
-            table.back(&mut saved)
+            let done = match push_list(table, out) {
+                Ok(()) => table.back(&mut saved),
+                Err(fault) => Err(fault),
+            };
+            drop(saved);
+            done
         }
         Err(fault) => push_fault(alloc, fault, out),
     }
@@ -83,7 +91,7 @@ fn obey_word(
         return push_list(table, out);
     }
     if word == b"new".as_slice() {
-        *table = StubTable::new(alloc);
+        drop(mem::replace(table, StubTable::new(alloc)));
         return Ok(());
     }
     if word == b"fill".as_slice() {

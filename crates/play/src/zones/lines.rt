@@ -8,6 +8,7 @@ use dns_name::NoMemory;
 use dns_text::next_word;
 use local_zone::{TableFault, ZoneTable};
 use std::alloc::Global;
+use std::mem;
 
 fn push_fault(alloc: Global, fault: TableFault, out: &mut Vec<u8>) -> Result<(), NoMemory> {
     let text = format!(in alloc; "{fault}\n")?;
@@ -21,7 +22,11 @@ fn change_kept(
     out: &mut Vec<u8>,
 ) -> Result<(), NoMemory> {
     match made(table, new) {
-        Ok(_) => Ok(()),
+        Ok(saved) => {
+            // A call drops it: the prover follows any other drop variant by variant.
+            drop(saved);
+            Ok(())
+        }
         Err(fault) => push_fault(alloc, fault, out),
     }
 }
@@ -35,8 +40,12 @@ fn change_and_back(
     match made(table, new) {
         Ok(saved) => {
             let mut saved = saved;
-            push_lists(alloc, table, out)?;
-            table.back(&mut saved)
+            let done = match push_lists(alloc, table, out) {
+                Ok(()) => table.back(&mut saved),
+                Err(fault) => Err(fault),
+            };
+            drop(saved);
+            done
         }
         Err(fault) => push_fault(alloc, fault, out),
     }
@@ -85,7 +94,7 @@ fn obey_word(
         return push_lists(alloc, table, out);
     }
     if word == b"new".as_slice() {
-        *table = ZoneTable::new(alloc);
+        drop(mem::replace(table, ZoneTable::new(alloc)));
         return Ok(());
     }
     if word == b"count".as_slice() {
