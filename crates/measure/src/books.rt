@@ -50,13 +50,29 @@ fn refusal(alloc: Global) -> anyhow::Result<Command> {
     })
 }
 
+/// Gives a book an event. Its reply is dropped by a call, since the prover follows any other drop variant by variant.
+pub fn give<B: Book>(book: &mut B, event: Event) -> anyhow::Result<()> {
+    let reply = book.step(event)?;
+    drop(reply);
+    Ok(())
+}
+
+/// Gives a book a command of the operator.
+fn command<B: Book>(book: &mut B, command: Command) -> anyhow::Result<()> {
+    give(book, Event::Do { moment: 0, command })
+}
+
 /// A book that holds one address of `www.example.to.`, has local data of `www.example.net.`, and refuses `www.example.org.`.
-pub fn filled_book(alloc: Global) -> anyhow::Result<PlainBook> {
-    let mut book = empty_book(alloc)?;
+/// It is any book, since the prover follows the drop of a certain one field by field, on each early return.
+fn filled<B: Book>(alloc: Global, mut book: B) -> anyhow::Result<B> {
     let find = address(alloc)?;
-    book.step(Event::Admit { moment: 0, find })?;
-    for command in [local_data(alloc)?, refusal(alloc)?] {
-        book.step(Event::Do { moment: 0, command })?;
-    }
+    give(&mut book, Event::Admit { moment: 0, find })?;
+    command(&mut book, local_data(alloc)?)?;
+    command(&mut book, refusal(alloc)?)?;
     Ok(book)
+}
+
+/// Such a book that replays its history.
+pub fn filled_book(alloc: Global) -> anyhow::Result<PlainBook> {
+    filled(alloc, empty_book(alloc)?)
 }

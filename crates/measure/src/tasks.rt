@@ -1,5 +1,7 @@
 //! Questions that the first look answers: tasks and looks, many times.
 
+ghost use Rattle.iterate.specs.Task.{IsDueAt};
+
 use crate::books::filled_book;
 use crate::calls::run_calls;
 use anyhow::anyhow;
@@ -10,7 +12,6 @@ use history::{Ask, Book, Event, Reply, Seen};
 use iterate::{Answer, Input, Task, Want, due_law};
 use rand_pcg::Pcg32;
 use std::alloc::Global;
-use undo_book::PlainBook;
 
 /// What a question is asked for.
 #[derive(Clone, Copy)]
@@ -29,55 +30,110 @@ fn question(name: &Name) -> anyhow::Result<Question> {
     })
 }
 
-/// The answer of a task whose first look ends it; none where it does not.
-fn resolve(
+/// The answer that a task ends with, if it ends.
+fn answer_in(want: Want) -> Option<Answer> {
+    match want {
+        Want::Finish(answer) => Some(answer),
+        other => {
+            drop(other);
+            None
+        }
+    }
+}
+
+/// The answer of a task whose first look ends it; none if that does not. Calls drop what is owned: the prover follows any other
+/// drop variant by variant.
+fn end<B: Book>(book: &B, ids: &mut Pcg32, task: &mut Task) -> anyhow::Result<Option<Answer>>
+    requires { IsDueAt task.old.phase task.old.steps.items Input.Begin }
+{
+    due_law();
+    match task.step(0, ids, Input::Begin)? {
+        Want::Book(Event::Look { ask, .. }) => {
+            let seen = book.seen(&ask, 0);
+            drop(ask);
+            let reply = Reply::Seen(seen?);
+            Ok(answer_in(task.step(0, ids, Input::Reply(reply))?))
+        }
+        other => {
+            drop(other);
+            Ok(None)
+        }
+    }
+}
+
+/// The same of a new task.
+fn resolve<B: Book>(
     alloc: Global,
-    book: &PlainBook,
+    book: &B,
     ids: &mut Pcg32,
     name: &Name,
 ) -> anyhow::Result<Option<Answer>> {
     due_law();
     let mut task = Task::new(alloc, question(name)?, 53);
-    let Want::Book(Event::Look { ask, .. }) = task.step(0, ids, Input::Begin)? else {
-        return Ok(None);
-    };
-    let reply = Reply::Seen(book.seen(&ask, 0)?);
-    match task.step(0, ids, Input::Reply(reply))? {
-        Want::Finish(answer) => Ok(Some(answer)),
-        _ => Ok(None),
-    }
+    let answer = end(book, ids, &mut task);
+    drop(task);
+    answer
 }
 
-/// 1 for what the look of a task tells.
-fn look(book: &PlainBook, name: &Name) -> anyhow::Result<u32> {
-    match book.seen(&Ask::Answer(question(name)?), 0)? {
-        Seen::Held(_) | Seen::Local(_) => Ok(1),
-        _ => Ok(0),
-    }
+/// 1 for what the look of a task tells. Calls drop what is owned: the prover follows any other drop variant by variant.
+fn look<B: Book>(book: &B, name: &Name) -> anyhow::Result<u32> {
+    let ask = Ask::Answer(question(name)?);
+    let seen = book.seen(&ask, 0);
+    drop(ask);
+    let seen = seen?;
+    let told = match &seen {
+        Seen::Held(_) | Seen::Local(_) => 1,
+        _ => 0,
+    };
+    drop(seen);
+    Ok(told)
 }
 
 /// 1 for an answer.
-fn answered(alloc: Global, book: &PlainBook, ids: &mut Pcg32, name: &Name) -> anyhow::Result<u32> {
-    match resolve(alloc, book, ids, name)? {
-        Some(Answer::Reply { .. }) => Ok(1),
-        _ => Ok(0),
+fn answered<B: Book>(alloc: Global, book: &B, ids: &mut Pcg32, name: &Name) -> anyhow::Result<u32> {
+    let answer = resolve(alloc, book, ids, name)?;
+    let told = match &answer {
+        Some(Answer::Reply { .. }) => 1,
+        _ => 0,
+    };
+    drop(answer);
+    Ok(told)
+}
+
+/// One call about a name: 1 if it told something.
+fn call_once<B: Book>(
+    alloc: Global,
+    book: &B,
+    call: Call,
+    ids: &mut Pcg32,
+    name: &Name,
+) -> anyhow::Result<u32> {
+    match call {
+        Call::Resolve => answered(alloc, book, ids, name),
+        Call::Look => look(book, name),
     }
 }
 
-/// So many calls about a name, and how many of them told something.
-fn repeat(alloc: Global, call: Call, text: &[u8], count: u32) -> anyhow::Result<u32> {
-    let book = filled_book(alloc)?;
-    let name = Name::from_text(alloc, text)?;
+/// So many calls about a name, and how many of them told something. It is any book, since the prover follows the drop of a certain
+/// one field by field.
+fn repeat_with<B: Book>(
+    alloc: Global,
+    book: B,
+    call: Call,
+    name: &Name,
+    count: u32,
+) -> anyhow::Result<u32> {
     let mut ids = Pcg32::new(1, 1);
     let mut sum = 0u32;
     for _ in 0..count {
-        let told = match call {
-            Call::Resolve => answered(alloc, &book, &mut ids, &name)?,
-            Call::Look => look(&book, &name)?,
-        };
-        sum = sum.wrapping_add(told);
+        sum = sum.wrapping_add(call_once(alloc, &book, call, &mut ids, name)?);
     }
     Ok(sum)
+}
+
+fn repeat(alloc: Global, call: Call, text: &[u8], count: u32) -> anyhow::Result<u32> {
+    let name = Name::from_text(alloc, text)?;
+    repeat_with(alloc, filled_book(alloc)?, call, &name, count)
 }
 
 const HELD: &[u8] = b"www.example.to";

@@ -3,10 +3,11 @@
 ghost use Rattle.std.specs.Prelude.{◌≡◌, []};
 
 use crate::book::events::{admission, look, seen_in};
-use crate::books::empty_book;
+use crate::books::{empty_book, give};
 use anyhow::anyhow;
-use history::Book;
-use shared_book::{Blank, CallLedger, SharedBook};
+use dns_text::Shared;
+use history::{Book, Event};
+use shared_book::{Blank, CallLedger, Pass, SharedBook};
 use std::alloc::Global;
 use std::marker::Brand;
 use std::sync::Wait;
@@ -15,46 +16,70 @@ use undo_book::PlainBook;
 /// How often one book is asked.
 const LOOKS: u32 = 16;
 
-/// Looks at a book that one caller has alone.
-fn alone(alloc: Global) -> anyhow::Result<u32> {
+/// 1 for a look at which a book shows a find.
+fn look_once<B: Book>(book: &mut B, event: &Event) -> anyhow::Result<u32> {
+    let reply = book.step(event.copy()?)?;
+    let seen = seen_in(&reply);
+    drop(reply);
+    Ok(seen)
+}
+
+/// Looks at a book that one caller has alone. It is any book, since the prover follows the drop of a certain one field by field.
+fn alone_with<B: Book>(alloc: Global, mut book: B) -> anyhow::Result<u32> {
     let event = look(alloc)?;
-    let mut book = empty_book(alloc)?;
-    book.step(admission(alloc)?.get().copy()?)?;
+    let admission = admission(alloc)?;
+    give(&mut book, admission.get().copy()?)?;
     let mut seen = 0u32;
     for _ in 0..LOOKS {
-        let reply = book.step(event.get().copy()?)?;
-        seen = seen.wrapping_add(seen_in(&reply));
+        seen = seen.wrapping_add(look_once(&mut book, event.get())?);
     }
     Ok(seen)
 }
 
+fn alone(alloc: Global) -> anyhow::Result<u32> {
+    alone_with(alloc, empty_book(alloc)?)
+}
+
+/// 1 for a call at which a shared book shows a find.
+fn call_once<B: Book, L: CallLedger, R: Wait>(
+    rt: &R,
+    book: &SharedBook<B, L>,
+    pass: &mut Pass<L>,
+    event: Shared<Event>,
+) -> anyhow::Result<u32> {
+    let receipt = book.call(rt, pass, event)?;
+    let seen = seen_in(&receipt.reply);
+    drop(receipt);
+    Ok(seen)
+}
+
 /// Looks through the lock, with a record of so many calls.
-fn shared<L: CallLedger, R: Wait>(
+fn shared<B: Book, L: CallLedger, R: Wait>(
     rt: &R,
     alloc: Global,
     blank: Blank,
-    book: PlainBook,
+    book: B,
     limit: u64,
 ) -> anyhow::Result<u32>
     requires name { blank.name ≡ L.name }
     requires parts { blank.parts ≡ L.parts }
     requires limit { limit ≡ L.limit }
-    requires settings { ⟦<PlainBook as Book>⟧.settings book ≡ L.settings }
-    requires fresh { ⟦<PlainBook as Book>⟧.stands_for book [] }
+    requires settings { B.settings book ≡ L.settings }
+    requires fresh { B.stands_for book [] }
 {
     let event = look(alloc)?;
-    let (book, mut pass) = SharedBook::<PlainBook, L>::new(alloc, blank, book, limit)?;
-    book.call(rt, &mut pass, admission(alloc)?)?;
+    let (book, mut pass) = SharedBook::<B, L>::new(alloc, blank, book, limit)?;
+    call_once(rt, &book, &mut pass, admission(alloc)?)?;
     let mut seen = 0u32;
     for _ in 0..LOOKS {
-        let receipt = book.call(rt, &mut pass, event.share()?)?;
-        seen = seen.wrapping_add(seen_in(&receipt.reply));
+        seen = seen.wrapping_add(call_once(rt, &book, &mut pass, event.share()?)?);
     }
     Ok(seen)
 }
 
 fn shared_as<R: Wait>(rt: &R, alloc: Global, limit: u64) -> anyhow::Result<u32> {
-    shared::<Brand, R>(rt, alloc, Blank::new(1), empty_book(alloc)?, limit)
+    let book = empty_book(alloc)?;
+    shared::<PlainBook, Brand, R>(rt, alloc, Blank::new(1), book, limit)
 }
 
 /// Looks at one book.

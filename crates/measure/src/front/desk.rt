@@ -1,36 +1,35 @@
 //! A desk that keeps nothing.
 
-use crate::books::filled_book;
-use history::{Book, Desk, DeskFault, Event, Reply, StepFault};
-use std::alloc::Global;
-use undo_book::PlainBook;
+use history::{Ask, Book, Desk, DeskFault, Event, Reply, StepFault};
 
 /// A desk that looks at a book and keeps nothing, so that each query finds the same.
 #[derive(Drop)]
-pub struct StillDesk {
-    alloc: Global,
-    book: PlainBook,
+pub struct StillDesk<B: Book> {
+    pub book: B,
 }
 
-impl StillDesk {
-    pub fn new(alloc: Global) -> anyhow::Result<StillDesk> {
-        Ok(StillDesk {
-            alloc,
-            book: filled_book(alloc)?,
-        })
+/// What a book shows.
+fn seen<B: Book>(book: &B, ask: &Ask) -> Result<Reply, DeskFault> {
+    match book.seen(ask, 0) {
+        Ok(seen) => Ok(Reply::Seen(seen)),
+        Err(_) => Err(DeskFault::Step(StepFault::NoMemory)),
     }
 }
 
-impl Desk for StillDesk {
+impl<B: Book> Desk for StillDesk<B> {
     ghost calls = { λ _ _ _ _. Unit {0} };
 
     fn call(&mut self, event: Event) -> Result<Reply, DeskFault> {
-        let Event::Look { ask, .. } = event else {
-            return Ok(Reply::Swept);
-        };
-        match self.book.seen(&ask, 0) {
-            Ok(seen) => Ok(Reply::Seen(seen)),
-            Err(_) => Err(DeskFault::Step(StepFault::NoMemory)),
+        match event {
+            Event::Look { ask, .. } => {
+                let reply = seen(&self.book, &ask);
+                drop(ask);
+                reply
+            }
+            other => {
+                drop(other);
+                Ok(Reply::Swept)
+            }
         }
     }
 }

@@ -2,6 +2,7 @@
 
 ghost use Rattle.std.specs.Prelude.{◌≡◌};
 
+use crate::books::filled_book;
 use crate::front::desk::StillDesk;
 use anyhow::anyhow;
 use command_text::Clock;
@@ -9,6 +10,7 @@ use dns_query::Over;
 use dns_text::{Addr, Octets};
 use dns_wire::{Asked, read_question};
 use front_workers::{DeviceFault, Exchange, Tools, serve_query};
+use history::Desk;
 use rand_pcg::Pcg32;
 use std::alloc::Global;
 
@@ -52,7 +54,16 @@ const REFUSED: &[u8] = b"\x12\x34\x01\0\0\x01\0\0\0\0\0\0\x03www\x07example\x03o
 
 /// So many queries of these octets, and how many octets the replies have.
 fn serve(alloc: Global, query: &[u8], count: u32) -> anyhow::Result<u32> {
-    let mut desk = StillDesk::new(alloc)?;
+    let book = filled_book(alloc)?;
+    serve_at(alloc, StillDesk { book }, query, count)
+}
+
+fn serve_at<D: Desk + Drop>(
+    alloc: Global,
+    mut desk: D,
+    query: &[u8],
+    count: u32,
+) -> anyhow::Result<u32> {
     let mut tools = Tools {
         exchange: NoServers { failures: 0 },
         clock: StillClock { moment: 0 },
