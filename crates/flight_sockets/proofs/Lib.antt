@@ -1,3 +1,4 @@
 mod Accounting
 mod Durations
 mod Hearing
+mod Pausing

@@ -3,5 +3,6 @@ pub mod Descriptors
 pub mod Exchanges
 pub mod Outgoing
 pub mod Patience
+pub mod Pauses
 pub mod Replies
 pub mod Taken

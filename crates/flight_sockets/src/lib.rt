@@ -21,6 +21,10 @@ mod inbox;
 mod outgoing;
 // The buffers of sent replies, kept for later replies.
 mod buffers;
+// The pause of a name server that let queries go unanswered.
+mod pause;
+// The pauses of the name servers that were asked lately.
+mod pauses;
 // The sockets of one worker.
 mod worker_sockets;
 // The turns of a worker.

@@ -1,6 +1,7 @@
 //! The limit of exchanges that a worker may have under way.
 
 ghost use Rattle.std.specs.Prelude.{◌≡◌, ◌*◌, ◌-◌, ◌/◌, ◌≤◌, min};
+ghost use Rattle.flight_sockets.specs.declared.pauses.TheConstants.{FIRST_PAUSE, LONGEST_PAUSE, MOST_PAUSES};
 ghost use Rattle.flight_sockets.specs.Descriptors.{SufficeFor};
 
 /// The most exchanges that a worker has under way, however many descriptors the process may have.
@@ -22,8 +23,12 @@ pub fn most_exchanges(descriptors: u64, workers: u8) -> usize
     (left / u64::from(workers)).min(MOST_EXCHANGES as u64) as usize
 }
 
-/// A worker has at most 512 exchanges under way, and 64 descriptors are left for everything else.
+/// A worker has at most 512 exchanges under way, and 64 descriptors are left for everything else. It passes a server over for ten
+/// seconds at first and for a minute at most, and remembers 256 servers.
 pub fn limits_law()
     ensures exchanges { MOST_EXCHANGES ≡ 512 }
     ensures spare { SPARE_DESCRIPTORS ≡ 64 }
+    ensures first_pause { FIRST_PAUSE ≡ 10000 }
+    ensures longest_pause { LONGEST_PAUSE ≡ 60000 }
+    ensures pauses { MOST_PAUSES ≡ 256 }
 {}

@@ -91,6 +91,20 @@ impl<R: ReadyNet> SocketLine<R> {
         })
     }
 
+    /// The server that is asked.
+    pub fn server(&self) -> Addr
+        ensures { result ≡ self.now.asked.server }
+    {
+        self.server
+    }
+
+    /// The transport of the query.
+    pub fn over(&self) -> Over
+        ensures { result ≡ self.now.asked.over }
+    {
+        self.over
+    }
+
     /// Reads and writes as far as the socket allows.
     pub fn hear(&mut self, alloc: Global, registry: &Registry, room: &mut [u8]) -> Listened
         requires { length room.old ≡ MOST_MESSAGE }

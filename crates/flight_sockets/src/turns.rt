@@ -160,6 +160,7 @@ impl<'a, R: ReadyNet + Log + Elapsing, S: ServiceSocket> Turns<'a, R, S> {
     {
         let received = self.sockets.receive(inbox);
         let took = !inbox.datagrams().is_empty();
+        self.sockets.set_now(now);
         self.begin_each(desk, questions, inbox, now);
         inbox.clear();
         self.sockets.flush();
@@ -210,6 +211,7 @@ impl<'a, R: ReadyNet + Log + Elapsing, S: ServiceSocket> Turns<'a, R, S> {
             questions,
         );
         let now = self.clock.millis();
+        self.sockets.set_now(now);
         questions.expire(desk, &mut self.sockets, now);
         self.sockets.flush();
     }
@@ -273,7 +275,9 @@ fn look_all<D: Numbered, C: Clock, G: Rng, R: ReadyNet + Log + Elapsing, S: Serv
     for event in events.iter() {
         let token = event.token();
         if token != SERVICE {
-            questions.look(desk, sockets, clock.millis(), token.0);
+            let now = clock.millis();
+            sockets.set_now(now);
+            questions.look(desk, sockets, now, token.0);
         }
     }
 }

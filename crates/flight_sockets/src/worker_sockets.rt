@@ -8,11 +8,12 @@ ghost use Rattle.dns_sockets.specs.Own.{MayAskServer};
 ghost use Rattle.front_workers.specs.declared.limits.TheConstants.{MOST_MESSAGE};
 ghost use Rattle.front_workers.specs.Serves.{fault_octets};
 ghost use Rattle.flight.specs.declared.outside.Listened.TheVariants.{Nothing};
-ghost use Rattle.flight.specs.Counted.{CountsListened, CountsOpened, no_counts};
+ghost use Rattle.flight.specs.Counted.{CountsExpired, CountsListened, CountsOpened, no_counts};
 ghost use Rattle.flight.specs.Flight.{query_to};
 ghost use Rattle.flight.specs.Told.{octets_of, IsHeard, Keeps};
 ghost use Rattle.flight_sockets.specs.Exchanges.{IsNotToBeHad, IsQuiet};
 ghost use Rattle.flight_sockets.specs.Outgoing.{IsOnItsWay, StayOnTheirWay};
+ghost use Rattle.flight_sockets.specs.Pauses.{HeedsPause, IsPaused, Loses, NotesHeard};
 ghost use Rattle.flight_sockets.specs.Replies.{IsServerReply};
 ghost use Rattle.flight_sockets.specs.declared.client.UdpClient.{UdpClient as UdpClientValue};
 ghost use Rattle.flight_sockets.specs.declared.inbox.TheConstants.{BATCH};
@@ -22,6 +23,7 @@ use crate::client::UdpClient;
 use crate::inbox::{BATCH, Inbox};
 use crate::listener::UdpListener;
 use crate::outgoing::Outgoing;
+use crate::pauses::Pauses;
 use crate::service_socket::ServiceSocket;
 use crate::socket_line::SocketLine;
 use command_text::Clock;
@@ -46,6 +48,17 @@ fn report_of(front: &[u8], rcode: Rcode) -> ReplyOctets
     ReplyOctets::Header(fault_reply(front, rcode).unwrap())
 }
 
+/// Notes that a server answered, if something came of an exchange with it.
+fn note_heard(pauses: &mut Pauses, heard: &Listened, server: &Addr, over: Over, now: u64)
+    ensures { NotesHeard heard.now server.now over now pauses.old pauses.new }
+{
+    match heard {
+        Listened::Nothing | Listened::Broken => {}
+        Listened::Came(_) => pauses.note_answered(server, over, now),
+        Listened::NoMemory => pauses.note_answered(server, over, now),
+    }
+}
+
 /// The sockets of one worker: that of the service, and those of its exchanges.
 #[derive(Drop)]
 pub(crate) struct WorkerSockets<'a, R, S: ServiceSocket> {
@@ -59,6 +72,10 @@ pub(crate) struct WorkerSockets<'a, R, S: ServiceSocket> {
     waiting: Vec<Outgoing>,
     /// Buffers for replies to come.
     buffers: Buffers,
+    /// Which servers are passed over, and until when.
+    pauses: Pauses,
+    /// The moment of the exchanges that begin and end, in milliseconds.
+    now: u64,
     counts: Counts,
     ghost whole: { vec_len room ≡ MOST_MESSAGE },
 }
@@ -84,6 +101,8 @@ impl<'a, R: Log, S: ServiceSocket> WorkerSockets<'a, R, S> {
             room,
             waiting: Vec::new(alloc),
             buffers: Buffers::new(alloc),
+            pauses: Pauses::new(alloc)?,
+            now: 0,
             counts: Counts::new(),
         })
     }
@@ -130,6 +149,16 @@ impl<'a, R: Log, S: ServiceSocket> WorkerSockets<'a, R, S> {
     {
         self.send_each();
         self.buffers.keep_each(&mut self.waiting);
+    }
+
+    /// Sets the moment of the exchanges that begin and end from now on, in milliseconds.
+    pub fn set_now(&mut self, now: u64)
+        ensures now { self.new.now ≡ now }
+        ensures port { self.new.server_port ≡ self.old.server_port }
+        ensures counts { self.new.counts ≡ self.old.counts }
+        ensures kept { self.new.waiting ≡ self.old.waiting }
+    {
+        self.now = now;
     }
 
     /// Waits until a socket reports something, but no longer than this.
@@ -210,7 +239,8 @@ impl<'a, D: Numbered, C: Clock, R: ReadyNet + Log, S: ServiceSocket> Outside<
         query: Shared<Octets>,
     ) -> Option<SocketLine<R>>
         // As for any `Outside`. Also, the exchange is reported under the key, and the service may ask that server. Over UDP
-        // there is an exchange unless the network failed, the address belongs to no host, or the server is the service itself.
+        // there is an exchange unless the network failed, the address belongs to no host, the server is the service itself, or
+        // the server is passed over.
         ensures asked { IfSome result (λ line. line.asked ≡ query_to server.now over query) }
         ensures opened { OnSome result (CountsOpened self.old.counts self.new.counts) }
         ensures unopened { IfNone result (self.new.counts ≡ self.old.counts) }
@@ -220,9 +250,14 @@ impl<'a, D: Numbered, C: Clock, R: ReadyNet + Log, S: ServiceSocket> Outside<
             self.old self.new }
         ensures may_ask { OnSome result (MayAskServer R.Datagrams.opened R.Datagrams.is_at R.Connection.connected
             R.Connection.is_at over self.old.listener.place server.now) }
-        ensures failed { IfNone result (IsNotToBeHad R.failed R.Datagrams.opened R.Datagrams.is_at R.Datagrams.failed
+        ensures failed { IfNone result (IsPaused server.now over self.old.now self.old.pauses
+            ⊎ IsNotToBeHad R.failed R.Datagrams.opened R.Datagrams.is_at R.Datagrams.failed
             self.old.listener.place server.now over) }
+        ensures pauses { HeedsPause result server.now over self.old.now self.old.pauses self.new.pauses }
     {
+        if !self.pauses.lets_through(server, over, self.now) {
+            return None;
+        }
         let registry = self.listener.poll.registry();
         match SocketLine::open(
             self.rt,
@@ -246,7 +281,7 @@ impl<'a, D: Numbered, C: Clock, R: ReadyNet + Log, S: ServiceSocket> Outside<
     }
 
     fn hear(&mut self, line: &mut SocketLine<R>) -> Listened
-        // As for any `Outside`. Also, nothing is heard only of a quiet exchange.
+        // As for any `Outside`. Also, nothing is heard only of a quiet exchange, and a server that answered is not passed over.
         ensures heard { IsHeard (IsServerReply R.Datagrams.opened R.Datagrams.sent R.Datagrams.came
             R.Connection.connected R.Connection.contents R.Connection.remaining line.old.asked) result }
         ensures asked { line.new.asked ≡ line.old.asked }
@@ -255,16 +290,33 @@ impl<'a, D: Numbered, C: Clock, R: ReadyNet + Log, S: ServiceSocket> Outside<
             (λ sockets (client : UdpClientValue) octets. IsOnItsWay S.tried sockets.waiting.items client.came.peer octets)
             self.old self.new }
         ensures nothing { result ≡ Nothing → IsQuiet R.Datagrams.sent R.Datagrams.drained R.Datagrams.reported_again line.old }
+        ensures pauses { NotesHeard result line.old.asked.server line.old.asked.over self.old.now self.old.pauses self.new.pauses }
     {
         let heard = line.hear(self.alloc, self.listener.poll.registry(), &mut self.room);
         self.counts.listen(&heard);
+        note_heard(
+            &mut self.pauses,
+            &heard,
+            &line.server(),
+            line.over(),
+            self.now,
+        );
         if matches!(heard, Listened::Broken) {
             self.log_fault();
         }
         heard
     }
 
-    fn expire(&mut self, _line: SocketLine<R>) {
+    fn expire(&mut self, line: SocketLine<R>)
+        // As for any `Outside`. Also, the server let a query go unanswered.
+        ensures expired { CountsExpired self.old.counts self.new.counts }
+        ensures keeps { Keeps (λ sockets. sockets.server_port)
+            (λ sockets (client : UdpClientValue) octets. IsOnItsWay S.tried sockets.waiting.items client.came.peer octets)
+            self.old self.new }
+        ensures pauses { Loses line.asked.server line.asked.over self.old.now self.old.pauses self.new.pauses }
+    {
+        self.pauses
+            .note_unanswered(&line.server(), line.over(), self.now);
         self.counts.expire();
         self.log_fault();
     }

@@ -1,0 +1,206 @@
+"""`resolver serve` with name servers that are dead: each costs its time once, is tried again after a pause, and is in no other
+server's way. What an undo or a new stub gives back shows at once."""
+
+import time
+from concurrent.futures import ThreadPoolExecutor
+
+from lib.checks import Checks
+from lib.nameserver import NameServers
+from lib.service import STOPPED, Service
+
+DEAD = ["127.0.0.2", "127.0.0.3", "127.0.0.5"]
+ALIVE, OTHER = "127.0.0.4", "127.0.0.9"
+GOOD = "aa | answer {name} 60 A 192.0.2.1"
+FAILED = "rcode 2"
+
+# The seconds that an exchange may take, and those for which a server is passed over at first.
+EXCHANGE = 2
+FIRST_PAUSE = 10
+
+# What takes less than this many seconds has waited for no exchange.
+AT_ONCE = 1.5
+
+
+def good(asked):
+    yield asked.response(GOOD.format(name=asked.question.split()[0]))
+
+
+def answered(name):
+    return f"- | answer {name} A 192.0.2.1"
+
+
+def count(servers, address, over="udp"):
+    """How many queries came to a server."""
+    return sum(server == address and o == over for server, o, _ in list(servers.asked))
+
+
+def timed(service, name, over="udp"):
+    """The reply to a question, and the seconds that it took."""
+    began = time.monotonic()
+    reply = service.ask(name, "A", over).words()
+    return reply, time.monotonic() - began
+
+
+def takes(checks, what, took, least=0.0, most=float("inf")):
+    checks.check(what, None if least <= took < most else f"it took {took:.2f} s, wanted {least} to {most}")
+
+
+def check_first_of_three(checks):
+    """The first of three servers is dead: the first question waits for it, and no other does."""
+    zones = {DEAD[0]: {"*": None}, ALIVE: {"*": good}, OTHER: {"*": good}}
+    with NameServers(zones) as servers, Service([f"{address}@{servers.port}" for address in zones]) as service:
+        reply, took = timed(service, "first.test.")
+        checks.equal("one of three is dead: the first name", reply, answered("first.test."))
+        takes(checks, "one of three is dead: the first name", took, EXCHANGE)
+        names = [f"later{place}.test." for place in range(20)]
+        began = time.monotonic()
+        replies = [service.ask(name).words() for name in names]
+        takes(checks, "one of three is dead: 20 names later", time.monotonic() - began, 0, EXCHANGE)
+        checks.equal("one of three is dead: the later names", replies, [answered(name) for name in names])
+        checks.equal("one of three is dead: queries to it", count(servers, DEAD[0]), 1)
+        checks.equal("one of three is dead: queries to the next", count(servers, ALIVE), 21)
+        checks.equal("one of three is dead: queries to the last", count(servers, OTHER), 0)
+        checks.equal("one of three is dead: stopped", service.stop(), STOPPED)
+
+
+def check_all(checks):
+    """All three servers are dead: the first question takes the time of each, and no other takes any. One line is logged for each
+    query. What is asked of servers that live is answered beside it, and what a stub or an undo gives back shows at once."""
+    zones = {**{address: {"*": None} for address in DEAD}, ALIVE: {"*": good}}
+    with NameServers(zones) as servers:
+        dead = [f"{address}@{servers.port}" for address in DEAD]
+        with Service([f"{ALIVE}@{servers.port}"]) as service:
+            service.obey(f"stub_add dead.test. {' '.join(dead)}", f"stub_add dead-too.test. {dead[2]} {dead[0]}")
+            with ThreadPoolExecutor(2) as pool:
+                waits = pool.submit(timed, service, "a.dead.test.")
+                beside = [timed(service, f"beside{place}.test.") for place in range(20)]
+                checks.equal("all are dead: names beside", {reply == answered(f"beside{n}.test.") for n, (reply, _) in enumerate(beside)}, {True})
+                takes(checks, "all are dead: names beside", max(took for _, took in beside), 0, AT_ONCE)
+                reply, took = waits.result()
+            checks.equal("all are dead: the first question", reply, FAILED)
+            takes(checks, "all are dead: the first question", took, 3 * EXCHANGE)
+            for name in ("a.dead.test.", "b.dead.test.", "c.dead-too.test."):
+                reply, took = timed(service, name)
+                checks.equal(f"all are dead: {name} after it", reply, FAILED)
+                takes(checks, f"all are dead: {name} after it", took, 0, AT_ONCE)
+            checks.equal("all are dead: queries to each", [count(servers, address) for address in DEAD], [1, 1, 1])
+            checks.equal("all are dead: lines", service.log().count(b"device fault"), 3)
+            checks.equal("another stub", service.obey(f"stub_add dead.test. {ALIVE}@{servers.port}"), ["ok 3"])
+            reply, took = timed(service, "a.dead.test.")
+            checks.equal("another stub: the question that failed", reply, answered("a.dead.test."))
+            takes(checks, "another stub: the question that failed", took, 0, AT_ONCE)
+            checks.equal("an undo of it", service.obey("undo"), ["undone 3"])
+            reply, took = timed(service, "b.dead.test.")
+            checks.equal("an undo of it: the dead servers again", reply, FAILED)
+            takes(checks, "an undo of it: the dead servers again", took, 0, AT_ONCE)
+            checks.equal("an undo of the first stub", service.obey("undo", "undo"), ["undone 2", "undone 1"])
+            reply, took = timed(service, "b.dead.test.")
+            checks.equal("an undo of the first stub: answered", reply, answered("b.dead.test."))
+            takes(checks, "an undo of the first stub: answered", took, 0, AT_ONCE)
+            checks.equal("all are dead: stopped", service.stop(), STOPPED)
+
+
+def check_comes_back(checks):
+    """A server comes back: it is not asked while it is passed over. Then one question tries it, others pass it over until it
+    answers, and from then on it is asked as before."""
+    zone = {"*": None}
+    with NameServers({DEAD[0]: zone}) as servers, Service([f"{DEAD[0]}@{servers.port}"]) as service:
+        checks.equal("before it comes back", service.ask("a.test.").words(), FAILED)
+        noted = time.monotonic()
+        while time.monotonic() < noted + FIRST_PAUSE - 1:
+            reply, took = timed(service, "b.test.")
+            checks.equal("before its pause is over", reply, FAILED)
+            takes(checks, "before its pause is over", took, 0, AT_ONCE)
+            time.sleep(1)
+        checks.equal("before its pause is over: queries", count(servers, DEAD[0]), 1)
+        time.sleep(noted + FIRST_PAUSE + 0.5 - time.monotonic())
+        with ThreadPoolExecutor(2) as pool:
+            trial = pool.submit(timed, service, "c.test.")
+            checks.equal("a trial: it is asked", servers.wait_for("c.test. A"), True)
+            replies = [timed(service, f"beside{place}.test.") for place in range(10)]
+            checks.equal("beside a trial", {reply for reply, _ in replies}, {FAILED})
+            takes(checks, "beside a trial", max(took for _, took in replies), 0, AT_ONCE)
+            reply, took = trial.result()
+            checks.equal("a trial in vain", reply, FAILED)
+            takes(checks, "a trial in vain", took, EXCHANGE)
+        noted = time.monotonic()
+        zone["*"] = good
+        time.sleep(FIRST_PAUSE + 1)
+        checks.equal("a pause is twice as long after a trial in vain", service.ask("d.test.").words(), FAILED)
+        checks.equal("a trial in vain: queries", count(servers, DEAD[0]), 2)
+        time.sleep(noted + 2 * FIRST_PAUSE + 0.5 - time.monotonic())
+        names = [f"back{place}.test." for place in range(20)]
+        replies = [service.ask(name).words() for name in names]
+        checks.equal("after it came back", replies, [answered(name) for name in names])
+        checks.equal("after it came back: stopped", service.stop(), STOPPED)
+
+
+def check_lively(checks):
+    """A server that answers other questions while one goes unanswered is not passed over."""
+    zone = {"*": good, **{f"mute{place}.test. A": None for place in range(10)}}
+    with NameServers({ALIVE: zone}) as servers, Service([f"{ALIVE}@{servers.port}"]) as service:
+        with ThreadPoolExecutor(10) as pool:
+            mute = [pool.submit(service.ask, f"mute{place}.test.") for place in range(10)]
+            wrong, place = [], 0
+            while not all(one.done() for one in mute):
+                name = f"lively{place}.test."
+                place += 1
+                reply, took = timed(service, name)
+                if reply != answered(name) or took > AT_ONCE:
+                    wrong.append((name, reply, took))
+                time.sleep(0.05)
+        checks.equal("beside questions that go unanswered", wrong, [])
+        checks.equal("questions that go unanswered", {one.result().words() for one in mute}, {FAILED})
+        checks.equal("after questions that go unanswered", service.ask("last.test.").words(), answered("last.test."))
+        checks.equal("questions that go unanswered: stopped", service.stop(), STOPPED)
+
+
+def check_over_tcp(checks):
+    """A server that answers over UDP alone: a truncated response costs its time once, and what fits a datagram is answered."""
+
+    def does(asked):
+        yield asked.response("aa tc") if asked.question.startswith("long") else next(good(asked))
+
+    class Deaf(NameServers):
+        """Servers that accept connections and say nothing on them."""
+
+        def _answer(self, connection, asked):
+            self.closing.wait(60)
+            return False
+
+    with Deaf({ALIVE: {"*": does}}) as servers, Service([f"{ALIVE}@{servers.port}"]) as service:
+        reply, took = timed(service, "long0.test.")
+        checks.equal("no answer over TCP", reply, FAILED)
+        takes(checks, "no answer over TCP", took, EXCHANGE)
+        for place in range(1, 5):
+            reply, took = timed(service, f"long{place}.test.")
+            checks.equal("no answer over TCP, again", reply, FAILED)
+            takes(checks, "no answer over TCP, again", took, 0, AT_ONCE)
+            checks.equal("over UDP beside it", service.ask(f"short{place}.test.").words(), answered(f"short{place}.test."))
+        checks.equal("no answer over TCP: connections", count(servers, ALIVE, "tcp"), 1)
+        checks.equal("no answer over TCP: stopped", service.stop(), STOPPED)
+
+
+def check_four_zones(checks):
+    """One dead server of four zones costs its time once."""
+    with NameServers({ALIVE: {"*": good}, DEAD[0]: {"*": None}}) as servers, Service([f"{ALIVE}@{servers.port}"]) as service:
+        service.obey(*(f"stub_add z{place}.test. {DEAD[0]}@{servers.port}" for place in range(4)))
+        replies = [timed(service, f"a.z{place}.test.") for place in range(4)]
+        checks.equal("a dead server of four zones", [reply for reply, _ in replies], [FAILED] * 4)
+        takes(checks, "a dead server of four zones: the first", replies[0][1], EXCHANGE)
+        takes(checks, "a dead server of four zones: the others", max(took for _, took in replies[1:]), 0, AT_ONCE)
+        checks.equal("a dead server of four zones: stopped", service.stop(), STOPPED)
+
+
+def main():
+    checks = Checks()
+    checks.make(check_first_of_three)
+    checks.make(check_all)
+    checks.make(check_comes_back)
+    checks.make(check_lively)
+    checks.make(check_over_tcp)
+    checks.make(check_four_zones)
+    checks.end()
+
+
+main()
