@@ -1,6 +1,7 @@
 """`resolver serve` with very many questions at once over UDP. None is lost or answered twice, whatever name servers do. Cached
 answers wait for none of them, and `stop` ends the service at once."""
 
+import itertools
 import re
 import resource
 import signal
@@ -102,13 +103,19 @@ def check_passed_limit(checks, count, workers, most_descriptors, room):
             checks.check(f"{name}: exchanges at once", None if room // 2 < most <= room else f"{most}, where there is room for {room}")
             refused = service.log().count(TOO_MANY)
             checks.check(f"{name}: too many", None if refused else "none is logged")
-            checks.equal(f"{name}: asked or refused", len(server.asked) + refused, count)
             in_vain = service.log().count(FAULT)
-            checks.equal(f"{name}: refused or in vain", crowd.words().count(FAILED), refused + in_vain)
+            # Once a query was in vain, the server is passed over, and no line is logged for that.
+            passed = count - len(server.asked) - refused
+            checks.check(f"{name}: asked or refused", None if passed == 0 or passed > 0 and in_vain else f"{passed} are neither")
+            checks.equal(f"{name}: refused or in vain", crowd.words().count(FAILED), refused + in_vain + passed)
             checks.check(f"{name}: in vain", f"{in_vain} in {took:.2f} seconds" if in_vain and took < EXCHANGE else None)
             others = [line for line in service.log().splitlines() if not line.endswith((STARTED, TOO_MANY, FAULT))]
             checks.equal(f"{name}: other lines", others, [])
             checks.equal(f"{name}: descriptors", until(lambda: service.descriptors() <= before), True)
+            if in_vain:
+                # Each worker whose query was in vain passes the server over, and then tries it.
+                places = itertools.count()
+                until(lambda: all(service.ask(f"again{next(places)}.test.").words() != FAILED for _ in range(20)))
             with Crowd(service) as later:
                 # If a worker is slow, all questions in flight may be at it.
                 later.ask(names_of("later", 100), min(10, room // workers))
@@ -169,9 +176,12 @@ def check_dead_first(checks):
         with Service(hints) as service, Crowd(service) as crowd:
             crowd.ask(names_of("n", 200), 200)
             all_answered(checks, "dead servers first", crowd)
-            checks.equal("dead servers first: asked", (len(silent.asked), len(server.asked)), (200, 200))
+            # If the machine is slow, the silent server is passed over before the last question comes to it.
+            asked = len(silent.asked)
+            checks.check("dead servers first: the silent one", None if 0 < asked <= 200 else f"it got {asked} queries")
+            checks.equal("dead servers first: asked", len(server.asked), 200)
             has_ended(checks, "dead servers first", service, crowd)
-            checks.equal("dead servers first: exchanges that came to nothing", service.log().count(FAULT), 400)
+            checks.equal("dead servers first: exchanges that came to nothing", service.log().count(FAULT), 200 + asked)
 
 
 def check_referred(checks):
