@@ -119,7 +119,8 @@ class Control:
         """The reply to a line, without its end; lists have their lines joined by ` / `."""
         self.sock.sendall(line.encode() + b"\n")
         told = [self.line()]
-        while line.startswith("list_") and told[-1] != "end" and not told[-1].startswith(("error", "fault")):
+        has_end = line.startswith(("list_", "stat"))
+        while has_end and told[-1] != "end" and not told[-1].startswith(("error", "fault")):
             told.append(self.line())
         return " / ".join(told)
 
@@ -205,6 +206,13 @@ class Service:
         """The replies to the lines, over a connection of their own."""
         with self.control() as control:
             return [control.tell(line) for line in lines]
+
+    def figures(self):
+        """The reply to `stats`, as numbers by name."""
+        *lines, end = self.obey("stats")[0].split(" / ")
+        if end != "end":
+            raise ValueError(f"the reply to stats ends with {end!r}")
+        return {name: int(value) for name, _, value in (line.partition("=") for line in lines)}
 
     def log(self):
         """The text on standard error so far."""

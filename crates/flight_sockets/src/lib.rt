@@ -3,6 +3,8 @@
 
 // In the order in which to read them.
 
+// The counters of a worker that others read while it works.
+mod tally;
 // The limit of exchanges that a worker may have under way.
 mod limit;
 // The socket of the service: queries come in at it, and replies go out by it.
@@ -36,4 +38,5 @@ pub use limit::{MOST_EXCHANGES, SPARE_DESCRIPTORS, limits_law, most_exchanges};
 pub use listener::{UdpListener, listen_each};
 pub use mio::Waker;
 pub use service_socket::ServiceSocket;
+pub use tally::{Sums, Tally};
 pub use udp_worker::{UdpWorker, fly_udp};

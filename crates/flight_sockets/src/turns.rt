@@ -15,6 +15,7 @@ use crate::inbox::{Arrival, BATCH, Inbox, Slot};
 use crate::listener::{SERVICE, UdpListener};
 use crate::service_socket::ServiceSocket;
 use crate::socket_line::SocketLine;
+use crate::tally::Tally;
 use crate::worker_sockets::WorkerSockets;
 use command_text::Clock;
 use dns_sockets::{Elapsing, MonotonicClock, ReadyNet, glance};
@@ -68,9 +69,10 @@ impl<'a, R, S: ServiceSocket> Model for Turns<'a, R, S> {
 
 impl<'a, R: ReadyNet + Log + Elapsing, S: ServiceSocket> Turns<'a, R, S> {
     /// Takes datagrams at a listener. Name servers that are known by name are queried at this port. Exchanges are timed from
-    /// `start` on.
+    /// `start` on. What it does is counted in a tally.
     pub fn new(
         rt: &'a R,
+        tally: &'a Tally,
         alloc: Global,
         listener: UdpListener<S>,
         server_port: u16,
@@ -79,7 +81,7 @@ impl<'a, R: ReadyNet + Log + Elapsing, S: ServiceSocket> Turns<'a, R, S> {
         ensures { IfOk result (λ turns. turns ≡ fresh_worker server_port) }
     {
         Ok(Turns {
-            sockets: WorkerSockets::new(rt, alloc, listener, server_port)?,
+            sockets: WorkerSockets::new(rt, tally, alloc, listener, server_port)?,
             clock: MonotonicClock::new(rt, start),
             events: Events::with_capacity(alloc, MOST_READY)?,
             taken: 0,
@@ -123,7 +125,9 @@ impl<'a, R: ReadyNet + Log + Elapsing, S: ServiceSocket> Turns<'a, R, S> {
             Arrival::Query(client) => {
                 let octets = &slot.room[..client.count()];
                 self.count_taken();
+                self.sockets.tally.take();
                 questions.begin(desk, &mut self.sockets, now, client, octets);
+                self.sockets.tally.sort();
             }
         }
     }

@@ -9,6 +9,7 @@ ghost use Rattle.flight_sockets.specs.Accounts.{Accounts, fresh_worker};
 use crate::inbox::Inbox;
 use crate::listener::UdpListener;
 use crate::service_socket::ServiceSocket;
+use crate::tally::Tally;
 use crate::turns::Turns;
 use command_text::Clock;
 use dns_sockets::{Elapsing, ReadyNet, StopFlag};
@@ -41,9 +42,10 @@ impl<'a, R, S: ServiceSocket> Model for UdpWorker<'a, R, S> {
 
 impl<'a, R: ReadyNet + Log + Elapsing, S: ServiceSocket> UdpWorker<'a, R, S> {
     /// Takes datagrams at a listener. Name servers that are known by name are queried at this port. Exchanges are timed from
-    /// `start` on.
+    /// `start` on. What it does is counted in a tally.
     pub fn new(
         rt: &'a R,
+        tally: &'a Tally,
         alloc: Global,
         listener: UdpListener<S>,
         server_port: u16,
@@ -53,7 +55,7 @@ impl<'a, R: ReadyNet + Log + Elapsing, S: ServiceSocket> UdpWorker<'a, R, S> {
     {
         Ok(UdpWorker {
             inbox: Inbox::new(alloc)?,
-            turns: Turns::new(rt, alloc, listener, server_port, start)?,
+            turns: Turns::new(rt, tally, alloc, listener, server_port, start)?,
         })
     }
 }

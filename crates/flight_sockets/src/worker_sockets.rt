@@ -26,6 +26,7 @@ use crate::outgoing::Outgoing;
 use crate::pauses::Pauses;
 use crate::service_socket::ServiceSocket;
 use crate::socket_line::SocketLine;
+use crate::tally::Tally;
 use command_text::Clock;
 use dns_query::Over;
 use dns_sockets::ReadyNet;
@@ -63,6 +64,8 @@ fn note_heard(pauses: &mut Pauses, heard: &Listened, server: &Addr, over: Over, 
 #[derive(Drop)]
 pub(crate) struct WorkerSockets<'a, R, S: ServiceSocket> {
     rt: &'a R,
+    /// The counters that others read.
+    pub(crate) tally: &'a Tally,
     alloc: Global,
     listener: UdpListener<S>,
     server_port: u16,
@@ -84,6 +87,7 @@ impl<'a, R: Log, S: ServiceSocket> WorkerSockets<'a, R, S> {
     /// Takes datagrams at a listener. Name servers that are known by name are queried at this port.
     pub fn new(
         rt: &'a R,
+        tally: &'a Tally,
         alloc: Global,
         listener: UdpListener<S>,
         server_port: u16,
@@ -95,6 +99,7 @@ impl<'a, R: Log, S: ServiceSocket> WorkerSockets<'a, R, S> {
         let room = Vec::from_elem(alloc, 0u8, MOST_MESSAGE)?;
         Ok(WorkerSockets {
             rt,
+            tally,
             alloc,
             listener,
             server_port,
@@ -125,6 +130,7 @@ impl<'a, R: Log, S: ServiceSocket> WorkerSockets<'a, R, S> {
         ensures port { self.new.server_port ≡ self.old.server_port }
         ensures counts { self.new.counts ≡ self.old.counts }
     {
+        self.tally.reply(reply.as_slice());
         let outgoing = Outgoing { peer, reply };
         if let Err(failed) = self.waiting.push(outgoing) {
             self.send_now(&failed.value);
@@ -190,6 +196,8 @@ impl<'a, R: Log, S: ServiceSocket> WorkerSockets<'a, R, S> {
         ensures counts { self.new.counts ≡ self.old.counts }
     {
         if wants_reply(self.alloc, front) {
+            self.tally.take();
+            self.tally.sort();
             self.send(peer, report_of(front, Rcode::FORMAT_ERROR));
         }
     }
@@ -203,7 +211,10 @@ impl<'a, R: Log, S: ServiceSocket> WorkerSockets<'a, R, S> {
     fn log(&self, why: Unserved) {
         match why {
             Unserved::NoMemory => warn!(self.rt; "resolver: no memory"),
-            Unserved::TooMany => warn!(self.rt; "resolver: too many exchanges"),
+            Unserved::TooMany => {
+                self.tally.exceed();
+                warn!(self.rt; "resolver: too many exchanges");
+            }
             // It never happens at one seat: no other line fits.
             Unserved::Elsewhere => self.log_fault(),
         }
@@ -258,6 +269,7 @@ impl<'a, D: Numbered, C: Clock, R: ReadyNet + Log, S: ServiceSocket> Outside<
         if !self.pauses.lets_through(server, over, self.now) {
             return None;
         }
+        self.tally.ask(over);
         let registry = self.listener.poll.registry();
         match SocketLine::open(
             self.rt,
@@ -274,6 +286,7 @@ impl<'a, D: Numbered, C: Clock, R: ReadyNet + Log, S: ServiceSocket> Outside<
                 Some(line)
             }
             Err(_) => {
+                self.tally.give_up();
                 self.log_fault();
                 None
             }
@@ -301,8 +314,13 @@ impl<'a, D: Numbered, C: Clock, R: ReadyNet + Log, S: ServiceSocket> Outside<
             line.over(),
             self.now,
         );
-        if matches!(heard, Listened::Broken) {
-            self.log_fault();
+        match &heard {
+            Listened::Nothing => {}
+            Listened::Came(_) | Listened::NoMemory => self.tally.answer(),
+            Listened::Broken => {
+                self.tally.give_up();
+                self.log_fault();
+            }
         }
         heard
     }
@@ -318,6 +336,7 @@ impl<'a, D: Numbered, C: Clock, R: ReadyNet + Log, S: ServiceSocket> Outside<
         self.pauses
             .note_unanswered(&line.server(), line.over(), self.now);
         self.counts.expire();
+        self.tally.give_up();
         self.log_fault();
     }
 
@@ -333,6 +352,7 @@ impl<'a, D: Numbered, C: Clock, R: ReadyNet + Log, S: ServiceSocket> Outside<
     }
 
     fn pass_over(&mut self, _client: UdpClient, _octets: &[u8]) {
+        self.tally.pass_over();
         self.counts.settle();
     }
 }

@@ -18,3 +18,4 @@ pub use args::read_args;
 pub use fault::{ArgsFault, BadArgument};
 pub use laws::{defaults_law, given_law};
 pub use mode::{MOST_WORKERS, Mode, Service};
+pub use options::VERSION;

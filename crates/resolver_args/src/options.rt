@@ -28,7 +28,7 @@ impl LinesHelp {
     pub fn new(alloc: Global) -> Result<LinesHelp, AllocError> {
         Ok(LinesHelp {
             script: lines_of(alloc, Channel::Script)?,
-            control: lines_of(alloc, Channel::Control)?,
+            control: control_lines(alloc)?,
         })
     }
 }
@@ -41,8 +41,15 @@ fn lines_of(alloc: Global, channel: Channel) -> Result<String, AllocError> {
     Ok(text)
 }
 
+/// The lines of the control socket, as help shows them. A service answers the last two by itself.
+fn control_lines(alloc: Global) -> Result<String, AllocError> {
+    let mut text = lines_of(alloc, Channel::Control)?;
+    text.push_str("  status\n  stats\n")?;
+    Ok(text)
+}
+
 /// The version of the program. CHANGELOG.md lists what came with it.
-pub(crate) const VERSION: &str = "0.1.0";
+pub const VERSION: &str = "0.1.0";
 
 /// The last part of the help on `serve`.
 const SERVE_HELP: &str = "\

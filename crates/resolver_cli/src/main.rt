@@ -16,6 +16,12 @@ mod conversation;
 mod client;
 // The listening sockets of a service.
 mod sockets;
+// A book whose figures anyone can read, without its lock.
+mod book_figures;
+// What an operator can read of a service while it runs.
+mod gauges;
+// The listener and the exchange of a TCP worker, with what they do counted.
+mod tallied;
 // One worker, in a thread of its own.
 mod worker;
 // The octets with which an operator's line may begin.
@@ -24,6 +30,8 @@ mod first_octet;
 mod operator_queue;
 // The turn of an operator, and the patience with it.
 mod operator_turn;
+// The lines that a service answers by itself.
+mod own_lines;
 // The control socket of a service.
 mod operators;
 // Sweeps of a service's cache.

@@ -1,27 +1,45 @@
 //! The control socket, which serves one operator at a time.
 
+use crate::gauges::Gauges;
 use crate::operator_queue::OperatorQueue;
 use crate::operator_turn::Turn;
-use crate::worker::Lent;
-use command_text::serve_control;
+use crate::own_lines::{OwnLine, OwnLines};
+use crate::worker::{Lent, ServiceBook};
+use command_text::{Clock, serve_control};
 use dns_sockets::{MonotonicClock, REST_SECONDS};
 use front_workers::DEVICE_FAULT;
 use log::{Log, warn};
 use shared_book::{CallLedger, Seat};
-use std::alloc::Global;
+use std::alloc::{AllocError, Global};
 use std::net::TcpStream;
-use std::rt::Clock;
 use std::sync::Wait;
 use std::thread;
 use std::time::Duration;
-use streams::{CountedReader, CountedWriter, Ended};
-use undo_book::ShelfBook;
+use streams::{CountedReader, CountedWriter, Ended, Text, send};
+
+/// The text of a reply, or of the fault if there is no memory for it.
+fn text_of(made: Result<String, AllocError>) -> Text {
+    match made {
+        Ok(text) => Text::Made(text.into_bytes()),
+        Err(_) => Text::Fixed(b"error no_memory\n"),
+    }
+}
+
+/// The reply to a line of the service's own, so many seconds after the start.
+fn reply_to(alloc: Global, gauges: &Gauges, own: OwnLine, seconds: u64) -> Text {
+    match own {
+        OwnLine::Status => text_of(gauges.status(alloc, seconds)),
+        OwnLine::Stats => text_of(gauges.stats(alloc, seconds)),
+        OwnLine::ExtraWord => Text::Fixed(b"error bad_data\n"),
+    }
+}
 
 /// Obeys an operator's lines. It returns whether one of them was `stop`.
-fn obey_operator<'a, 'q, L: CallLedger, R: Wait + Clock + Log>(
+fn obey_operator<'a, 'q, L: CallLedger, R: Wait + std::rt::Clock + Log>(
     rt: &'a R,
     alloc: Global,
-    desk: &mut Seat<'_, ShelfBook, L, R>,
+    gauges: &Gauges,
+    desk: &mut Seat<'_, ServiceBook, L, R>,
     clock: &mut MonotonicClock<'_, R>,
     stream: &'a TcpStream,
     queue: &'a mut OperatorQueue<'q, R>,
@@ -30,28 +48,41 @@ fn obey_operator<'a, 'q, L: CallLedger, R: Wait + Clock + Log>(
         warn!(rt; "{DEVICE_FAULT}");
         return false;
     };
-    let mut reader = CountedReader::new(&turn);
-    let mut writer = CountedWriter::new(&turn);
-    matches!(
-        serve_control(alloc, desk, clock, &mut reader, &mut writer),
-        Ok(Ended::Stop)
-    )
+    let mut lines = OwnLines::new(&turn, &gauges.lines);
+    for _ in rt.forever() {
+        let mut reader = CountedReader::new(&mut lines);
+        let mut writer = CountedWriter::new(&turn);
+        match serve_control(alloc, desk, clock, &mut reader, &mut writer) {
+            Ok(Ended::EndOfInput) => {}
+            Ok(Ended::Stop) => return true,
+            Err(_) => return false,
+        }
+        let Some(own) = lines.take_own() else {
+            return false;
+        };
+        let reply = reply_to(alloc, gauges, own, clock.now());
+        let mut writer = CountedWriter::new(&turn);
+        if send(&mut writer, reply.as_slice()).is_err() {
+            return false;
+        }
+    }
+    unreachable!()
 }
 
 /// Obeys one operator after another, until one sends `stop`. It goes on if accepting fails, for instance because no
 /// descriptors are left: nothing but `stop` ends a service in order.
-pub(crate) fn obey_operators<L: CallLedger, R: Wait + Clock + Log>(
+pub(crate) fn obey_operators<L: CallLedger, R: Wait + std::rt::Clock + Log>(
     rt: &R,
     alloc: Global,
     lent: &Lent<'_, L>,
-    mut desk: Seat<'_, ShelfBook, L, R>,
+    mut desk: Seat<'_, ServiceBook, L, R>,
 ) {
     let mut clock = MonotonicClock::new(rt, lent.terms.start);
     let mut queue = OperatorQueue::new(rt, alloc, &lent.sockets.control);
     for _ in rt.forever() {
         match queue.next() {
             Ok(stream) => {
-                if obey_operator(rt, alloc, &mut desk, &mut clock, &stream, &mut queue) {
+                if obey_operator(rt, alloc, lent.gauges, &mut desk, &mut clock, &stream, &mut queue) {
                     return;
                 }
             }

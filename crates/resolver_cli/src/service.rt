@@ -5,12 +5,14 @@ ghost use Rattle.shared_book.specs.declared.kept.TheConstants.{MOST_RECORDED};
 ghost use Rattle.resolver_args.specs.declared.mode.TheConstants.{MOST_WORKERS};
 ghost use Rattle.resolver_args.specs.Mode.{IsService};
 
+use crate::book_figures::WatchedBook;
 use crate::fault::CliFault;
+use crate::gauges::Gauges;
 use crate::operators::obey_operators;
 use crate::sockets::{Bound, hold_descriptors, wake_all};
 use crate::sweeper::sweep_often;
 use crate::worker::{
-    Lent, OverTcp, OverUdp, Terms, pass_of, run_tcp, run_udp, tcp_workers, udp_workers,
+    Lent, OverTcp, OverUdp, ServiceBook, Terms, pass_of, run_tcp, run_udp, tcp_workers, udp_workers,
 };
 use cell_store::NameSeed;
 use dns_sockets::{descriptor_limit, place_of};
@@ -116,9 +118,10 @@ fn serve_over<L: CallLedger + Send + Sync, R>(
     rt: &R,
     alloc: Global,
     blank: Blank,
-    book: ShelfBook,
+    book: ServiceBook,
     record_limit: u64,
     terms: Terms,
+    gauges: &Gauges,
     bound: Bound,
 ) -> Result<(), CliFault>
 where
@@ -135,11 +138,11 @@ where
     requires some_parts { 1 ≤ blank.parts }
     requires limit { record_limit ≡ L.limit }
     requires recorded { (1 ≤ record_limit) × (record_limit ≤ MOST_RECORDED) }
-    requires settings { ⟦<ShelfBook as Book>⟧.settings book ≡ L.settings }
+    requires settings { ⟦<ServiceBook as Book>⟧.settings book ≡ L.settings }
     requires few_workers { terms.udp + terms.tcp ≤ MOST_WORKERS }
-    requires fresh { ⟦<ShelfBook as Book>⟧.stands_for book [] }
+    requires fresh { ⟦<ServiceBook as Book>⟧.stands_for book [] }
 {
-    let (shared, mut pass) = SharedBook::<ShelfBook, L>::new(
+    let (shared, mut pass) = SharedBook::<ServiceBook, L>::new(
         alloc,
         blank,
         book,
@@ -152,13 +155,14 @@ where
     } = bound;
     let workers = Workers {
         sweeper: pass_of(rt, &shared, &mut pass)?,
-        udp: udp_workers(rt, alloc, &shared, &mut pass, &terms, listeners)?,
+        udp: udp_workers(rt, alloc, &shared, &mut pass, &terms, &gauges.udp, listeners)?,
         wakers,
-        tcp: tcp_workers(rt, alloc, &shared, &mut pass, &terms)?,
+        tcp: tcp_workers(rt, alloc, &shared, &mut pass, &terms, &gauges.tcp)?,
     };
     let stop = AtomicBool::new(false);
     let lent = Lent {
         book: &shared,
+        gauges,
         sockets: &sockets,
         stop: &stop,
         terms,
@@ -209,12 +213,19 @@ where
     hold_descriptors(alloc, &bound.sockets.tcp, exchanges)?;
     let record_limit = service.record_limit;
     let seed = drawn_seed(rt)?;
+    let Ok(gauges) = Gauges::new(alloc, terms.udp, terms.tcp, &service.settings) else {
+        return Err(CliFault::no_memory());
+    };
+    let Ok(figures) = gauges.book.share() else {
+        return Err(CliFault::no_memory());
+    };
     // The settings are in range, so only memory can be short.
     let Ok(book) = ShelfBook::seeded(alloc, service.settings, seed) else {
         return Err(CliFault::no_memory());
     };
+    let book = WatchedBook::new(book, figures);
     let blank = Blank::new(PARTS);
-    serve_over::<Brand, R>(rt, alloc, blank, book, record_limit, terms, bound)?;
+    serve_over::<Brand, R>(rt, alloc, blank, book, record_limit, terms, &gauges, bound)?;
     info!(rt; "resolver: stopped");
     Ok(())
 }

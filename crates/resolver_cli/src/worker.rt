@@ -3,10 +3,13 @@
 ghost use Rattle.std.specs.Prelude.{◌≡◌, ◌+◌, ◌≤◌, vec_len};
 ghost use Rattle.resolver_args.specs.declared.mode.TheConstants.{MOST_WORKERS};
 
+use crate::book_figures::WatchedBook;
 use crate::fault::CliFault;
+use crate::gauges::Gauges;
 use crate::sockets::Sockets;
+use crate::tallied::{TalliedExchange, TalliedListener};
 use dns_sockets::{Connections, MonotonicClock, SocketExchange};
-use flight_sockets::{UdpListener, UdpWorker, fly_udp};
+use flight_sockets::{Tally, UdpListener, UdpWorker, fly_udp};
 use front_workers::{Tools, work_tcp};
 use log::Log;
 use rand::rngs::StdRng;
@@ -21,6 +24,9 @@ use std::sync::Wait;
 use std::sync::atomic::AtomicBool;
 use std::time::Instant;
 use undo_book::ShelfBook;
+
+/// The book of a service.
+pub(crate) type ServiceBook = WatchedBook<ShelfBook>;
 
 /// The fixed settings of a service that do not belong to its book.
 #[derive(Clone, Copy)]
@@ -44,7 +50,8 @@ pub(crate) struct Terms {
 /// The parts of a service that every thread borrows.
 #[derive(Drop)]
 pub(crate) struct Lent<'a, L: CallLedger> {
-    pub book: &'a SharedBook<ShelfBook, L>,
+    pub book: &'a SharedBook<ServiceBook, L>,
+    pub gauges: &'a Gauges,
     pub sockets: &'a Sockets,
     pub stop: &'a AtomicBool,
     pub terms: Terms,
@@ -64,6 +71,7 @@ pub(crate) struct OverTcp<'a, L: CallLedger, R: Net<Stream = TcpStream> + Clock>
     pass: Pass<L>,
     ids: StdRng,
     exchange: SocketExchange<'a, R>,
+    tally: &'a Tally,
 }
 
 /// The generator of a worker's query identifiers. It is seeded with the fixed seed and the worker's number if there is a fixed
@@ -79,7 +87,7 @@ fn generator<R: RandomSource>(rt: &R, seed: Option<u32>, number: u8) -> Result<S
 /// A pass to the book for one thread.
 pub(crate) fn pass_of<L: CallLedger, R: Wait>(
     rt: &R,
-    book: &SharedBook<ShelfBook, L>,
+    book: &SharedBook<ServiceBook, L>,
     pass: &mut Pass<L>,
 ) -> Result<Pass<L>, CliFault> {
     match book.split(rt, pass) {
@@ -92,19 +100,20 @@ pub(crate) fn pass_of<L: CallLedger, R: Wait>(
 pub(crate) fn udp_workers<'a, L: CallLedger, R>(
     rt: &'a R,
     alloc: Global,
-    book: &SharedBook<ShelfBook, L>,
+    book: &SharedBook<ServiceBook, L>,
     pass: &mut Pass<L>,
     terms: &Terms,
+    tallies: &'a [Tally],
     listeners: Vec<UdpListener>,
 ) -> Result<Vec<OverUdp<'a, L, R>>, CliFault>
 where
     R: Wait + Clock + Log + RandomSource + Net<Stream = TcpStream>,
 {
     let mut workers = Vec::new(alloc);
-    for (number, listener) in (0..terms.udp).zip(listeners) {
+    for ((number, tally), listener) in (0..terms.udp).zip(tallies).zip(listeners) {
         let own = pass_of(rt, book, pass)?;
         let ids = generator(rt, terms.seed, number)?;
-        let Ok(worker) = UdpWorker::new(rt, alloc, listener, terms.server_port, terms.start) else {
+        let Ok(worker) = UdpWorker::new(rt, tally, alloc, listener, terms.server_port, terms.start) else {
             return Err(CliFault::no_memory());
         };
         let worker = OverUdp {
@@ -123,16 +132,17 @@ where
 pub(crate) fn tcp_workers<'a, L: CallLedger, R>(
     rt: &'a R,
     alloc: Global,
-    book: &SharedBook<ShelfBook, L>,
+    book: &SharedBook<ServiceBook, L>,
     pass: &mut Pass<L>,
     terms: &Terms,
+    tallies: &'a [Tally],
 ) -> Result<Vec<OverTcp<'a, L, R>>, CliFault>
 where
     R: Wait + Clock + Log + RandomSource + Net<Stream = TcpStream>,
     requires { terms.now.udp + terms.now.tcp ≤ MOST_WORKERS }
 {
     let mut workers = Vec::new(alloc);
-    for number in terms.udp..terms.udp + terms.tcp {
+    for (number, tally) in (terms.udp..terms.udp + terms.tcp).zip(tallies) {
         let own = pass_of(rt, book, pass)?;
         let ids = generator(rt, terms.seed, number)?;
         let Ok(exchange) = SocketExchange::new(rt, alloc, terms.place) else {
@@ -142,6 +152,7 @@ where
             pass: own,
             ids,
             exchange,
+            tally,
         };
         if workers.push(worker).is_err() {
             return Err(CliFault::no_memory());
@@ -193,14 +204,16 @@ where
         pass,
         ids,
         exchange,
+        tally,
     } = over;
     let mut desk = Seat::new(rt, alloc, lent.book, pass);
     let mut tools = Tools {
-        exchange,
+        exchange: TalliedExchange::new(exchange, tally),
         clock: MonotonicClock::new(rt, lent.terms.start),
         ids,
         server_port: lent.terms.server_port,
     };
-    let mut connections = Connections::new(rt, alloc, &lent.sockets.tcp, lent.stop);
-    work_tcp(rt, alloc, &mut desk, &mut connections, &mut tools);
+    let connections = Connections::new(rt, alloc, &lent.sockets.tcp, lent.stop);
+    let mut listener = TalliedListener::new(connections, tally);
+    work_tcp(rt, alloc, &mut desk, &mut listener, &mut tools);
 }

@@ -1,0 +1,169 @@
+//! A book whose figures anyone can read, without its lock.
+
+use dns_name::{Name, NoMemory};
+use dns_text::{Question, Shared};
+use history::{Ask, Book, Event, Look, Reply, Seen, Servers, Settings, StepFault};
+use local_zone::ZoneTable;
+use std::sync::atomic::{AtomicU64, Ordering};
+use stub_table::StubTable;
+
+/// The figures of a book. The book writes them at each event that may change them, under its lock. Anyone reads them, and neither
+/// waits for the other.
+#[derive(Drop)]
+pub(crate) struct BookFigures {
+    /// The cells that are stored, and the most that may be.
+    pub cells: AtomicU64,
+    pub most_cells: u64,
+    /// The admissions that found all cells full.
+    pub full: AtomicU64,
+    /// The local zones, their records, and the stubs.
+    pub zones: AtomicU64,
+    pub records: AtomicU64,
+    pub stubs: AtomicU64,
+    /// The commands in the journal that are done and undone, and the most that it may have.
+    pub done: AtomicU64,
+    pub undone: AtomicU64,
+    pub most_commands: u64,
+    /// The ticket of the newest command, or 0.
+    pub ticket: AtomicU64,
+}
+
+/// The value of a figure.
+pub(crate) fn read(figure: &AtomicU64) -> u64 {
+    figure.load(Ordering::SeqCst)
+}
+
+/// Sets a figure.
+fn set(figure: &AtomicU64, value: u64) {
+    figure.store(value, Ordering::SeqCst);
+}
+
+impl BookFigures {
+    /// The figures of a book that has taken no event.
+    pub fn new(settings: &Settings) -> BookFigures {
+        BookFigures {
+            cells: AtomicU64::new(0),
+            most_cells: settings.cells as u64,
+            full: AtomicU64::new(0),
+            zones: AtomicU64::new(0),
+            records: AtomicU64::new(0),
+            stubs: AtomicU64::new(0),
+            done: AtomicU64::new(0),
+            undone: AtomicU64::new(0),
+            most_commands: settings.journal as u64,
+            ticket: AtomicU64::new(0),
+        }
+    }
+
+    /// Notes how many commands are done and undone. If there are more than the journal may have, it has dropped the oldest.
+    fn note_commands(&self, done: u64, undone: u64) {
+        set(&self.done, done.min(self.most_commands));
+        set(&self.undone, undone);
+    }
+
+    /// Notes the tables.
+    fn note_tables<B: Book>(&self, book: &B) {
+        let local = book.zones();
+        set(&self.zones, local.zones().len() as u64);
+        set(&self.records, local.records().len() as u64);
+        set(&self.stubs, book.stubs().stubs().len() as u64);
+    }
+
+    /// Notes what a reply says of the journal. After a new command none can be redone.
+    fn note_journal(&self, reply: &Reply) {
+        let done = read(&self.done);
+        let undone = read(&self.undone);
+        match reply {
+            Reply::Done { ticket } => {
+                set(&self.ticket, *ticket);
+                self.note_commands(done.saturating_add(1), 0);
+            }
+            Reply::Undone { .. } => {
+                self.note_commands(done.saturating_sub(1), undone.saturating_add(1));
+            }
+            Reply::Redone { .. } => {
+                self.note_commands(done.saturating_add(1), undone.saturating_sub(1));
+            }
+            _ => {}
+        }
+    }
+
+    /// Notes what an event did to a book. A lookup does nothing.
+    fn note<B: Book>(&self, book: &B, replied: &Result<Reply, StepFault>) {
+        match replied {
+            Ok(Reply::Seen(_)) => {}
+            Ok(Reply::Taken) | Ok(Reply::Outranked) | Ok(Reply::Swept) => {
+                set(&self.cells, book.stored() as u64);
+            }
+            Ok(reply) => {
+                set(&self.cells, book.stored() as u64);
+                self.note_journal(reply);
+                self.note_tables(book);
+            }
+            Err(StepFault::Full { .. }) => {
+                let _ = self.full.fetch_add(1, Ordering::SeqCst);
+            }
+            Err(_) => {}
+        }
+    }
+}
+
+/// A book that keeps its figures. It is that book in all else.
+#[derive(Drop)]
+pub(crate) struct WatchedBook<B: Book> {
+    book: B,
+    figures: Shared<BookFigures>,
+}
+
+impl<B: Book> WatchedBook<B> {
+    /// A book that has taken no event, and its figures.
+    pub fn new(book: B, figures: Shared<BookFigures>) -> WatchedBook<B>
+        ensures { result.book ≡ book }
+    {
+        WatchedBook { book, figures }
+    }
+}
+
+impl<B: Book> Book for WatchedBook<B> {
+    ghost stands_for = { λ watched history. B.stands_for watched.book history };
+
+    ghost settings = { λ watched. B.settings watched.book };
+
+    ghost stored = { λ watched. B.stored watched.book };
+
+    ghost has_journal = { λ watched history is. B.has_journal watched.book history is };
+
+    ghost stores_few = { λ watched history is. B.stores_few watched.book history is };
+
+    ghost one_count = { λ watched h k is also. B.one_count watched.book h k is also };
+
+    fn step(&mut self, event: Event) -> Result<Reply, StepFault> {
+        let replied = self.book.step(event);
+        self.figures.get().note(&self.book, &replied);
+        replied
+    }
+
+    fn seen(&self, ask: &Ask, moment: u64) -> Result<Seen, NoMemory> {
+        self.book.seen(ask, moment)
+    }
+
+    fn look<'a>(&'a self, question: &'a Question, moment: u64) -> Look<'a> {
+        self.book.look(question, moment)
+    }
+
+    fn zones(&self) -> &ZoneTable {
+        self.book.zones()
+    }
+
+    fn stubs(&self) -> &StubTable {
+        self.book.stubs()
+    }
+
+    fn servers(&self, name: &Name, moment: u64) -> Result<Servers, NoMemory> {
+        self.book.servers(name, moment)
+    }
+
+    fn stored(&self) -> usize {
+        self.book.stored()
+    }
+}
