@@ -101,15 +101,17 @@ def check_passed_limit(checks, count, workers, most_descriptors, room):
             strange = [words for asked, words in zip(crowd.names, crowd.words()) if words not in (answered(asked), FAILED)]
             checks.equal(f"{name}: the replies", strange, [])
             checks.check(f"{name}: exchanges at once", None if room // 2 < most <= room else f"{most}, where there is room for {room}")
-            refused = service.log().count(TOO_MANY)
+            told = service.figures()
+            refused = told["total.requestlist.exceeded"]
+            checks.equal(f"{name}: it is logged", TOO_MANY in service.log(), refused > 0)
             checks.check(f"{name}: too many", None if refused else "none is logged")
-            in_vain = service.log().count(FAULT)
+            in_vain = told["num.exchange.unanswered"]
             # Once a query was in vain, the server is passed over, and no line is logged for that.
             passed = count - len(server.asked) - refused
             checks.check(f"{name}: asked or refused", None if passed == 0 or passed > 0 and in_vain else f"{passed} are neither")
             checks.equal(f"{name}: refused or in vain", crowd.words().count(FAILED), refused + in_vain + passed)
             checks.check(f"{name}: in vain", f"{in_vain} in {took:.2f} seconds" if in_vain and took < EXCHANGE else None)
-            others = [line for line in service.log().splitlines() if not line.endswith((STARTED, TOO_MANY, FAULT))]
+            others = [line for line in service.log().splitlines() if not line.startswith((STARTED, TOO_MANY, FAULT))]
             checks.equal(f"{name}: other lines", others, [])
             checks.equal(f"{name}: descriptors", until(lambda: service.descriptors() <= before), True)
             if in_vain:
@@ -154,7 +156,7 @@ def check_liars(checks):
         checks.equal("liars: descriptors", until(lambda: service.descriptors() <= before), True)
         has_ended(checks, "liars", service, crowd)
         late = sum(name.startswith("as_it_ends") and reply == FAILED for name, reply in zip(names, crowd.words()))
-        checks.equal("liars: exchanges that came to nothing", service.log().count(FAULT), 16 * (len(WRONG) - len(REPLIED)) + late)
+        checks.equal("liars: exchanges that came to nothing", service.times(FAULT), 16 * (len(WRONG) - len(REPLIED)) + late)
 
 
 def check_no_tcp(checks):
@@ -166,7 +168,7 @@ def check_no_tcp(checks):
             checks.equal("no TCP", set(crowd.words()), {FAILED})
             checks.equal("no TCP: descriptors", until(lambda: service.descriptors() <= before), True)
             has_ended(checks, "no TCP", service, crowd)
-            checks.equal("no TCP: exchanges that came to nothing", service.log().count(FAULT), 200)
+            checks.equal("no TCP: exchanges that came to nothing", service.times(FAULT), 200)
 
 
 def check_dead_first(checks):
@@ -181,7 +183,7 @@ def check_dead_first(checks):
             checks.check("dead servers first: the silent one", None if 0 < asked <= 200 else f"it got {asked} queries")
             checks.equal("dead servers first: asked", len(server.asked), 200)
             has_ended(checks, "dead servers first", service, crowd)
-            checks.equal("dead servers first: exchanges that came to nothing", service.log().count(FAULT), 200 + asked)
+            checks.equal("dead servers first: exchanges that came to nothing", service.times(FAULT), 200 + asked)
 
 
 def check_referred(checks):
@@ -235,9 +237,9 @@ def check_own(checks, listens, host, own, replies):
         took = time.monotonic() - began
         checks.equal(name, set(crowd.words()), {FAILED})
         checks.check(f"{name}: at once", None if took < 3 * EXCHANGE else f"{took:.2f} seconds")
-        checks.equal(f"{name}: a line each", service.log().count(FAULT), 600 + replies)
         checks.equal(f"{name}: others", service.ask("n7.test.").words(), answered("n7.test."))
         has_ended(checks, name, service, crowd)
+        checks.equal(f"{name}: each is logged", service.times(FAULT), 600 + replies)
 
 
 def check_held(checks):

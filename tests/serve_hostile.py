@@ -1,6 +1,7 @@
 """`resolver serve` with name servers and clients that lie, stay silent, are slow or go away; without descriptors; and with calls of
 sockets that are interrupted or move little."""
 
+import re
 import select
 import shutil
 import socket
@@ -448,12 +449,14 @@ def check_descriptors(checks):
         replies = {service.ask(f"asked{place}.test.").words() for place in range(40)}
         checks.equal("no descriptors: 40 questions", replies, {"rcode 2"})
         checks.equal("no descriptors: what is held", service.ask("held.test.").words(), "aa | answer held.test. A 192.0.2.1")
-        faults = service.log().count(b"resolver: device fault")
         began = time.monotonic()
         with service.client("tcp") as client:
-            # The operators' listener may fail as well as the worker's, so seven faults take at least three seconds.
-            checks.equal("no descriptors: a failed accept is logged", service.logged(b"resolver: device fault", faults + 7), True)
-            checks.check("no descriptors: a failed accept waits a second", None if time.monotonic() - began >= 3 else "it does not")
+            checks.equal("no descriptors: a failed accept is logged", service.logged(b"resolver: device fault, at "), True)
+            # It is tried again each second, and the repeats are counted for ten seconds.
+            counted = re.compile(rb"^resolver: device fault, (\d+) more in 10 s, at ", re.MULTILINE)
+            checks.equal("no descriptors: repeats are counted", until(lambda: counted.search(service.log())), True)
+            repeats = int(counted.search(service.log())[1])
+            checks.check("no descriptors: a failed accept waits a second", None if 5 <= repeats <= 10 else f"{repeats} in ten seconds")
             service.limit(1_024)
             # The connection that waited may have been closed by now. The next one is served.
             client.sock.close()

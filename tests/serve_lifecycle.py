@@ -10,7 +10,7 @@ from concurrent.futures import ThreadPoolExecutor
 from lib.checks import Checks
 from lib.nameserver import NameServers, bound
 from lib.programs import RESOLVER, library, run
-from lib.service import CANNOT_LISTEN, HOST, IN_USE, STOPPED, NotReady, Service, free_port, query, until
+from lib.service import CANNOT_LISTEN, HOST, IN_USE, STOPPED, TIME, NotReady, Service, free_port, query, until
 
 FORM = "not an IP address; the form is IP@PORT, or IP for port 53"
 MANY = "too many workers; the most are 16 together"
@@ -195,14 +195,21 @@ def check_control_program(checks):
     checks.equal("control with no address of a service", (done.out, done.err, done.status), (b"", bad(f"ADDR nowhere: {FORM}"), 2))
 
 
+def words_of(log):
+    """The lines of a log, each without the time at its end."""
+    return [TIME.sub(b"", line) for line in log.splitlines()]
+
+
 def check_silent_server(checks):
     """A name server that is not there: between its start and its end the log has a line for the exchange that failed."""
     for over in ("udp", "tcp"):
         with NameServers({"127.0.0.1": {}}) as servers, Service([f"127.0.0.2@{servers.port}"]) as service:
             checks.equal(f"a dead server, over {over}", service.ask("a.test.", "A", over).words(), "rcode 2")
             checks.equal(f"a dead server, over {over}: stopped", service.stop(), STOPPED)
-            words = [line.partition(b"resolver: ")[2] for line in service.log().splitlines()]
-            checks.equal(f"a dead server, over {over}: the log", words, [b"started", b"device fault", b"stopped"])
+            cause = f"unreachable, server 127.0.0.2@{servers.port}, question a.test. A" if over == "udp" else ""
+            fault = f"resolver: device fault: {cause}" if cause else "resolver: device fault"
+            wanted = [b"resolver: started", fault.encode(), b"resolver: stopped"]
+            checks.equal(f"a dead server, over {over}: the log", words_of(service.log()), wanted)
 
 
 def check_signal(checks):
@@ -212,8 +219,7 @@ def check_signal(checks):
             service.logged(b"resolver: started")
             service.process.send_signal(number)
             checks.equal(number.name, service.wait(), (-number, b""))
-            words = [line.partition(b"resolver: ")[2] for line in service.log().splitlines()]
-            checks.equal(f"{number.name}: the log", words, [b"started"])
+            checks.equal(f"{number.name}: the log", words_of(service.log()), [b"resolver: started"])
     with Service(["192.0.2.1"], prefix=["nohup"]) as service:
         service.process.send_signal(signal.SIGHUP)
         service.obey("local_data a. 60 A 192.0.2.1")
@@ -314,7 +320,7 @@ def check_stop(checks, name, is_asked, is_loaded):
 
 
 def outlive_want():
-    """A worker that cannot accept for eighteen seconds, while nobody connects. Returns the faults in the log, whether the worker
+    """A worker that cannot accept for twenty-two seconds, while nobody connects. Returns the faults in the log, whether the worker
     ended, and its answer afterwards."""
     with Service(["192.0.2.1"]) as service:
         service.obey("local_data held.test. 60 A 192.0.2.1")
@@ -324,8 +330,8 @@ def outlive_want():
         # A worker that waits has the descriptor of its next connection; the connection after that needs one.
         with service.client("tcp") as client:
             client.ended()
-        time.sleep(18.5)
-        faults, has_ended = service.log().count(b"resolver: device fault"), b"ended by failures" in service.log()
+        time.sleep(22.5)
+        faults, has_ended = service.times(b"resolver: device fault"), b"ended by failures" in service.log()
         service.limit(1_024)
         return faults > 16, has_ended, service.ask("held.test.", "A", "tcp").words(), service.stop()
 
@@ -352,7 +358,7 @@ def main():
         waiting = pool.submit(outlive_want)
         make_all(checks)
         wanted = True, False, "aa | answer held.test. A 192.0.2.1", STOPPED
-        checks.equal("no descriptors for eighteen seconds", waiting.result(), wanted)
+        checks.equal("no descriptors for twenty-two seconds", waiting.result(), wanted)
     checks.end()
 
 

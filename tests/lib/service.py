@@ -227,6 +227,12 @@ class Service:
         """Waits until a number of lines on standard error have the words. Returns whether they came."""
         return until(lambda: sum(words in line for line in self.log().splitlines()) >= count)
 
+    def times(self, words):
+        """How often a text with these words was logged, whether it was written or counted. Those that are counted are known once the
+        service has ended, or ten seconds after the text was written."""
+        lines = [line for line in self.log().splitlines() if words in line]
+        return sum(int(more[1]) if (more := MORE.search(line)) else 1 for line in lines)
+
     def wait(self):
         """The end of a service that ends by itself: the status, and its standard output after `ready`."""
         status = self.process.wait(PATIENCE)
@@ -269,6 +275,12 @@ class Service:
 
 
 STOPPED = ("ok stopping", 0, b"")
+
+# The part of a line of the log that says how often its text came again.
+MORE = re.compile(rb", (\d+) more in 10 s, at ")
+
+# The time at the end of a line of the log.
+TIME = re.compile(rb", at (\d{4}-\d\d-\d\dT\d\d:\d\d:\d\dZ)$")
 
 
 def until(holds):

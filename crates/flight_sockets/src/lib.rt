@@ -13,6 +13,8 @@ mod service_socket;
 mod listener;
 // The client of a datagram, which waits for its reply.
 mod client;
+// The line of the log for an exchange that failed.
+mod fault_line;
 // The transport of an exchange.
 mod transport;
 // An exchange over a socket of its own.
@@ -34,6 +36,7 @@ mod turns;
 // A worker that keeps many questions in flight.
 mod udp_worker;
 
+pub use fault_line::cause_of;
 pub use limit::{MOST_EXCHANGES, SPARE_DESCRIPTORS, limits_law, most_exchanges};
 pub use listener::{UdpListener, listen_each};
 pub use mio::Waker;

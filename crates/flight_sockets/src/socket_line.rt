@@ -9,11 +9,13 @@ ghost use Rattle.flight.specs.Told.{IsHeard};
 ghost use Rattle.flight_sockets.specs.Exchanges.{IsNotToBeHad, IsQuiet};
 ghost use Rattle.flight_sockets.specs.Replies.{IsServerReply};
 
+use crate::fault_line::log_exchange;
 use crate::transport::Way;
 use dns_query::Over;
 use dns_sockets::{ReadyNet, TcpLine, UdpLine, place_of};
 use dns_text::{Addr, Octets, Shared};
 use flight::{InFlight, Listened};
+use log::Log;
 use mio::{Registry, Token};
 use std::alloc::Global;
 use std::io;
@@ -103,6 +105,19 @@ impl<R: ReadyNet> SocketLine<R> {
         ensures { result ≡ self.now.asked.over }
     {
         self.over
+    }
+
+    /// Logs that the exchange failed.
+    pub fn log_failure<T: Log>(&self, rt: &T, alloc: Global, cause: &'static str) {
+        log_exchange(rt, alloc, cause, &self.server, self.query.get().as_slice());
+    }
+
+    /// The cause for which an exchange breaks before its time is up: the system reports no other one.
+    pub fn cause(&self) -> &'static str {
+        match self.over {
+            Over::Udp => "unreachable",
+            Over::Tcp => "refused or closed",
+        }
     }
 
     /// Reads and writes as far as the socket allows.

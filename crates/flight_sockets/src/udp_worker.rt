@@ -6,6 +6,7 @@ ghost use Rattle.front_workers.specs.declared.work_end.WorkEnd.TheVariants.{Ende
 ghost use Rattle.front_workers.specs.Working.{HasFailed};
 ghost use Rattle.flight_sockets.specs.Accounts.{Accounts, fresh_worker};
 
+use crate::fault_line::cause_of;
 use crate::inbox::Inbox;
 use crate::listener::UdpListener;
 use crate::service_socket::ServiceSocket;
@@ -107,8 +108,9 @@ pub fn fly_udp<
                 more = left;
                 failed = 0;
             }
-            Err(_) => {
-                warn!(rt; "{DEVICE_FAULT}");
+            Err(error) => {
+                let cause = cause_of(&error);
+                warn!(rt; "{DEVICE_FAULT}: no datagram is received: {cause}");
                 worker.turns.count_failure();
                 more = true;
                 failed += 1;

@@ -20,6 +20,7 @@ ghost use Rattle.flight_sockets.specs.declared.inbox.TheConstants.{BATCH};
 
 use crate::buffers::Buffers;
 use crate::client::UdpClient;
+use crate::fault_line::{cause_of, log_exchange};
 use crate::inbox::{BATCH, Inbox};
 use crate::listener::UdpListener;
 use crate::outgoing::Outgoing;
@@ -78,7 +79,7 @@ pub(crate) struct WorkerSockets<'a, R, S: ServiceSocket> {
     /// Which servers are passed over, and until when.
     pauses: Pauses,
     /// The moment of the exchanges that begin and end, in milliseconds.
-    now: u64,
+    moment: u64,
     counts: Counts,
     ghost whole: { vec_len room ≡ MOST_MESSAGE },
 }
@@ -107,7 +108,7 @@ impl<'a, R: Log, S: ServiceSocket> WorkerSockets<'a, R, S> {
             waiting: Vec::new(alloc),
             buffers: Buffers::new(alloc),
             pauses: Pauses::new(alloc)?,
-            now: 0,
+            moment: 0,
             counts: Counts::new(),
         })
     }
@@ -118,8 +119,9 @@ impl<'a, R: Log, S: ServiceSocket> WorkerSockets<'a, R, S> {
     {
         let Outgoing { peer, reply } = outgoing;
         let sent = self.listener.socket.send_datagram(reply.as_slice(), *peer);
-        if sent.is_err() {
-            self.log_fault();
+        if let Err(error) = sent {
+            let cause = cause_of(&error);
+            warn!(self.rt; "{DEVICE_FAULT}: a reply is not sent: {cause}");
         }
     }
 
@@ -159,12 +161,12 @@ impl<'a, R: Log, S: ServiceSocket> WorkerSockets<'a, R, S> {
 
     /// Sets the moment of the exchanges that begin and end from now on, in milliseconds.
     pub fn set_now(&mut self, now: u64)
-        ensures now { self.new.now ≡ now }
+        ensures now { self.new.moment ≡ now }
         ensures port { self.new.server_port ≡ self.old.server_port }
         ensures counts { self.new.counts ≡ self.old.counts }
         ensures kept { self.new.waiting ≡ self.old.waiting }
     {
-        self.now = now;
+        self.moment = now;
     }
 
     /// Waits until a socket reports something, but no longer than this.
@@ -202,11 +204,6 @@ impl<'a, R: Log, S: ServiceSocket> WorkerSockets<'a, R, S> {
         }
     }
 
-    /// Logs that a datagram could not be sent, or that an exchange came to nothing.
-    fn log_fault(&self) {
-        warn!(self.rt; "{DEVICE_FAULT}");
-    }
-
     /// Logs why a client gets SERVFAIL.
     fn log(&self, why: Unserved) {
         match why {
@@ -216,7 +213,7 @@ impl<'a, R: Log, S: ServiceSocket> WorkerSockets<'a, R, S> {
                 warn!(self.rt; "resolver: too many exchanges");
             }
             // It never happens at one seat: no other line fits.
-            Unserved::Elsewhere => self.log_fault(),
+            Unserved::Elsewhere => warn!(self.rt; "{DEVICE_FAULT}"),
         }
     }
 }
@@ -261,15 +258,16 @@ impl<'a, D: Numbered, C: Clock, R: ReadyNet + Log, S: ServiceSocket> Outside<
             self.old self.new }
         ensures may_ask { OnSome result (MayAskServer R.Datagrams.opened R.Datagrams.is_at R.Connection.connected
             R.Connection.is_at over self.old.listener.place server.now) }
-        ensures failed { IfNone result (IsPaused server.now over self.old.now self.old.pauses
+        ensures failed { IfNone result (IsPaused server.now over self.old.moment self.old.pauses
             ⊎ IsNotToBeHad R.failed R.Datagrams.opened R.Datagrams.is_at R.Datagrams.failed
             self.old.listener.place server.now over) }
-        ensures pauses { HeedsPause result server.now over self.old.now self.old.pauses self.new.pauses }
+        ensures pauses { HeedsPause result server.now over self.old.moment self.old.pauses self.new.pauses }
     {
-        if !self.pauses.lets_through(server, over, self.now) {
+        if !self.pauses.lets_through(server, over, self.moment) {
             return None;
         }
         self.tally.ask(over);
+        let asked = query.share();
         let registry = self.listener.poll.registry();
         match SocketLine::open(
             self.rt,
@@ -285,9 +283,12 @@ impl<'a, D: Numbered, C: Clock, R: ReadyNet + Log, S: ServiceSocket> Outside<
                 self.counts.open();
                 Some(line)
             }
-            Err(_) => {
+            Err(error) => {
                 self.tally.give_up();
-                self.log_fault();
+                if let Ok(asked) = asked {
+                    let cause = cause_of(&error);
+                    log_exchange(self.rt, self.alloc, cause, server, asked.get().as_slice());
+                }
                 None
             }
         }
@@ -303,7 +304,7 @@ impl<'a, D: Numbered, C: Clock, R: ReadyNet + Log, S: ServiceSocket> Outside<
             (λ sockets (client : UdpClientValue) octets. IsOnItsWay S.tried sockets.waiting.items client.came.peer octets)
             self.old self.new }
         ensures nothing { result ≡ Nothing → IsQuiet R.Datagrams.sent R.Datagrams.drained R.Datagrams.reported_again line.old }
-        ensures pauses { NotesHeard result line.old.asked.server line.old.asked.over self.old.now self.old.pauses self.new.pauses }
+        ensures pauses { NotesHeard result line.old.asked.server line.old.asked.over self.old.moment self.old.pauses self.new.pauses }
     {
         let heard = line.hear(self.alloc, self.listener.poll.registry(), &mut self.room);
         self.counts.listen(&heard);
@@ -312,14 +313,14 @@ impl<'a, D: Numbered, C: Clock, R: ReadyNet + Log, S: ServiceSocket> Outside<
             &heard,
             &line.server(),
             line.over(),
-            self.now,
+            self.moment,
         );
         match &heard {
             Listened::Nothing => {}
             Listened::Came(_) | Listened::NoMemory => self.tally.answer(),
             Listened::Broken => {
                 self.tally.give_up();
-                self.log_fault();
+                line.log_failure(self.rt, self.alloc, line.cause());
             }
         }
         heard
@@ -331,13 +332,13 @@ impl<'a, D: Numbered, C: Clock, R: ReadyNet + Log, S: ServiceSocket> Outside<
         ensures keeps { Keeps (λ sockets. sockets.server_port)
             (λ sockets (client : UdpClientValue) octets. IsOnItsWay S.tried sockets.waiting.items client.came.peer octets)
             self.old self.new }
-        ensures pauses { Loses line.asked.server line.asked.over self.old.now self.old.pauses self.new.pauses }
+        ensures pauses { Loses line.asked.server line.asked.over self.old.moment self.old.pauses self.new.pauses }
     {
         self.pauses
-            .note_unanswered(&line.server(), line.over(), self.now);
+            .note_unanswered(&line.server(), line.over(), self.moment);
         self.counts.expire();
         self.tally.give_up();
-        self.log_fault();
+        line.log_failure(self.rt, self.alloc, "timed out");
     }
 
     fn give(&mut self, client: UdpClient, _octets: &[u8], reply: ReplyOctets) {

@@ -36,6 +36,10 @@ mod own_lines;
 mod operators;
 // Sweeps of a service's cache.
 mod sweeper;
+// The log of a service.
+mod service_log;
+// The runtime of a service, which logs there.
+mod service_runtime;
 // The mode `serve`: workers and operators over one shared book.
 mod service;
 
@@ -48,7 +52,7 @@ use fault::{CliFault, end_for};
 use peer::Peer;
 use resolver_args::{Mode, read_args};
 use script::obey_input;
-use service::serve;
+use service::serve_and_log;
 use std::alloc::{AllocError, Global};
 use std::io::{ErrorKind, Input, Write};
 use std::process::ExitCode;
@@ -125,7 +129,7 @@ fn end(rt: &HostRuntime, ended: Result<(), CliFault>) -> ExitCode {
 fn main(rt: HostRuntime) -> ExitCode {
     match arguments(&rt) {
         Ok(Mode::Script(settings)) => end(&rt, obey_input(&rt, settings)),
-        Ok(Mode::Serve(service)) => end(&rt, serve(&rt, rt.alloc(), service)),
+        Ok(Mode::Serve(service)) => end(&rt, serve_and_log(&rt, rt.alloc(), service)),
         Ok(
             Mode::Control {
                 addr,

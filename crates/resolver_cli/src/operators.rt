@@ -7,6 +7,7 @@ use crate::own_lines::{OwnLine, OwnLines};
 use crate::worker::{Lent, ServiceBook};
 use command_text::{Clock, serve_control};
 use dns_sockets::{MonotonicClock, REST_SECONDS};
+use flight_sockets::cause_of;
 use front_workers::DEVICE_FAULT;
 use log::{Log, warn};
 use shared_book::{CallLedger, Seat};
@@ -45,7 +46,7 @@ fn obey_operator<'a, 'q, L: CallLedger, R: Wait + std::rt::Clock + Log>(
     queue: &'a mut OperatorQueue<'q, R>,
 ) -> bool {
     let Ok(turn) = Turn::new(rt, stream, queue) else {
-        warn!(rt; "{DEVICE_FAULT}");
+        warn!(rt; "{DEVICE_FAULT}: no operator is served");
         return false;
     };
     let mut lines = OwnLines::new(&turn, &gauges.lines);
@@ -86,8 +87,9 @@ pub(crate) fn obey_operators<L: CallLedger, R: Wait + std::rt::Clock + Log>(
                     return;
                 }
             }
-            Err(_) => {
-                warn!(rt; "{DEVICE_FAULT}");
+            Err(error) => {
+                let cause = cause_of(&error);
+                warn!(rt; "{DEVICE_FAULT}: no operator is accepted: {cause}");
                 thread::sleep(rt, Duration::from_secs(REST_SECONDS));
             }
         }

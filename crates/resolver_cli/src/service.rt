@@ -9,6 +9,8 @@ use crate::book_figures::WatchedBook;
 use crate::fault::CliFault;
 use crate::gauges::Gauges;
 use crate::operators::obey_operators;
+use crate::service_log::ServiceLog;
+use crate::service_runtime::ServiceRuntime;
 use crate::sockets::{Bound, hold_descriptors, wake_all};
 use crate::sweeper::sweep_often;
 use crate::worker::{
@@ -138,9 +140,9 @@ where
     requires some_parts { 1 ≤ blank.parts }
     requires limit { record_limit ≡ L.limit }
     requires recorded { (1 ≤ record_limit) × (record_limit ≤ MOST_RECORDED) }
-    requires settings { ⟦<ServiceBook as Book>⟧.settings book ≡ L.settings }
+    requires settings { ⟦<WatchedBook<ShelfBook> as Book>⟧.settings book ≡ L.settings }
     requires few_workers { terms.udp + terms.tcp ≤ MOST_WORKERS }
-    requires fresh { ⟦<ServiceBook as Book>⟧.stands_for book [] }
+    requires fresh { ⟦<WatchedBook<ShelfBook> as Book>⟧.stands_for book [] }
 {
     let (shared, mut pass) = SharedBook::<ServiceBook, L>::new(
         alloc,
@@ -181,7 +183,7 @@ fn drawn_seed<R: RandomSource>(rt: &R) -> Result<NameSeed, CliFault> {
 }
 
 /// Serves until an operator sends `stop`.
-pub(crate) fn serve<R>(rt: &R, alloc: Global, service: Service) -> Result<(), CliFault>
+fn serve<R>(rt: &R, alloc: Global, service: Service) -> Result<(), CliFault>
 where
     R: Threads
         + Wait
@@ -225,7 +227,31 @@ where
     };
     let book = WatchedBook::new(book, figures);
     let blank = Blank::new(PARTS);
-    serve_over::<Brand, R>(rt, alloc, blank, book, record_limit, terms, &gauges, bound)?;
+    serve_over::<Brand, R>(rt, alloc, blank, book, record_limit, terms, &gauges, bound)
+}
+
+/// Serves until an operator sends `stop`, with its log on standard error.
+pub(crate) fn serve_and_log<R>(rt: &R, alloc: Global, service: Service) -> Result<(), CliFault>
+where
+    R: Threads
+        + Wait
+        + Clock
+        + Print
+        + Eprint
+        + RandomSource
+        + Sync
+        + Net<Stream = TcpStream, Listener = TcpListener>,
+    requires { IsService service }
+{
+    let Ok(start) = Instant::now(rt) else {
+        return Err(CliFault::cannot_start());
+    };
+    let Ok(log) = ServiceLog::new(rt, alloc, start) else {
+        return Err(CliFault::no_memory());
+    };
+    let rt = ServiceRuntime::new(rt, &log);
+    serve(&rt, alloc, service)?;
+    log.finish();
     info!(rt; "resolver: stopped");
     Ok(())
 }

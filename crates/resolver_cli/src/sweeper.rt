@@ -1,9 +1,11 @@
 //! The sweeper: it removes expired data from the cache, so that the cache takes memory only for live data.
 
+use crate::book_figures::{BookFigures, read};
 use crate::worker::Lent;
 use command_text::Clock;
 use dns_sockets::MonotonicClock;
 use history::{Desk, Event};
+use log::{Log, info, warn};
 use shared_book::{CallLedger, Pass, Seat};
 use std::alloc::Global;
 use std::sync::Wait;
@@ -22,7 +24,7 @@ const LEAST_MILLISECONDS: u64 = 1_000;
 const RESTS: u64 = 199;
 
 /// Sweeps now and then, until the service stops. Each sweep is an event of the history, as an operator's `sweep` is.
-pub(crate) fn sweep_often<L: CallLedger, R: Wait + std::rt::Clock>(
+pub(crate) fn sweep_often<L: CallLedger, R: Wait + std::rt::Clock + Log>(
     rt: &R,
     alloc: Global,
     lent: &Lent<'_, L>,
@@ -31,17 +33,56 @@ pub(crate) fn sweep_often<L: CallLedger, R: Wait + std::rt::Clock>(
     let mut desk = Seat::new(rt, alloc, lent.book, pass);
     let mut clock = MonotonicClock::new(rt, lent.terms.start);
     let mut due = LEAST_MILLISECONDS;
+    let mut room = Room::new();
     for _ in rt.forever() {
         if lent.stop.load(Ordering::SeqCst) {
             return;
         }
         thread::sleep(rt, Duration::from_millis(GLANCE_MILLISECONDS));
+        rt.flush();
         let began = clock.millis();
         if began >= due {
             let moment = clock.now();
             // A sweep takes no memory. The only fault is that too many events were taken, and then nothing is cached either.
             let _ = desk.call(Event::Sweep { moment });
             due = next_due(began, clock.millis());
+            room.tell(rt, lent.gauges.book.get());
+        }
+    }
+}
+
+/// What the log says of the room in the cache.
+#[derive(Drop)]
+struct Room {
+    /// Whether the last line said that the cache is full.
+    is_full: bool,
+    /// The admissions that had found no room by then.
+    seen: u64,
+}
+
+impl Room {
+    /// Nothing was said.
+    fn new() -> Room {
+        Room {
+            is_full: false,
+            seen: 0,
+        }
+    }
+
+    /// Logs that the cache is full if data found no room since the last sweep, and that it is not if none did and there is room.
+    fn tell<R: Log>(&mut self, rt: &R, book: &BookFigures) {
+        let full = read(&book.full);
+        let cells = read(&book.cells);
+        let most = book.most_cells;
+        if full > self.seen {
+            self.seen = full;
+            if !self.is_full {
+                self.is_full = true;
+                warn!(rt; "resolver: the cache is full: {most} cells are in use, and new names are not cached");
+            }
+        } else if self.is_full && cells < most {
+            self.is_full = false;
+            info!(rt; "resolver: the cache is not full any more: {cells} of {most} cells are in use");
         }
     }
 }

@@ -1,0 +1,61 @@
+//! The line of the log for an exchange that failed: the cause, the server and the question.
+
+use dns_sockets::place_of;
+use dns_text::{Addr, push_type};
+use dns_wire::{Asked, read_question};
+use front_workers::DEVICE_FAULT;
+use log::{Log, warn};
+use std::alloc::Global;
+use std::io;
+use std::io::ErrorKind;
+
+/// The error of a process that has as many descriptors as it may have.
+const EMFILE: i32 = 24;
+
+/// The error of a system that has as many descriptors as it may have.
+const ENFILE: i32 = 23;
+
+/// The cause of a failed call, in words.
+pub fn cause_of(error: &io::Error) -> &'static str {
+    let code = error.raw_os_error();
+    if code == Some(EMFILE) || code == Some(ENFILE) {
+        return "no descriptors";
+    }
+    match error.kind() {
+        ErrorKind::OutOfMemory => "no memory",
+        ErrorKind::TimedOut => "timed out",
+        ErrorKind::ConnectionRefused => "refused",
+        ErrorKind::NetworkUnreachable | ErrorKind::HostUnreachable => "unreachable",
+        ErrorKind::AddrNotAvailable => "its address is never asked",
+        _ => "failed",
+    }
+}
+
+/// The question of a query, as text. None if there is no memory for it.
+fn question_text(alloc: Global, query: &[u8]) -> Option<String> {
+    let Ok(Asked::Good(query)) = read_question(alloc, query) else {
+        return None;
+    };
+    let mut text = query.question.owner.to_text(alloc).ok()?;
+    text.push(b' ').ok()?;
+    push_type(query.question.kind, &mut text).ok()?;
+    String::from_utf8(text).ok()
+}
+
+/// Logs an exchange that failed. The question is left out if there is no memory for its text.
+pub(crate) fn log_exchange<R: Log>(
+    rt: &R,
+    alloc: Global,
+    cause: &'static str,
+    server: &Addr,
+    query: &[u8],
+) {
+    let place = place_of(server);
+    let (ip, port) = (place.ip(), place.port());
+    match question_text(alloc, query) {
+        Some(question) => {
+            warn!(rt; "{DEVICE_FAULT}: {cause}, server {ip}@{port}, question {question}");
+        }
+        None => warn!(rt; "{DEVICE_FAULT}: {cause}, server {ip}@{port}"),
+    }
+}
