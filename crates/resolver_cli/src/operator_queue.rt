@@ -62,12 +62,15 @@ pub(crate) struct OperatorQueue<'a, R: Clock> {
 }
 
 impl<'a, R: Clock> OperatorQueue<'a, R> {
-    /// The queue of a listener, in which nobody waits.
+    /// The queue of a listener, in which nobody waits. It has all its places from the start, if there is memory for them: then a
+    /// connection that waits needs none.
     pub fn new(rt: &'a R, alloc: Global, listener: &'a TcpListener) -> OperatorQueue<'a, R> {
+        let mut waiting = Vec::new(alloc);
+        let _ = waiting.reserve(MOST_WAITING);
         OperatorQueue {
             rt,
             listener,
-            waiting: Vec::new(alloc),
+            waiting,
         }
     }
 
