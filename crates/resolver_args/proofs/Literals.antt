@@ -2,6 +2,7 @@
 use Rattle.std.proofs.Common.{◌≡◌, ◌∙◌, ◌∷◌, [], ℕ, List, Option, Some, None, ap, sym, refl, codes, map}
 use Rattle.std.specs.Prelude.{option_map, unwrap_or}
 use Rattle.std.specs.Str.Parse.{digits_value, without_leading_plus}
+use Rattle.std.specs.Fmt.{digits}
 use Rattle.clap.specs.Simple.{subcommand_of}
 use Rattle.clap.specs.Walk.{Row, Text, all_of, one_of}
 use Rattle.clap.proofs.OnLiterals.{clap_on_literals}
@@ -24,27 +25,27 @@ abbrev all_in : List Text → Text → Option (Option (List Text))
 all_in words name = option_map (λ p. all_of name p.1) (subcommand_of resolver_app words)
 
 pub journal_alone : one_in alone (codes "journal") ≡ Some (Some (codes "64"))
-unfolding clap_on_literals
+unfolding clap_on_literals digits
 journal_alone = refl
 
 pub cells_alone : one_in alone (codes "cells") ≡ Some (Some (codes "100000"))
-unfolding clap_on_literals
+unfolding clap_on_literals digits
 cells_alone = refl
 
 pub port_alone : one_in alone (codes "server-port") ≡ Some (Some (codes "53"))
-unfolding clap_on_literals
+unfolding clap_on_literals digits
 port_alone = refl
 
 pub hints_alone : all_in alone (codes "HINT") ≡ Some None
-unfolding clap_on_literals
+unfolding clap_on_literals digits
 hints_alone = refl
 
 pub journal_given : one_in with_options (codes "journal") ≡ Some (Some (codes "7"))
-unfolding clap_on_literals
+unfolding clap_on_literals digits
 journal_given = refl
 
 pub hints_given : all_in with_options (codes "HINT") ≡ Some (Some (codes "192.0.2.1" ∷ []))
-unfolding clap_on_literals
+unfolding clap_on_literals digits
 hints_given = refl
 
 some_same : {X : Type 0} (a b : X) → Some a ≡ Some b → a ≡ b

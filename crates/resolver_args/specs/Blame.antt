@@ -1,5 +1,5 @@
 -- The argument that is bad, and why.
-use Rattle.std.specs.Prelude.{◌≡◌, ◌≢◌, ◌<◌, ◌+◌, ◌==◌, ◌∷◌, ℕ, [], None, if◌then◌else◌}
+use Rattle.std.specs.Prelude.{◌≡◌, ◌≢◌, ◌<◌, ◌≤◌, ◌+◌, ◌==◌, ◌∷◌, ℕ, [], None, if◌then◌else◌}
 use Rattle.clap.specs.Walk.{Text}
 use Rattle.dns_text.specs.Addr.{addr_in}
 use Rattle.history.specs.declared.limits.TheConstants.{MOST_HINTS}
@@ -29,14 +29,14 @@ BlamesWord name word _ = ⊥
 -- Of settings with so many hints one does not fit: there are too many hints, or another number is out of its range.
 abbrev pub BlamesHints : ℕ → BadArgument → Type 0
 BlamesHints count (ManyHints hints) = (hints ≡ count) × (MOST_HINTS < count)
-BlamesHints count (Unfit _) = Unit {0}
+BlamesHints count (Unfit _) = count ≤ MOST_HINTS
 BlamesHints count _ = ⊥
 
 -- A number of a service does not fit: it has no hint, too many workers, or another number is out of its range.
 abbrev pub BlamesCount : Service → BadArgument → Type 0
 BlamesCount service NoHint = service.settings.hints ≡ []
 BlamesCount service (ManyWorkers udp tcp) = (udp ≡ service.udp) × ((tcp ≡ service.tcp) × (MOST_WORKERS < udp + tcp))
-BlamesCount service (Unfit _) = Unit {0}
+BlamesCount service (Unfit _) = (service.settings.hints ≢ []) × (service.udp + service.tcp ≤ MOST_WORKERS)
 BlamesCount service _ = ⊥
 
 -- The arguments are bad for a number of this service.

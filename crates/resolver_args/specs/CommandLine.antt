@@ -1,5 +1,5 @@
 -- The command line: subcommands and their options, as clap reads them.
-use Rattle.std.specs.Prelude.{◌≡◌, ℕ, List, [], ◌∷◌, ◌++◌, Some, pos, true, false, codes}
+use Rattle.std.specs.Prelude.{◌≡◌, ℕ, List, [], ◌∷◌, ◌++◌, Some, pos, true, false, codes, decimal, ◌^◌, ◌-◌}
 use Rattle.clap.specs.Lexer.{usize_max}
 use Rattle.clap.specs.Simple.{App, Shape, app_of, new_rule, new_shape, on_top}
 use Rattle.clap.specs.Walk.{Rule, Text}
@@ -11,7 +11,8 @@ use Rattle.clap.specs.declared.builder.value_parser.ValueParser.TheVariants.{Sig
 use Rattle.shared_book.specs.declared.kept.TheConstants.{MOST_RECORDED}
 use Rattle.history.specs.declared.limits.TheConstants.{MOST_CELLS, MOST_COMMANDS}
 use Rattle.resolver_args.specs.declared.mode.TheConstants.{MOST_WORKERS}
-use Rattle.resolver_args.specs.declared.options.TheConstants.{MOST_PORT, MOST_SECONDS}
+use Rattle.resolver_args.specs.declared.options.TheConstants.{DEFAULT_CELLS, DEFAULT_JOURNAL, DEFAULT_RECORD, DEFAULT_SECONDS}
+use Rattle.resolver_args.specs.declared.options.TheConstants.{DEFAULT_SERVER_PORT, DEFAULT_WORKERS, MOST_PORT, MOST_SECONDS}
 
 -- The option `--name VALUE`, once at most.
 abbrev pub option_rule : Text → Rule
@@ -42,12 +43,12 @@ words_rule name = record (new_rule name) {
 
 -- The options on the size of the cache and of the journal.
 abbrev pub limit_rules : List Rule
-limit_rules = count_rule (codes "journal") (codes "64") MOST_COMMANDS
-    ∷ count_rule (codes "cells") (codes "100000") MOST_CELLS ∷ []
+limit_rules = count_rule (codes "journal") (decimal DEFAULT_JOURNAL) MOST_COMMANDS
+    ∷ count_rule (codes "cells") (decimal DEFAULT_CELLS) MOST_CELLS ∷ []
 
 -- The port of name servers, and the addresses of the root servers.
 abbrev pub server_rules : List Rule
-server_rules = count_rule (codes "server-port") (codes "53") MOST_PORT ∷ words_rule (codes "HINT") ∷ []
+server_rules = count_rule (codes "server-port") (decimal DEFAULT_SERVER_PORT) MOST_PORT ∷ words_rule (codes "HINT") ∷ []
 
 -- The addresses of a service.
 abbrev pub address_rules : List Rule
@@ -55,15 +56,16 @@ address_rules = required (option_rule (codes "listen")) ∷ required (option_rul
 
 -- The numbers of workers.
 abbrev pub worker_rules : List Rule
-worker_rules = count_rule (codes "udp") (codes "1") MOST_WORKERS ∷ count_rule (codes "tcp") (codes "1") MOST_WORKERS ∷ []
+worker_rules = count_rule (codes "udp") (decimal DEFAULT_WORKERS) MOST_WORKERS
+    ∷ count_rule (codes "tcp") (decimal DEFAULT_WORKERS) MOST_WORKERS ∷ []
 
 -- The length of the call log, and the seed of the query IDs.
 abbrev pub record_rules : List Rule
-record_rules = count_rule (codes "record") (codes "10000") MOST_RECORDED ∷ number_rule (codes "seed") 0 4294967295 ∷ []
+record_rules = count_rule (codes "record") (decimal DEFAULT_RECORD) MOST_RECORDED ∷ number_rule (codes "seed") 0 (2 ^ 32 - 1) ∷ []
 
 -- The time that a client has patience with a service.
 abbrev pub patience_rules : List Rule
-patience_rules = count_rule (codes "seconds") (codes "10") MOST_SECONDS ∷ []
+patience_rules = count_rule (codes "seconds") (decimal DEFAULT_SECONDS) MOST_SECONDS ∷ []
 
 -- An address and a line. Each word after the first of the line belongs to it, even if it begins with a hyphen.
 abbrev pub line_rules : List Rule

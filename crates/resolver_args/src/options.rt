@@ -5,7 +5,8 @@ ghost use Rattle.clap.specs.declared.builder.command.Command.TheViews.{out-Comma
 ghost use Rattle.clap.specs.Walk.{rule_of};
 ghost use Rattle.clap.specs.Simple.{app_of, shape_of};
 ghost use Rattle.resolver_args.specs.CommandLine.{AddsRules, option_rule, number_rule, count_rule};
-ghost use Rattle.resolver_args.specs.CommandLine.{limit_rules, server_rules, address_rules, worker_rules, record_rules, patience_rules, line_rules};
+ghost use Rattle.resolver_args.specs.CommandLine.{limit_rules, server_rules, patience_rules, line_rules};
+ghost use Rattle.resolver_args.specs.CommandLine.{address_rules, worker_rules, record_rules};
 ghost use Rattle.resolver_args.specs.CommandLine.{script_shape, serve_shape, control_shape, resolver_app};
 
 use crate::mode::MOST_WORKERS;
@@ -57,22 +58,40 @@ This service is for trials, not for production. A cache that is full of live dat
 expires. The line `stop` on the control socket ends the service.";
 
 /// The default of `--journal`.
-const DEFAULT_JOURNAL: &str = "64";
+pub const DEFAULT_JOURNAL: u32 = 64;
+
+/// `DEFAULT_JOURNAL` as text.
+const JOURNAL_TEXT: &str = "64";
 
 /// The default of `--cells`.
-const DEFAULT_CELLS: &str = "100000";
+pub const DEFAULT_CELLS: u32 = 100_000;
 
-/// The default of `--server-port`: the port of DNS.
-const DEFAULT_SERVER_PORT: &str = "53";
+/// `DEFAULT_CELLS` as text.
+const CELLS_TEXT: &str = "100000";
+
+/// The default of `--server-port`, the port of DNS (RFC 1035, section 4.2).
+pub const DEFAULT_SERVER_PORT: u32 = 53;
+
+/// `DEFAULT_SERVER_PORT` as text.
+const SERVER_PORT_TEXT: &str = "53";
 
 /// The default of `--udp` and of `--tcp`.
-const DEFAULT_WORKERS: &str = "1";
+pub const DEFAULT_WORKERS: u32 = 1;
+
+/// `DEFAULT_WORKERS` as text.
+const WORKERS_TEXT: &str = "1";
 
 /// The default of `--record`.
-const DEFAULT_RECORD: &str = "10000";
+pub const DEFAULT_RECORD: u32 = 10_000;
+
+/// `DEFAULT_RECORD` as text.
+const RECORD_TEXT: &str = "10000";
 
 /// The default of `--seconds`. A service gets to an operator within seconds, and replies in less.
-const DEFAULT_SECONDS: &str = "10";
+pub const DEFAULT_SECONDS: u32 = 10;
+
+/// `DEFAULT_SECONDS` as text.
+const SECONDS_TEXT: &str = "10";
 
 /// The most seconds that `control` waits: a day.
 const MOST_SECONDS: u32 = 86_400;
@@ -118,14 +137,14 @@ fn with_limits<'a>(alloc: Global, command: Command<'a>) -> Result<Command<'a>, A
     let journal = count(
         alloc,
         "journal",
-        DEFAULT_JOURNAL,
+        JOURNAL_TEXT,
         MOST_COMMANDS as u32,
         "The number of commands that can be undone, 1 to 256",
     );
     let cells = count(
         alloc,
         "cells",
-        DEFAULT_CELLS,
+        CELLS_TEXT,
         MOST_CELLS as u32,
         "The most sets and negative answers that the cache holds, 1 to 1000000",
     );
@@ -143,7 +162,7 @@ fn with_servers<'a>(
     let port = count(
         alloc,
         "server-port",
-        DEFAULT_SERVER_PORT,
+        SERVER_PORT_TEXT,
         MOST_PORT,
         "The port of the name servers that the cache knows, 1 to 65535",
     );
@@ -182,14 +201,14 @@ fn with_workers<'a>(alloc: Global, command: Command<'a>) -> Result<Command<'a>, 
     let udp = count(
         alloc,
         "udp",
-        DEFAULT_WORKERS,
+        WORKERS_TEXT,
         u32::from(MOST_WORKERS),
         "The number of UDP workers, at least 1, and with the TCP workers at most 16",
     );
     let tcp = count(
         alloc,
         "tcp",
-        DEFAULT_WORKERS,
+        WORKERS_TEXT,
         u32::from(MOST_WORKERS),
         "The number of TCP workers, at least 1",
     );
@@ -203,7 +222,7 @@ fn with_record<'a>(alloc: Global, command: Command<'a>) -> Result<Command<'a>, A
     let record = count(
         alloc,
         "record",
-        DEFAULT_RECORD,
+        RECORD_TEXT,
         MOST_RECORDED as u32,
         "The length of the call log, 1 to 1000000 calls",
     );
@@ -259,7 +278,7 @@ fn with_patience<'a>(alloc: Global, command: Command<'a>) -> Result<Command<'a>,
     let seconds = count(
         alloc,
         "seconds",
-        DEFAULT_SECONDS,
+        SECONDS_TEXT,
         MOST_SECONDS,
         "The most seconds to wait for a connection, and then for a reply, 1 to 86400",
     );

@@ -1,5 +1,6 @@
 use Rattle.std.proofs.Common.{rules, ◌≡◌, codes, false}
 use Rattle.std.proofs.lemmas.Result.{IfOk-weaker}
+use Rattle.std.specs.Fmt.{digits}
 use Rattle.clap.specs.Walk.{rule_of}
 use Rattle.resolver_args.specs.CommandLine.{count_rule}
 use Rattle.history.specs.declared.limits.TheConstants.{MOST_CELLS, MOST_COMMANDS}
@@ -7,6 +8,7 @@ use Rattle.resolver_args.proofs.Adding.{two_added}
 use Rattle.resolver_args.proofs.options.with_limits.Goals as goal
 
 pub returns : goal.returns
+unfolding digits
 returns c =
     let first : rule_of c.count-journal.result ≡ count_rule (codes "journal") (codes "64") MOST_COMMANDS = search rules in
     let second : rule_of c.count-cells.result ≡ count_rule (codes "cells") (codes "100000") MOST_CELLS = search rules in

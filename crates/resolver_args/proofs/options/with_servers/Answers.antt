@@ -1,5 +1,6 @@
 use Rattle.std.proofs.Common.{rules, ◌≡◌, codes, false}
 use Rattle.std.proofs.lemmas.Result.{IfOk-weaker}
+use Rattle.std.specs.Fmt.{digits}
 use Rattle.clap.specs.Walk.{rule_of}
 use Rattle.resolver_args.specs.CommandLine.{count_rule, words_rule}
 use Rattle.resolver_args.specs.declared.options.TheConstants.{MOST_PORT}
@@ -7,6 +8,7 @@ use Rattle.resolver_args.proofs.Adding.{two_added, words_are}
 use Rattle.resolver_args.proofs.options.with_servers.Goals as goal
 
 pub returns : goal.returns
+unfolding digits
 returns c =
     let first : rule_of c.count-port.result ≡ count_rule (codes "server-port") (codes "53") MOST_PORT = search rules in
     let second : rule_of c.num_args-hints.result ≡ words_rule (codes "HINT") =

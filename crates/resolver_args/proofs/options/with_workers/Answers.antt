@@ -1,5 +1,6 @@
 use Rattle.std.proofs.Common.{rules, ◌≡◌, codes, false}
 use Rattle.std.proofs.lemmas.Result.{IfOk-weaker}
+use Rattle.std.specs.Fmt.{digits}
 use Rattle.clap.specs.Walk.{rule_of}
 use Rattle.resolver_args.specs.CommandLine.{count_rule}
 use Rattle.resolver_args.specs.declared.mode.TheConstants.{MOST_WORKERS}
@@ -7,6 +8,7 @@ use Rattle.resolver_args.proofs.Adding.{two_added}
 use Rattle.resolver_args.proofs.options.with_workers.Goals as goal
 
 pub returns : goal.returns
+unfolding digits
 returns c =
     let first : rule_of c.count-udp.result ≡ count_rule (codes "udp") (codes "1") MOST_WORKERS = search rules in
     let second : rule_of c.count-tcp.result ≡ count_rule (codes "tcp") (codes "1") MOST_WORKERS = search rules in
