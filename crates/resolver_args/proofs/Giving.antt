@@ -1,5 +1,5 @@
 -- What was given, from what clap's getters answer.
-use Rattle.std.proofs.Common.{◌≡◌, ◌∙◌, ◌<◌, ◌^◌, ◌∷◌, ◌++◌, [], ℕ, List, Option, Some, None, Result, Ok, Err, map, option_map, ap, sym, refl, subst, arith, append_assoc, length, inl, inr, ◌⊎◌}
+use Rattle.std.proofs.Common.{◌≡◌, ◌∙◌, ◌<◌, ◌≤◌, ◌^◌, ◌∷◌, ◌++◌, [], ℕ, List, Option, Some, None, Result, Ok, Err, map, option_map, ap, sym, refl, subst, arith, append_assoc, length, inl, inr, ◌⊎◌}
 use Rattle.std.specs.Prelude.{Any, MatchResult, zero, suc, slice_index_or, unwrap_or}
 use Rattle.std.specs.List.{join_with_byte}
 use Rattle.std.specs.Borrow.{Bor}
@@ -10,7 +10,8 @@ use Rattle.clap.proofs.WalkLemmas.{first_value-rows, one_text-rows, raw_values-r
 use Rattle.clap.specs.declared.parser.matches.ArgMatches.{ArgMatches}
 use Rattle.dns_text.specs.declared.addr.Addr.{Addr}
 use Rattle.dns_text.specs.Addr.{addr_in}
-use Rattle.resolver_args.specs.Given.{AreAddrs, GivesAddr, GivesAddrs, GivesNumber, LacksAddr, LacksAddrs, LacksNumber, LacksOption, MayGive, WritesNumber, rows_in}
+use Rattle.resolver_args.specs.Given.{AreAddrs, GivesAddr, GivesAddrs, GivesNumber, GivesText, LacksAddr, LacksAddrs, LacksNumber, LacksOption, MayGive, WritesNumber, rows_in}
+use Rattle.resolver_args.specs.Mode.{HasCounts}
 use Rattle.resolver_args.specs.Says.{GivesService, GivesSettings, IsBad, RefusedFor}
 use Rattle.resolver_args.specs.Blame.{BlamesService, BlamesWord}
 use Rattle.resolver_args.specs.declared.fault.ArgsFault.{ArgsFault}
@@ -91,6 +92,9 @@ pub no_text : (found : ArgMatches) (name : Text) → first_value (found_of found
 no_text found name none addr given =
     let e : None ≡ Some given.0 = sym none ∙ (first_value-rows (found_of found) name ∙ given.1) in cc
 
+pub text_is : (found : ArgMatches) (name : Text) (text : Option Text) → first_value (found_of found) name ≡ text → GivesText (rows_in found) name text
+text_is found name text is = sym is ∙ first_value-rows (found_of found) name
+
 pub text_gives : (found : ArgMatches) (name text : Text) (addr : Addr) → first_value (found_of found) name ≡ Some text → addr_in text ≡ Some addr → GivesAddr (rows_in found) name addr
 text_gives found name text addr some is = (text, sym (first_value-rows (found_of found) name) ∙ some, is)
 
@@ -136,17 +140,6 @@ some_each (x ∷ xs) (y ∷ ys) e =
 pub one_addrs : (rows : List Row) (name : Text) (a b : List Addr) → GivesAddrs rows name a → GivesAddrs rows name b → a ≡ b
 one_addrs rows name a b first second = some_each a b (sym first ∙ second)
 
-pub one_addr : (rows : List Row) (name : Text) (a b : Addr) → GivesAddr rows name a → GivesAddr rows name b → a ≡ b
-one_addr rows name a b first second =
-    let same = same_text first.0 second.0 _ first.1 second.1 in
-    let e : Some a ≡ Some b = sym first.2 ∙ (ap addr_in same ∙ second.2) in cc
-
-one_option : (rows : List Row) (name : Text) (a b : Option ℕ) → MayGive rows name a → MayGive rows name b → a ≡ b
-one_option rows name None None first second = refl
-one_option rows name None (Some n) first second = let e : None ≡ Some second.0.0 = sym first ∙ second.0.1 in cc
-one_option rows name (Some m) None first second = let e : None ≡ Some first.0.0 = sym second ∙ first.0.1 in cc
-one_option rows name (Some m) (Some n) first second = ap Some (one_number rows name m n first.0 second.0)
-
 pub same_settings : (a b : Settings) → a.journal ≡ b.journal → a.cells ≡ b.cells → a.hints ≡ b.hints → a.server_port ≡ b.server_port → a ≡ b
 same_settings a b journal cells hints port =
     ap (λ (n : ℕ). record a { journal = n }) journal
@@ -160,22 +153,21 @@ one_settings rows a b first second = same_settings a b
     (one_number rows _ _ _ first.journal second.journal) (one_number rows _ _ _ first.cells second.cells)
     (one_addrs rows _ _ _ first.hints second.hints) (one_number rows _ _ _ first.server_port second.server_port)
 
-same_service : (a b : Service) → a.settings ≡ b.settings → a.listen ≡ b.listen → a.control ≡ b.control → a.udp ≡ b.udp → a.tcp ≡ b.tcp
-    → a.record_limit ≡ b.record_limit → a.seed ≡ b.seed → a ≡ b
-same_service a b settings listen control udp tcp record_limit seed =
-    ap (λ (x : Settings). record a { settings = x }) settings
-    ∙ (ap (λ (x : Addr). record a { settings = b.settings; listen = x }) listen
-    ∙ (ap (λ (x : Addr). record a { settings = b.settings; listen = b.listen; control = x }) control
-    ∙ (ap (λ (x : ℕ). record a { settings = b.settings; listen = b.listen; control = b.control; udp = x }) udp
-    ∙ (ap (λ (x : ℕ). record a { settings = b.settings; listen = b.listen; control = b.control; udp = b.udp; tcp = x }) tcp
-    ∙ (ap (λ (x : ℕ). record a { settings = b.settings; listen = b.listen; control = b.control; udp = b.udp; tcp = b.tcp; record_limit = x }) record_limit
-    ∙ ap (λ (x : Option ℕ). record a { settings = b.settings; listen = b.listen; control = b.control; udp = b.udp; tcp = b.tcp; record_limit = b.record_limit; seed = x }) seed)))))
-
-pub one_service : (rows : List Row) (a b : Service) → GivesService rows a → GivesService rows b → a ≡ b
-one_service rows a b first second = same_service a b
-    (one_settings rows _ _ first.settings second.settings) (one_addr rows _ _ _ first.listen second.listen)
-    (one_addr rows _ _ _ first.control second.control) (one_number rows _ _ _ first.udp second.udp) (one_number rows _ _ _ first.tcp second.tcp)
-    (one_number rows _ _ _ first.record_limit second.record_limit) (one_option rows _ _ _ first.seed second.seed)
+-- Two services that are given are alike but for the text of a file's path, and so are their counts.
+pub same_counts : (rows : List Row) (a b : Service) → GivesService rows a → GivesService rows b → HasCounts a → HasCounts b
+same_counts rows a b first second has =
+    let settings : a.settings ≡ b.settings = one_settings rows _ _ first.settings second.settings in
+    let udp : a.udp ≡ b.udp = one_number rows _ _ _ first.udp second.udp in
+    let tcp : a.tcp ≡ b.tcp = one_number rows _ _ _ first.tcp second.tcp in
+    let record_limit : a.record_limit ≡ b.record_limit = one_number rows _ _ _ first.record_limit second.record_limit in
+    record {
+      some_hints = subst (λ (s : Settings). 1 ≤ length s.hints) settings has.some_hints;
+      some_udp = omega arith;
+      some_tcp = omega arith;
+      few_workers = omega arith;
+      some_recorded = omega arith;
+      few_recorded = omega arith;
+    }
 
 -- One more word of a line.
 pub one_more_word : (c : ℕ) (word : Text) (words : List Text) (more : Text) → join_with_byte c (word ∷ (words ++ more ∷ [])) ≡ join_with_byte c (word ∷ words) ++ (c ∷ more)

@@ -54,6 +54,10 @@ server_rules = count_rule (codes "server-port") (decimal DEFAULT_SERVER_PORT) MO
 abbrev pub address_rules : List Rule
 address_rules = required (option_rule (codes "listen")) ∷ required (option_rule (codes "control")) ∷ []
 
+-- The file of a service's first lines.
+abbrev pub file_rules : List Rule
+file_rules = option_rule (codes "commands") ∷ []
+
 -- The numbers of workers.
 abbrev pub worker_rules : List Rule
 worker_rules = count_rule (codes "udp") (decimal DEFAULT_WORKERS) MOST_WORKERS
@@ -83,7 +87,7 @@ script_shape = record (new_shape (codes "script")) { rules = limit_rules ++ serv
 -- The subcommand `serve`.
 abbrev pub serve_shape : Shape
 serve_shape = record (new_shape (codes "serve")) {
-  rules = address_rules ++ (worker_rules ++ (limit_rules ++ (record_rules ++ server_rules)));
+  rules = address_rules ++ (file_rules ++ (worker_rules ++ (limit_rules ++ (record_rules ++ server_rules))));
 }
 
 -- The subcommand `control`.

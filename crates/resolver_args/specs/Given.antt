@@ -53,6 +53,10 @@ GivesAddrs rows name addrs = AreAddrs (unwrap_or (all_of name rows) []) addrs
 abbrev pub LacksAddrs : List Row → Text → Type 0
 LacksAddrs rows name = (addrs : List Addr) → GivesAddrs rows name addrs → ⊥
 
+-- The option has this text, or is absent.
+abbrev pub GivesText : List Row → Text → Option Text → Type 0
+GivesText rows name text = text ≡ first_of name rows
+
 -- The argument has these words, with a blank between two, or is absent.
 abbrev pub GivesLine : List Row → Text → Option Text → Type 0
 GivesLine rows name line = line ≡ option_map (join_with_byte 32) (all_of name rows)

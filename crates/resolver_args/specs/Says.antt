@@ -6,7 +6,7 @@ use Rattle.clap.specs.Walk.{Row, Text}
 use Rattle.history.specs.Event.{AreSettings}
 use Rattle.history.specs.declared.event.Settings.{Settings}
 use Rattle.resolver_args.specs.CommandLine.{resolver_app}
-use Rattle.resolver_args.specs.Given.{GivesAddr, GivesAddrs, GivesLine, GivesNumber, LacksAddr, LacksNumber, MayGive}
+use Rattle.resolver_args.specs.Given.{GivesAddr, GivesAddrs, GivesLine, GivesNumber, GivesText, LacksAddr, LacksNumber, MayGive}
 use Rattle.resolver_args.specs.Mode.{HasNumbers, IsLoopback}
 use Rattle.resolver_args.specs.declared.fault.ArgsFault.{ArgsFault}
 use Rattle.resolver_args.specs.declared.fault.ArgsFault.TheVariants.{NoMemory, Usage, BadArguments, NotLoopback}
@@ -22,6 +22,10 @@ pub record GivesSettings (rows : List Row) (settings : Settings) : Type 0 where
   pub server_port : GivesNumber rows (codes "server-port") settings.server_port
   pub has_16_bits : settings.server_port < 2 ^ 16
 
+-- The octets of a text that may be absent.
+abbrev pub text_of : {Z : Type 0} → Option (String Z) → Option Text
+text_of = option_map (λ line. line.bytes.items)
+
 -- The options and arguments have the settings of this service.
 pub record GivesService (rows : List Row) (service : Service) : Type 0 where
   pub settings : GivesSettings rows service.settings
@@ -31,10 +35,7 @@ pub record GivesService (rows : List Row) (service : Service) : Type 0 where
   pub tcp : GivesNumber rows (codes "tcp") service.tcp
   pub record_limit : GivesNumber rows (codes "record") service.record_limit
   pub seed : MayGive rows (codes "seed") service.seed
-
--- The octets of a text that may be absent.
-abbrev pub text_of : {Z : Type 0} → Option (String Z) → Option Text
-text_of = option_map (λ line. line.bytes.items)
+  pub commands : GivesText rows (codes "commands") (text_of service.commands)
 
 -- The subcommand of this name, with these options and arguments, gives this mode.
 abbrev pub Gives : Text → List Row → Mode → Type 0

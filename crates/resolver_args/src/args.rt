@@ -8,7 +8,7 @@ ghost use Rattle.clap.specs.declared.error.kind.ErrorKind.TheVariants.{OutOfMemo
 ghost use Rattle.history.specs.Event.{AreSettings};
 ghost use Rattle.resolver_args.specs.declared.mode.Mode.TheVariants.{Control, Serve};
 ghost use Rattle.resolver_args.specs.declared.fault.ArgsFault.TheVariants.{NoMemory};
-ghost use Rattle.resolver_args.specs.Given.{GivesAddr, GivesAddrs, GivesLine, GivesNumber, rows_in};
+ghost use Rattle.resolver_args.specs.Given.{GivesAddr, GivesAddrs, GivesLine, GivesNumber, GivesText, rows_in};
 ghost use Rattle.resolver_args.specs.Given.{LacksAddr, LacksAddrs, LacksNumber, LacksOption, MayGive};
 ghost use Rattle.resolver_args.specs.Mode.{HasNumbers, IsLoopback};
 ghost use Rattle.resolver_args.specs.Says.{Gives, GivesService, GivesSettings, IsBad, IsGuarded, IsUsage, LacksControl, LacksSettings};
@@ -97,6 +97,16 @@ fn addr_in(
     }
 }
 
+/// The text of an option, if it has one.
+fn text_in(alloc: Global, found: &ArgMatches<'_>, name: &str) -> Result<Option<String>, AllocError>
+    ensures { IfOk result (λ text. GivesText (rows_in found.now) name.now (text_of text)) }
+{
+    match found.get_str(name) {
+        Some(text) => Ok(Some(String::from_str(alloc, text)?)),
+        None => Ok(None),
+    }
+}
+
 /// The hints, in order.
 fn hints_in(alloc: Global, found: &ArgMatches<'_>) -> Result<Items<Addr>, ArgsFault>
     ensures given { IfOk result (GivesAddrs (rows_in found.now) (codes "HINT")) }
@@ -139,6 +149,7 @@ fn service_in(alloc: Global, found: &ArgMatches<'_>) -> Result<Service, ArgsFaul
         tcp: workers_in(found, "tcp", "--tcp")?,
         record_limit: u64::from(count_in(found, "record", "--record")?),
         seed: number_in(found, "seed", "--seed")?,
+        commands: text_in(alloc, found, "commands")?,
     };
     service.checked()
 }

@@ -43,6 +43,8 @@ pub struct Service {
     pub record_limit: u64,
     /// The seed of the query IDs, if they are not to come from the system's randomness.
     pub seed: Option<u32>,
+    /// The path of a file of lines to obey before the first query is answered.
+    pub commands: Option<String>,
 }
 
 /// The most workers, UDP and TCP together.

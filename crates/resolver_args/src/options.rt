@@ -6,7 +6,7 @@ ghost use Rattle.clap.specs.Walk.{rule_of};
 ghost use Rattle.clap.specs.Simple.{app_of, shape_of};
 ghost use Rattle.resolver_args.specs.CommandLine.{AddsRules, option_rule, number_rule, count_rule};
 ghost use Rattle.resolver_args.specs.CommandLine.{limit_rules, server_rules, patience_rules, line_rules};
-ghost use Rattle.resolver_args.specs.CommandLine.{address_rules, worker_rules, record_rules};
+ghost use Rattle.resolver_args.specs.CommandLine.{address_rules, file_rules, worker_rules, record_rules};
 ghost use Rattle.resolver_args.specs.CommandLine.{script_shape, serve_shape, control_shape, resolver_app};
 
 use crate::mode::MOST_WORKERS;
@@ -194,6 +194,19 @@ fn with_addresses<'a>(alloc: Global, command: Command<'a>) -> Result<Command<'a>
     command.arg(listen)?.arg(control)
 }
 
+/// The file of a service's first lines.
+fn with_file<'a>(alloc: Global, command: Command<'a>) -> Result<Command<'a>, AllocError>
+    ensures { IfOk result (AddsRules command.entry file_rules) }
+{
+    let file = option(
+        alloc,
+        "commands",
+        "FILE",
+        "A file of lines to obey before `ready`, as the control socket would; a refused line ends the start",
+    );
+    command.arg(file)
+}
+
 /// The workers of a service.
 fn with_workers<'a>(alloc: Global, command: Command<'a>) -> Result<Command<'a>, AllocError>
     ensures { IfOk result (AddsRules command.entry worker_rules) }
@@ -261,6 +274,7 @@ fn serve_command<'a>(alloc: Global) -> Result<Command<'a>, AllocError>
         .about("Answers queries over UDP and TCP, and obeys an operator's lines")
         .after_help(SERVE_HELP);
     let command = with_addresses(alloc, command)?;
+    let command = with_file(alloc, command)?;
     let command = with_workers(alloc, command)?;
     let command = with_limits(alloc, command)?;
     let command = with_record(alloc, command)?;

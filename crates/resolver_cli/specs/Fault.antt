@@ -56,6 +56,24 @@ CannotStart fault = ProgramEnds fault 1 (codes "resolver: cannot start")
 abbrev pub CannotListen : Addr → CliFault → Type 0
 CannotListen addr fault = EndsWhy fault 1 (codes "resolver: cannot listen on " ++ addr_text addr)
 
+-- A reason that is about the file of a service's first lines.
+abbrev pub file_reason : List ℕ → List ℕ → List ℕ
+file_reason path reason = codes "--commands " ++ path ++ codes ": " ++ reason
+
+-- A line of the file was refused, and the second line says which.
+abbrev pub IsRefused : List ℕ → List ℕ → CliFault → Type 0
+IsRefused path refusal fault =
+    (fault.status ≡ 1) × (octets_in fault.text ≡ with_end (codes "resolver: cannot start") ++ why_line (file_reason path refusal))
+
+-- The file cannot be read, and the second line says why.
+abbrev pub IsUnread : List ℕ → CliFault → Type 0
+IsUnread path fault = (fault.status ≡ 1) × (reason : List ℕ)
+    × (octets_in fault.text ≡ with_end (codes "resolver: read failed") ++ why_line (file_reason path reason))
+
+-- The file of this path cannot be read, or a line of it was refused; or memory ran out.
+abbrev pub CannotObey : List ℕ → CliFault → Type 0
+CannotObey path fault = IsUnread path fault ⊎ ((refusal : List ℕ) × IsRefused path refusal fault) ⊎ IsNoMemory fault
+
 -- No service listens at this address.
 abbrev pub HasNoService : Addr → CliFault → Type 0
 HasNoService addr fault = ProgramEnds fault 1 (codes "resolver: no service at " ++ addr_text addr)

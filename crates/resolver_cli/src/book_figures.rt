@@ -1,5 +1,7 @@
 //! A book whose figures anyone can read, without its lock.
 
+ghost use Rattle.std.specs.Prelude.{◌≡◌};
+
 use dns_name::{Name, NoMemory};
 use dns_text::{Question, Shared};
 use history::{Ask, Book, Event, Look, Reply, Seen, Servers, Settings, StepFault};

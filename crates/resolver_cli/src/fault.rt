@@ -1,9 +1,11 @@
 //! The end of a run that failed: its exit status, and the lines for standard error.
 
-ghost use Rattle.std.specs.Prelude.{◌≡◌, ◌++◌, ◌⊎◌, IfOk, OnOk, codes};
+ghost use Rattle.std.specs.Prelude.{◌≡◌, ◌++◌, ◌⊎◌, ℕ, List, IfOk, OnOk, codes};
 ghost use Rattle.dns_text.specs.Addr.{addr_text};
 ghost use Rattle.streams.specs.Split.{with_end};
-ghost use Rattle.resolver_cli.specs.Fault.{ProgramEnds, IsNoMemory, IsBadArguments, IsNotLoopback, EndsFor, IsFailedRead, IsFailedWrite, shown, why_line, HasWhy, CannotStart, CannotListen, HasNoService, HasNoReply};
+ghost use Rattle.resolver_cli.specs.Fault.{ProgramEnds, EndsFor, IsNoMemory, IsBadArguments, IsNotLoopback, HasWhy};
+ghost use Rattle.resolver_cli.specs.Fault.{IsFailedRead, IsFailedWrite, shown, why_line, CannotStart, CannotListen};
+ghost use Rattle.resolver_cli.specs.Fault.{HasNoService, HasNoReply, IsRefused, IsUnread, file_reason};
 
 use dns_name::NoMemory;
 use dns_text::{Addr, push_addr};
@@ -106,6 +108,32 @@ impl CliFault {
         }
     }
 
+    /// A line of the file of a service's first lines was refused: its number, its reply, and the line.
+    pub fn refused(alloc: Global, path: &str, refusal: &[u8]) -> CliFault
+        ensures { IsRefused path.now refusal.now result ⊎ IsNoMemory result }
+    {
+        match file_lines(alloc, b"resolver: cannot start", path, refusal) {
+            Ok(lines) => CliFault {
+                status: 1,
+                text: Text::Made(lines),
+            },
+            Err(_) => CliFault::no_memory(),
+        }
+    }
+
+    /// The file of a service's first lines cannot be read. The second line says why.
+    pub fn unread<W: Display>(alloc: Global, path: &str, why: &W) -> CliFault
+        ensures { IsUnread path.now result ⊎ IsNoMemory result }
+    {
+        match unread_lines(alloc, path, why) {
+            Ok(lines) => CliFault {
+                status: 1,
+                text: Text::Made(lines),
+            },
+            Err(_) => CliFault::no_memory(),
+        }
+    }
+
     /// No service listens at this address.
     pub fn no_service(alloc: Global, addr: &Addr) -> CliFault
         ensures { HasNoService addr.now result ⊎ IsNoMemory result }
@@ -185,6 +213,27 @@ fn unbound(alloc: Global, addr: &Addr, error: &io::Error) -> Result<Vec<u8>, NoM
     let mut lines = line_of(alloc, b"resolver: cannot listen on ", addr)?;
     push_why(&mut lines, why.as_bytes())?;
     Ok(lines)
+}
+
+/// A line of these words, and one with the path of the file of a service's first lines and a reason.
+fn file_lines(alloc: Global, words: &[u8], path: &str, reason: &[u8]) -> Result<Vec<u8>, AllocError>
+    ensures { IfOk result (λ lines. lines.items ≡ with_end words.now ++ why_line (file_reason path.now reason.now)) }
+{
+    let mut why = format!(in alloc; "--commands {path}: ")?.into_bytes();
+    why.extend_from_slice(reason)?;
+    let mut lines = Vec::from_slice(alloc, words)?;
+    lines.push(b'\n')?;
+    push_why(&mut lines, why.as_slice())?;
+    Ok(lines)
+}
+
+/// The lines for a file that cannot be read.
+fn unread_lines<W: Display>(alloc: Global, path: &str, why: &W) -> Result<Vec<u8>, AllocError>
+    ensures { IfOk result (λ lines. (reason : List ℕ) × (lines.items
+        ≡ with_end (codes "resolver: read failed") ++ why_line (file_reason path.now reason))) }
+{
+    let reason = why.to_string(alloc)?;
+    file_lines(alloc, b"resolver: read failed", path, reason.as_bytes())
 }
 
 /// A line of these words and an address.

@@ -138,13 +138,15 @@ impl Gauges {
         let records = read(&book.records);
         let stubs = read(&book.stubs);
         let mut out = format!(in alloc; "cells: {cells} of {}\n", book.most_cells)?;
-        out.push_str(format!(in alloc; "zones: {zones}\nrecords: {records}\nstubs: {stubs}\n")?.as_str())?;
+        out.push_str(format!(in alloc;
+            "zones: {zones}\nrecords: {records}\nstubs: {stubs}\n"
+        )?.as_str())?;
         let done = read(&book.done);
         let undone = read(&book.undone);
         let most = book.most_commands;
-        out.push_str(
-            format!(in alloc; "commands: {done} done, {undone} undone, {most} at most\n")?.as_str(),
-        )?;
+        out.push_str(format!(in alloc;
+            "commands: {done} done, {undone} undone, {most} at most\n"
+        )?.as_str())?;
         let ticket = read(&book.ticket);
         out.push_str(format!(in alloc; "ticket: {ticket}\n")?.as_str())?;
         Ok(out)

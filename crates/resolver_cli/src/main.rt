@@ -40,6 +40,10 @@ mod sweeper;
 mod service_log;
 // The runtime of a service, which logs there.
 mod service_runtime;
+// A reader of a file, which keeps why a read failed.
+mod file_reader;
+// The lines of a file, which a service obeys before it is ready.
+mod first_lines;
 // The mode `serve`: workers and operators over one shared book.
 mod service;
 

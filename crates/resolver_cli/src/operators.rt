@@ -9,14 +9,16 @@ use command_text::{Clock, serve_control};
 use dns_sockets::{MonotonicClock, REST_SECONDS};
 use flight_sockets::cause_of;
 use front_workers::DEVICE_FAULT;
+use history::Desk;
 use log::{Log, warn};
 use shared_book::{CallLedger, Seat};
 use std::alloc::{AllocError, Global};
+use std::io::{Read, Write};
 use std::net::TcpStream;
 use std::sync::Wait;
 use std::thread;
 use std::time::Duration;
-use streams::{CountedReader, CountedWriter, Ended, Text, send};
+use streams::{CountedReader, CountedWriter, Ended, ScriptFault, Text, send};
 
 /// The text of a reply, or of the fault if there is no memory for it.
 fn text_of(made: Result<String, AllocError>) -> Text {
@@ -35,6 +37,19 @@ fn reply_to(alloc: Global, gauges: &Gauges, own: OwnLine, seconds: u64) -> Text 
     }
 }
 
+/// Obeys lines up to the end of the input, or up to `stop`.
+fn obey_input<D: Desk, C: Clock, I: Read + Drop, O: Write + Drop>(
+    alloc: Global,
+    desk: &mut D,
+    clock: &mut C,
+    input: I,
+    output: O,
+) -> Result<Ended, ScriptFault> {
+    let mut reader = CountedReader::new(input);
+    let mut writer = CountedWriter::new(output);
+    serve_control(alloc, desk, clock, &mut reader, &mut writer)
+}
+
 /// Obeys an operator's lines. It returns whether one of them was `stop`.
 fn obey_operator<'a, 'q, L: CallLedger, R: Wait + std::rt::Clock + Log>(
     rt: &'a R,
@@ -51,9 +66,7 @@ fn obey_operator<'a, 'q, L: CallLedger, R: Wait + std::rt::Clock + Log>(
     };
     let mut lines = OwnLines::new(&turn, &gauges.lines);
     for _ in rt.forever() {
-        let mut reader = CountedReader::new(&mut lines);
-        let mut writer = CountedWriter::new(&turn);
-        match serve_control(alloc, desk, clock, &mut reader, &mut writer) {
+        match obey_input(alloc, desk, clock, &mut lines, &turn) {
             Ok(Ended::EndOfInput) => {}
             Ok(Ended::Stop) => return true,
             Err(_) => return false,
@@ -83,7 +96,15 @@ pub(crate) fn obey_operators<L: CallLedger, R: Wait + std::rt::Clock + Log>(
     for _ in rt.forever() {
         match queue.next() {
             Ok(stream) => {
-                if obey_operator(rt, alloc, lent.gauges, &mut desk, &mut clock, &stream, &mut queue) {
+                if obey_operator(
+                    rt,
+                    alloc,
+                    lent.gauges,
+                    &mut desk,
+                    &mut clock,
+                    &stream,
+                    &mut queue,
+                ) {
                     return;
                 }
             }

@@ -7,6 +7,7 @@ ghost use Rattle.resolver_args.specs.Mode.{IsService};
 
 use crate::book_figures::WatchedBook;
 use crate::fault::CliFault;
+use crate::first_lines::obey_file;
 use crate::gauges::Gauges;
 use crate::operators::obey_operators;
 use crate::service_log::ServiceLog;
@@ -17,7 +18,7 @@ use crate::worker::{
     Lent, OverTcp, OverUdp, ServiceBook, Terms, pass_of, run_tcp, run_udp, tcp_workers, udp_workers,
 };
 use cell_store::NameSeed;
-use dns_sockets::{descriptor_limit, place_of};
+use dns_sockets::{MonotonicClock, descriptor_limit, place_of};
 use flight_sockets::{Waker, most_exchanges};
 use history::Book;
 use log::{Log, info};
@@ -27,7 +28,7 @@ use std::alloc::Global;
 use std::marker::Brand;
 use std::net::{Net, TcpListener, TcpStream};
 use std::random::RandomSource;
-use std::rt::Clock;
+use std::rt::{Clock, Files};
 use std::sync::Wait;
 use std::sync::atomic::{AtomicBool, Ordering};
 use std::thread;
@@ -115,9 +116,30 @@ where
     })
 }
 
-/// Serves at these sockets, over a book that has taken no event yet.
-fn serve_over<L: CallLedger + Send + Sync, R>(
+/// Obeys the lines of the file, if there is one, and hands the pass back.
+fn obey_first<L: CallLedger, R: Wait + Clock, F: Files>(
     rt: &R,
+    files: &F,
+    alloc: Global,
+    book: &SharedBook<ServiceBook, L>,
+    start: Instant,
+    commands: &Option<String>,
+    pass: Pass<L>,
+) -> Result<Pass<L>, CliFault> {
+    let Some(path) = commands else {
+        return Ok(pass);
+    };
+    let mut desk = Seat::new(rt, alloc, book, pass);
+    let clock = MonotonicClock::new(rt, start);
+    obey_file(files, alloc, path.as_str(), &mut desk, clock)?;
+    Ok(desk.into_pass())
+}
+
+/// Serves at these sockets, over a book that has taken no event yet. First it obeys the lines of the file, if there is one:
+/// queries that arrive meanwhile wait in the sockets.
+fn serve_over<L: CallLedger + Send + Sync, R, F: Files>(
+    rt: &R,
+    files: &F,
     alloc: Global,
     blank: Blank,
     book: ServiceBook,
@@ -125,6 +147,7 @@ fn serve_over<L: CallLedger + Send + Sync, R>(
     terms: Terms,
     gauges: &Gauges,
     bound: Bound,
+    commands: &Option<String>,
 ) -> Result<(), CliFault>
 where
     R: Threads
@@ -157,7 +180,15 @@ where
     } = bound;
     let workers = Workers {
         sweeper: pass_of(rt, &shared, &mut pass)?,
-        udp: udp_workers(rt, alloc, &shared, &mut pass, &terms, &gauges.udp, listeners)?,
+        udp: udp_workers(
+            rt,
+            alloc,
+            &shared,
+            &mut pass,
+            &terms,
+            &gauges.udp,
+            listeners,
+        )?,
         wakers,
         tcp: tcp_workers(rt, alloc, &shared, &mut pass, &terms, &gauges.tcp)?,
     };
@@ -169,6 +200,7 @@ where
         stop: &stop,
         terms,
     };
+    let pass = obey_first(rt, files, alloc, &shared, terms.start, commands, pass)?;
     run(rt, alloc, &lent, workers, pass)
 }
 
@@ -183,7 +215,7 @@ fn drawn_seed<R: RandomSource>(rt: &R) -> Result<NameSeed, CliFault> {
 }
 
 /// Serves until an operator sends `stop`.
-fn serve<R>(rt: &R, alloc: Global, service: Service) -> Result<(), CliFault>
+fn serve<R, F: Files>(rt: &R, files: &F, alloc: Global, service: Service) -> Result<(), CliFault>
 where
     R: Threads
         + Wait
@@ -227,7 +259,18 @@ where
     };
     let book = WatchedBook::new(book, figures);
     let blank = Blank::new(PARTS);
-    serve_over::<Brand, R>(rt, alloc, blank, book, record_limit, terms, &gauges, bound)
+    serve_over::<Brand, R, F>(
+        rt,
+        files,
+        alloc,
+        blank,
+        book,
+        record_limit,
+        terms,
+        &gauges,
+        bound,
+        &service.commands,
+    )
 }
 
 /// Serves until an operator sends `stop`, with its log on standard error.
@@ -236,6 +279,7 @@ where
     R: Threads
         + Wait
         + Clock
+        + Files
         + Print
         + Eprint
         + RandomSource
@@ -249,9 +293,9 @@ where
     let Ok(log) = ServiceLog::new(rt, alloc, start) else {
         return Err(CliFault::no_memory());
     };
-    let rt = ServiceRuntime::new(rt, &log);
-    serve(&rt, alloc, service)?;
+    let logged = ServiceRuntime::new(rt, &log);
+    serve(&logged, rt, alloc, service)?;
     log.finish();
-    info!(rt; "resolver: stopped");
+    info!(logged; "resolver: stopped");
     Ok(())
 }

@@ -88,11 +88,13 @@ impl Recents {
     fn begin(&mut self, text: &Words, now: u64, may_leave_out: bool) -> Fate {
         if self.texts.len() < MOST_TEXTS {
             // There is room. If there were none, the text would be written again when it comes again.
-            drop(self.texts.push(Recent {
-                text: *text,
-                since: now,
-                more: 0,
-            }));
+            drop(
+                self.texts.push(Recent {
+                    text: *text,
+                    since: now,
+                    more: 0,
+                }),
+            );
         } else if may_leave_out {
             return self.leave_out(now);
         }
@@ -223,7 +225,10 @@ impl<'a, R: Wait + Clock + Eprint> ServiceLog<'a, R> {
         }
         let left_out = self.take_left_out(now);
         if left_out > 0 {
-            self.write("resolver: too many different lines: others were left out", left_out);
+            self.write(
+                "resolver: too many different lines: others were left out",
+                left_out,
+            );
         }
     }
 

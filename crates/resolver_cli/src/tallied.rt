@@ -12,24 +12,22 @@ use streams::{ReadFailed, Sink, Source, WriteFailed};
 /// The octets of a length before a message.
 const LENGTH: usize = 2;
 
-/// A reader of messages, each preceded by its length in two octets. It counts each that has come whole.
+/// The message that is coming, preceded by its length in two octets.
 #[derive(Drop)]
-pub(crate) struct TalliedReader<'a, S> {
-    source: S,
-    tally: &'a Tally,
+struct Coming {
     /// The first octet of a length of which the second has not come.
     high: Option<u8>,
     /// The octets of a message that have not come.
     left: usize,
 }
 
-impl<'a, S> TalliedReader<'a, S> {
-    /// Notes the next octet.
-    fn note(&mut self, octet: u8) {
+impl Coming {
+    /// Notes the next octet. A message that has come whole is counted.
+    fn note(&mut self, tally: &Tally, octet: u8) {
         if self.left > 0 {
             self.left -= 1;
             if self.left == 0 {
-                self.tally.take_message();
+                tally.take_message();
             }
             return;
         }
@@ -40,11 +38,19 @@ impl<'a, S> TalliedReader<'a, S> {
     }
 
     /// Notes the next octets.
-    fn note_each(&mut self, octets: &[u8]) {
+    fn note_each(&mut self, tally: &Tally, octets: &[u8]) {
         for octet in octets {
-            self.note(*octet);
+            self.note(tally, *octet);
         }
     }
+}
+
+/// A reader of messages, each preceded by its length in two octets. It counts each that has come whole.
+#[derive(Drop)]
+pub(crate) struct TalliedReader<'a, S> {
+    source: S,
+    tally: &'a Tally,
+    coming: Coming,
 }
 
 impl<'a, S: Source> Source for TalliedReader<'a, S> {
@@ -59,7 +65,7 @@ impl<'a, S: Source> Source for TalliedReader<'a, S> {
         self.tally.end_message();
         match self.source.next(room) {
             Ok(Some(count)) => {
-                self.note_each(&room[..count]);
+                self.coming.note_each(self.tally, &room[..count]);
                 Ok(Some(count))
             }
             Ok(None) => Ok(None),
@@ -126,8 +132,10 @@ impl<'a, S: Source, W: Sink, L: Listener<S, W>> Listener<TalliedReader<'a, S>, T
                 let reader = TalliedReader {
                     source,
                     tally: self.tally,
-                    high: None,
-                    left: 0,
+                    coming: Coming {
+                        high: None,
+                        left: 0,
+                    },
                 };
                 let writer = TalliedWriter {
                     sink,

@@ -113,7 +113,8 @@ where
     for ((number, tally), listener) in (0..terms.udp).zip(tallies).zip(listeners) {
         let own = pass_of(rt, book, pass)?;
         let ids = generator(rt, terms.seed, number)?;
-        let Ok(worker) = UdpWorker::new(rt, tally, alloc, listener, terms.server_port, terms.start) else {
+        let Ok(worker) = UdpWorker::new(rt, tally, alloc, listener, terms.server_port, terms.start)
+        else {
             return Err(CliFault::no_memory());
         };
         let worker = OverUdp {

@@ -4,10 +4,9 @@ use Rattle.std.proofs.lemmas.Result.{IfErr-weaker}
 use Rattle.std.proofs.lemmas.Result.{IfOk-weaker}
 use Rattle.history.specs.Event.{AreSettings}
 use Rattle.resolver_args.specs.Given.{LacksAddr, LacksNumber, LacksOption, rows_in}
-use Rattle.resolver_args.specs.Mode.{HasCounts}
 use Rattle.resolver_args.specs.Says.{GivesService, LacksService, RefusedFor, RefusesService}
 use Rattle.resolver_args.specs.declared.mode.Service.{Service}
-use Rattle.resolver_args.proofs.Giving.{blames_service, for_reason, one_service}
+use Rattle.resolver_args.proofs.Giving.{blames_service, for_reason, same_counts}
 use Rattle.resolver_args.proofs.args.service_in.Goals as goal
 
 pub returns-in_err-addr_in-clause-fault : goal.returns-in_err-addr_in-clause-fault
@@ -61,6 +60,7 @@ made c = record {
   tcp = c.in_ok-workers_in-2.field-0;
   record_limit = c.from.result;
   seed = c.in_ok-number_in.field-0;
+  commands = c.in_ok-text_in.field-0;
 }
 
 built : (c : goal.After-checked) → GivesService (rows_in c.args.found.now) (made c)
@@ -72,6 +72,7 @@ built c = record {
   tcp = c.in_ok-workers_in-2.ensures.given;
   record_limit = search rules;
   seed = c.in_ok-number_in.ensures.given;
+  commands = c.in_ok-text_in.ensures;
 }
 
 pub returns-clause-given : goal.returns-clause-given
@@ -83,6 +84,6 @@ returns-clause-fault c =
     let rows = rows_in c.args.found.now in
     let fits : AreSettings c.in_ok-settings_in.field-0 = c.in_ok-settings_in.ensures.in_range in
     IfErr-weaker c.checked.result _ _ (λ fault why. elim why as (λ w. RefusesService rows fault) [
-      | inl bad ↦ inl (inr (blames_service (made c) fault bad.0, λ service given in_range. bad.1 (subst HasCounts (one_service rows service (made c) given (built c)) in_range.1)))
+      | inl bad ↦ inl (inr (blames_service (made c) fault bad.0, λ service given in_range. bad.1 (same_counts rows service (made c) given (built c) in_range.1)))
       | inr why ↦ inr (why.0, (made c, built c, (fits, why.1.0), why.1.1))
     ]) c.checked.ensures.fault
