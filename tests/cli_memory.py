@@ -268,19 +268,69 @@ def fault_of_steps(whole, done):
     return None if again == whole else difference(again, whole)
 
 
-def check_steps(checks):
+def check_steps(checks, words, kinds, least):
     """A call that gets no memory leaves the call log, the totals and the pass as they were, and is made again."""
-    whole = run([BOOKS, "steps"]).out
-    for kind in KINDS:
-        checks.check(f"the kind {kind}", None if re.search(rb" at \d+ %s\b" % kind.encode(), whole) else "was never drawn")
+    name = " ".join(["recorded calls", *words])
+    whole = run([BOOKS, "steps", *words]).out
+    for kind in kinds:
+        checks.check(f"{name}, the kind {kind}", None if re.search(rb" at \d+ %s\b" % kind.encode(), whole) else "is none")
     wants = 0
     for nth in range(1, MOST):
-        done = run([BOOKS, "steps"], preload="refuse", REFUSE_NTH=nth)
+        done = run([BOOKS, "steps", *words], preload="refuse", REFUSE_NTH=nth)
         if not refusals(done):
             break
         wants += done.out.count(b": " + WANT + b"\n")
-        checks.check(f"recorded calls, allocation {nth} refused", fault_of_steps(whole, done))
-    checks.check("recorded calls that find no memory", None if wants > 60 else f"are {wants}")
+        checks.check(f"{name}, allocation {nth} refused", fault_of_steps(whole, done))
+    checks.check(f"{name} that find no memory", None if wants > least else f"are {wants}")
+
+
+# ---- two callers of a shared book, each in a thread of its own
+
+# The calls: the first caller sets a zone, looks, undoes that and looks again; the second brings an address and looks.
+SET, LOOK, UNDO, LOOK_AGAIN, ADMIT, LOOK_ADDRESS = range(6)
+
+# The setting that refuses the Nth allocation of each caller's thread, and those of its calls that need memory in whatever order the
+# threads run.
+THREADS = {"REFUSE_OTHER": {SET, LOOK}, "REFUSE_FIRST": {ADMIT}}
+
+
+def replies_to_callers(wants):
+    """The replies to the six calls, of which those at some places find no memory and have no effect."""
+    zones = b"end" if SET in wants else b"c. static;end"
+    replies = [
+        b"ok 1",
+        zones,
+        b"error nothing_to_undo" if SET in wants else b"undone 1",
+        zones if UNDO in wants else b"end",
+        b"taken",
+        b"unknown" if ADMIT in wants else b"found 4 60 b.test. A 192.0.2.1",
+    ]
+    return [WANT if place in wants else reply for place, reply in enumerate(replies)]
+
+
+def check_thread(checks, book, setting, needy):
+    """A call that gets no memory has no effect. The book closes, and a new book that gets the other events replies the same."""
+    found = set()
+    for nth in range(1, MOST):
+        done = run([BOOKS, "threads", book], preload="refuse", **{setting: nth})
+        if not refusals(done):
+            break
+        name = f"threads {book}, {setting} {nth}"
+        told = [line.partition(b": ")[2] for line in done.out.splitlines()[2:8]]
+        wants = {place for place, reply in enumerate(told) if reply == WANT}
+        found |= wants
+        replies = [b"caller %d: %s" % (place >= ADMIT, reply) for place, reply in enumerate(replies_to_callers(wants))]
+        entries = 6 - len(wants)
+        wanted = [b"calls", b"done", *replies, b"%d entries, %d replied alike" % (entries, entries)]
+        checks.equal(name, (done.status, done.out.splitlines()), (0, wanted))
+        checks.check(f"{name}, wants", None if len(wants) <= refusals(done) else f"are {len(wants)}")
+    checks.check(f"threads {book}, {setting}, calls that find no memory", None if needy <= found else f"are {found}")
+    return nth - 1
+
+
+def check_threads(checks):
+    lasts = [check_thread(checks, book, *thread) for book in ("plain", "shelf") for thread in THREADS.items()]
+    print(f"{sum(lasts)} runs of two threads; the longest has {max(lasts)} allocations")
 
 
 # ---- random messages
@@ -322,7 +372,9 @@ def main():
     check_start_of_rows(checks)
     for word in TABLES:
         check_table(checks, word)
-    check_steps(checks)
+    check_steps(checks, [], KINDS, 60)
+    check_steps(checks, ["two"], ["local_zone", "list_local_zones", "undo", "admit", "look"], 6)
+    check_threads(checks)
     check_drawn(checks)
     check_counts(checks)
     runs, last = sum(LAST.values()), max(LAST, key=LAST.get)

@@ -6,11 +6,13 @@
    REFUSE_EVERY=N   after the first write, every Nth
    REFUSE_SIZES=N   after the first write, the first of each size, from N octets on
    REFUSE_AFTER=N   all after the Nth write
+   REFUSE_FIRST=N   the Nth of the first thread between the first write and the second
+   REFUSE_OTHER=N   the Nth of the other threads
    REFUSE_SHARED=F  those that the file F says, which a test maps and changes while the program runs: struct shared below
 
-   On the file descriptor TELL it writes a line "refused" for each of the first two kinds. At the end it writes "refusals N" and
-   "made N", the numbers of failed and of all allocations, and "largest N", the largest allocation after the first write. No
-   program is linked with it. */
+   On the file descriptor TELL it writes a line "refused" for each of the first two kinds and of the last two before F. At the end it
+   writes "refusals N" and "made N", the numbers of failed and of all allocations, and "largest N", the largest allocation after the
+   first write. No program is linked with it. */
 #define _GNU_SOURCE
 #include <errno.h>
 #include <fcntl.h>
@@ -37,6 +39,7 @@ struct shared {
 enum { MOST_SIZES = 4096 };
 
 static long left, each, every, least_size, after, writes;
+static long first, other;
 static long made, refusals, largest;
 static int teller = -1;
 static size_t sizes[MOST_SIZES];
@@ -65,6 +68,8 @@ __attribute__((constructor)) static void start(void) {
     every = number("REFUSE_EVERY");
     least_size = number("REFUSE_SIZES");
     after = number("REFUSE_AFTER");
+    first = number("REFUSE_FIRST");
+    other = number("REFUSE_OTHER");
     left = number("REFUSE_NTH");
 }
 
@@ -101,10 +106,16 @@ static int shared_refuses(void) {
     return fails;
 }
 
+static int thread_refuses(void) {
+    if (!first && !other) return 0;
+    if (syscall(SYS_gettid) != getpid()) return is_last(&other);
+    return writes == 1 && is_last(&first);
+}
+
 static int refused(size_t size) {
     long place = __atomic_add_fetch(&made, 1, __ATOMIC_RELAXED);
     if (writes && (long)size > largest) largest = (long)size;
-    int told = is_last(&left);
+    int told = is_last(&left) || thread_refuses();
     int fails = told || shared_refuses() || (every && writes && place % every == 0) || (after && writes >= after) ||
                 (least_size && writes && (long)size >= least_size && is_new_size(size));
     if (!fails) return 0;

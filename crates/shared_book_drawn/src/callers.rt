@@ -82,7 +82,7 @@ fn with_receipts<L: CallLedger>(handed: Handed<L>, more: Vec<Receipt>) -> Result
 }
 
 /// What two have to hand in, as one.
-fn joined<B: Book, L: CallLedger, R: Wait>(
+pub fn joined<B: Book, L: CallLedger, R: Wait>(
     rt: &R,
     book: &SharedBook<B, L>,
     one: Handed<L>,

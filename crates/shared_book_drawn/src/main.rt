@@ -6,7 +6,9 @@
 //! 1, 3 and 64 commands, and the events to which both reply the same are counted. The arguments `pairs N EVENTS` do that with N
 //! pairs for each journal and so many events, and with nothing else.
 //!
-//! With the argument `steps` one caller makes such calls of a book that lies under no lock, for tests/cli_memory.py.
+//! For tests/cli_memory.py: with the argument `steps` one caller makes such calls of a book that lies under no lock. With `threads
+//! plain` and `threads shelf` two callers, in threads of their own, call a book that replays or one that keeps no history, and with
+//! `steps two` one caller makes their calls.
 #![tactic(auto)]
 
 ghost use Rattle.std.specs.Prelude.{◌≡◌, []};
@@ -17,19 +19,22 @@ mod replayed; // the record, given to a fresh book
 mod both; // drawn events, given to both books
 mod texts; // events and replies as text
 mod steps; // one caller, and calls that find no memory
+mod in_threads; // two callers in threads of their own, and calls that find no memory
 
 use both::both;
-use callers::{Handed, Stop, eight};
-use history::Book;
-use replayed::{plain, replayed};
+use callers::{Stop, eight};
+use dns_text::Shared;
+use history::{Book, Event};
+use in_threads::{of_both, two_threads};
+use replayed::{closed, plain, shelf};
 use shared_book::{Blank, CallLedger, SharedBook};
 use std::alloc::Global;
 use std::marker::Brand;
 use std::sync::Wait;
 use std::thread::Threads;
 use std::{env, io};
-use steps::steps;
-use undo_book::PlainBook;
+use steps::{drawn_events, steps};
+use undo_book::{PlainBook, ShelfBook};
 
 /// How many entries a book's record has, and to how many of them a fresh book replies the same. None where it is not closed.
 fn one_book<B: Book + Send + Sync, L: CallLedger + Send + Sync, R: Threads + Wait + Sync>(
@@ -48,15 +53,8 @@ fn one_book<B: Book + Send + Sync, L: CallLedger + Send + Sync, R: Threads + Wai
     let Ok((shared, pass)) = SharedBook::<B, L>::new(alloc, blank, book, 500) else {
         return Err(Stop);
     };
-    let Handed { pass, receipts } = eight(rt, alloc, &shared, pass, seed)?;
-    let mut passes = Vec::new(alloc);
-    if passes.push(pass).is_err() {
-        return Err(Stop);
-    }
-    match shared.close(passes, receipts) {
-        Ok(kept) => Ok(Some(replayed(alloc, kept.entries())?)),
-        Err(_) => Ok(None),
-    }
+    let handed = eight(rt, alloc, &shared, pass, seed)?;
+    closed(alloc, shared, handed)
 }
 
 fn one_book_as<R: Threads + Wait + Sync>(
@@ -103,17 +101,46 @@ fn compared<R: Print>(rt: &R, alloc: Global, pairs: u64, events: u64) -> io::Res
     println!(rt; "events {}, both books replied alike {}", given, same)
 }
 
-fn steps_as<R: Print>(rt: &R, alloc: Global) -> Result<(), Stop> {
+fn steps_as<R: Print>(rt: &R, alloc: Global, events: Vec<Shared<Event>>) -> Result<(), Stop> {
     let Ok(book) = plain(alloc) else {
         return Err(Stop);
     };
-    steps::<PlainBook, Brand, R>(rt, alloc, Blank::new(1), book)
+    steps::<PlainBook, Brand, R>(rt, alloc, Blank::new(1), book, events)
+}
+
+/// The two callers of a book that replays its history.
+fn of_plain<R: Print + Threads + Wait + Sync>(rt: &R, alloc: Global) -> Result<(), Stop> {
+    let Ok(book) = plain(alloc) else {
+        return Err(Stop);
+    };
+    two_threads::<PlainBook, Brand, R>(rt, alloc, Blank::new(2), book)
+}
+
+/// The two callers of a book that keeps no history.
+fn of_shelf<R: Print + Threads + Wait + Sync>(rt: &R, alloc: Global) -> Result<(), Stop> {
+    let Ok(book) = shelf(alloc) else {
+        return Err(Stop);
+    };
+    two_threads::<ShelfBook, Brand, R>(rt, alloc, Blank::new(2), book)
 }
 
 fn main(rt: HostRuntime) -> anyhow::Result<()> {
     let words: Vec<String> = env::args(&rt)?.collect(rt.alloc())?;
     match words.as_slice() {
-        [_, word] if word.as_str() == "steps" => Ok(steps_as(&rt, rt.alloc())?),
+        [_, word] if word.as_str() == "steps" => {
+            let events = drawn_events(rt.alloc())?;
+            Ok(steps_as(&rt, rt.alloc(), events)?)
+        }
+        [_, word, which] if word.as_str() == "steps" && which.as_str() == "two" => {
+            let events = of_both(rt.alloc())?;
+            Ok(steps_as(&rt, rt.alloc(), events)?)
+        }
+        [_, word, which] if word.as_str() == "threads" && which.as_str() == "plain" => {
+            Ok(of_plain(&rt, rt.alloc())?)
+        }
+        [_, word, which] if word.as_str() == "threads" && which.as_str() == "shelf" => {
+            Ok(of_shelf(&rt, rt.alloc())?)
+        }
         [_, word, pairs, events] if word.as_str() == "pairs" => {
             let pairs: u64 = pairs.as_str().parse()?;
             let events: u64 = events.as_str().parse()?;

@@ -2,23 +2,34 @@
 
 ghost use Rattle.std.specs.Prelude.{◌≡◌, [], IfOk};
 
-use crate::callers::Stop;
+use crate::callers::{Handed, Stop};
 use dns_text::Items;
 use history::{Book, Event, MakeFault, Reply, Settings};
-use shared_book::Receipt;
+use shared_book::{CallLedger, Receipt, SharedBook};
 use std::alloc::Global;
-use undo_book::PlainBook;
+use undo_book::{PlainBook, ShelfBook};
 
-pub fn plain(alloc: Global) -> Result<PlainBook, MakeFault>
-    ensures { IfOk result (λ b. ⟦<PlainBook as Book>⟧.stands_for b []) }
-{
-    let settings = Settings {
+fn settings(alloc: Global) -> Settings {
+    Settings {
         journal: 64,
         cells: 1_000,
         hints: Items::new(Vec::new(alloc)),
         server_port: 53,
-    };
-    PlainBook::new(alloc, settings)
+    }
+}
+
+/// A new book that replays its history.
+pub fn plain(alloc: Global) -> Result<PlainBook, MakeFault>
+    ensures { IfOk result (λ b. ⟦<PlainBook as Book>⟧.stands_for b []) }
+{
+    PlainBook::new(alloc, settings(alloc))
+}
+
+/// A new book that keeps no history.
+pub fn shelf(alloc: Global) -> Result<ShelfBook, MakeFault>
+    ensures { IfOk result (λ b. ⟦<ShelfBook as Book>⟧.stands_for b []) }
+{
+    ShelfBook::new(alloc, settings(alloc))
 }
 
 /// Whether a book replies so to an event. Its reply is dropped by a call, since the prover follows any other drop variant by
@@ -48,9 +59,27 @@ fn alike_among<B: Book>(book: &mut B, entries: &[Receipt]) -> usize {
 }
 
 /// How many entries there are, and to how many of them a fresh book replies the same.
-pub fn replayed(alloc: Global, entries: &[Receipt]) -> Result<(usize, usize), Stop> {
+fn replayed(alloc: Global, entries: &[Receipt]) -> Result<(usize, usize), Stop> {
     let Ok(mut book) = plain(alloc) else {
         return Err(Stop);
     };
     Ok((entries.len(), alike_among(&mut book, entries)))
+}
+
+/// Closes a book with what was handed in: how many entries its record has, and to how many of them a new book replies the same. None
+/// if it is not closed.
+pub fn closed<B: Book, L: CallLedger>(
+    alloc: Global,
+    book: SharedBook<B, L>,
+    handed: Handed<L>,
+) -> Result<Option<(usize, usize)>, Stop> {
+    let Handed { pass, receipts } = handed;
+    let mut passes = Vec::new(alloc);
+    if passes.push(pass).is_err() {
+        return Err(Stop);
+    }
+    match book.close(passes, receipts) {
+        Ok(kept) => Ok(Some(replayed(alloc, kept.entries())?)),
+        Err(_) => Ok(None),
+    }
 }

@@ -1,4 +1,4 @@
-//! One caller's drawn calls of a book that lies under no lock. A call that finds no memory is made once more.
+//! One caller's calls of a book that lies under no lock. A call that finds no memory is made once more.
 
 ghost use Rattle.std.specs.Prelude.{◌≡◌, []};
 
@@ -18,7 +18,7 @@ const CALLS: u32 = 80;
 pub const RECORDED: u64 = 60;
 
 /// Events of every kind, among those that are recorded too.
-fn events(alloc: Global) -> Result<Vec<Shared<Event>>, Stop> {
+pub fn drawn_events(alloc: Global) -> Result<Vec<Shared<Event>>, Stop> {
     let mut rng = Pcg32::seed_from_u64(21);
     let mut events = Vec::new(alloc);
     for _ in 0..CALLS {
@@ -83,6 +83,7 @@ pub fn steps<B: Book, L: CallLedger, R: Print>(
     alloc: Global,
     blank: Blank,
     book: B,
+    events: Vec<Shared<Event>>,
 ) -> Result<(), Stop>
     requires name { blank.name ≡ L.name }
     requires parts { blank.parts ≡ L.parts }
@@ -90,7 +91,6 @@ pub fn steps<B: Book, L: CallLedger, R: Print>(
     requires settings { B.settings book ≡ L.settings }
     requires fresh { B.stands_for book [] }
 {
-    let events = events(alloc)?;
     let Ok((mut kept, mut pass)) = Kept::<B, L>::new(alloc, blank, book, RECORDED) else {
         return Err(Stop);
     };
