@@ -1,7 +1,8 @@
 -- A column, once a flush is permanent.
 use Rattle.std.proofs.Common.{◌≡◌, ℕ, zero, suc, ◌<◌, ◌≤◌, max, Bool, true, false, cond, List, [], ◌∷◌, length, get_or, map, drop, refl, sym, ap, ◌∙◌, subst, arith}
-use Rattle.std.specs.Prelude.{fold, nat_le, nat_lt}
+use Rattle.std.specs.Prelude.{◌==◌, fold, nat_le, nat_lt}
 use Rattle.std.specs.List.{AllByRecursion}
+use Rattle.std.proofs.lemmas.Bool.{false≢true}
 use Rattle.std.proofs.lemmas.Bool.Decides.{nat_tests}
 use Rattle.ranked.specs.declared.find.Find.{Find}
 use Rattle.cell_store.specs.declared.version.Place.{Place}
@@ -106,6 +107,41 @@ forgot_starts lower slice news i same low start is =
     let low' : i < length lower = subst (λ (l : List (Version ℕ)). i < length l) same low in
     let start' : (d : Version ℕ) → (get_or lower i d).from ≡ 0 = subst (λ (l : List (Version ℕ)). (d : Version ℕ) → (get_or l i d).from ≡ 0) same start in
     subst (λ (l : List (Version ℕ)). IsFromStart l) (sym is) (drop_starts lower i low' start')
+
+-- ---- the entries after the first start after the flush
+
+lowered_length : (number : ℕ) (versions : List (Version ℕ)) → length (map (lowered number) versions) ≡ length versions
+lowered_length number [] = refl
+lowered_length number (x ∷ versions) = ap suc (lowered_length number versions)
+
+all_late : (number : ℕ) (versions : List (Version ℕ)) → ((i : ℕ) (d : Version ℕ) → i < length versions → ((get_or (map (lowered number) versions) i d).from == 0) ≡ false)
+    → AllByRecursion (λ (x : Version ℕ). number < x.from) (map (lowered number) versions)
+all_late number [] late = tt
+all_late number (x ∷ versions) late = (head (late 0 x (omega arith)), all_late number versions (λ i d low. late (suc i) d (omega arith)))
+  where
+    head : (cond (nat_le x.from number) 0 x.from == 0) ≡ false → number < cond (nat_le x.from number) 0 x.from
+    head is = split (nat_le x.from number) refl is
+      where
+        split : (b : Bool) → nat_le x.from number ≡ b → (cond b 0 x.from == 0) ≡ false → number < cond b 0 x.from
+        split true low is = absurd (false≢true (sym is))
+        split false high is = lt_of x.from number high
+
+late_after : (number : ℕ) (versions : List (Version ℕ)) (k : ℕ) → ((i : ℕ) (d : Version ℕ) → k < i → i < length versions → ((get_or (map (lowered number) versions) i d).from == 0) ≡ false)
+    → AllByRecursion (λ (x : Version ℕ). number < x.from) (drop 1 (drop k (map (lowered number) versions)))
+late_after number [] zero late = tt
+late_after number [] (suc k) late = tt
+late_after number (x ∷ versions) zero late = all_late number versions (λ i d low. late (suc i) d (omega arith) (omega arith))
+late_after number (x ∷ versions) (suc k) late = late_after number versions k (λ i d more low. late (suc i) d (omega arith) (omega arith))
+
+pub forgot_later : (number : ℕ) (versions lower slice news : List (Version ℕ)) (k : ℕ) → lower ≡ map (lowered number) versions → slice ≡ lower
+    → ((i : ℕ) (d : Version ℕ) → k < i → i < length slice → ((get_or slice i d).from == 0) ≡ false) → news ≡ drop k lower
+    → AllByRecursion (λ (x : Version ℕ). number < x.from) (drop 1 news)
+forgot_later number versions lower slice news k each same late is =
+    let all : slice ≡ map (lowered number) versions = same ∙ each in
+    let late' : (i : ℕ) (d : Version ℕ) → k < i → i < length (map (lowered number) versions) → ((get_or (map (lowered number) versions) i d).from == 0) ≡ false =
+    subst (λ (l : List (Version ℕ)). (i : ℕ) (d : Version ℕ) → k < i → i < length l → ((get_or l i d).from == 0) ≡ false) all late in
+    subst (λ (l : List (Version ℕ)). AllByRecursion (λ (x : Version ℕ). number < x.from) (drop 1 l)) (sym (is ∙ ap (drop k) each))
+    (late_after number versions k (λ i d more low. late' i d more (subst (λ n. i < n) (sym (lowered_length number versions)) low)))
 
 -- users see the first entry start at version 0 too
 pub seen_starts : (finds : List Find) (versions : List (Version ℕ)) → IsFromStart versions → IsFromStart (map (version_of finds) versions)

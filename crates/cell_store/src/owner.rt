@@ -175,6 +175,8 @@ impl OwnerCells {
         ensures settles { KeepsSettling self.old self.new }
         ensures places { HasSamePlaces self.old self.new }
         ensures opened { OnOk result ((n : ℕ) → CanSettle n kind self.new) }
+        ensures still { self.old.whole ≡ None → self.new ≡ self.old }
+        ensures free { self.old.whole ≡ None → IsOk result }
     {
         if self.whole.is_none() {
             return Ok(());

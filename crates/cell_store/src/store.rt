@@ -2,6 +2,7 @@
 
 ghost use Rattle.std.specs.Prelude.{◌≡◌, ◌<◌, ◌≤◌, ◌==◌, ◌&&◌, ◌+◌, ◌^◌, ℕ, None, not, true, IsOk, OnOk, OnErr, if◌then◌else◌};
 ghost use Rattle.std.specs.List.{AllByRecursion, list_any};
+ghost use Rattle.indexmap.specs.IndexMap.{get};
 ghost use Rattle.dns_name.specs.Labels.{Labels};
 ghost use Rattle.dns_name.specs.Order.{name_eq};
 ghost use Rattle.dns_name.specs.Below.{is_at_or_below};
@@ -150,6 +151,7 @@ pub fn has_place(owners: &Owners, find: &Find) -> bool
 /// Removes a name, from every version. It takes no memory.
 pub fn forget(owners: &mut Owners, stored: &mut u64, owner: &Name)
     requires counted { stored.old ≡ stored_in owners.old }
+    ensures gone { get name_eq owners.new owner.now ≡ None }
     ensures cells { (q : Question) (v : ℕ) →
         cell_of owners.new q v ≡ (if name_eq owner.now q.owner then None else cell_of owners.old q v) }
     ensures upto { KeepUpTo owners.old owners.new }

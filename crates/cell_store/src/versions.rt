@@ -1,6 +1,6 @@
 //! One change made in each version of a column.
 
-ghost use Rattle.std.specs.Prelude.{◌≡◌, ◌<◌, ◌≤◌, ℕ, true, max, map, length, drop, slice_index_or, vec_capacity};
+ghost use Rattle.std.specs.Prelude.{◌≡◌, ◌<◌, ◌≤◌, ◌==◌, ℕ, true, false, max, map, length, drop, slice_index_or, vec_capacity};
 ghost use Rattle.std.specs.List.{AllByRecursion, list_any};
 ghost use Rattle.cell_store.specs.Count.{has_find};
 ghost use Rattle.ranked.specs.Find.{admission_of};
@@ -46,6 +46,8 @@ fn last_start(versions: &[Version<usize>]) -> usize
     requires starts { IsFromStart versions.now }
     ensures within { result < length versions.now }
     ensures start { (d : Version ℕ) → (slice_index_or versions.now result d).from ≡ 0 }
+    ensures last { (i : ℕ) (d : Version ℕ) → result < i → i < length versions.now →
+        ((slice_index_or versions.now i d).from == 0) ≡ false }
 {
     let mut last = 0;
     for (place, version) in versions.iter().enumerate() {
@@ -71,7 +73,8 @@ pub(crate) fn forget_before(versions: &mut Vec<Version<usize>>, number: u64)
     ensures within { (slots : ℕ) →
         AllByRecursion (IsWithin slots) versions.old.items → AllByRecursion (IsWithin slots) versions.new.items }
     ensures fewer { length versions.new.items ≤ length versions.old.items }
-    ensures starts { IsFromStart versions.new.items }
+    ensures starts { IsFromStart versions.new.items
+        × AllByRecursion (λ version. number < version.from) (drop 1 versions.new.items) }
     ensures finds { list_any has_find versions.new.items ≡ true → list_any has_find versions.old.items ≡ true }
     ensures ranked { AreRanked versions.old.items → AreRanked versions.new.items }
     ensures capacity { vec_capacity versions.new ≡ vec_capacity versions.old }

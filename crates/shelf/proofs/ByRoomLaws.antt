@@ -1,6 +1,6 @@
 -- What the room decides of an admission.
 use Rattle.std.proofs.Common.{◌≡◌, ℕ, ◌≤◌, Bool, true, false, List, refl, sym, ap, ◌∙◌, subst}
-use Rattle.std.specs.Prelude.{Result, Ok, Err, IfErr, IsErr, IsOk, IsErrOf, ◌||◌, ◌&&◌, not}
+use Rattle.std.specs.Prelude.{Result, Ok, Err, IfErr, IsOk, IsErrOf, ◌||◌, ◌&&◌, not}
 use Rattle.std.proofs.lemmas.Bool.{false≢true}
 use Rattle.indexmap.specs.IndexMap.{IndexMap}
 use Rattle.dns_name.specs.Labels.{Labels}
@@ -35,6 +35,7 @@ by_room_ok {T} shelf find moment result x is room =
     let ok : IsOk result = subst (λ (r : Result T StoreFault). IsOk r) (sym is) refl in
     record {
       full = λ h. absurd (room h.0 h.1);
+      unneeded = λ h. ok;
       counted = λ h. ok;
       alive = λ h. ok;
       replayed = λ told of h. ok;
@@ -46,10 +47,11 @@ no_place : (h w : Bool) → (not h && w) ≡ true → h ≡ true → ⊥
 no_place true w is has = false≢true is
 no_place false w is has = false≢true has
 
-pub by_room_full : {T : Type 0} (shelf : Shelf) → IsShelf shelf → (find : Find) (moment : ℕ) (result : Result T StoreFault) (fault : StoreFault) → result ≡ Err fault → (shelf.stored ≡ shelf.limit) × (needs_place shelf find moment ≡ true)
+pub by_room_full : {T : Type 0} (shelf : Shelf) → IsShelf shelf → (find : Find) (moment : ℕ) (result : Result T StoreFault) (n : ℕ) → result ≡ Err (Full n) → n ≡ shelf.stored → (shelf.stored ≡ shelf.limit) × (needs_place shelf find moment ≡ true)
     → ((told : List Told) → HasAdmittedEach told shelf → shelf.limit ≤ count_pairs (pairs_in told)) → IsByRoom shelf find moment result
-by_room_full {T} shelf is find moment result fault failed full many = record {
-  full = λ h. subst (λ (r : Result T StoreFault). IsErr r) (sym failed) refl;
+by_room_full {T} shelf is find moment result n failed all full many = record {
+  full = λ h. failed ∙ ap (λ k. Err (Full k)) all;
+  unneeded = λ h. absurd (false≢true (sym h ∙ full.1));
   counted = λ h. absurd (none h);
   alive = λ h. absurd (none (placed_face shelf is moment (pair_of find) h));
   replayed = λ told of h. absurd (none (placed_replay shelf is told of moment (pair_of find) h));
@@ -64,9 +66,10 @@ full_not : {T : Type 0} (result : Result T StoreFault) → IfErr result (λ faul
 full_not {T} result is n of = let both : Full n ≡ NoMemory = subst (λ (r : Result T StoreFault). IfErr r (λ fault. fault ≡ NoMemory)) of is in absurd cc
 
 pub by_room_free : {T : Type 0} (shelf : Shelf) → IsShelf shelf → (find : Find) (moment : ℕ) (result : Result T StoreFault) → (shelf.stored ≡ shelf.limit → needs_place shelf find moment ≡ true → ⊥)
-    → IfErr result (λ fault. fault ≡ NoMemory) → (has_place_for shelf.owners find ≡ true → IsOk result) → IsByRoom shelf find moment result
-by_room_free shelf is find moment result room fault free = record {
+    → (needs_place shelf find moment ≡ false → has_place_for shelf.owners find ≡ true) → IfErr result (λ fault. fault ≡ NoMemory) → (has_place_for shelf.owners find ≡ true → IsOk result) → IsByRoom shelf find moment result
+by_room_free shelf is find moment result room has fault free = record {
   full = λ h. absurd (room h.0 h.1);
+  unneeded = λ h. free (has h);
   counted = free;
   alive = λ h. free (placed_face shelf is moment (pair_of find) h);
   replayed = λ told of h. free (placed_replay shelf is told of moment (pair_of find) h);

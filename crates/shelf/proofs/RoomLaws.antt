@@ -186,6 +186,15 @@ not_both shelf find moment is same needs = data_free (is ∙ full_room shelf fin
 pub not_needed : (shelf : Shelf) (find : Find) (moment : ℕ) → room.Unwanted ≡ room_for shelf find moment → shelf.stored ≡ shelf.limit → needs_place shelf find moment ≡ true → ⊥
 not_needed shelf find moment is same needs = let e : room.Unwanted ≡ room.Full = is ∙ full_room shelf find moment same needs in cc
 
+-- it has a place, or needs one
+pub has_or_needs : (shelf : Shelf) (find : Find) (moment : ℕ) → room.Free ≡ room_for shelf find moment → needs_place shelf find moment ≡ false → has_place_for shelf.owners find ≡ true
+has_or_needs shelf find moment is = split (has_place_for shelf.owners find) (is_wanted shelf find moment find.scope) (shelf.stored == shelf.limit) is
+  where
+    split : (h w e : Bool) → room.Free ≡ cond h room.Free (cond w (cond e room.Full room.Free) room.Unwanted) → (not h && w) ≡ false → h ≡ true
+    split true w e is none = refl
+    split false true e is none = absurd (false≢true (sym none))
+    split false false e is none = absurd cc
+
 -- memory is refused only for a find whose place is not counted yet
 pub fault_of : {T : Type 0} (shelf : Shelf) (find : Find) (moment : ℕ) (result : Result T StoreFault) → IfErr result (λ fault. fault ≡ NoMemory) → (has_place_for shelf.owners find ≡ true → IsOk result) → IfErr result (λ fault. IsFault shelf find moment fault)
 fault_of shelf find moment (Ok done) is free = tt

@@ -1,5 +1,5 @@
 -- How much a shelf stores: at most the different pairs of its admissions, and at least those of the finds that are alive in some version.
-use Rattle.std.specs.Prelude.{◌≡◌, ◌≤◌, ℕ, Bool, true, List, [], ◌∷◌, Some, Result, IsErr, IsOk, IsErrOf}
+use Rattle.std.specs.Prelude.{◌≡◌, ◌≤◌, ℕ, Bool, true, false, List, [], ◌∷◌, Some, Result, IsOk, IsErrOf}
 use Rattle.std.specs.Set.{distinct_count, is_member}
 use Rattle.dns_name.specs.Labels.{Labels}
 use Rattle.dns_text.specs.declared.record.Question.{Question}
@@ -49,7 +49,8 @@ pub record IsAliveInReplay (kept : List KeptFlush) (told : List Told) (t : ℕ) 
 
 -- What the room decides of an admission. A find whose pair has a counted place is cached, as is one whose pair a find has that is alive in some version. It is full only once as many different pairs as the limit were admitted.
 pub record IsByRoom {T : Type 0} (old : Shelf) (find : Find) (moment : ℕ) (result : Result T StoreFault) : Type 0 where
-  pub full : (old.stored ≡ old.limit) × (needs_place old find moment ≡ true) → IsErr result
+  pub full : (old.stored ≡ old.limit) × (needs_place old find moment ≡ true) → IsErrOf result (Full old.stored)
+  pub unneeded : needs_place old find moment ≡ false → IsOk result
   pub counted : has_pair old.owners (pair_of find) ≡ true → IsOk result
   pub alive : IsAliveInFace old moment (pair_of find) → IsOk result
   pub replayed : (told : List Told) → IsShelfOf old told → IsAliveInReplay old.kept.items told moment (pair_of find) → IsOk result

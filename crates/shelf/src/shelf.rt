@@ -392,8 +392,8 @@ impl Shelf {
             (q : Question) → face_of self.new chosen q ≡ face_of self.old chosen q }
         ensures kept { (own : KeptFlush) (later : List KeptFlush) →
             self.old.kept.items ≡ own ∷ later → self.new.kept.items ≡ later }
-        ensures top { self.new.top ≡ self.old.top }
-        ensures limit { self.new.limit ≡ self.old.limit }
+        ensures none { self.old.kept.items ≡ [] → self.new ≡ self.old }
+        ensures bounds { (self.new.top ≡ self.old.top) × (self.new.limit ≡ self.old.limit) }
         ensures stored { self.new.stored ≤ self.old.stored }
         ensures pairs { KeepPairs self.old.owners self.new.owners }
     {

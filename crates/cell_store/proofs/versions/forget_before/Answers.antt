@@ -4,7 +4,7 @@ use Rattle.std.specs.List.{AllByRecursion}
 use Rattle.cell_store.specs.declared.version.Version.{Version}
 use Rattle.cell_store.specs.Slots.{IsWithin}
 use Rattle.cell_store.proofs.EntryLaws.{ranked_forgot}
-use Rattle.cell_store.proofs.ForgetLaws.{forgot_place, lower_within, drop_within, forgot_starts}
+use Rattle.cell_store.proofs.ForgetLaws.{forgot_place, forgot_later, lower_within, drop_within, forgot_starts}
 use Rattle.cell_store.proofs.versions.forget_before.Goals as goal
 
 pub returns-clause-places : goal.returns-clause-places
@@ -13,9 +13,12 @@ returns-clause-places c =
     c.lower_each.ensures.each c.deref.ensures.value c.last_start-before.ensures.within c.last_start-before.ensures.start c.drop_front.ensures.items
 
 pub returns-clause-starts : goal.returns-clause-starts
-returns-clause-starts c =
-    forgot_starts c.lower_each.new.versions.items c.deref.result.now c.drop_front.new.versions.items c.last_start-before.result
-    c.deref.ensures.value c.last_start-before.ensures.within c.last_start-before.ensures.start c.drop_front.ensures.items
+returns-clause-starts c = (
+  forgot_starts c.lower_each.new.versions.items c.deref.result.now c.drop_front.new.versions.items c.last_start-before.result
+      c.deref.ensures.value c.last_start-before.ensures.within c.last_start-before.ensures.start c.drop_front.ensures.items,
+  forgot_later c.args.number c.args.versions.now.items c.lower_each.new.versions.items c.deref.result.now c.drop_front.new.versions.items c.last_start-before.result
+      c.lower_each.ensures.each c.deref.ensures.value c.last_start-before.ensures.last c.drop_front.ensures.items,
+)
 
 pub returns-clause-within : goal.returns-clause-within
 returns-clause-within c = λ slots all.

@@ -33,7 +33,7 @@ invariant_of-self c =
       short = omega (arith, lengths, c.forget_before.ensures.fewer, c.self.invariant.short);
       room = omega (arith, c.release.ensures.capacity, c.forget_before.ensures.capacity, c.self.invariant.room);
       slots = omega (arith, c.release.ensures.room, c.self.invariant.slots);
-      starts = subst (λ (l : List (Version Find)). IsFromStart l) (sym c.release.ensures.same) (seen_starts c.self.inside.finds.items c.forget_before.new.versions.items c.forget_before.ensures.starts);
+      starts = subst (λ (l : List (Version Find)). IsFromStart l) (sym c.release.ensures.same) (seen_starts c.self.inside.finds.items c.forget_before.new.versions.items c.forget_before.ensures.starts.0);
     }
 
 pub returns-clause-counted : goal.returns-clause-counted

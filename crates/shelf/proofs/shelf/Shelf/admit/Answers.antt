@@ -7,7 +7,7 @@ use Rattle.shelf.specs.Told.{only, chosen_version}
 use Rattle.shelf.specs.Told.Told.{admitted}
 use Rattle.shelf.proofs.ShelfLaws.{told_more}
 use Rattle.shelf.specs.Room.{room_for}
-use Rattle.shelf.proofs.RoomLaws.{unwanted_cell, chosen_is_version, room_full, room_unwanted, room_free, fault_of, not_both, not_needed}
+use Rattle.shelf.proofs.RoomLaws.{unwanted_cell, chosen_is_version, room_full, room_unwanted, room_free, fault_of, not_both, not_needed, has_or_needs}
 use Rattle.shelf.proofs.ByRoomLaws.{by_room_free, by_room_full, by_room_ok, same_pairs}
 use Rattle.shelf.proofs.shelf.Shelf.admit.Goals as goal
 
@@ -43,11 +43,12 @@ returns-in-Full-clause-full c =
 pub returns-in-Full-clause-room : goal.returns-in-Full-clause-room
 returns-in-Full-clause-room c =
     let full = room_full c.args.self.now c.args.find c.args.moment (c.in-Full.ensures ∙ ap (λ (f : Find). room_for c.args.self.now f c.args.moment) c.find-2.ensures) in
-    by_room_full c.args.self.now c.requires.whole c.args.find c.args.moment _ _ refl full
+    by_room_full c.args.self.now c.requires.whole c.args.find c.args.moment _ _ refl c.stored.ensures.value full
     (λ told each. omega (arith, full.0, c.stored.ensures.value, c.stored.ensures.most c.requires.whole told each))
 
 pub returns-in-Free-clause-room : goal.returns-in-Free-clause-room
 returns-in-Free-clause-room c =
     by_room_free c.args.self.now c.requires.whole c.args.find c.args.moment c.hold.result
     (λ same needs. not_both c.args.self.now c.args.find c.args.moment (c.in-Free.ensures ∙ ap (λ (f : Find). room_for c.args.self.now f c.args.moment) c.find-2.ensures) same needs)
+    (has_or_needs c.args.self.now c.args.find c.args.moment (c.in-Free.ensures ∙ ap (λ (f : Find). room_for c.args.self.now f c.args.moment) c.find-2.ensures))
     c.hold.ensures.fault.0 c.hold.ensures.fault.1
