@@ -117,52 +117,7 @@ left_same owners name = all (get name_eq owners name)
     all None = tt
     all (Some cells) = refl
 
-pub left_more : {S : Type 0} (first middle last : IndexMap Labels OwnerCells S) → AreLeft first middle → AreLeft middle last → AreLeft first last
-left_more first middle last before after name = split (get name_eq last name) (after name)
-  where
-    split : (o : Option OwnerCells) → IfSome o (λ cells. get name_eq middle name ≡ Some cells) → IfSome o (λ cells. get name_eq first name ≡ Some cells)
-    split None is = tt
-    split (Some cells) is = subst (λ (o : Option OwnerCells). IfSome o (λ own. get name_eq first name ≡ Some own)) is (before name)
-
--- ---- the names after the gap
-
-get_set : {X : Type 0} (xs : List X) (p n i : ℕ) (x : X) (P : X → Type 0) → p ≤ i → (i ≡ p → i < n → P x) → (p < i → i < n → IfSome (slice_get xs i) P)
-    → IfSome (slice_get (take n (slice_set xs p x)) i) P
-get_set [] zero zero i x P low here there = tt
-get_set [] zero (suc n) i x P low here there = tt
-get_set [] (suc p) zero i x P low here there = tt
-get_set [] (suc p) (suc n) i x P low here there = tt
-get_set (y ∷ xs) zero zero i x P low here there = tt
-get_set (y ∷ xs) zero (suc n) zero x P low here there = here refl (omega arith)
-get_set (y ∷ xs) zero (suc n) (suc i) x P low here there = taken xs n i P (λ few. there (omega arith) (omega (arith, few)))
-  where
-    taken : {X : Type 0} (l : List X) (n i : ℕ) (P : X → Type 0) → (i < n → IfSome (slice_get l i) P) → IfSome (slice_get (take n l) i) P
-    taken [] zero i P is = tt
-    taken [] (suc n) i P is = tt
-    taken (y ∷ l) zero i P is = tt
-    taken (y ∷ l) (suc n) zero P is = is (omega arith)
-    taken (y ∷ l) (suc n) (suc i) P is = taken l n i P (λ few. is (omega (arith, few)))
-get_set (y ∷ xs) (suc p) zero i x P low here there = tt
-get_set (y ∷ xs) (suc p) (suc n) zero x P low here there = absurd (omega (arith, low))
-get_set (y ∷ xs) (suc p) (suc n) (suc i) x P low here there =
-    get_set xs p n i x P (omega (arith, low)) (λ e few. here (ap suc e) (omega (arith, few))) (λ late few. there (omega (arith, late)) (omega (arith, few)))
-
-read_some : {X : Type 0} (xs : List X) (i : ℕ) (d : X) (P : X → Type 0) → i < length xs → IfSome (slice_get xs i) P → P (get_or xs i d)
-read_some [] i d P low is = absurd (omega (arith, low))
-read_some (x ∷ xs) zero d P low is = is
-read_some (x ∷ xs) (suc i) d P low is = read_some xs i d P (omega (arith, low)) is
-
-counts : Labels × OwnerCells → Type 0
-counts entry = 1 ≤ count_of entry.1
-
-pub counted_from : {S : Type 0} (old new : IndexMap Labels OwnerCells S) (place : ℕ) (d : Labels × OwnerCells) → new.entries ≡ swap_remove old.entries place d
-    → AreCountedFrom (place + 1) old → AreCountedFrom place new
-counted_from old new place d is later i low =
-    let last = length old.entries - 1 in
-    subst (λ (l : List (Labels × OwnerCells)). IfSome (slice_get l i) (λ entry. 1 ≤ count_of entry.1)) (sym is)
-    (get_set old.entries place last i (get_or old.entries last d) (λ entry. 1 ≤ count_of entry.1) low
-    (λ same few. read_some old.entries last d (λ entry. 1 ≤ count_of entry.1) (omega (arith, few)) (later last (omega (arith, few, same))))
-    (λ late few. later i (omega (arith, late))))
+-- ---- a name is removed
 
 -- the entry at a place
 pub low_at : {X : Type 0} (xs : List X) (i : ℕ) (x : X) → slice_get xs i ≡ Some x → i < length xs
@@ -179,14 +134,3 @@ pub count_dropped : (entries : List (Labels × OwnerCells)) (place : ℕ) (key :
     → count_entries (swap_remove entries place (key, cells)) ≡ count_entries entries
 count_dropped entries place key cells at none =
     omega (arith, count_swap entries place (key, cells) (low_at entries place (key, cells) at), none, ap (λ (e : Labels × OwnerCells). count_of e.1) (read_at entries place (key, cells) (key, cells) at))
-
-pub counted_past : {S : Type 0} (owners : IndexMap Labels OwnerCells S) (place : ℕ) → length owners.entries ≤ place → AreCountedFrom place owners
-counted_past owners place high i low = past owners.entries i (omega (arith, high, low))
-  where
-    past : (l : List (Labels × OwnerCells)) (i : ℕ) → length l ≤ i → IfSome (slice_get l i) (λ entry. 1 ≤ count_of entry.1)
-    past [] i high = tt
-    past (e ∷ l) zero high = absurd (omega (arith, high))
-    past (e ∷ l) (suc i) high = past l i (omega (arith, high))
-
-pub same_more : {S : Type 0} (first middle last : IndexMap Labels OwnerCells S) → AreSameCells first middle → AreSameCells middle last → AreSameCells first last
-same_more first middle last before after q v = after q v ∙ before q v

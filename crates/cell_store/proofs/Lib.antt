@@ -16,3 +16,5 @@ mod OwnLaws
 mod PlaceLaws
 mod StoreLaws
 mod HeldLaws
+mod EndLaws
+mod SpotLaws

@@ -13,3 +13,5 @@ pub mod Sweep
 pub mod StoredLaws
 pub mod HeldLaws
 pub mod Seed
+pub mod Ends
+pub mod EndLaws

@@ -1,7 +1,9 @@
 -- The cells of all names.
-use Rattle.std.specs.Prelude.{◌≡◌, ◌<◌, ◌≤◌, ◌^◌, ℕ, true, Option, Some, None, IfSome, slice_get}
+use Rattle.std.specs.Prelude.{◌≡◌, ◌≢◌, ◌⊎◌, ◌+◌, List, length, ◌<◌, ◌≤◌, ◌^◌, ℕ, Bool, true, false, swap_remove, Option, Some, None, IfSome, slice_get}
 use Rattle.indexmap.specs.IndexMap.{IndexMap, get}
 use Rattle.std.specs.Option.{option_map_or}
+use Rattle.std.specs.List.{position_or_len}
+use Rattle.std.specs.Map.{keys_of}
 use Rattle.dns_name.specs.Labels.{Labels}
 use Rattle.dns_name.specs.Order.{name_eq}
 use Rattle.dns_text.specs.declared.record.Question.{Question}
@@ -48,9 +50,23 @@ KeepUpTo old new = (top : ℕ) → AreUpTo top old → AreUpTo top new
 abbrev pub AreLeft : {S : Type 0} → IndexMap Labels OwnerCells S → IndexMap Labels OwnerCells S → Type 0
 AreLeft old new = (name : Labels) → IfSome (get name_eq new name) (λ cells. get name_eq old name ≡ Some cells)
 
+-- The name at a place has gone, and the last is in its place; or it stays, and some place of it counts.
+abbrev pub IsDroppedAt : ℕ → List (Labels × OwnerCells) → List (Labels × OwnerCells) → Bool → Type 0
+IsDroppedAt place old new true = (d : Labels × OwnerCells) × (new ≡ swap_remove old place d)
+IsDroppedAt place old new false = (new ≡ old) × IfSome (slice_get old place) (λ entry. 1 ≤ count_of entry.1)
+
 -- Each name from a place on has a place that counts.
 abbrev pub AreCountedFrom : {S : Type 0} → ℕ → IndexMap Labels OwnerCells S → Type 0
 AreCountedFrom place owners = (i : ℕ) → place ≤ i → IfSome (slice_get owners.entries i) (λ entry. 1 ≤ count_of entry.1)
+
+-- the place of a name among the entries, or their number if it is not there
+abbrev pub name_place : Labels → List (Labels × OwnerCells) → ℕ
+name_place name entries = position_or_len (name_eq name) (keys_of entries)
+
+-- The entries of all names but one are as they were. That name keeps its place, or is new and gets the last.
+pub record StayBut (name : Labels) (old new : List (Labels × OwnerCells)) : Type 0 where
+  pub others : (i : ℕ) → i ≢ name_place name old → slice_get new i ≡ slice_get old i
+  pub size : (length new ≡ length old) ⊎ ((name_place name old ≡ length old) × (length new ≡ length old + 1))
 
 -- The counted places are as many as it says, and no admission has reached a version past `top`.
 pub record IsIndex {S : Type 0} (top stored : ℕ) (owners : IndexMap Labels OwnerCells S) : Type 0 where

@@ -8,12 +8,13 @@ ghost use Rattle.cell_store.specs.Column.{place_in, sight_at, sight_now};
 ghost use Rattle.cell_store.specs.Prune.{is_asked, IsLess};
 ghost use Rattle.cell_store.specs.Sweep.{swept, IsSeenAt};
 ghost use Rattle.cell_store.specs.Count.{has_find, is_counted};
+ghost use Rattle.cell_store.specs.Ends.{first_end};
 
 use crate::merge::merge;
 use crate::prune::prune;
 use crate::slots::{has_find, release};
 use crate::version::{Place, Sight, Version};
-use crate::versions::{admit_each, forget_before, place_at, reach, sweep_each};
+use crate::versions::{admit_each, first_end, forget_before, place_at, reach, sweep_each};
 use dns_name::NoMemory;
 use ranked::{Cell, SharedFind, Shown};
 use std::alloc::Global;
@@ -103,6 +104,13 @@ impl Column {
         ensures { result ≡ is_counted self.now }
     {
         has_find(&self.versions)
+    }
+
+    /// The first moment at which a find is dead, in seconds. It is the latest moment if there is none.
+    pub fn first_end(&self) -> u64
+        ensures { result ≡ first_end self.now.versions }
+    {
+        first_end(&self.versions)
     }
 
     /// The answer of a version, at a moment in seconds.

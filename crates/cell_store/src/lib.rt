@@ -29,6 +29,6 @@ pub use column::Column;
 pub use owner::{KindColumn, OwnerCells, WholeFind};
 pub use seed::NameSeed;
 pub use store::{
-    Owners, admit, at, drop_uncounted, forget, has_place, open_kinds, settle_below, settle_kinds,
+    Owners, admit, at, drop_if_uncounted, forget, has_place, open_kinds, settle_below, settle_kinds,
 };
 pub use version::{Place, Sight, Version};

@@ -8,15 +8,17 @@ ghost use Rattle.ranked.specs.declared.find.Scope.TheVariants.{One, Whole};
 ghost use Rattle.ranked.specs.Find.{admission_of, has_kind};
 ghost use Rattle.ranked.specs.Cell.{shown_at, turns_away};
 ghost use Rattle.cell_store.specs.Column.{place_in};
-ghost use Rattle.cell_store.specs.Owner.{after_settle, after_touch, column_of, held_now, place_held, whole_held};
+ghost use Rattle.cell_store.specs.Owner.{after_settle, after_touch, column_of, held_now, place_held, whole_cell, whole_held};
 ghost use Rattle.cell_store.specs.Owner.{IsLeftWithin, IsPlaceOf, IsSettled, IsWholeUpTo};
 ghost use Rattle.cell_store.specs.Walk.{IsEach};
 ghost use Rattle.cell_store.specs.Count.{count_kinds, is_counted, one_if};
+ghost use Rattle.cell_store.specs.Ends.{cell_end, name_end};
 ghost use Rattle.cell_store.specs.Prune.{is_asked};
 ghost use Rattle.cell_store.specs.Sweep.{alive_at, is_dead, whole_swept};
 
 use crate::column::Column;
 use crate::version::Sight;
+use crate::versions::cell_end;
 use dns_name::NoMemory;
 use ranked::{Admitted, Cell, Find, Held, Scope, SharedFind, negative_law};
 use std::alloc::Global;
@@ -100,7 +102,7 @@ fn settle_each(kinds: &mut Vec<KindColumn>, number: u64)
 }
 
 impl OwnerCells {
-    ghost use Rattle.cell_store.specs.Owner.{cell_in, CanSettle, HasSameCells, IsUpTo, KeepsSettling, KeepsUpTo, whole_cell, whole_settled};
+    ghost use Rattle.cell_store.specs.Owner.{cell_in, CanSettle, HasSameCells, IsUpTo, KeepsSettling, KeepsUpTo, whole_settled};
     ghost use Rattle.cell_store.specs.Count.{count_of, has_place, AddsPlace, HasSamePlaces, KeepsPlaces, LosesFinds};
 
     /// No cells.
@@ -338,6 +340,17 @@ impl OwnerCells {
         whole_count(&self.whole) + count_kinds(&self.kinds)
     }
 
+    /// The first moment at which a find of the name is dead, in seconds. It is the latest moment if there is none.
+    pub fn first_end(&self) -> u64
+        ensures { result ≡ name_end self.now }
+    {
+        let mut end = whole_end(&self.whole);
+        for own in &self.kinds {
+            end = end.min(own.column.first_end());
+        }
+        end
+    }
+
     /// Whether the place of a find is counted already.
     pub fn has_place(&self, scope: Scope) -> bool
         ensures { result ≡ has_place self.now scope }
@@ -464,6 +477,16 @@ impl OwnerCells {
         if let Some(place) = place_of(&self.kinds, kind) {
             self.kinds[place].column.sweep(numbers, moment);
         }
+    }
+}
+
+// The moment at which the find of the whole name ends.
+fn whole_end(whole: &Option<WholeFind>) -> u64
+    ensures { result ≡ cell_end (whole_cell whole.now) }
+{
+    match whole {
+        Some(whole) => cell_end(whole.since, whole.find.find().ttl),
+        None => u64::MAX,
     }
 }
 

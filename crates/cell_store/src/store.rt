@@ -1,8 +1,8 @@
 //! The cells of all names, in an index with a seeded hasher.
 
-ghost use Rattle.std.specs.Prelude.{◌≡◌, ◌<◌, ◌≤◌, ◌==◌, ◌&&◌, ◌+◌, ◌^◌, ℕ, None, not, true, IsOk, OnOk, OnErr, if◌then◌else◌};
+ghost use Rattle.std.specs.Prelude.{◌≡◌, ◌<◌, ◌≤◌, ◌==◌, ◌&&◌, ◌+◌, ◌^◌, ℕ, None, not, true, length, IsOk, OnOk, OnErr, if◌then◌else◌};
 ghost use Rattle.std.specs.List.{AllByRecursion, list_any};
-ghost use Rattle.indexmap.specs.IndexMap.{get};
+ghost use Rattle.indexmap.specs.IndexMap.{get, swap_remove_entry};
 ghost use Rattle.dns_name.specs.Labels.{Labels};
 ghost use Rattle.dns_name.specs.Order.{name_eq};
 ghost use Rattle.dns_name.specs.Below.{is_at_or_below};
@@ -11,7 +11,7 @@ ghost use Rattle.ranked.specs.Find.{admission_of, touches};
 ghost use Rattle.ranked.specs.Cell.{shown_at};
 ghost use Rattle.cell_store.specs.Owner.{after_settle, after_touch, held_now};
 ghost use Rattle.cell_store.specs.Count.{has_place_for, one_if, pair_of, stored_in, AddPair, KeepPairs};
-ghost use Rattle.cell_store.specs.Store.{cell_of, AreCountedFrom, AreLeft, AreSameCells, AreUpTo, CanSettleAt, IsIndex, KeepSettling, KeepUpTo};
+ghost use Rattle.cell_store.specs.Store.{cell_of, AreLeft, AreSameCells, AreUpTo, CanSettleAt, IsDroppedAt, IsIndex, KeepSettling, KeepUpTo, StayBut};
 
 use crate::owner::OwnerCells;
 use crate::seed::NameSeed;
@@ -41,7 +41,7 @@ pub fn admit(
     ensures settles { (n k : ℕ) (name : Labels) → n ≤ top → CanSettleAt n k name owners.old → CanSettleAt n k name owners.new }
     ensures counted { stored.new ≡ stored_in owners.new }
     ensures bound { (stored.new ≤ stored.old + one_if (not (has_place_for owners.old find)))
-        × AddPair (pair_of find) owners.old owners.new }
+        × AddPair (pair_of find) owners.old owners.new × StayBut find.owner owners.old.entries owners.new.entries }
     ensures free { has_place_for owners.old find ≡ true → IsOk result }
 {
     if let Some(cells) = owners.get_mut(&find.find().owner) {
@@ -89,6 +89,8 @@ pub fn open_kinds(
     ensures opened { OnOk result (AllByRecursion (λ kind. (n : ℕ) → CanSettleAt n kind owner.now owners.new) kinds.now) }
     ensures counted { stored_in owners.new ≡ stored_in owners.old }
     ensures pairs { KeepPairs owners.old owners.new }
+    ensures entries { StayBut owner.now owners.old.entries owners.new.entries
+        × (length owners.new.entries ≡ length owners.old.entries) }
 {
     if let Some(cells) = owners.get_mut(owner) {
         return cells.open_each(kinds, top);
@@ -106,7 +108,7 @@ pub fn settle_kinds(owners: &mut Owners, stored: &mut u64, owner: &Name, kinds: 
     ensures upto { KeepUpTo owners.old owners.new }
     ensures settles { KeepSettling owners.old owners.new }
     ensures counted { stored.new ≡ stored_in owners.new }
-    ensures fewer { stored.new ≤ stored.old }
+    ensures fewer { (stored.new ≤ stored.old) × (length owners.new.entries ≡ length owners.old.entries) }
     ensures pairs { KeepPairs owners.old owners.new }
 {
     if let Some(cells) = owners.get_mut(owner) {
@@ -124,7 +126,7 @@ pub fn settle_below(owners: &mut Owners, stored: &mut u64, zone: &Name, number: 
     ensures upto { KeepUpTo owners.old owners.new }
     ensures settles { KeepSettling owners.old owners.new }
     ensures counted { stored.new ≡ stored_in owners.new }
-    ensures fewer { stored.new ≤ stored.old }
+    ensures fewer { (stored.new ≤ stored.old) × (length owners.new.entries ≡ length owners.old.entries) }
     ensures pairs { KeepPairs owners.old owners.new }
 {
     let mut place = 0;
@@ -151,7 +153,8 @@ pub fn has_place(owners: &Owners, find: &Find) -> bool
 /// Removes a name, from every version. It takes no memory.
 pub fn forget(owners: &mut Owners, stored: &mut u64, owner: &Name)
     requires counted { stored.old ≡ stored_in owners.old }
-    ensures gone { get name_eq owners.new owner.now ≡ None }
+    ensures gone { (get name_eq owners.new owner.now ≡ None)
+        × (owners.new.entries ≡ swap_remove_entry (name_eq owner.now) owners.old.entries) }
     ensures cells { (q : Question) (v : ℕ) →
         cell_of owners.new q v ≡ (if name_eq owner.now q.owner then None else cell_of owners.old q v) }
     ensures upto { KeepUpTo owners.old owners.new }
@@ -165,30 +168,18 @@ pub fn forget(owners: &mut Owners, stored: &mut u64, owner: &Name)
     }
 }
 
-// Removes the name at a place, if no place of it counts. The last name moves into the gap.
-fn drop_if_uncounted(owners: &mut Owners, place: usize)
+/// Removes the name at a place if no place of it counts, and says whether it did. The last name moves into the gap. No cell changes.
+/// It takes no memory.
+pub fn drop_if_uncounted(owners: &mut Owners, place: usize) -> bool
     ensures cells { AreSameCells owners.old owners.new }
     ensures left { AreLeft owners.old owners.new }
     ensures counted { stored_in owners.new ≡ stored_in owners.old }
-    ensures later { AreCountedFrom (place + 1) owners.old → AreCountedFrom place owners.new }
+    ensures entries { IsDroppedAt place owners.old.entries owners.new.entries result }
 {
     match owners.get_index(place) {
         Some((_, cells)) if cells.counted() == 0 => {}
-        _ => return,
+        _ => return false,
     }
     owners.swap_remove_index(place);
-}
-
-/// Removes the names of which no place counts, and frees their memory. No cell changes. It takes no memory, and visits every name.
-pub fn drop_uncounted(owners: &mut Owners)
-    ensures cells { AreSameCells owners.old owners.new }
-    ensures left { AreLeft owners.old owners.new }
-    ensures counted { stored_in owners.new ≡ stored_in owners.old }
-    ensures each { AreCountedFrom 0 owners.new }
-{
-    let mut place = owners.len();
-    while place > 0 {
-        place -= 1;
-        drop_if_uncounted(owners, place);
-    }
+    true
 }

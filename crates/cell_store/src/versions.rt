@@ -1,9 +1,10 @@
 //! One change made in each version of a column.
 
-ghost use Rattle.std.specs.Prelude.{◌≡◌, ◌<◌, ◌≤◌, ◌==◌, ℕ, true, false, max, map, length, drop, slice_index_or, vec_capacity};
+ghost use Rattle.std.specs.Prelude.{◌≡◌, ◌<◌, ◌≤◌, ◌==◌, ℕ, ◌+◌, true, false, max, min, map, if◌then◌else◌, length, drop, slice_index_or, vec_capacity};
 ghost use Rattle.std.specs.List.{AllByRecursion, list_any};
 ghost use Rattle.cell_store.specs.Count.{has_find};
 ghost use Rattle.ranked.specs.Find.{admission_of};
+ghost use Rattle.cell_store.specs.Ends.{cell_end, first_end, latest};
 ghost use Rattle.cell_store.specs.Few.{AreRanked};
 ghost use Rattle.cell_store.specs.Slots.{IsWithin};
 ghost use Rattle.cell_store.specs.Sweep.{swept, version_swept};
@@ -157,6 +158,39 @@ pub(crate) fn reach(versions: &mut Vec<Version<usize>>, upto: u64, top: u64)
             },
         });
     }
+}
+
+impl<B: Copy> Place<B> {
+    // The moment at which it ends.
+    fn end(&self) -> u64
+        ensures { result ≡ cell_end self.now.cell.held }
+    {
+        match self.cell.held {
+            Some(held) => cell_end(held.since, held.ttl),
+            None => u64::MAX,
+        }
+    }
+}
+
+// The moment at which a find ends that was admitted at `since`. With TTL 0 it is never alive.
+pub(crate) fn cell_end(since: u64, ttl: u32) -> u64
+    ensures { result ≡ (if ttl == 0 then 0 else min (since + ttl) latest) }
+{
+    if ttl == 0 {
+        return 0;
+    }
+    since.saturating_add(u64::from(ttl))
+}
+
+// The first moment at which an entry ends.
+pub(crate) fn first_end(versions: &[Version<usize>]) -> u64
+    ensures { result ≡ first_end versions.now }
+{
+    let mut end = u64::MAX;
+    for version in versions {
+        end = end.min(version.place.end());
+    }
+    end
 }
 
 // Drops the finds that are dead at a moment, from each version.

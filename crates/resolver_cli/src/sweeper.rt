@@ -19,7 +19,7 @@ const GLANCE_MILLISECONDS: u64 = 50;
 /// The least time between two sweeps, in milliseconds. A TTL counts whole seconds, so more sweeps would remove no more.
 const LEAST_MILLISECONDS: u64 = 1_000;
 
-/// A sweep holds the lock while it visits each name. So the next one waits for so many times as long as the last one took:
+/// A sweep holds the lock while it visits names. So the next one waits for so many times as long as the last one took:
 /// sweeps take at most one part in 200 of the time, however full the cache is.
 const RESTS: u64 = 199;
 

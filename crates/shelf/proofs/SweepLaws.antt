@@ -28,9 +28,8 @@ use Rattle.cell_store.specs.Walk.{IsEach, IsEntry, IsFound}
 use Rattle.cell_store.specs.WalkLaws.{found_each}
 use Rattle.shelf.specs.declared.shelf.KeptFlush.{KeptFlush}
 use Rattle.ranked.specs.Flush.{covers}
-use Rattle.shelf.specs.Told.{is_kept, is_version, chosen_version}
-use Rattle.shelf.specs.Sweep.{number_more, numbers_of, IsAlive, IsSwept}
-use Rattle.shelf.proofs.RoomLaws.{chosen_is_version}
+use Rattle.shelf.specs.Told.{is_kept, is_version}
+use Rattle.shelf.specs.Sweep.{number_more, numbers_of, AreLessened, IsAlive, IsLessened, IsSwept}
 
 -- ---- the versions that are asked for are those of the question
 
@@ -162,7 +161,7 @@ swept_all kept t name place old new d is high = record {
   lost = is.lost;
 }
 
-not_dead : (t : ℕ) (whole : Option WholeFind) → is_dead t (whole_swept t whole) ≡ false
+pub not_dead : (t : ℕ) (whole : Option WholeFind) → is_dead t (whole_swept t whole) ≡ false
 not_dead t whole = elim (cases_Bool (is_dead t whole)) [
   | inl dead ↦ ap (λ b. is_dead t (cond b None whole)) dead
   | inr lives ↦ ap (λ b. is_dead t (cond b None whole)) lives ∙ lives
@@ -170,11 +169,11 @@ not_dead t whole = elim (cases_Bool (is_dead t whole)) [
 
 -- ---- all names
 
-module _ {S : Type 0} (kept : List KeptFlush) (t : ℕ) (old new : IndexMap Labels OwnerCells S) (each : IsEach (IsEntry (IsSwept kept t)) old.entries new.entries) where
-  found : (name : Labels) → IsFound (name_eq name) (IsSwept kept t) (get name_eq old name) (get name_eq new name)
-  found name = found_each (IsSwept kept t) (name_eq name) old.entries new.entries each
+module _ {S : Type 0} (kept : List KeptFlush) (t : ℕ) (old new : IndexMap Labels OwnerCells S) (each : IsEach (IsEntry (IsLessened kept t)) old.entries new.entries) where
+  found : (name : Labels) → IsFound (name_eq name) (IsLessened kept t) (get name_eq old name) (get name_eq new name)
+  found name = found_each (IsLessened kept t) (name_eq name) old.entries new.entries each
 
-  swept_cells : (q : Question) (v : ℕ) → is_version kept q v ≡ true → (o n : Option OwnerCells) → IsFound (name_eq q.owner) (IsSwept kept t) o n → alive_at t (cell_by_owner n q.kind v) ≡ alive_at t (cell_by_owner o q.kind v)
+  swept_cells : (q : Question) (v : ℕ) → is_version kept q v ≡ true → (o n : Option OwnerCells) → IsFound (name_eq q.owner) (IsLessened kept t) o n → alive_at t (cell_by_owner n q.kind v) ≡ alive_at t (cell_by_owner o q.kind v)
   swept_cells q v there None None is = refl
   swept_cells q v there None (Some n) is = absurd is
   swept_cells q v there (Some o) None is = absurd is
@@ -185,14 +184,11 @@ module _ {S : Type 0} (kept : List KeptFlush) (t : ℕ) (old new : IndexMap Labe
   pub swept_cell : (q : Question) (v : ℕ) → is_version kept q v ≡ true → alive_at t (cell_of new q v) ≡ alive_at t (cell_of old q v)
   swept_cell q v there = swept_cells q v there (get name_eq old q.owner) (get name_eq new q.owner) (found q.owner)
 
-  pub swept_face : (chosen : ℕ → Bool) (q : Question) → alive_at t (cell_of new q (chosen_version kept q chosen)) ≡ alive_at t (cell_of old q (chosen_version kept q chosen))
-  swept_face chosen q = swept_cell q (chosen_version kept q chosen) (chosen_is_version kept q chosen)
-
-  each_of : (P : OwnerCells → Type 0) (name : Labels) → ((o n : OwnerCells) → IsSwept kept t name o n → P o → P n) → (o n : Option OwnerCells) → IsFound (name_eq name) (IsSwept kept t) o n → IfSome o P → IfSome n P
+  each_of : (P : OwnerCells → Type 0) (name : Labels) → ((o n : OwnerCells) → IsLessened kept t name o n → P o → P n) → (o n : Option OwnerCells) → IsFound (name_eq name) (IsLessened kept t) o n → IfSome o P → IfSome n P
   each_of P name step None None is was = tt
   each_of P name step None (Some n) is was = absurd is
   each_of P name step (Some o) None is was = absurd is
-  each_of P name step (Some o) (Some n) is was = step o n (subst (λ (m : Labels). IsSwept kept t m o n) (sym (name_eq_exact name is.0 is.1.0)) is.1.1) was
+  each_of P name step (Some o) (Some n) is was = step o n (subst (λ (m : Labels). IsLessened kept t m o n) (sym (name_eq_exact name is.0 is.1.0)) is.1.1) was
 
   pub swept_upto : (top : ℕ) → AreUpTo top old → AreUpTo top new
   swept_upto top upto name = each_of (IsUpTo top) name (λ o n is was. is.upto top was) (get name_eq old name) (get name_eq new name) (found name) (upto name)
@@ -200,29 +196,7 @@ module _ {S : Type 0} (kept : List KeptFlush) (t : ℕ) (old new : IndexMap Labe
   pub swept_settles : (n k : ℕ) (name : Labels) → CanSettleAt n k name old → CanSettleAt n k name new
   swept_settles n k name told = each_of (CanSettle n k) name (λ o m is was. is.settles n k was) (get name_eq old name) (get name_eq new name) (found name) told
 
-  always : (o : Option OwnerCells) → IfSome o (λ cells. Unit {0})
-  always None = tt
-  always (Some o) = tt
-
-  alive_of : (name : Labels) (o n : Option OwnerCells) → IsFound (name_eq name) (IsSwept kept t) o n → IfSome n (λ cells. (k : ℕ) → has_place cells (One k) ≡ true → IsAlive kept name t cells k)
-  alive_of name None None is = tt
-  alive_of name None (Some n) is = absurd is
-  alive_of name (Some o) None is = absurd is
-  alive_of name (Some o) (Some n) is = (subst (λ (m : Labels). IsSwept kept t m o n) (sym (name_eq_exact name is.0 is.1.0)) is.1.1).alive
-
-  pub swept_alive : (name : Labels) → IfSome (get name_eq new name) (λ cells. (k : ℕ) → has_place cells (One k) ≡ true → IsAlive kept name t cells k)
-  swept_alive name = alive_of name (get name_eq old name) (get name_eq new name) (found name)
-
-  whole_of : (name : Labels) (o n : Option OwnerCells) → IsFound (name_eq name) (IsSwept kept t) o n → IfSome n (λ cells. is_dead t cells.whole ≡ false)
-  whole_of name None None is = tt
-  whole_of name None (Some n) is = absurd is
-  whole_of name (Some o) None is = absurd is
-  whole_of name (Some o) (Some n) is = ap (is_dead t) is.1.1.whole ∙ not_dead t o.whole
-
-  pub swept_whole_alive : (name : Labels) → IfSome (get name_eq new name) (λ cells. is_dead t cells.whole ≡ false)
-  swept_whole_alive name = whole_of name (get name_eq old name) (get name_eq new name) (found name)
-
-  lost_cells : (q : Question) (v : ℕ) (o n : Option OwnerCells) → IsFound (name_eq q.owner) (IsSwept kept t) o n → (cell_by_owner n q.kind v ≡ cell_by_owner o q.kind v) ⊎ (cell_by_owner n q.kind v ≡ None)
+  lost_cells : (q : Question) (v : ℕ) (o n : Option OwnerCells) → IsFound (name_eq q.owner) (IsLessened kept t) o n → (cell_by_owner n q.kind v ≡ cell_by_owner o q.kind v) ⊎ (cell_by_owner n q.kind v ≡ None)
   lost_cells q v None None is = inl refl
   lost_cells q v None (Some n) is = absurd is
   lost_cells q v (Some o) None is = absurd is
@@ -234,7 +208,7 @@ module _ {S : Type 0} (kept : List KeptFlush) (t : ℕ) (old new : IndexMap Labe
     | inr none ↦ subst (λ (h : Option (Admitted Find)). IfSome h (λ held. touches held.body q ≡ true)) (sym none) tt
   ]
 
-  lost_pairs : (pair : Labels × Scope) (o n : Option OwnerCells) → IsFound (name_eq pair.0) (IsSwept kept t) o n
+  lost_pairs : (pair : Labels × Scope) (o n : Option OwnerCells) → IsFound (name_eq pair.0) (IsLessened kept t) o n
       → option_map_or (λ cells. has_place cells pair.1) n false ≡ true → option_map_or (λ cells. has_place cells pair.1) o false ≡ true
   lost_pairs pair None None is has = has
   lost_pairs pair None (Some n) is has = absurd is
@@ -243,6 +217,9 @@ module _ {S : Type 0} (kept : List KeptFlush) (t : ℕ) (old new : IndexMap Labe
 
   pub swept_pairs : KeepPairs old new
   swept_pairs pair has = lost_pairs pair (get name_eq old pair.0) (get name_eq new pair.0) (found pair.0) has
+
+  pub swept_less : AreLessened kept t old new
+  swept_less = record { cells = swept_cell; upto = swept_upto; settles = swept_settles; about = swept_about; pairs = swept_pairs }
 
 -- ---- names are dropped
 
@@ -266,3 +243,26 @@ left_pairs old new left pair has = split (get name_eq new pair.0) refl (left pai
 
 pub about_same : {S : Type 0} (old new : IndexMap Labels OwnerCells S) → AreSameCells old new → AreAbout old → AreAbout new
 about_same old new same about q v = subst (λ (h : Option (Admitted Find)). IfSome h (λ held. touches held.body q ≡ true)) (sym (same q v)) (about q v)
+
+-- ---- sweeps of some names
+
+pub less_same : {S : Type 0} (kept : List KeptFlush) (t : ℕ) (owners : IndexMap Labels OwnerCells S) → AreLessened kept t owners owners
+less_same kept t owners = record { cells = λ q v there. refl; upto = λ top is. is; settles = λ n k name is. is; about = λ is. is; pairs = λ pair has. has }
+
+pub less_more : {S : Type 0} (kept : List KeptFlush) (t : ℕ) (first middle last : IndexMap Labels OwnerCells S) → AreLessened kept t first middle → AreLessened kept t middle last → AreLessened kept t first last
+less_more kept t first middle last before after = record {
+  cells = λ q v there. after.cells q v there ∙ before.cells q v there;
+  upto = λ top is. after.upto top (before.upto top is);
+  settles = λ n k name is. after.settles n k name (before.settles n k name is);
+  about = λ is. after.about (before.about is);
+  pairs = λ pair has. before.pairs pair (after.pairs pair has);
+}
+
+pub less_left : {S : Type 0} (kept : List KeptFlush) (t : ℕ) (old new : IndexMap Labels OwnerCells S) → AreSameCells old new → AreLeft old new → AreLessened kept t old new
+less_left kept t old new same left = record {
+  cells = λ q v there. ap (alive_at t) (same q v);
+  upto = λ top is name. left_each old new (IsUpTo top) left name (is name);
+  settles = λ n k name is. left_each old new (CanSettle n k) left name is;
+  about = about_same old new same;
+  pairs = left_pairs old new left;
+}

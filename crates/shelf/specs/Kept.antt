@@ -1,5 +1,8 @@
--- The kept flushes: whether they are in force.
-use Rattle.std.specs.Prelude.{ℕ, Bool, false, List, [], ◌∷◌, ◌==◌, ◌&&◌, if◌then◌else◌}
+-- The kept flushes: whether they are in force, and the versions that they give.
+use Rattle.std.specs.Prelude.{ℕ, Bool, false, List, [], ◌∷◌, ◌==◌, ◌&&◌, ◌||◌, if◌then◌else◌}
+use Rattle.std.specs.List.{list_any}
+use Rattle.dns_text.specs.declared.record.Question.{Question}
+use Rattle.ranked.specs.Flush.{covers}
 use Rattle.shelf.specs.declared.shelf.KeptFlush.{KeptFlush}
 
 -- a kept flush, in force or not if it has this number
@@ -10,3 +13,11 @@ with_shown number shown own = record { flush = own.flush; number = own.number; s
 abbrev pub stands_first : ℕ → List KeptFlush → Bool
 stands_first number [] = false
 stands_first number (own ∷ later) = own.number == number && own.shown
+
+-- whether a kept flush of this number covers the question
+abbrev pub is_kept : List KeptFlush → Question → ℕ → Bool
+is_kept kept question version = list_any (λ own. own.number == version && covers own.flush question) kept
+
+-- whether it is a version of the question: 0, or the number of a kept flush that covers it
+abbrev pub is_version : List KeptFlush → Question → ℕ → Bool
+is_version kept question version = version == 0 || is_kept kept question version

@@ -1,4 +1,5 @@
 pub mod Kept
+pub mod Clean
 pub mod Told
 pub mod Room
 pub mod Sweep

@@ -1,5 +1,5 @@
 -- The sweep: the cells after it.
-use Rattle.std.specs.Prelude.{◌≡◌, ℕ, true, false, is_some, IfSome, List, [], ◌∷◌, ◌++◌, fold, if◌then◌else◌}
+use Rattle.std.specs.Prelude.{◌≡◌, ◌≢◌, ◌<◌, ◌≤◌, ℕ, true, false, IfSome, List, [], ◌∷◌, ◌++◌, fold, nat_le, sum_by, length, slice_get, if◌then◌else◌}
 use Rattle.indexmap.specs.IndexMap.{IndexMap, get}
 use Rattle.dns_name.specs.Labels.{Labels}
 use Rattle.dns_name.specs.Order.{name_eq}
@@ -7,12 +7,16 @@ use Rattle.dns_text.specs.declared.record.Question.{Question}
 use Rattle.ranked.specs.declared.find.Scope.TheVariants.{One}
 use Rattle.cell_store.specs.declared.owner.OwnerCells.{OwnerCells}
 use Rattle.cell_store.specs.Owner.{cell_in, IsUpTo, CanSettle}
-use Rattle.cell_store.specs.Count.{has_place, LosesFinds}
-use Rattle.cell_store.specs.Store.{AreCountedFrom}
+use Rattle.cell_store.specs.Count.{count_of, has_place, stored_in, KeepPairs, LosesFinds}
+use Rattle.cell_store.specs.Ends.{latest}
+use Rattle.cell_store.specs.Walk.{IsEach, IsEntry}
+use Rattle.cell_store.specs.Store.{cell_of, AreAbout, AreCountedFrom, AreUpTo, KeepSettling}
 use Rattle.cell_store.specs.Sweep.{alive_at, is_dead, whole_swept}
 use Rattle.shelf.specs.declared.shelf.KeptFlush.{KeptFlush}
 use Rattle.ranked.specs.Flush.{covers}
-use Rattle.shelf.specs.Told.{is_version}
+use Rattle.shelf.specs.Kept.{is_version}
+pub use Rattle.shelf.specs.Clean.{IsAlive}
+use Rattle.shelf.specs.Clean.{AreKeyed, IsClean, IsEnd}
 
 -- the numbers so far, and that of a flush if it covers the question
 abbrev pub number_more : Question → List ℕ → KeptFlush → List ℕ
@@ -21,10 +25,6 @@ number_more question done own = if covers own.flush question then done ++ own.nu
 -- the numbers of the kept flushes that cover a question
 abbrev pub numbers_of : List KeptFlush → Question → List ℕ
 numbers_of kept question = fold (number_more question) [] kept
-
--- Some version of a type has a find that is alive at a moment.
-abbrev pub IsAlive : List KeptFlush → Labels → ℕ → OwnerCells → ℕ → Type 0
-IsAlive kept name t cells kind = (v : ℕ) × ((is_version kept (record { owner = name; kind = kind }) v ≡ true) × (is_some (alive_at t (cell_in cells kind v)) ≡ true))
 
 -- The cells of a name after a sweep. Each version keeps what is alive, and gets nothing. Each column that counts has a find that is alive in some version.
 pub record IsSwept (kept : List KeptFlush) (t : ℕ) (name : Labels) (old new : OwnerCells) : Type 0 where
@@ -40,3 +40,49 @@ pub record AreAlive {S : Type 0} (kept : List KeptFlush) (t : ℕ) (owners : Ind
   pub kinds : (name : Labels) → IfSome (get name_eq owners name) (λ cells. (k : ℕ) → has_place cells (One k) ≡ true → IsAlive kept name t cells k)
   pub wholes : (name : Labels) → IfSome (get name_eq owners name) (λ cells. is_dead t cells.whole ≡ false)
   pub counted : AreCountedFrom 0 owners
+
+-- The cells of a name after a sweep, whatever they were: each version keeps what is alive, and gets nothing.
+pub record IsLessened (kept : List KeptFlush) (t : ℕ) (name : Labels) (old new : OwnerCells) : Type 0 where
+  pub cells : (k v : ℕ) → is_version kept (record { owner = name; kind = k }) v ≡ true → alive_at t (cell_in new k v) ≡ alive_at t (cell_in old k v)
+  pub upto : (top : ℕ) → IsUpTo top old → IsUpTo top new
+  pub settles : (n k : ℕ) → CanSettle n k old → CanSettle n k new
+  pub lost : LosesFinds old new
+
+-- The cells of all names after a sweep of some: each version keeps what is alive, and gets nothing.
+pub record AreLessened {S : Type 0} (kept : List KeptFlush) (t : ℕ) (old new : IndexMap Labels OwnerCells S) : Type 0 where
+  pub cells : (q : Question) (v : ℕ) → is_version kept q v ≡ true → alive_at t (cell_of new q v) ≡ alive_at t (cell_of old q v)
+  pub upto : (top : ℕ) → AreUpTo top old → AreUpTo top new
+  pub settles : KeepSettling old new
+  pub about : AreAbout old → AreAbout new
+  pub pairs : KeepPairs old new
+
+-- What a sweep of a name gives: a later moment before which it needs no other sweep, if some place counts.
+abbrev pub IsNext : List KeptFlush → ℕ → Labels × OwnerCells → ℕ → Type 0
+IsNext kept t entry end = 1 ≤ count_of entry.1 → IsEnd kept entry end × IsClean kept t entry.0 entry.1 × ((s : ℕ) → s ≤ t → s < latest → s < end)
+
+-- The name at a place was swept, and the others are as they were.
+pub record IsSweptAt (kept : List KeptFlush) (t place : ℕ) (old new : List (Labels × OwnerCells)) (end : ℕ) : Type 0 where
+  pub each : IsEach (IsEntry (IsLessened kept t)) old new
+  pub others : (i : ℕ) → i ≢ place → slice_get new i ≡ slice_get old i
+  pub size : length new ≡ length old
+  pub next : IfSome (slice_get new place) (λ entry. IsNext kept t entry end)
+
+-- A name that ends after a moment needs no sweep at another.
+abbrev pub IsDue : List KeptFlush → ℕ → ℕ → Labels × OwnerCells → ℕ → Type 0
+IsDue kept t asked entry end = asked < end → IsClean kept t entry.0 entry.1
+
+-- The sweep so far: each name that ends after `asked` needs none, and the counted places are counted.
+pub record IsUnderway {S : Type 0} (kept : List KeptFlush) (t asked : ℕ) (first : IndexMap Labels OwnerCells S) (most : ℕ) (owners : IndexMap Labels OwnerCells S) (moments : List ℕ) (stored : ℕ) : Type 0 where
+  pub less : AreLessened kept t first owners
+  pub ends : AreKeyed (IsEnd kept) owners.entries moments
+  pub due : AreKeyed (IsDue kept t asked) owners.entries moments
+  pub counted : stored ≡ stored_in owners
+  pub fewer : stored ≤ most
+
+-- 1 if a moment is at another or before, else 0
+abbrev pub one_ended : ℕ → ℕ → ℕ
+one_ended asked end = if nat_le end asked then 1 else 0
+
+-- the number of names that end at a moment or before
+abbrev pub count_ended : ℕ → List ℕ → ℕ
+count_ended asked ends = sum_by (one_ended asked) ends

@@ -1,6 +1,6 @@
 -- The replay of a shelf: its admissions and flushes in order, and the cells that they give.
-use Rattle.std.specs.Prelude.{ℕ, Bool, true, ◌++◌, ◌==◌, ◌&&◌, ◌||◌, ◌≡◌, ◌≤◌, ◌<◌, ◌^◌, length, vec_capacity, List, [], ◌∷◌, Option, None, fold, if◌then◌else◌}
-use Rattle.std.specs.List.{AllByRecursion, list_any}
+use Rattle.std.specs.Prelude.{ℕ, Bool, true, ◌++◌, ◌==◌, ◌&&◌, ◌≡◌, ◌≤◌, ◌<◌, ◌^◌, length, vec_capacity, List, [], ◌∷◌, Option, None, fold, if◌then◌else◌}
+use Rattle.std.specs.List.{AllByRecursion}
 use Rattle.dns_name.specs.Labels.{Labels}
 use Rattle.dns_text.specs.declared.record.Question.{Question}
 use Rattle.ranked.specs.declared.find.Find.{Find}
@@ -17,6 +17,8 @@ use Rattle.ranked.specs.declared.flush.Reach.{Reach}
 use Rattle.ranked.specs.declared.flush.Reach.TheVariants.{OneType, Name, Zone}
 use Rattle.shelf.specs.declared.shelf.KeptFlush.{KeptFlush}
 use Rattle.shelf.specs.declared.shelf.Shelf.{Shelf}
+pub use Rattle.shelf.specs.Kept.{is_kept, is_version}
+use Rattle.shelf.specs.Clean.{AreKeyed, IsEnd}
 use Rattle.ranked.specs.Flush.{covers, flushed_types}
 
 -- an admission of a find at a moment, or a flush with its number
@@ -36,14 +38,6 @@ cell_by question chosen told = fold (told_after question chosen) None told
 -- the choice of one flush; number 0 is that of no flush
 abbrev pub only : ℕ → ℕ → Bool
 only version number = version == number
-
--- whether a kept flush of this number covers the question
-abbrev pub is_kept : List KeptFlush → Question → ℕ → Bool
-is_kept kept question version = list_any (λ own. own.number == version && covers own.flush question) kept
-
--- whether it is a version of the question: 0, or the number of a kept flush that covers it
-abbrev pub is_version : List KeptFlush → Question → ℕ → Bool
-is_version kept question version = version == 0 || is_kept kept question version
 
 -- the version so far, or that of a flush if it is in force and covers the question
 abbrev pub later_shown : Question → ℕ → KeptFlush → ℕ
@@ -80,7 +74,7 @@ CanSettleFlush owners number flush = AllByRecursion (λ kind. CanSettleAt number
 abbrev pub CanSettleKept : {S : Type 0} → IndexMap Labels OwnerCells S → KeptFlush → Type 0
 CanSettleKept owners own = CanSettleFlush owners own.number own.flush
 
--- No admission has reached a version past the greatest number, and each cell has only a find about its question. Each kept flush can become permanent with no memory. The places that count are counted, and are at most the limit.
+-- No admission has reached a version past the greatest number, and each cell has only a find about its question. Each kept flush can become permanent with no memory. The places that count are counted, and are at most the limit. No name needs a sweep before its end.
 pub record IsShelf (shelf : Shelf) : Type 0 where
   pub upto : AreUpTo shelf.top shelf.owners
   pub about : AreAbout shelf.owners
@@ -91,6 +85,7 @@ pub record IsShelf (shelf : Shelf) : Type 0 where
   pub few : shelf.stored ≤ shelf.limit
   pub small : shelf.limit ≤ 2 ^ 32
   pub room : length shelf.kept.items ≤ vec_capacity shelf.numbers
+  pub ends : AreKeyed (IsEnd shelf.kept.items) shelf.owners.entries shelf.ends
 
 -- the version so far, or that of a flush if it is chosen and covers the question
 abbrev pub later_chosen : Question → (ℕ → Bool) → ℕ → KeptFlush → ℕ

@@ -7,6 +7,8 @@
 mod fault;
 // Room for a find.
 mod room;
+// The moments before which names need no sweep.
+mod ends;
 // The shelf: cells and flushes.
 mod shelf;
 // What the counted places are.

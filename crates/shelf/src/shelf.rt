@@ -1,6 +1,6 @@
 //! The shelf: cached cells, and the flushes that can be undone or redone.
 
-ghost use Rattle.std.specs.Prelude.{◌≡◌, ◌<◌, ◌≤◌, ◌+◌, ◌^◌, ◌∷◌, ◌&&◌, [], ℕ, Bool, List, None, true, false, not, map, vec_capacity};
+ghost use Rattle.std.specs.Prelude.{◌≡◌, ◌<◌, ◌≤◌, ◌+◌, ◌^◌, ◌∷◌, ◌&&◌, [], ℕ, Bool, List, None, true, false, not, length, map, vec_capacity};
 ghost use Rattle.std.specs.Prelude.{IfErr, IsOk, OnOk, OnErr, if◌then◌else◌};
 ghost use Rattle.std.specs.List.{AllByRecursion};
 ghost use Rattle.indexmap.specs.IndexMap.{hasher_of};
@@ -12,7 +12,7 @@ ghost use Rattle.ranked.specs.Find.{admission_of};
 ghost use Rattle.ranked.specs.Flush.{covers, flushed_types};
 ghost use Rattle.cell_store.specs.Count.{has_place_for, one_if, stored_in, KeepPairs};
 ghost use Rattle.cell_store.specs.Owner.{after_settle, held_now};
-ghost use Rattle.cell_store.specs.Store.{cell_of, AreUpTo};
+ghost use Rattle.cell_store.specs.Store.{cell_of, AreUpTo, StayBut};
 ghost use Rattle.cell_store.specs.Sweep.{alive_at};
 ghost use Rattle.shelf.specs.declared.shelf.KeptFlush.{KeptFlush};
 ghost use Rattle.shelf.specs.Kept.{with_shown, stands_first};
@@ -21,18 +21,19 @@ ghost use Rattle.shelf.specs.Sweep.{AreAlive};
 ghost use Rattle.shelf.specs.Told.{without, CanSettleFlush, CanSettleKept};
 ghost use Rattle.ranked.specs.declared.find.Scope.{Scope};
 
+use crate::ends::{drop_end, fit, reset, touch};
 use crate::fault::StoreFault;
 use crate::room::Room;
 use crate::sweep::sweep_all;
 use cell_store::{
-    NameSeed, Owners, admit, at, drop_uncounted, forget, has_place, open_kinds, settle_below,
-    settle_kinds,
+    NameSeed, Owners, admit, at, forget, has_place, open_kinds, settle_below, settle_kinds,
 };
 use dns_name::{Name, NoMemory};
 use dns_text::types;
 use indexmap::IndexMap;
 use ranked::{Fate, Find, Flush, Held, Reach, Scope, SharedFind};
 use std::alloc::Global;
+use winner_tree::WinnerTree;
 
 /// A flush that can be undone or redone.
 #[derive(Drop)]
@@ -59,6 +60,8 @@ pub struct Shelf {
     pub limit: u64,
     /// Room for the numbers of the kept flushes, so that a sweep takes no memory.
     pub numbers: Vec<u64>,
+    /// For each name, a moment before which a sweep finds nothing to remove there.
+    pub ends: WinnerTree,
 }
 
 impl KeptFlush {
@@ -117,6 +120,7 @@ impl Shelf {
             stored: 0,
             limit,
             numbers: Vec::new(alloc),
+            ends: WinnerTree::new(alloc),
         }
     }
 
@@ -259,14 +263,17 @@ impl Shelf {
         ensures flushes { KeepsFlushes self.old self.new }
         ensures stored { self.new.stored ≤ self.old.stored + 1 }
     {
-        admit(
+        touch(&self.owners, &mut self.ends, &find.find().owner)?;
+        let result = admit(
             self.alloc,
             &mut self.owners,
             &mut self.stored,
             find,
             moment,
             self.top,
-        )?;
+        );
+        fit(&self.owners, &mut self.ends);
+        result?;
         Ok(())
     }
 
@@ -319,6 +326,7 @@ impl Shelf {
         ensures stored { self.new.stored ≡ self.old.stored }
     {
         reserve(&mut self.numbers, self.kept.len())?;
+        reset(&self.owners, &mut self.ends, &flush.name);
         open_flush(&mut self.owners, &flush, self.top)?;
         self.kept.push(KeptFlush {
             flush,
@@ -343,12 +351,12 @@ impl Shelf {
     {
         sweep_all(
             &mut self.owners,
+            &mut self.ends,
             &mut self.stored,
             &self.kept,
             &mut self.numbers,
             moment,
         );
-        drop_uncounted(&mut self.owners);
     }
 
     /// Removes a name, from every version. It takes no memory.
@@ -361,6 +369,7 @@ impl Shelf {
         ensures stored { self.new.stored ≤ self.old.stored }
         ensures pairs { KeepPairs self.old.owners self.new.owners }
     {
+        drop_end(&self.owners, &mut self.ends, owner);
         forget(&mut self.owners, &mut self.stored, owner);
     }
 
@@ -402,6 +411,7 @@ impl Shelf {
         }
         let own = self.kept.remove(0);
         settle_flush(&mut self.owners, &mut self.stored, &own.flush, own.number);
+        self.ends.end_all();
     }
 
     /// Drops an undone flush for good: it can no longer be redone. Its versions go at the next sweep. It takes no memory.
@@ -416,6 +426,7 @@ impl Shelf {
         ensures owners { self.new.owners ≡ self.old.owners }
     {
         remove_number(&mut self.kept, number);
+        self.ends.end_all();
     }
 }
 
@@ -468,6 +479,8 @@ fn open_flush(owners: &mut Owners, flush: &Flush, top: u64) -> Result<(), NoMemo
     ensures opened { OnOk result ((n : ℕ) → CanSettleFlush owners.new n flush.now) }
     ensures counted { stored_in owners.new ≡ stored_in owners.old }
     ensures pairs { KeepPairs owners.old owners.new }
+    ensures entries { StayBut flush.now.name owners.old.entries owners.new.entries
+        × (length owners.new.entries ≡ length owners.old.entries) }
 {
     match flush.reach {
         Reach::OneType(kind) => open_kinds(owners, &flush.name, &[kind], top),
@@ -486,7 +499,7 @@ fn settle_flush(owners: &mut Owners, stored: &mut u64, flush: &Flush, number: u6
     ensures settles { (kept : List KeptFlush) →
         AllByRecursion (CanSettleKept owners.old) kept → AllByRecursion (CanSettleKept owners.new) kept }
     ensures counted { stored.new ≡ stored_in owners.new }
-    ensures fewer { stored.new ≤ stored.old }
+    ensures fewer { (stored.new ≤ stored.old) × (length owners.new.entries ≡ length owners.old.entries) }
     ensures pairs { KeepPairs owners.old owners.new }
 {
     match flush.reach {

@@ -1,13 +1,19 @@
 //! The sweep: it removes expired finds, and the versions that no kept flush needs.
 
-ghost use Rattle.std.specs.Prelude.{◌≡◌, ◌≤◌, ℕ, length, vec_capacity};
+ghost use Rattle.std.specs.Prelude.{◌≡◌, ◌<◌, ◌≤◌, ℕ, length, slice_index_or, vec_capacity};
+ghost use Rattle.indexmap.specs.IndexMap.{IndexMap};
+ghost use Rattle.dns_name.specs.Labels.{Labels};
 ghost use Rattle.cell_store.specs.Count.{stored_in};
-ghost use Rattle.cell_store.specs.Walk.{IsEach, IsEntry};
-ghost use Rattle.shelf.specs.Sweep.{numbers_of, IsSwept};
+ghost use Rattle.cell_store.specs.Ends.{latest};
+ghost use Rattle.cell_store.specs.declared.owner.OwnerCells.{OwnerCells};
+ghost use Rattle.cell_store.specs.declared.seed.NameSeed.{NameSeed};
+ghost use Rattle.shelf.specs.Clean.{AreKeyed, IsEnd};
+ghost use Rattle.shelf.specs.Sweep.{count_ended, numbers_of, AreAlive, AreLessened, IsSwept, IsSweptAt, IsUnderway};
 
 use crate::shelf::KeptFlush;
-use cell_store::{OwnerCells, Owners};
+use cell_store::{OwnerCells, Owners, drop_if_uncounted};
 use dns_name::Name;
+use winner_tree::WinnerTree;
 
 // The numbers of the kept flushes that cover the question of a name and type.
 fn collect(kept: &[KeptFlush], owner: &Name, kind: u16, numbers: &mut Vec<u64>)
@@ -45,9 +51,85 @@ fn sweep_name(
     }
 }
 
-// Sweeps every name. It takes no memory, and visits them all.
+// Sweeps the name at a place, and gives the moment of its next sweep. It is later than this one, but that of a name without finds.
+fn sweep_at(
+    owners: &mut Owners,
+    stored: &mut u64,
+    kept: &[KeptFlush],
+    numbers: &mut Vec<u64>,
+    place: usize,
+    moment: u64,
+) -> u64
+    requires low { place < length owners.old.entries }
+    requires room { length kept.now ≤ vec_capacity numbers.old }
+    requires counted { stored.old ≡ stored_in owners.old }
+    ensures swept { IsSweptAt kept.now moment place owners.old.entries owners.new.entries result }
+    ensures counted { stored.new ≡ stored_in owners.new }
+    ensures fewer { stored.new ≤ stored.old }
+    ensures capacity { vec_capacity numbers.new ≡ vec_capacity numbers.old }
+{
+    let (name, cells) = owners.pair_mut(place);
+    let others = *stored - cells.counted();
+    sweep_name(cells, name, kept, numbers, moment);
+    *stored = others + cells.counted();
+    cells.first_end().max(moment.saturating_add(1))
+}
+
+// Sweeps the name at a place, and removes it if nothing of it is left.
+fn visit(
+    owners: &mut Owners,
+    ends: &mut WinnerTree,
+    stored: &mut u64,
+    kept: &[KeptFlush],
+    numbers: &mut Vec<u64>,
+    place: usize,
+    moment: u64,
+)
+    requires low { (place < length owners.old.entries) × (length ends.old ≡ length owners.old.entries) }
+    requires room { length kept.now ≤ vec_capacity numbers.old }
+    requires counted { stored.old ≡ stored_in owners.old }
+    ensures on { (asked most : ℕ) (first : IndexMap Labels OwnerCells NameSeed) → asked ≤ moment → asked < latest →
+        IsUnderway kept.now moment asked first most owners.old ends.old stored.old →
+        IsUnderway kept.now moment asked first most owners.new ends.new stored.new }
+    ensures ended { (asked : ℕ) → asked ≤ moment → asked < latest → slice_index_or ends.old place 0 ≤ asked →
+        count_ended asked ends.new < count_ended asked ends.old }
+    ensures capacity { vec_capacity numbers.new ≡ vec_capacity numbers.old }
+{
+    let end = sweep_at(owners, stored, kept, numbers, place, moment);
+    if drop_if_uncounted(owners, place) {
+        ends.swap_remove(place);
+    } else {
+        ends.set(place, end);
+    }
+}
+
+// Sweeps the names that end at `asked` or before. It takes no memory.
+fn sweep_ended(
+    owners: &mut Owners,
+    ends: &mut WinnerTree,
+    stored: &mut u64,
+    kept: &[KeptFlush],
+    numbers: &mut Vec<u64>,
+    asked: u64,
+    moment: u64,
+)
+    requires before { (asked ≤ moment) × (asked < latest) }
+    requires room { length kept.now ≤ vec_capacity numbers.old }
+    requires underway { IsUnderway kept.now moment asked owners.old stored.old owners.old ends.old stored.old }
+    ensures swept { IsUnderway kept.now moment asked owners.old stored.old owners.new ends.new stored.new }
+    ensures alive { AreAlive kept.now moment owners.new }
+    ensures capacity { vec_capacity numbers.new ≡ vec_capacity numbers.old }
+{
+    while let Some(place) = ends.first_ended(asked) {
+        visit(owners, ends, stored, kept, numbers, place, moment);
+    }
+}
+
+// Sweeps the names that need it at a moment. It takes no memory.
+#[tactic(auto, using(crate::proofs::VisitLaws::start, crate::proofs::VisitLaws::start_all))]
 pub(crate) fn sweep_all(
     owners: &mut Owners,
+    ends: &mut WinnerTree,
     stored: &mut u64,
     kept: &[KeptFlush],
     numbers: &mut Vec<u64>,
@@ -55,17 +137,18 @@ pub(crate) fn sweep_all(
 )
     requires room { length kept.now ≤ vec_capacity numbers.old }
     requires counted { stored.old ≡ stored_in owners.old }
-    ensures each { IsEach (IsEntry (IsSwept kept.now moment)) owners.old.entries owners.new.entries }
-    ensures counted { stored.new ≡ stored_in owners.new }
-    ensures fewer { stored.new ≤ stored.old }
+    requires ends { AreKeyed (IsEnd kept.now) owners.old.entries ends.old }
+    ensures less { AreLessened kept.now moment owners.old owners.new }
+    ensures ends { AreKeyed (IsEnd kept.now) owners.new.entries ends.new }
+    ensures alive { AreAlive kept.now moment owners.new }
+    ensures counted { (stored.new ≡ stored_in owners.new) × (stored.new ≤ stored.old) }
     ensures capacity { vec_capacity numbers.new ≡ vec_capacity numbers.old }
 {
-    let mut place = 0;
-    while place < owners.len() {
-        let (name, cells) = owners.pair_mut(place);
-        let others = *stored - cells.counted();
-        sweep_name(cells, name, kept, numbers, moment);
-        *stored = others + cells.counted();
-        place += 1;
+    if moment < u64::MAX {
+        sweep_ended(owners, ends, stored, kept, numbers, moment, moment);
+        return;
     }
+    // No moment is later than this one, so each name is visited.
+    ends.end_all();
+    sweep_ended(owners, ends, stored, kept, numbers, moment - 1, moment);
 }

@@ -1,6 +1,6 @@
 use Rattle.cell_store.specs.Owner.{CanSettle}
 use Rattle.std.specs.Prelude.{IfSome}
-use Rattle.std.proofs.Common.{◌≡◌, Option, Some, None, refl, ap, sym, subst, ◌∙◌, rules, arith}
+use Rattle.std.proofs.Common.{◌≡◌, List, Option, Some, None, refl, ap, sym, subst, ◌∙◌, rules, arith}
 use Rattle.indexmap.specs.IndexMap.{IndexMap, get, insert_entry}
 use Rattle.std.specs.Map.{set_value}
 use Rattle.std.specs.Prelude.{not, false, ◌||◌}
@@ -15,7 +15,8 @@ use Rattle.dns_name.specs.Order.{name_eq}
 use Rattle.ranked.specs.declared.find.Find.{Find}
 use Rattle.ranked.specs.Find.{admission_of, has_kind}
 use Rattle.cell_store.specs.declared.owner.OwnerCells.{OwnerCells}
-use Rattle.cell_store.specs.Store.{cell_by_owner}
+use Rattle.cell_store.specs.Store.{cell_by_owner, StayBut}
+use Rattle.cell_store.proofs.SpotLaws.{stays_set, stays_put}
 use Rattle.cell_store.proofs.StoreLaws.{cells_admitted, cells_kept, each_updated, by_held, by_none, pairs_added, pairs_kept}
 use Rattle.cell_store.proofs.store.admit.Goals as goal
 
@@ -108,6 +109,9 @@ returns-in-Some-clause-bound c =
       omega (arith, found, has, c.requires.index.counted, c.admit-result.ensures.count, c.counted.ensures, c.counted-in-Some.ensures),
       pairs_added owners owners (c.get_mut.follows.lender new) find.owner c.find-2.result.now.owner new refl (ap (λ (f : Find). f.owner) c.find-2.ensures) updates find.scope
           (λ scope had. ap (λ (o : Option OwnerCells). scope_eq find.scope scope || option_map_or (λ cells. has_place cells scope) o false) held ∙ c.admit-result.ensures.places scope had),
+      subst (λ (l : List (Labels × OwnerCells)). StayBut find.owner owners.entries l)
+          (sym ((c.get_mut.follows.holds new).0 ∙ ap (λ (f : Find). set_value (name_eq f.owner) owners.entries new) c.find-2.ensures))
+          (stays_set (name_eq find.owner) find.owner owners.entries new refl),
     )
 
 pub returns-clause-bound : goal.returns-clause-bound
@@ -121,6 +125,9 @@ returns-clause-bound c =
       omega (arith, has, c.new-cells.ensures.count, c.admit.ensures.count, c.counted-counted.ensures),
       pairs_added owners c.get_mut.follows.lender-at-none c.insert.new.self find.owner c.in_ok-owner.owner c.admit.new.self c.get_mut.follows.holds-at-none (c.in_ok-owner.ensures ∙ ap (λ (f : Find). f.owner) c.find-3.ensures) c.in_ok-insert.ensures.updates find.scope
           (λ scope had. ap (λ b. scope_eq find.scope scope || b) (none scope) ∙ c.admit.ensures.places scope had),
+      stays_put find.owner owners.entries c.admit.new.self absent c.insert.new.self.entries
+          (c.in_ok-insert.ensures.entries ∙ (ap (λ (n : Labels). insert_entry name_eq c.get_mut.follows.lender-at-none.entries n c.admit.new.self) (c.in_ok-owner.ensures ∙ ap (λ (f : Find). f.owner) c.find-3.ensures)
+          ∙ ap (λ (m : IndexMap Labels OwnerCells _). insert_entry name_eq m.entries find.owner c.admit.new.self) c.get_mut.follows.holds-at-none)),
     )
 
 pub returns-clause-counted : goal.returns-clause-counted

@@ -5,7 +5,7 @@ use Rattle.dns_name.specs.Labels.{Labels}
 use Rattle.dns_name.specs.Order.{name_eq}
 use Rattle.cell_store.specs.declared.owner.OwnerCells.{OwnerCells}
 use Rattle.cell_store.specs.Count.{count_entries}
-use Rattle.cell_store.proofs.HeldLaws.{count_dropped, counted_from, dropped_cells, left_removed}
+use Rattle.cell_store.proofs.HeldLaws.{count_dropped, dropped_cells, left_removed}
 use Rattle.cell_store.proofs.store.drop_if_uncounted.Goals as goal
 
 pub returns-clause-cells : goal.returns-clause-cells
@@ -29,8 +29,8 @@ returns-clause-counted c =
     ∙ count_dropped c.args.owners.now.entries c.args.place c.in-Some.field-0-0.now c.in-Some.cells.now (sym c.in-Some.ensures.entry)
     (sym c.counted.ensures ∙ c.if-counted-eq0.true)
 
-pub returns-clause-later : goal.returns-clause-later
-returns-clause-later c =
+pub returns-clause-entries : goal.returns-clause-entries
+returns-clause-entries c =
     let gone = c.swap_remove_index.ensures.entry ∙ sym c.in-Some.ensures.entry in
     let entries = subst (λ (o : Option (Labels × OwnerCells)). IfSome o (λ p. c.swap_remove_index.new.self.entries ≡ swap_remove c.args.owners.now.entries c.args.place p)) gone c.swap_remove_index.ensures.entries in
-    counted_from c.args.owners.now c.swap_remove_index.new.self c.args.place (c.in-Some.field-0-0.now, c.in-Some.cells.now) entries
+    ((c.in-Some.field-0-0.now, c.in-Some.cells.now), entries)

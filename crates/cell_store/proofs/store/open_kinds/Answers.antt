@@ -1,4 +1,4 @@
-use Rattle.std.proofs.Common.{◌≡◌, ◌∙◌, Option, Some, None, ap, false, arith, refl, rules, sym}
+use Rattle.std.proofs.Common.{◌≡◌, ◌∙◌, List, length, subst, Option, Some, None, ap, false, arith, refl, rules, sym}
 use Rattle.std.specs.Option.{option_map_or}
 use Rattle.cell_store.specs.declared.owner.OwnerCells.{OwnerCells}
 use Rattle.indexmap.specs.IndexMap.{get}
@@ -7,6 +7,9 @@ use Rattle.dns_name.specs.Order.{name_eq}
 use Rattle.cell_store.specs.Count.{count_entries, has_place}
 use Rattle.cell_store.proofs.CountLaws.{count_set}
 use Rattle.cell_store.proofs.StoreLaws.{pairs_kept, settles_absent}
+use Rattle.dns_name.specs.Labels.{Labels}
+use Rattle.cell_store.specs.Store.{StayBut}
+use Rattle.cell_store.proofs.SpotLaws.{stays_set, length_set}
 use Rattle.cell_store.proofs.store.open_kinds.Goals as goal
 
 pub returns-in-Some-clause-counted : goal.returns-in-Some-clause-counted
@@ -33,3 +36,11 @@ returns-in-Some-clause-pairs c =
     let held : Some c.in-Some.cells.now ≡ get name_eq owners owner = grind (arith, common_steps) in
     pairs_kept owners owners (c.get_mut.follows.lender new) owner owner new refl refl updates
     (λ scope has. ap (λ (o : Option OwnerCells). option_map_or (λ cells. has_place cells scope) o false) (sym held) ∙ (sym (c.open_each.ensures.places.places scope) ∙ has))
+
+pub returns-in-Some-clause-entries : goal.returns-in-Some-clause-entries
+returns-in-Some-clause-entries c =
+    let owners = c.args.owners.now in
+    let owner = c.args.owner.now in
+    let new = c.open_each.new.self in
+    let put = (c.get_mut.follows.holds new).0 in
+    (subst (λ (l : List (Labels × OwnerCells)). StayBut owner owners.entries l) (sym put) (stays_set (name_eq owner) owner owners.entries new refl), ap length put ∙ length_set (name_eq owner) owners.entries new)

@@ -49,3 +49,9 @@ pub returns-clause-pairs : goal.returns-clause-pairs
 returns-clause-pairs c = pairs_below c.args.zone.now c.args.number c.args.owners.now c.loop-place.owners
     (walk_all (IsEntry (IsSettledBelow c.args.zone.now c.args.number)) c.loop-place.place c.args.owners.now.entries c.loop-place.owners.entries
     (omega (arith, walk_length (IsEntry (IsSettledBelow c.args.zone.now c.args.number)) c.loop-place.place c.args.owners.now.entries c.loop-place.owners.entries c.loop-place.invariant.0)) c.loop-place.invariant.0)
+
+pub returns-clause-fewer : goal.returns-clause-fewer
+returns-clause-fewer c = (
+  c.loop-place.invariant.2,
+  walk_length (IsEntry (IsSettledBelow c.args.zone.now c.args.number)) c.loop-place.place c.args.owners.now.entries c.loop-place.owners.entries c.loop-place.invariant.0,
+)

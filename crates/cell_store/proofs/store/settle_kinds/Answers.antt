@@ -1,4 +1,4 @@
-use Rattle.std.proofs.Common.{◌≡◌, false, max, cond, Option, Some, refl, sym, ap, ◌∙◌, subst, rules, arith}
+use Rattle.std.proofs.Common.{◌≡◌, length, false, max, cond, Option, Some, refl, sym, ap, ◌∙◌, subst, rules, arith}
 use Rattle.std.specs.Prelude.{◌==◌, IfSome}
 use Rattle.std.specs.List.{list_any}
 use Rattle.indexmap.specs.IndexMap.{get}
@@ -11,6 +11,7 @@ use Rattle.std.specs.Option.{option_map_or}
 use Rattle.cell_store.specs.Count.{count_entries, has_place}
 use Rattle.cell_store.proofs.CountLaws.{count_set, count_found}
 use Rattle.cell_store.proofs.StoreLaws.{cells_settled, each_updated, pairs_kept, settles_there}
+use Rattle.cell_store.proofs.SpotLaws.{length_set}
 use Rattle.cell_store.proofs.store.settle_kinds.Goals as goal
 
 pub returns-in-Some-clause-cells : goal.returns-in-Some-clause-cells
@@ -54,7 +55,7 @@ returns-in-Some-clause-fewer c =
     let owners = c.args.owners.now in
     let held : get name_eq owners c.args.owner.now ≡ Some c.in-Some.cells.now = grind (arith, common_steps) in
     let found = count_found (name_eq c.args.owner.now) owners.entries c.in-Some.cells.now held in
-    omega (arith, found, c.requires.counted, c.settle_kinds.ensures.count, c.counted.ensures, c.counted-in-Some.ensures)
+    (omega (arith, found, c.requires.counted, c.settle_kinds.ensures.count, c.counted.ensures, c.counted-in-Some.ensures), ap length (c.get_mut.follows.holds c.settle_kinds.new.self).0 ∙ length_set (name_eq c.args.owner.now) owners.entries c.settle_kinds.new.self)
 
 pub settle_kinds-requires : goal.settle_kinds-requires
 settle_kinds-requires c =

@@ -1,4 +1,9 @@
-use Rattle.std.proofs.Common.{arith}
+use Rattle.std.proofs.Common.{ℕ, List, sym, subst, arith}
+use Rattle.indexmap.specs.IndexMap.{swap_remove_entry}
+use Rattle.dns_name.specs.Labels.{Labels}
+use Rattle.cell_store.specs.declared.owner.OwnerCells.{OwnerCells}
+use Rattle.shelf.specs.Clean.{AreKeyed, IsEnd}
+use Rattle.shelf.proofs.EndLaws.{keyed_dropped}
 use Rattle.shelf.specs.Told.{chosen_version}
 use Rattle.dns_name.specs.Order.{name_eq}
 use Rattle.shelf.proofs.AboutLaws.{about_forgot}
@@ -25,4 +30,7 @@ returns-clause-whole c =
       few = omega (arith, c.forget.ensures.fewer, whole.few);
       small = whole.small;
       room = whole.room;
+      ends = subst (λ (l : List (Labels × OwnerCells)). AreKeyed (IsEnd self.kept.items) l c.drop_end.new.ends) (sym c.forget.ensures.gone.1)
+          (subst (λ (l : List ℕ). AreKeyed (IsEnd self.kept.items) (swap_remove_entry (name_eq c.args.owner.now) self.owners.entries) l) (sym c.drop_end.ensures)
+          (keyed_dropped (IsEnd self.kept.items) (name_eq c.args.owner.now) self.owners.entries self.ends whole.ends));
     }

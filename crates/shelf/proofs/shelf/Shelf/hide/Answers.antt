@@ -3,6 +3,7 @@ use Rattle.std.specs.List.{AllByRecursion}
 use Rattle.cell_store.specs.Store.{cell_of}
 use Rattle.shelf.specs.declared.shelf.KeptFlush.{KeptFlush}
 use Rattle.shelf.specs.Told.{is_version, chosen_version, IsAscending, CanSettleFlush}
+use Rattle.shelf.proofs.EndLaws.{ends_kept}
 use Rattle.shelf.proofs.ShelfLaws.{same_version, same_numbers}
 use Rattle.shelf.proofs.FaceLaws.{length_shown, same_all, same_ascending, same_chosen}
 use Rattle.shelf.proofs.shelf.Shelf.hide.Goals as goal
@@ -31,4 +32,6 @@ returns-clause-whole c = λ is.
       few = is.few;
       small = is.small;
       room = omega (arith, ap length c.set_shown.ensures, length_shown c.args.number false kept, is.room);
+      ends = ends_kept kept c.set_shown.new.kept.items (λ q v there. ap (λ (l : List KeptFlush). is_version l q v) c.set_shown.ensures ∙ (same_version c.args.number false kept q v ∙ there))
+          c.args.self.now.owners.entries c.args.self.now.ends is.ends;
     }

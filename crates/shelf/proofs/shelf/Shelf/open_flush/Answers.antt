@@ -2,6 +2,8 @@ use Rattle.std.proofs.Common.{◌≤◌, List, length, true, refl, sym, ap, ◌�
 use Rattle.std.specs.List.{AllByRecursion}
 use Rattle.shelf.specs.declared.shelf.KeptFlush.{KeptFlush}
 use Rattle.shelf.specs.Told.{is_version, IsAscending, CanSettleFlush}
+use Rattle.shelf.specs.Clean.{AreKeyed, IsEnd}
+use Rattle.shelf.proofs.EndLaws.{ends_kept, reset_ends, version_more}
 use Rattle.shelf.proofs.AboutLaws.{about_same}
 use Rattle.shelf.proofs.ShelfLaws.{flush_told}
 use Rattle.shelf.proofs.FaceLaws.{flush_face, all_more, ascending_more, upto_greater}
@@ -41,6 +43,8 @@ returns-clause-whole c =
       few = c.requires.whole.few;
       small = c.requires.whole.small;
       room = omega (arith, c.in_ok-reserve.ensures.room, c.in_ok-push.ensures.len, c.len.ensures);
+      ends = ends_kept self.kept.items c.push.new.self.items (λ q v there. ap (λ (l : List KeptFlush). is_version l q v) c.in_ok-push.ensures.items ∙ version_more self.kept.items own q v there) owners.entries c.reset.new.ends
+          (reset_ends self owners c.args.flush c.reset.new.ends c.requires.whole.ends c.open_flush.ensures.entries.0 c.open_flush.ensures.entries.1 c.reset.ensures);
     }
 
 pub returns-in_err-push-clause-whole : goal.returns-in_err-push-clause-whole
@@ -59,4 +63,24 @@ returns-in_err-push-clause-whole c =
       few = whole.few;
       small = whole.small;
       room = omega (arith, ap length items, c.reserve.ensures.more, whole.room);
+      ends = subst (λ (l : List KeptFlush). AreKeyed (IsEnd l) owners.entries c.reset.new.ends) (sym items)
+          (reset_ends self owners c.args.flush c.reset.new.ends whole.ends c.open_flush.ensures.entries.0 c.open_flush.ensures.entries.1 c.reset.ensures);
+    }
+
+pub returns-in_err-open_flush-clause-whole : goal.returns-in_err-open_flush-clause-whole
+returns-in_err-open_flush-clause-whole c =
+    let self = c.args.self.now in
+    let whole = c.requires.whole in
+    let owners = c.open_flush.new.owners in
+    record {
+      upto = c.open_flush.ensures.upto;
+      about = about_same self.owners owners c.open_flush.ensures.cells whole.about;
+      numbers = whole.numbers;
+      ascending = whole.ascending;
+      settles = c.open_flush.ensures.settles self.kept.items whole.settles;
+      counted = whole.counted ∙ sym c.open_flush.ensures.counted;
+      few = whole.few;
+      small = whole.small;
+      room = omega (arith, c.reserve.ensures.more, whole.room);
+      ends = reset_ends self owners c.args.flush c.reset.new.ends whole.ends c.open_flush.ensures.entries.0 c.open_flush.ensures.entries.1 c.reset.ensures;
     }

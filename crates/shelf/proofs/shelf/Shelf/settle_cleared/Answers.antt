@@ -1,4 +1,6 @@
-use Rattle.std.proofs.Common.{◌≤◌, List, sym, ap, ◌∙◌, subst, length, arith}
+use Rattle.shelf.specs.Clean.{AreKeyed, IsEnd}
+use Rattle.shelf.proofs.EndLaws.{end_zero, keyed_zero}
+use Rattle.std.proofs.Common.{◌≤◌, ℕ, List, sym, ap, ◌∙◌, subst, length, arith}
 use Rattle.std.specs.List.{AllByRecursion}
 use Rattle.cell_store.specs.Store.{cell_of}
 use Rattle.shelf.specs.declared.shelf.KeptFlush.{KeptFlush}
@@ -25,4 +27,6 @@ returns-clause-whole c = λ is.
       few = is.few;
       small = is.small;
       room = omega (arith, ap length c.remove_number.ensures, length_without c.args.number kept, is.room);
+      ends = subst (λ (l : List ℕ). AreKeyed (IsEnd c.remove_number.new.kept.items) c.args.self.now.owners.entries l) (sym c.end_all.ensures)
+          (keyed_zero (IsEnd c.remove_number.new.kept.items) (end_zero c.remove_number.new.kept.items) c.args.self.now.owners.entries (length c.args.self.now.ends) is.ends.size);
     }

@@ -1,4 +1,6 @@
-use Rattle.std.proofs.Common.{◌≤◌, arith}
+use Rattle.std.proofs.Common.{◌≤◌, ℕ, List, length, sym, ◌∙◌, subst, arith}
+use Rattle.shelf.specs.Clean.{AreKeyed, IsEnd}
+use Rattle.shelf.proofs.EndLaws.{end_zero, keyed_zero}
 use Rattle.ranked.specs.Flush.{covers}
 use Rattle.cell_store.specs.Owner.{after_settle}
 use Rattle.shelf.specs.Told.{CanSettleFlush}
@@ -31,7 +33,9 @@ returns-clause-whole c =
       settles = c.settle_flush.ensures.settles c.remove-own.new.self.items
           (all_removed (λ own. CanSettleFlush self.owners own.number own.flush) self.kept.items c.remove-own.new.self.items c.remove-own.ensures.items c.requires.whole.settles);
       counted = c.settle_flush.ensures.counted;
-      few = omega (arith, c.settle_flush.ensures.fewer, c.requires.whole.few);
+      few = omega (arith, c.settle_flush.ensures.fewer.0, c.requires.whole.few);
       small = c.requires.whole.small;
       room = omega (arith, c.remove-own.ensures.len, c.requires.whole.room);
+      ends = subst (λ (l : List ℕ). AreKeyed (IsEnd c.remove-own.new.self.items) c.settle_flush.new.owners.entries l) (sym c.end_all.ensures)
+          (keyed_zero (IsEnd c.remove-own.new.self.items) (end_zero c.remove-own.new.self.items) c.settle_flush.new.owners.entries (length self.ends) (c.requires.whole.ends.size ∙ sym c.settle_flush.ensures.fewer.1));
     }

@@ -1,0 +1,292 @@
+-- The moments before which names need no sweep, when names come, go and change.
+use Rattle.std.proofs.Common.{◌≡◌, ℕ, zero, suc, ◌+◌, ◌-◌, ◌<◌, ◌≤◌, Bool, true, false, cond, Option, Some, None, List, [], ◌∷◌, ◌++◌, length, take, get_or, refl, sym, ap, ◌∙◌, subst, arith, ◌⊎◌, inl, inr}
+use Rattle.std.specs.Prelude.{◌==◌, ◌||◌, ◌&&◌, nat_lt, Result, Ok, Err, OnOk, OnErr, IfSome, slice_get, replicate, position, swap_remove}
+use Rattle.std.specs.List.{list_any, position_or_len}
+use Rattle.std.specs.Map.{keys_of}
+use Rattle.std.specs.Option.{option_map_or}
+use Rattle.std.proofs.Math.ListN.{set, length-set, length-append}
+use Rattle.std.proofs.Math.Seq.{take-append_seam}
+use Rattle.std.proofs.lemmas.List.{get_or-set_same, get_or-set_other, get_or_past, get_or-take, get_or-replicate, length-replicate, length-take-le}
+use Rattle.std.proofs.lemmas.List.Folds.{list_any-append}
+use Rattle.std.proofs.lemmas.Map.Entries.{length-keys_of}
+use Rattle.std.proofs.lemmas.Option.{slice_get_past}
+use Rattle.std.proofs.lemmas.Bool.Decides.{nat_tests}
+use Rattle.indexmap.specs.IndexMap.{swap_remove_entry}
+use Rattle.dns_name.specs.Labels.{Labels}
+use Rattle.dns_text.specs.declared.record.Question.{Question}
+use Rattle.cell_store.specs.declared.owner.OwnerCells.{OwnerCells}
+use Rattle.cell_store.specs.Store.{cell_of, name_place, AreAbout, AreSameCells, AreUpTo, StayBut}
+use Rattle.cell_store.specs.Count.{KeepPairs}
+use Rattle.cell_store.specs.Owner.{after_touch}
+use Rattle.ranked.specs.Find.{admission_of, touches}
+use Rattle.shelf.proofs.AboutLaws.{about_admitted, about_same}
+use Rattle.indexmap.specs.IndexMap.{IndexMap}
+use Rattle.cell_store.specs.declared.seed.NameSeed.{NameSeed}
+use Rattle.ranked.specs.declared.find.Find.{Find}
+use Rattle.ranked.specs.declared.flush.Flush.{Flush}
+use Rattle.ranked.specs.Flush.{covers}
+use Rattle.shelf.specs.declared.shelf.Shelf.{Shelf}
+use Rattle.shelf.specs.declared.shelf.KeptFlush.{KeptFlush}
+use Rattle.shelf.specs.Kept.{is_version}
+use Rattle.shelf.specs.Clean.{dropped, fitted, touched, AreKeyed, IsClean, IsEnd}
+
+-- ---- lists
+
+pub same_or : (a b : ℕ) → (a ≡ b) ⊎ (a ≡ b → ⊥)
+same_or a b = grind arith
+
+pub lt_or : (a b : ℕ) → (a < b) ⊎ (b ≤ a)
+lt_or a b = grind arith
+
+pub always_some : {A : Type 0} (P : A → Type 0) (o : Option A) → ((a : A) → P a) → IfSome o P
+always_some P None all = tt
+always_some P (Some a) all = all a
+
+pub some_map : {A : Type 0} (P Q : A → Type 0) (o : Option A) → ((a : A) → P a → Q a) → IfSome o P → IfSome o Q
+some_map P Q None step is = tt
+some_map P Q (Some a) step is = step a is
+
+get_take : {X : Type 0} (m : ℕ) (xs : List X) (j : ℕ) → j < m → slice_get (take m xs) j ≡ slice_get xs j
+get_take zero xs j low = absurd (omega arith)
+get_take (suc m) [] j low = refl
+get_take (suc m) (x ∷ xs) zero low = refl
+get_take (suc m) (x ∷ xs) (suc j) low = get_take m xs j (omega arith)
+
+pub get_set_same : {X : Type 0} (xs : List X) (i : ℕ) (x : X) → i < length xs → slice_get (set xs i x) i ≡ Some x
+get_set_same [] i x low = absurd (omega arith)
+get_set_same (y ∷ xs) zero x low = refl
+get_set_same (y ∷ xs) (suc i) x low = get_set_same xs i x (omega arith)
+
+get_set_other : {X : Type 0} (xs : List X) (i j : ℕ) (x : X) → (j ≡ i → ⊥) → slice_get (set xs i x) j ≡ slice_get xs j
+get_set_other [] i j x off = refl
+get_set_other (y ∷ xs) zero zero x off = absurd (off refl)
+get_set_other (y ∷ xs) zero (suc j) x off = refl
+get_set_other (y ∷ xs) (suc i) zero x off = refl
+get_set_other (y ∷ xs) (suc i) (suc j) x off = get_set_other xs i j x (λ e. off (ap suc e))
+
+pub get_some : {X : Type 0} (xs : List X) (i : ℕ) (d : X) → i < length xs → slice_get xs i ≡ Some (get_or xs i d)
+get_some [] i d low = absurd (omega arith)
+get_some (x ∷ xs) zero d low = refl
+get_some (x ∷ xs) (suc i) d low = get_some xs i d (omega arith)
+
+append_zero : (xs : List ℕ) (i : ℕ) → get_or (xs ++ 0 ∷ []) i 0 ≡ get_or xs i 0
+append_zero [] zero = refl
+append_zero [] (suc i) = refl
+append_zero (x ∷ xs) zero = refl
+append_zero (x ∷ xs) (suc i) = append_zero xs i
+
+set_zero : (xs : List ℕ) (i : ℕ) → get_or (set xs i 0) i 0 ≡ 0
+set_zero xs i = elim (lt_or i (length xs)) [
+  | inl low ↦ get_or-set_same xs i 0 0 low
+  | inr high ↦ get_or_past (set xs i 0) i 0 (omega (arith, length-set xs i 0, high))
+]
+
+-- ---- a name that is to be visited
+
+touched_here : (place : ℕ) (ends : List ℕ) → get_or (touched place ends) place 0 ≡ 0
+touched_here place ends = split (nat_lt place (length ends)) refl
+  where
+    split : (b : Bool) → nat_lt place (length ends) ≡ b → get_or (cond b (set ends place 0) (ends ++ 0 ∷ [])) place 0 ≡ 0
+    split true low = set_zero ends place
+    split false high = append_zero ends place ∙ get_or_past ends place 0 (grind (arith, nat_tests))
+
+touched_other : (place : ℕ) (ends : List ℕ) (i : ℕ) → (i ≡ place → ⊥) → get_or (touched place ends) i 0 ≡ get_or ends i 0
+touched_other place ends i off = split (nat_lt place (length ends))
+  where
+    split : (b : Bool) → get_or (cond b (set ends place 0) (ends ++ 0 ∷ [])) i 0 ≡ get_or ends i 0
+    split true = get_or-set_other ends place i 0 0 off
+    split false = append_zero ends i
+
+-- A list has one moment for each name, and each is as before.
+record IsFit (n : ℕ) (ends : List ℕ) : Type 0 where
+  size : length (fitted n ends) ≡ n
+  same : (i : ℕ) → get_or (fitted n ends) i 0 ≡ get_or ends i 0
+
+fit_same : (n : ℕ) (ends : List ℕ) → length ends ≡ n → IsFit n ends
+fit_same n ends at =
+    let none : nat_lt n (length ends) ≡ false = grind (arith, nat_tests) in
+    let is : fitted n ends ≡ ends = ap (λ b. cond b (take (length ends - 1) ends) ends) none in
+    record { size = ap length is ∙ at; same = λ i. ap (λ (l : List ℕ). get_or l i 0) is }
+
+fit_less : (ends : List ℕ) → IsFit (length ends) (ends ++ 0 ∷ [])
+fit_less ends =
+    let size : length (ends ++ 0 ∷ []) ≡ length ends + 1 = length-append ends (0 ∷ []) in
+    let some : nat_lt (length ends) (length (ends ++ 0 ∷ [])) ≡ true = grind (arith, nat_tests) in
+    let one : length (ends ++ 0 ∷ []) - 1 ≡ length ends = omega (arith, size) in
+    let is : fitted (length ends) (ends ++ 0 ∷ []) ≡ ends =
+    ap (λ b. cond b (take (length (ends ++ 0 ∷ []) - 1) (ends ++ 0 ∷ [])) (ends ++ 0 ∷ [])) some ∙ (ap (λ n. take n (ends ++ 0 ∷ [])) one ∙ take-append_seam ends (0 ∷ [])) in
+    record { size = ap length is; same = λ i. ap (λ (l : List ℕ). get_or l i 0) is ∙ sym (append_zero ends i) }
+
+fit_touched : (n place : ℕ) (ends : List ℕ) → (n ≡ length ends) ⊎ ((place ≡ length ends) × (n ≡ length ends + 1)) → IsFit n (touched place ends)
+fit_touched n place ends size = split (nat_lt place (length ends)) refl size
+  where
+    split : (b : Bool) → nat_lt place (length ends) ≡ b → (n ≡ length ends) ⊎ ((place ≡ length ends) × (n ≡ length ends + 1)) → IsFit n (cond b (set ends place 0) (ends ++ 0 ∷ []))
+    split true low (inl same) = fit_same n (set ends place 0) (length-set ends place 0 ∙ sym same)
+    split true low (inr more) = let off : nat_lt place (length ends) ≡ false = grind (arith, nat_tests) in absurd (grind (arith, nat_tests))
+    split false high (inl same) = subst (λ m. IsFit m (ends ++ 0 ∷ [])) (sym same) (fit_less ends)
+    split false high (inr more) = fit_same n (ends ++ 0 ∷ []) (length-append ends (0 ∷ []) ∙ sym more.1)
+
+-- ---- any relation that holds at moment 0
+
+module _ (P : Labels × OwnerCells → ℕ → Type 0) where
+  put_zero : (o : Option (Labels × OwnerCells)) (n : ℕ) → ((e : Labels × OwnerCells) → P e 0) → n ≡ 0 → IfSome o (λ e. P e n)
+  put_zero o n start is = subst (λ m. IfSome o (λ e. P e m)) (sym is) (always_some (λ e. P e 0) o start)
+
+  put_same : (o was : Option (Labels × OwnerCells)) (n m : ℕ) → o ≡ was → n ≡ m → IfSome was (λ e. P e m) → IfSome o (λ e. P e n)
+  put_same o was n m same at is = subst (λ k. IfSome o (λ e. P e k)) (sym at) (subst (λ (x : Option (Labels × OwnerCells)). IfSome x (λ e. P e m)) (sym same) is)
+
+  -- one name may have changed, or have come
+  pub keyed_touched : ((e : Labels × OwnerCells) → P e 0) → (name : Labels) (old new : List (Labels × OwnerCells)) (ends : List ℕ) → AreKeyed P old ends → StayBut name old new
+      → AreKeyed P new (fitted (length new) (touched (name_place name old) ends))
+  keyed_touched start name old new ends keyed stay = record {
+    size = fits.size;
+    each = λ i. elim (same_or i place) [
+      | inl here ↦ put_zero (slice_get new i) _ start (fits.same i ∙ (ap (λ n. get_or (touched place ends) n 0) here ∙ touched_here place ends))
+      | inr away ↦ put_same (slice_get new i) (slice_get old i) _ (get_or ends i 0) (stay.others i away) (fits.same i ∙ touched_other place ends i away) (keyed.each i)
+    ];
+  }
+    where
+      place : ℕ
+      place = name_place name old
+
+      sizes : (length new ≡ length old) ⊎ ((name_place name old ≡ length old) × (length new ≡ length old + 1)) → (length new ≡ length ends) ⊎ ((place ≡ length ends) × (length new ≡ length ends + 1))
+      sizes (inl same) = inl (same ∙ sym keyed.size)
+      sizes (inr more) = inr (more.0 ∙ sym keyed.size, more.1 ∙ ap (λ n. n + 1) (sym keyed.size))
+
+      fits : IsFit (length new) (touched place ends)
+      fits = fit_touched (length new) place ends (sizes stay.size)
+
+  -- one name may have changed
+  pub keyed_reset : ((e : Labels × OwnerCells) → P e 0) → (name : Labels) (old new : List (Labels × OwnerCells)) (ends : List ℕ) → AreKeyed P old ends → StayBut name old new → length new ≡ length old
+      → AreKeyed P new (set ends (name_place name old) 0)
+  keyed_reset start name old new ends keyed stay size = record {
+    size = length-set ends (name_place name old) 0 ∙ (keyed.size ∙ sym size);
+    each = λ i. elim (same_or i (name_place name old)) [
+      | inl here ↦ put_zero (slice_get new i) _ start (ap (λ n. get_or (set ends (name_place name old) 0) n 0) here ∙ set_zero ends (name_place name old))
+      | inr away ↦ put_same (slice_get new i) (slice_get old i) _ (get_or ends i 0) (stay.others i away) (get_or-set_other ends (name_place name old) i 0 0 away) (keyed.each i)
+    ];
+  }
+
+  -- the name at a place has changed
+  pub keyed_set : (old new : List (Labels × OwnerCells)) (ends : List ℕ) (place end : ℕ) → AreKeyed P old ends → ((i : ℕ) → (i ≡ place → ⊥) → slice_get new i ≡ slice_get old i) → length new ≡ length old
+      → place < length old → IfSome (slice_get new place) (λ e. P e end) → AreKeyed P new (set ends place end)
+  keyed_set old new ends place end keyed others size low next = record {
+    size = length-set ends place end ∙ (keyed.size ∙ sym size);
+    each = λ i. elim (same_or i place) [
+      | inl here ↦
+          put_same (slice_get new i) (slice_get new place) _ end (ap (slice_get new) here)
+          (ap (λ n. get_or (set ends place end) n 0) here ∙ get_or-set_same ends place end 0 (omega (arith, keyed.size, low))) next
+      | inr away ↦ put_same (slice_get new i) (slice_get old i) _ (get_or ends i 0) (others i away) (get_or-set_other ends place i end 0 away) (keyed.each i)
+    ];
+  }
+
+  -- the name at a place has gone, and the last is in its place
+  pub keyed_swap : (entries : List (Labels × OwnerCells)) (ends : List ℕ) (place : ℕ) (d : Labels × OwnerCells) → length ends ≡ length entries
+      → ((i : ℕ) → (i ≡ place → ⊥) → IfSome (slice_get entries i) (λ e. P e (get_or ends i 0))) → place < length entries → AreKeyed P (swap_remove entries place d) (swap_remove ends place 0)
+  keyed_swap entries ends place d size each low = record {
+    size =
+        length-take-le (length ends - 1) (set ends place end) (omega (arith, length-set ends place end))
+        ∙ (ap (λ n. n - 1) size ∙ sym (length-take-le (length entries - 1) (set entries place moved) (omega (arith, length-set entries place moved))));
+    each = λ i. elim (lt_or i (length entries - 1)) [
+      | inl before ↦ kept i before
+      | inr past ↦
+          subst (λ (o : Option (Labels × OwnerCells)). IfSome o (λ e. P e (get_or (swap_remove ends place 0) i 0)))
+          (sym (slice_get_past (swap_remove entries place d) i (omega (arith, past, length-take-le (length entries - 1) (set entries place moved) (omega (arith, length-set entries place moved)))))) tt
+    ];
+  }
+    where
+      last : ℕ
+      last = length entries - 1
+
+      moved : Labels × OwnerCells
+      moved = get_or entries (length entries - 1) d
+
+      end : ℕ
+      end = get_or ends (length ends - 1) 0
+
+      kept : (i : ℕ) → i < length entries - 1 → IfSome (slice_get (swap_remove entries place d) i) (λ e. P e (get_or (swap_remove ends place 0) i 0))
+      kept i before =
+          let read : slice_get (swap_remove entries place d) i ≡ slice_get (set entries place moved) i = get_take (length entries - 1) (set entries place moved) i before in
+          let moment : get_or (swap_remove ends place 0) i 0 ≡ get_or (set ends place end) i 0 = get_or-take (length ends - 1) (set ends place end) i 0 (omega (arith, size, before)) in
+          elim (same_or i place) [
+            | inl here ↦
+                put_same (slice_get (swap_remove entries place d) i) (slice_get entries (length entries - 1)) _ (get_or ends (length entries - 1) 0)
+                (read ∙ (ap (slice_get (set entries place moved)) here ∙ (get_set_same entries place moved low ∙ sym (get_some entries (length entries - 1) d (omega (arith, low))))))
+                (moment ∙ (ap (λ n. get_or (set ends place end) n 0) here ∙ (get_or-set_same ends place end 0 (omega (arith, size, low)) ∙ ap (λ n. get_or ends (n - 1) 0) size)))
+                (each (length entries - 1) (λ same. omega (arith, same, here, before)))
+            | inr away ↦
+                put_same (slice_get (swap_remove entries place d) i) (slice_get entries i) _ (get_or ends i 0) (read ∙ get_set_other entries place i moved away) (moment ∙ get_or-set_other ends place i end 0 away) (each i away)
+          ]
+
+  -- a name has gone
+  pub keyed_dropped : (test : Labels → Bool) (entries : List (Labels × OwnerCells)) (ends : List ℕ) → AreKeyed P entries ends → AreKeyed P (swap_remove_entry test entries) (dropped (position test (keys_of entries)) ends)
+  keyed_dropped test [] ends keyed = keyed
+  keyed_dropped test (e ∷ entries) ends keyed = split (nat_lt (position_or_len test (keys_of (e ∷ entries))) (length (keys_of (e ∷ entries)))) refl
+    where
+      place : ℕ
+      place = position_or_len test (keys_of (e ∷ entries))
+
+      split : (b : Bool) → nat_lt place (length (keys_of (e ∷ entries))) ≡ b → AreKeyed P (option_map_or (λ i. swap_remove (e ∷ entries) i e) (cond b (Some place) None) (e ∷ entries)) (dropped (cond b (Some place) None) ends)
+      split true low = keyed_swap (e ∷ entries) ends place e keyed.size (λ i off. keyed.each i) (grind (arith, nat_tests, length-keys_of (e ∷ entries)))
+      split false high = keyed
+
+  -- every name is to be visited
+  pub keyed_zero : ((e : Labels × OwnerCells) → P e 0) → (entries : List (Labels × OwnerCells)) (n : ℕ) → n ≡ length entries → AreKeyed P entries (replicate n 0)
+  keyed_zero start entries n size = record {
+    size = length-replicate n 0 ∙ size;
+    each = λ i. put_zero (slice_get entries i) _ start
+        (elim (lt_or i n) [ inl low ↦ get_or-replicate n i 0 0 low | inr high ↦ get_or_past (replicate n 0) i 0 (omega (arith, high, length-replicate {A = ℕ} n 0)) ]);
+  }
+
+pub keyed_map : (P Q : Labels × OwnerCells → ℕ → Type 0) → ((e : Labels × OwnerCells) (n : ℕ) → P e n → Q e n) → (entries : List (Labels × OwnerCells)) (ends : List ℕ) → AreKeyed P entries ends → AreKeyed Q entries ends
+keyed_map P Q step entries ends keyed = record {
+  size = keyed.size;
+  each = λ i. some_map (λ e. P e (get_or ends i 0)) (λ e. Q e (get_or ends i 0)) (slice_get entries i) (λ e is. step e (get_or ends i 0) is) (keyed.each i);
+}
+
+-- ---- other kept flushes
+
+pub end_zero : (kept : List KeptFlush) (e : Labels × OwnerCells) → IsEnd kept e 0
+end_zero kept e t low = absurd (omega arith)
+
+clean_kept : (kept more : List KeptFlush) → ((q : Question) (v : ℕ) → is_version kept q v ≡ true → is_version more q v ≡ true) → (t : ℕ) (name : Labels) (cells : OwnerCells) → IsClean kept t name cells → IsClean more t name cells
+clean_kept kept more step t name cells is = record {
+  kinds = λ k has. let was = is.kinds k has in (was.0, (step (record { owner = name; kind = k }) was.0 was.1.0, was.1.1));
+  whole = is.whole;
+  counted = is.counted;
+}
+
+pub ends_kept : (kept more : List KeptFlush) → ((q : Question) (v : ℕ) → is_version kept q v ≡ true → is_version more q v ≡ true) → (entries : List (Labels × OwnerCells)) (ends : List ℕ)
+    → AreKeyed (IsEnd kept) entries ends → AreKeyed (IsEnd more) entries ends
+ends_kept kept more step entries ends keyed = keyed_map (IsEnd kept) (IsEnd more) (λ e n is t low. clean_kept kept more step t e.0 e.1 (is t low)) entries ends keyed
+
+or_more : (a b c : Bool) → (a || b) ≡ true → (a || (b || c)) ≡ true
+or_more true b c is = refl
+or_more false true c is = refl
+or_more false false c is = let no : false ≡ true = is in absurd cc
+
+pub version_more : (kept : List KeptFlush) (own : KeptFlush) (q : Question) (v : ℕ) → is_version kept q v ≡ true → is_version (kept ++ own ∷ []) q v ≡ true
+version_more kept own q v there =
+    ap (λ b. v == 0 || b) (list_any-append (λ (x : KeptFlush). x.number == v && covers x.flush q) kept (own ∷ []))
+    ∙ or_more (v == 0) (list_any (λ (x : KeptFlush). x.number == v && covers x.flush q) kept) (list_any (λ (x : KeptFlush). x.number == v && covers x.flush q) (own ∷ [])) there
+
+-- a flush was made
+pub reset_ends : (shelf : Shelf) (owners : IndexMap Labels OwnerCells NameSeed) (flush : Flush) (ends : List ℕ) → AreKeyed (IsEnd shelf.kept.items) shelf.owners.entries shelf.ends → StayBut flush.name shelf.owners.entries owners.entries
+    → length owners.entries ≡ length shelf.owners.entries → ends ≡ set shelf.ends (name_place flush.name shelf.owners.entries) 0 → AreKeyed (IsEnd shelf.kept.items) owners.entries ends
+reset_ends shelf owners flush ends keyed stay size is = subst (λ (l : List ℕ). AreKeyed (IsEnd shelf.kept.items) owners.entries l) (sym is)
+    (keyed_reset (IsEnd shelf.kept.items) (end_zero shelf.kept.items) flush.name shelf.owners.entries owners.entries shelf.ends keyed stay size)
+
+-- a find was admitted, or refused
+pub held_ends : (shelf : Shelf) (owners : IndexMap Labels OwnerCells NameSeed) (find : Find) (middle ends : List ℕ) → AreKeyed (IsEnd shelf.kept.items) shelf.owners.entries shelf.ends → StayBut find.owner shelf.owners.entries owners.entries
+    → middle ≡ touched (name_place find.owner shelf.owners.entries) shelf.ends → ends ≡ fitted (length owners.entries) middle → AreKeyed (IsEnd shelf.kept.items) owners.entries ends
+held_ends shelf owners find middle ends keyed stay at is = subst (λ (l : List ℕ). AreKeyed (IsEnd shelf.kept.items) owners.entries l) (sym (is ∙ ap (fitted (length owners.entries)) at))
+    (keyed_touched (IsEnd shelf.kept.items) (end_zero shelf.kept.items) find.owner shelf.owners.entries owners.entries shelf.ends keyed stay)
+
+pub held_ok : {X : Type 0} {T E : Type 0} (result : Result T E) (done : T) → OnOk result X → result ≡ Ok done → X
+held_ok {X} {T} {E} result done is same = subst (λ (r : Result T E). OnOk r X) same is
+
+pub held_about : {T E : Type 0} (old new : IndexMap Labels OwnerCells NameSeed) (find : Find) (moment top was stored : ℕ) (result : Result T E) → AreUpTo top new
+    → OnOk result ((q : Question) (v : ℕ) → v ≤ top → cell_of new q v ≡ after_touch (touches find q) (cell_of old q v) (admission_of find find moment))
+    → OnErr result (AreSameCells old new × (stored ≡ was) × KeepPairs old new) → AreAbout old → AreAbout new
+held_about old new find moment top was stored (Ok done) upto cells same about = about_admitted old new find moment top upto cells about
+held_about old new find moment top was stored (Err fault) upto cells same about = about_same old new same.0 about

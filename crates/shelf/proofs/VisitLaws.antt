@@ -1,0 +1,233 @@
+-- The sweep of one name after the other.
+use Rattle.std.proofs.Common.{◌≡◌, ℕ, zero, suc, ◌+◌, ◌<◌, ◌≤◌, max, min, Bool, true, false, cond, Option, Some, None, List, [], ◌∷◌, length, get_or, refl, sym, ap, ◌∙◌, subst, arith, ◌⊎◌, inl, inr}
+use Rattle.std.specs.Prelude.{replicate, IfNone, IfSome, slice_get, swap_remove}
+use Rattle.std.specs.Map.{lookup}
+use Rattle.std.proofs.Math.ListN.{set}
+use Rattle.std.proofs.lemmas.Bool.Decides.{nat_tests}
+use Rattle.std.proofs.lemmas.List.{get_or_default}
+use Rattle.std.proofs.lemmas.List.Sums.{sum_by-set, sum_by-swap_remove}
+use Rattle.indexmap.specs.IndexMap.{IndexMap, get, set_value_at}
+use Rattle.dns_name.specs.Labels.{Labels}
+use Rattle.dns_name.specs.Order.{name_eq, name_eq_exact}
+use Rattle.ranked.specs.declared.find.Scope.TheVariants.{One}
+use Rattle.cell_store.specs.declared.owner.OwnerCells.{OwnerCells}
+use Rattle.cell_store.specs.Count.{count_of, has_place, stored_in}
+use Rattle.cell_store.specs.Ends.{latest, name_end}
+use Rattle.cell_store.specs.EndLaws.{alive_before, alive_earlier, some_alive, whole_before, whole_earlier}
+use Rattle.cell_store.specs.Owner.{cell_in}
+use Rattle.cell_store.specs.Store.{AreLeft, AreSameCells}
+use Rattle.cell_store.specs.Sweep.{is_dead}
+use Rattle.cell_store.specs.Walk.{IsEach, IsEntry}
+use Rattle.shelf.specs.declared.shelf.KeptFlush.{KeptFlush}
+use Rattle.shelf.specs.Clean.{AreKeyed, IsAlive, IsClean, IsEnd}
+use Rattle.shelf.specs.Sweep.{count_ended, one_ended, AreAlive, AreLessened, IsDue, IsLessened, IsNext, IsSwept, IsSweptAt, IsUnderway}
+use Rattle.shelf.proofs.EndLaws.{end_zero, keyed_map, keyed_set, keyed_swap, keyed_zero, some_map}
+use Rattle.shelf.proofs.SweepLaws.{less_left, less_more, less_same, not_dead, swept_less}
+
+-- ---- one name
+
+less_same_cells : (kept : List KeptFlush) (t : ℕ) (name : Labels) (cells : OwnerCells) → IsLessened kept t name cells cells
+less_same_cells kept t name cells = record {
+  cells = λ k v there. refl;
+  upto = λ top is. is;
+  settles = λ n k is. is;
+  lost = record { count = omega arith; places = λ scope has. has; cells = λ k v. inl refl };
+}
+
+each_same : (kept : List KeptFlush) (t : ℕ) (entries : List (Labels × OwnerCells)) → IsEach (IsEntry (IsLessened kept t)) entries entries
+each_same kept t [] = tt
+each_same kept t (e ∷ entries) = ((refl, less_same_cells kept t e.0 e.1), each_same kept t entries)
+
+each_at : (kept : List KeptFlush) (t : ℕ) (entries : List (Labels × OwnerCells)) (place : ℕ) (key : Labels) (old new : OwnerCells) → slice_get entries place ≡ Some (key, old) → IsLessened kept t key old new
+    → IsEach (IsEntry (IsLessened kept t)) entries (set_value_at entries place new)
+each_at kept t [] place key old new there is = let none : None ≡ Some (key, old) = there in absurd cc
+each_at kept t (e ∷ entries) zero key old new there is =
+    let some : Some e ≡ Some (key, old) = there in
+    let one : e ≡ (key, old) = cc in
+    ((refl, subst (λ (x : Labels × OwnerCells). IsLessened kept t x.0 x.1 new) (sym one) is), each_same kept t entries)
+each_at kept t (e ∷ entries) (suc place) key old new there is = ((refl, less_same_cells kept t e.0 e.1), each_at kept t entries place key old new there is)
+
+others_at : (entries : List (Labels × OwnerCells)) (place : ℕ) (new : OwnerCells) (i : ℕ) → (i ≡ place → ⊥) → slice_get (set_value_at entries place new) i ≡ slice_get entries i
+others_at [] place new i off = refl
+others_at (e ∷ entries) zero new zero off = absurd (off refl)
+others_at (e ∷ entries) zero new (suc i) off = refl
+others_at (e ∷ entries) (suc place) new zero off = refl
+others_at (e ∷ entries) (suc place) new (suc i) off = others_at entries place new i (λ same. off (ap suc same))
+
+size_at : (entries : List (Labels × OwnerCells)) (place : ℕ) (new : OwnerCells) → length (set_value_at entries place new) ≡ length entries
+size_at [] place new = refl
+size_at (e ∷ entries) zero new = refl
+size_at (e ∷ entries) (suc place) new = ap suc (size_at entries place new)
+
+here_at : (P : Labels × OwnerCells → Type 0) (entries : List (Labels × OwnerCells)) (place : ℕ) (key : Labels) (old new : OwnerCells) → slice_get entries place ≡ Some (key, old) → P (key, new) → IfSome (slice_get (set_value_at entries place new) place) P
+here_at P [] place key old new there is = tt
+here_at P (e ∷ entries) zero key old new there is =
+    let some : Some e ≡ Some (key, old) = there in
+    let one : e ≡ (key, old) = cc in
+    subst (λ (x : Labels × OwnerCells). P (x.0, new)) (sym one) is
+here_at P (e ∷ entries) (suc place) key old new there is = here_at P entries place key old new there is
+
+lessened : (kept : List KeptFlush) (t : ℕ) (name : Labels) (old new : OwnerCells) → IsSwept kept t name old new → IsLessened kept t name old new
+lessened kept t name old new is = record { cells = is.cells; upto = is.upto; settles = is.settles; lost = is.lost }
+
+clean : (kept : List KeptFlush) (t : ℕ) (name : Labels) (old new : OwnerCells) → IsSwept kept t name old new → 1 ≤ count_of new → IsClean kept t name new
+clean kept t name old new is some = record { kinds = is.alive; whole = ap (is_dead t) is.whole ∙ not_dead t old.whole; counted = some }
+
+clean_before : (kept : List KeptFlush) (s t : ℕ) (name : Labels) (cells : OwnerCells) → IsClean kept t name cells → (s < name_end cells) ⊎ (s ≤ t) → IsClean kept s name cells
+clean_before kept s t name cells is (inl before) = record {
+  kinds = λ k has. let was = is.kinds k has in (was.0, (was.1.0, some_alive (cell_in cells k was.0) s t (alive_before cells s before k was.0) was.1.1));
+  whole = whole_before cells s before;
+  counted = is.counted;
+}
+clean_before kept s t name cells is (inr early) = record {
+  kinds = λ k has. let was = is.kinds k has in (was.0, (was.1.0, alive_earlier (cell_in cells k was.0) s t early was.1.1));
+  whole = whole_earlier cells.whole s t early is.whole;
+  counted = is.counted;
+}
+
+next_at : (kept : List KeptFlush) (t : ℕ) (name : Labels) (old new : OwnerCells) (end after : ℕ) → IsSwept kept t name old new → end ≡ max (name_end new) after → after ≡ min (t + 1) latest → IsNext kept t (name, new) end
+next_at kept t name old new end after is at then some =
+    let now = clean kept t name old new is some in (
+      (λ s low. clean_before kept s t name new now (early s low)),
+      now,
+      (λ s low small. omega (arith, at, then)),
+    )
+  where
+    early : (s : ℕ) → s < end → (s < name_end new) ⊎ (s ≤ t)
+    early s low = grind (arith, at, then)
+
+pub swept_at : (kept : List KeptFlush) (t place : ℕ) (entries news : List (Labels × OwnerCells)) (key : Labels) (old new : OwnerCells) (end after : ℕ) → slice_get entries place ≡ Some (key, old) → IsSwept kept t key old new
+    → news ≡ set_value_at entries place new → end ≡ max (name_end new) after → after ≡ min (t + 1) latest → IsSweptAt kept t place entries news end
+swept_at kept t place entries news key old new end after there is put at then = subst (λ (l : List (Labels × OwnerCells)). IsSweptAt kept t place entries l end) (sym put) (record {
+  each = each_at kept t entries place key old new there (lessened kept t key old new is);
+  others = others_at entries place new;
+  size = size_at entries place new;
+  next = here_at (λ e. IsNext kept t e end) entries place key old new there (next_at kept t key old new end after is at then);
+})
+
+-- ---- a visit
+
+both_some : (kept : List KeptFlush) (t : ℕ) (o : Option (Labels × OwnerCells)) (end : ℕ) → IfSome o (λ e. IsNext kept t e end) → IfSome o (λ e. 1 ≤ count_of e.1)
+    → IfSome o (λ e. IsEnd kept e end × IsClean kept t e.0 e.1 × ((s : ℕ) → s ≤ t → s < latest → s < end))
+both_some kept t None end next some = tt
+both_some kept t (Some e) end next some = next some
+
+pub due_zero : (kept : List KeptFlush) (t asked : ℕ) (e : Labels × OwnerCells) → IsDue kept t asked e 0
+due_zero kept t asked e low = absurd (omega arith)
+
+module _ {S : Type 0} (kept : List KeptFlush) (t place end : ℕ) (old middle new : IndexMap Labels OwnerCells S) (ends : List ℕ) (was stored : ℕ) (low : place < length old.entries) (size : length ends ≡ length old.entries)
+    (swept : IsSweptAt kept t place old.entries middle.entries end) (counted : stored ≡ stored_in middle) (fewer : stored ≤ was) (same : AreSameCells middle new) (left : AreLeft middle new) (count : stored_in new ≡ stored_in middle) where
+  less : AreLessened kept t old new
+  less = less_more kept t old middle new (swept_less kept t old middle swept.each) (less_left kept t middle new same left)
+
+  -- the name stays
+  pub on_kept : new.entries ≡ middle.entries → IfSome (slice_get middle.entries place) (λ e. 1 ≤ count_of e.1) → (asked most : ℕ) (first : IndexMap Labels OwnerCells S) → asked ≤ t → asked < latest
+      → IsUnderway kept t asked first most old ends was → IsUnderway kept t asked first most new (set ends place end) stored
+  on_kept entries some asked most first before small is = record {
+    less = less_more kept t first old new is.less less;
+    ends = subst (λ (l : List (Labels × OwnerCells)). AreKeyed (IsEnd kept) l (set ends place end)) (sym entries)
+        (keyed_set (IsEnd kept) old.entries middle.entries ends place end is.ends swept.others swept.size low
+        (some_map (λ e. IsEnd kept e end × IsClean kept t e.0 e.1 × ((s : ℕ) → s ≤ t → s < latest → s < end)) (λ e. IsEnd kept e end) (slice_get middle.entries place) (λ e all. all.0) both));
+    due = subst (λ (l : List (Labels × OwnerCells)). AreKeyed (IsDue kept t asked) l (set ends place end)) (sym entries)
+        (keyed_set (IsDue kept t asked) old.entries middle.entries ends place end is.due swept.others swept.size low
+        (some_map (λ e. IsEnd kept e end × IsClean kept t e.0 e.1 × ((s : ℕ) → s ≤ t → s < latest → s < end)) (λ e. IsDue kept t asked e end) (slice_get middle.entries place) (λ e all after. all.1) both));
+    counted = counted ∙ sym count;
+    fewer = omega (arith, fewer, is.fewer);
+  }
+    where
+      both : IfSome (slice_get middle.entries place) (λ e. IsEnd kept e end × IsClean kept t e.0 e.1 × ((s : ℕ) → s ≤ t → s < latest → s < end))
+      both = both_some kept t (slice_get middle.entries place) end swept.next some
+
+  -- the name goes
+  pub on_gone : (d : Labels × OwnerCells) → new.entries ≡ swap_remove middle.entries place d → (asked most : ℕ) (first : IndexMap Labels OwnerCells S)
+      → IsUnderway kept t asked first most old ends was → IsUnderway kept t asked first most new (swap_remove ends place 0) stored
+  on_gone d entries asked most first is = record {
+    less = less_more kept t first old new is.less less;
+    ends = subst (λ (l : List (Labels × OwnerCells)). AreKeyed (IsEnd kept) l (swap_remove ends place 0)) (sym entries) (moved (IsEnd kept) is.ends);
+    due = subst (λ (l : List (Labels × OwnerCells)). AreKeyed (IsDue kept t asked) l (swap_remove ends place 0)) (sym entries) (moved (IsDue kept t asked) is.due);
+    counted = counted ∙ sym count;
+    fewer = omega (arith, fewer, is.fewer);
+  }
+    where
+      moved : (P : Labels × OwnerCells → ℕ → Type 0) → AreKeyed P old.entries ends → AreKeyed P (swap_remove middle.entries place d) (swap_remove ends place 0)
+      moved P keyed =
+          keyed_swap P middle.entries ends place d (size ∙ sym swept.size)
+          (λ i off. subst (λ (o : Option (Labels × OwnerCells)). IfSome o (λ e. P e (get_or ends i 0))) (sym (swept.others i off)) (keyed.each i)) (omega (arith, swept.size, low))
+
+-- ---- fewer names have ended
+
+ended_one : (asked x : ℕ) → x ≤ asked → one_ended asked x ≡ 1
+ended_one asked x low = grind (arith, nat_tests)
+
+ended_none : (asked x : ℕ) → asked < x → one_ended asked x ≡ 0
+ended_none asked x late = grind (arith, nat_tests)
+
+pub ended_set : (asked : ℕ) (ends : List ℕ) (place end : ℕ) → place < length ends → get_or ends place 0 ≤ asked → asked < end → count_ended asked (set ends place end) < count_ended asked ends
+ended_set asked ends place end low is late =
+    omega (arith, sum_by-set (one_ended asked) ends place end 0 low, ended_one asked (get_or ends place 0) is, ended_none asked end late)
+
+pub ended_gone : (asked : ℕ) (ends : List ℕ) (place : ℕ) → place < length ends → get_or ends place 0 ≤ asked → count_ended asked (swap_remove ends place 0) < count_ended asked ends
+ended_gone asked ends place low is = omega (arith, sum_by-swap_remove (one_ended asked) ends place 0 low, ended_one asked (get_or ends place 0) is)
+
+pub later_of : (kept : List KeptFlush) (t place end asked : ℕ) (entries : List (Labels × OwnerCells)) → place < length entries → IfSome (slice_get entries place) (λ e. IsNext kept t e end) → IfSome (slice_get entries place) (λ e. 1 ≤ count_of e.1)
+    → asked ≤ t → asked < latest → asked < end
+later_of kept t place end asked [] low next some before small = absurd (omega arith)
+later_of kept t zero end asked (e ∷ entries) low next some before small = (next some).2 asked before small
+later_of kept t (suc place) end asked (e ∷ entries) low next some before small = later_of kept t place end asked entries (omega arith) next some before small
+
+-- ---- all names
+
+pub each_clean : (kept : List KeptFlush) (t asked : ℕ) (entries : List (Labels × OwnerCells)) (ends : List ℕ) → AreKeyed (IsDue kept t asked) entries ends → ((i : ℕ) → i < length ends → asked < get_or ends i 0)
+    → (i : ℕ) → IfSome (slice_get entries i) (λ e. IsClean kept t e.0 e.1)
+each_clean kept t asked entries ends keyed later i = split (slice_get entries i) refl (keyed.each i)
+  where
+    split : (o : Option (Labels × OwnerCells)) → slice_get entries i ≡ o → IfSome o (λ e. IsDue kept t asked e (get_or ends i 0)) → IfSome o (λ e. IsClean kept t e.0 e.1)
+    split None at is = tt
+    split (Some e) at is = is (later i (omega (arith, keyed.size, within entries i e at)))
+      where
+        within : (l : List (Labels × OwnerCells)) (i : ℕ) (e : Labels × OwnerCells) → slice_get l i ≡ Some e → i < length l
+        within [] i e at = let none : None ≡ Some e = at in absurd cc
+        within (x ∷ l) zero e at = omega arith
+        within (x ∷ l) (suc i) e at = omega (arith, within l i e at)
+
+found_clean : (kept : List KeptFlush) (t : ℕ) (entries : List (Labels × OwnerCells)) → ((i : ℕ) → IfSome (slice_get entries i) (λ e. IsClean kept t e.0 e.1)) → (name : Labels) → IfSome (lookup (name_eq name) entries) (λ cells. IsClean kept t name cells)
+found_clean kept t [] all name = tt
+found_clean kept t (e ∷ entries) all name = split (name_eq name e.0) refl (found_clean kept t entries (λ i. all (suc i)) name)
+  where
+    split : (b : Bool) → name_eq name e.0 ≡ b → IfSome (lookup (name_eq name) entries) (λ cells. IsClean kept t name cells) → IfSome (cond b (Some e.1) (lookup (name_eq name) entries)) (λ cells. IsClean kept t name cells)
+    split true same rest = subst (λ (m : Labels). IsClean kept t m e.1) (sym (name_eq_exact name e.0 same)) (all 0)
+    split false apart rest = rest
+
+pub all_alive : {S : Type 0} (kept : List KeptFlush) (t : ℕ) (owners : IndexMap Labels OwnerCells S) → ((i : ℕ) → IfSome (slice_get owners.entries i) (λ e. IsClean kept t e.0 e.1)) → AreAlive kept t owners
+all_alive kept t owners all = record {
+  kinds = λ name. some_map (λ cells. IsClean kept t name cells) (λ cells. (k : ℕ) → has_place cells (One k) ≡ true → IsAlive kept name t cells k) (get name_eq owners name) (λ cells is. is.kinds) (found_clean kept t owners.entries all name);
+  wholes = λ name. some_map (λ cells. IsClean kept t name cells) (λ cells. is_dead t cells.whole ≡ false) (get name_eq owners name) (λ cells is. is.whole) (found_clean kept t owners.entries all name);
+  counted = λ i low. some_map (λ e. IsClean kept t e.0 e.1) (λ e. 1 ≤ count_of e.1) (slice_get owners.entries i) (λ e is. is.counted) (all i);
+}
+
+-- ---- the first visit
+
+pub start : {S : Type 0} (kept : List KeptFlush) (t : ℕ) (owners : IndexMap Labels OwnerCells S) (ends : List ℕ) (stored : ℕ) → AreKeyed (IsEnd kept) owners.entries ends → stored ≡ stored_in owners → IsUnderway kept t t owners stored owners ends stored
+start kept t owners ends stored keyed counted = record {
+  less = less_same kept t owners;
+  ends = keyed;
+  due = keyed_map (IsEnd kept) (IsDue kept t t) (λ e n is late. is t late) owners.entries ends keyed;
+  counted = counted;
+  fewer = omega arith;
+}
+
+pub start_all : {S : Type 0} (kept : List KeptFlush) (t asked : ℕ) (owners : IndexMap Labels OwnerCells S) (old ends : List ℕ) (stored : ℕ) → AreKeyed (IsEnd kept) owners.entries old → ends ≡ replicate (length old) 0 → stored ≡ stored_in owners
+    → IsUnderway kept t asked owners stored owners ends stored
+start_all kept t asked owners old ends stored keyed is counted = record {
+  less = less_same kept t owners;
+  ends = subst (λ (l : List ℕ). AreKeyed (IsEnd kept) owners.entries l) (sym is) (keyed_zero (IsEnd kept) (end_zero kept) owners.entries (length old) keyed.size);
+  due = subst (λ (l : List ℕ). AreKeyed (IsDue kept t asked) owners.entries l) (sym is) (keyed_zero (IsDue kept t asked) (due_zero kept t asked) owners.entries (length old) keyed.size);
+  counted = counted;
+  fewer = omega arith;
+}
+
+pub when_none : {X : Type 0} (found : Option ℕ) → found ≡ None → IfNone found X → X
+when_none {X} found none is = subst (λ (o : Option ℕ). IfNone o X) none is
+
+pub later_zero : (ends : List ℕ) (asked : ℕ) → ((i : ℕ) → i < length ends → asked < get_or ends i latest) → (i : ℕ) → i < length ends → asked < get_or ends i 0
+later_zero ends asked later i low = omega (arith, later i low, get_or_default ends i latest 0 low)
