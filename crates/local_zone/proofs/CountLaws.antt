@@ -80,7 +80,7 @@ alike zones n (l ∷ o) below =
 
 -- ---- how many
 
-any_some : {X : Type 0} (p : X → Bool) (xs : List X) → list_any p xs ≡ nat_lt 0 (length (filter p xs))
+pub any_some : {X : Type 0} (p : X → Bool) (xs : List X) → list_any p xs ≡ nat_lt 0 (length (filter p xs))
 any_some p [] = refl
 any_some p (x ∷ xs) = by (p x) (any_some p xs)
   where

@@ -12,3 +12,4 @@ pub mod GroupLaws
 pub mod TagLaws
 pub mod CountLaws
 pub mod MaskLaws
+pub mod CountsBelowLaws

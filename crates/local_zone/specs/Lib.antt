@@ -15,3 +15,4 @@ pub mod Equal
 pub mod EqualLaws
 pub mod Gaps
 pub mod Count
+pub mod CountsBelow

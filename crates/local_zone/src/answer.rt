@@ -57,14 +57,15 @@ fn is_any_below(
         .any(|r| r.is_at_or_below(name) && lies_in(zones, zone, r))
 }
 
-/// Whether a name, or one below it, has a record that lies in the zone. Most names have one of their own, which an index finds.
+/// Whether a name, or one below it, has a record that lies in the zone. Most names that exist have one of their own, which an index
+/// finds. Most of the others have none below them, and then no record is read.
 fn has_record_below(zones: &NamedList<Zone>, records: &RecordList, zone: &Zone, name: &Name) -> bool
     ensures { result ≡ has_record_below name.now zone.now (record { zones = zones.now; records = records.now }) }
 {
     let within = Sought::new(&zone.name);
     let below = Sought::new(name);
     is_any_below(zones, records.of(name), &within, &below)
-        || is_any_below(zones, records.as_slice(), &within, &below)
+        || records.has_below(name) && is_any_below(zones, records.as_slice(), &within, &below)
 }
 
 /// The CNAME of an owner, else its set of the type, shown with the QNAME as owner. None if there is neither.

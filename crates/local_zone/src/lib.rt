@@ -16,7 +16,8 @@ mod zone;
 mod closest;
 mod zones;
 // The records in order with an index by owner. `passes` takes many out, or puts them back, in one walk. `groups` moves their
-// owners' groups out of the index, or back.
+// owners' groups out of the index, or back. `counts_below` says of a name whether records lie strictly below it.
+mod counts_below;
 mod groups;
 mod passes;
 mod record_list;

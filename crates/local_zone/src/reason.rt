@@ -53,7 +53,7 @@ fn has_record_below(zones: &NamedList<Zone>, records: &RecordList, new: &Zone) -
     ensures { result ≡ list_any (λ r. would_lie_below new.now zones.now r.owner) records.now }
 {
     let name = Sought::new(&new.name);
-    is_any_below(zones, records.as_slice(), new, &name)
+    records.has_below(&new.name) && is_any_below(zones, records.as_slice(), new, &name)
 }
 
 /// Whether a record would lie strictly below the name of the redirect zone.

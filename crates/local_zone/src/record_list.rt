@@ -4,6 +4,7 @@ ghost use Rattle.std.specs.Prelude.{◌≡◌, ◌++◌, ◌∷◌, [], IfOk, On
 ghost use Rattle.local_zone.specs.Gaps.{at_gaps, gaps_of, put_back, rest_of, AreApart, AreWithin};
 ghost use Rattle.std.specs.Prelude.{◌-◌, List, None, map, take, length, false, IsTrue, ◌&&◌, ◌==◌, not};
 ghost use Rattle.std.specs.List.{list_any};
+ghost use Rattle.local_zone.specs.CountsBelow.{is_below};
 ghost use Rattle.local_zone.specs.Tables.{is_of_set};
 ghost use Rattle.local_zone.specs.Change.{retimed_by};
 ghost use Rattle.dns_name.specs.Labels.{Labels, octets_of};
@@ -11,6 +12,7 @@ ghost use Rattle.dns_text.specs.declared.record.Record.{Record};
 ghost use Rattle.dns_name.specs.Order.{name_eq};
 ghost use Rattle.local_zone.specs.Index.{of_owner, items_in, under, IsGrouped, IsIndexed};
 
+use crate::counts_below::CountsBelow;
 use crate::groups::{move_groups, put_groups};
 use crate::passes::{push_gaps, put_pass, take_pass};
 use crate::record::LocalRecord;
@@ -53,8 +55,9 @@ fn index_first(
     ensures err { OnErr result (owners.new.entries ≡ owners.old.entries) }
 {
     let key = key_of(alloc, new.owner())?;
-    let mut records = Vec::new(alloc);
-    records.push(new)?;
+    // Most owners have one record.
+    let mut records = Vec::with_capacity(alloc, 1)?;
+    records.push_reserved(new);
     owners.insert(key, records)?;
     Ok(())
 }
@@ -124,25 +127,29 @@ fn pop_under(owners: &mut IndexMap<Vec<u8>, Vec<LocalRecord>>, owner: &Name) -> 
     }
 }
 
-/// Records in order. Contracts see the list alone; an index finds those of an owner in one lookup.
+/// Records in order. Contracts see the list alone. An index finds those of an owner in one lookup, and counts say in one lookup
+/// whether there are any below a name.
 #[derive(Drop)]
 pub(crate) struct RecordList {
     list: Vec<LocalRecord>,
     // A second share of each record, in the same order, by owner: under the octets of its name. Groups hold no places, so
     // that a removal renumbers nothing.
     owners: IndexMap<Vec<u8>, Vec<LocalRecord>>,
+    // So that one lookup finds a name with no record below it, which a stranger may make up and ask for.
+    below: CountsBelow,
 }
 
 impl Model for RecordList {
     ghost use Rattle.std.specs.Prelude.{List};
     ghost use Rattle.dns_text.specs.declared.record.Record.{Record};
+    ghost use Rattle.local_zone.specs.CountsBelow.{AreCounted};
     ghost use Rattle.local_zone.specs.Index.{IsGrouped};
 
     ghost Value = { List Record };
 
     ghost view = { λ r. r.list.items };
 
-    ghost invariant = { λ r. IsGrouped (λ k. k.items) (λ g. g.items) r.list.items r.owners.entries };
+    ghost invariant = { λ r. IsGrouped (λ k. k.items) (λ g. g.items) r.list.items r.owners.entries × AreCounted r.list.items r.below };
 }
 
 impl RecordList {
@@ -153,6 +160,7 @@ impl RecordList {
         RecordList {
             list: Vec::new(alloc),
             owners: IndexMap::new(alloc),
+            below: CountsBelow::new(alloc),
         }
     }
 
@@ -173,6 +181,13 @@ impl RecordList {
         }
     }
 
+    /// Whether a record lies strictly below a name. It is one lookup.
+    pub(crate) fn has_below(&self, name: &Name) -> bool
+        ensures { result ≡ list_any (λ r. is_below r.owner name.now) self.now }
+    {
+        self.below.has(name)
+    }
+
     /// Puts a record last. If memory is refused, nothing has changed.
     pub(crate) fn push(&mut self, alloc: Global, new: LocalRecord) -> Result<(), NoMemory>
         ensures ok { OnOk result (self.new ≡ self.old ++ new ∷ []) }
@@ -180,9 +195,17 @@ impl RecordList {
     {
         self.list.reserve(1)?;
         let twin = new.share()?;
-        index_last(alloc, &mut self.owners, twin)?;
-        self.list.push_reserved(new);
-        Ok(())
+        self.below.add(alloc, new.owner())?;
+        match index_last(alloc, &mut self.owners, twin) {
+            Ok(()) => {
+                self.list.push_reserved(new);
+                Ok(())
+            }
+            Err(e) => {
+                self.below.remove(new.owner());
+                Err(e)
+            }
+        }
     }
 
     /// Gives the records of a set a TTL. It takes no memory.
@@ -201,6 +224,7 @@ impl RecordList {
     {
         if let Some(last) = self.list.pop() {
             unindex_last(&mut self.owners, last.owner());
+            self.below.remove(last.owner());
         }
     }
 
@@ -219,6 +243,7 @@ impl RecordList {
         take_pass(&mut from, gaps, &mut left, &mut taken);
         self.list = left;
         move_groups(&mut self.owners, &mut groups, &taken);
+        self.below.remove_all(&taken);
         Ok(Removed { taken, groups })
     }
 
@@ -237,6 +262,7 @@ impl RecordList {
         let mut gaps = Vec::with_capacity(alloc, removed.taken.len())?;
         let mut list = Vec::with_capacity(alloc, self.list.len() + removed.taken.len())?;
         self.owners.reserve(removed.groups.len())?;
+        self.below.add_all(alloc, &removed.taken)?;
         let taken = mem::replace(&mut removed.taken, Vec::new(alloc));
         let groups = mem::replace(&mut removed.groups, Vec::new(alloc));
         push_gaps(&taken, &mut gaps);

@@ -18,6 +18,6 @@ returns-clause-ok c records h =
     let es = c.args.owners.now.entries in
     let key : c.in_ok-key.key.items ≡ octets_of c.args.new.owner = c.in_ok-key.ensures ∙ ap octets_of c.owner.ensures in
     let none : under octets c.in_ok-key.key.items es ≡ None = ap (λ (s : List ℕ). under octets s es) key ∙ c.requires in
-    let is : c.push.new.self.items ≡ c.args.new ∷ [] = c.in_ok-push.ensures.items ∙ ap (λ (rs : List Record). rs ++ c.args.new ∷ []) c.new-records.ensures.items in
-    let entries = c.in_ok-insert.ensures.entries ∙ insert_entry-new _ c.args.owners.now c.in_ok-key.key c.push.new.self none in
-    subst (λ x. IsGrouped octets items (records ++ c.args.new ∷ []) x) (sym entries) (grouped-push octets items records es c.args.new c.in_ok-key.key c.push.new.self h c.requires key is)
+    let is : c.push_reserved.new.self.items ≡ c.args.new ∷ [] = c.push_reserved.ensures.items ∙ ap (λ (rs : List Record). rs ++ c.args.new ∷ []) c.in_ok-records.ensures.items in
+    let entries = c.in_ok-insert.ensures.entries ∙ insert_entry-new _ c.args.owners.now c.in_ok-key.key c.push_reserved.new.self none in
+    subst (λ x. IsGrouped octets items (records ++ c.args.new ∷ []) x) (sym entries) (grouped-push octets items records es c.args.new c.in_ok-key.key c.push_reserved.new.self h c.requires key is)

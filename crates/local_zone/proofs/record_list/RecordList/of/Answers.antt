@@ -14,10 +14,10 @@ items g = g.items
 pub returns-in-Some : goal.returns-in-Some
 returns-in-Some c =
     c.as_slice.ensures.value
-    ∙ of-found octets items c.self.inside.list.items c.self.inside.owners.entries c.args.owner.now c.octets.result.now (Some c.in-Some.records.now) c.self.invariant.0 c.octets.ensures.value (sym c.in-Some.ensures.value)
+    ∙ of-found octets items c.self.inside.list.items c.self.inside.owners.entries c.args.owner.now c.octets.result.now (Some c.in-Some.records.now) c.self.invariant.0.0 c.octets.ensures.value (sym c.in-Some.ensures.value)
     ∙ ap (of_owner c.args.owner.now) c.self.view_is
 
 pub returns-in-None : goal.returns-in-None
 returns-in-None c =
-    of-found octets items c.self.inside.list.items c.self.inside.owners.entries c.args.owner.now c.octets.result.now None c.self.invariant.0 c.octets.ensures.value (sym c.in-None.ensures.value)
+    of-found octets items c.self.inside.list.items c.self.inside.owners.entries c.args.owner.now c.octets.result.now None c.self.invariant.0.0 c.octets.ensures.value (sym c.in-None.ensures.value)
     ∙ ap (of_owner c.args.owner.now) c.self.view_is

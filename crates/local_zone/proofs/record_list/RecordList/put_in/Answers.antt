@@ -1,10 +1,12 @@
-use Rattle.std.proofs.Common.{◌≡◌, ℕ, List, ◌++◌, Vec, Global, ap, sym, subst, ◌∙◌}
+use Rattle.std.proofs.Common.{◌≡◌, ◌+◌, ℕ, List, ◌++◌, Vec, Global, ap, sym, subst, ◌∙◌}
 use Rattle.std.specs.Vec.Iter.{into_iter_items}
 use Rattle.dns_text.specs.declared.record.Record.{Record}
 use Rattle.local_zone.specs.declared.record.LocalRecord.{LocalRecord}
 use Rattle.local_zone.specs.declared.taken.Taken.{Taken}
-use Rattle.local_zone.specs.Gaps.{put_back, AreApart}
+use Rattle.local_zone.specs.CountsBelow.{count_below, counted, AreCounted}
+use Rattle.local_zone.specs.Gaps.{records_of, put_back, AreApart}
 use Rattle.local_zone.specs.Index.{IsGrouped}
+use Rattle.local_zone.proofs.CountsBelowLaws.{counted_back}
 use Rattle.local_zone.proofs.GroupLaws.{grouped_joined}
 use Rattle.local_zone.proofs.record_list.RecordList.put_in.Goals as goal
 
@@ -25,9 +27,12 @@ invariant_of-self-2 c =
     let left : List Record = c.self.inside.list.items in
     let parted : AreApart taken left
     = subst (λ (x : List Taken). AreApart x left) (sym c.removed.view_is) (subst (λ (y : List Record). AreApart c.args.removed.now y) (sym c.self.view_is) c.requires.apart) in
-    let both = grouped_joined octets items taken left c.removed.inside.groups.items c.self.inside.owners.entries parted c.removed.invariant c.self.invariant in
+    let both = grouped_joined octets items taken left c.removed.inside.groups.items c.self.inside.owners.entries parted c.removed.invariant c.self.invariant.0 in
     let entries : c.reserve.new.self.entries ≡ c.self.inside.owners.entries = c.reserve.ensures.entries in
     let now : IsGrouped octets items (put_back taken left) (c.replace-groups.result.items ++ c.reserve.new.self.entries)
     = subst (λ gs. IsGrouped octets items (put_back taken left) (gs ++ c.reserve.new.self.entries)) (sym (ap (λ v. v.items) c.replace-groups.ensures.value))
-    (subst (λ es. IsGrouped octets items (put_back taken left) (c.removed.inside.groups.items ++ es)) (sym entries) both) in
-    subst (λ (x : List Record). IsGrouped octets items x c.put_groups.new.owners.entries) (sym (list_is c)) (c.put_groups.ensures (put_back taken left) now)
+    (subst (λ es. IsGrouped octets items (put_back taken left) (c.removed.inside.groups.items ++ es)) (sym entries) both) in (
+      subst (λ (x : List Record). IsGrouped octets items x c.put_groups.new.owners.entries) (sym (list_is c)) (c.put_groups.ensures (put_back taken left) now),
+      subst (λ (x : List Record). AreCounted x c.add_all.new.self) (sym (list_is c)) (counted_back taken left c.self.inside.below c.add_all.new.self c.self.invariant.1
+          (λ name. c.in_ok-add_all.ensures.ok name ∙ ap (λ (ts : List Taken). counted name c.self.inside.below + count_below name (records_of ts)) c.deref.ensures.value)),
+    )

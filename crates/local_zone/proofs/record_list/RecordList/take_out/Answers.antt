@@ -1,12 +1,14 @@
-use Rattle.std.proofs.Common.{◌≡◌, ℕ, List, ◌++◌, length, None, Vec, Global, ap, sym, subst, ◌∙◌, arith}
+use Rattle.std.proofs.Common.{◌≡◌, ℕ, List, ◌-◌, ◌++◌, length, None, Vec, Global, ap, sym, subst, ◌∙◌, arith}
 use Rattle.std.specs.List.{AllByRecursion}
 use Rattle.std.specs.Vec.Iter.{into_iter_items}
 use Rattle.dns_name.specs.Labels.{octets_of}
 use Rattle.dns_text.specs.declared.record.Record.{Record}
 use Rattle.local_zone.specs.declared.record.LocalRecord.{LocalRecord}
 use Rattle.local_zone.specs.declared.taken.Taken.{Taken}
+use Rattle.local_zone.specs.CountsBelow.{count_below, counted}
 use Rattle.local_zone.specs.Gaps.{records_of, at_gaps, rest_of, AreApart, AreWithin}
 use Rattle.local_zone.specs.Index.{of_owner, under, IsGrouped}
+use Rattle.local_zone.proofs.CountsBelowLaws.{counted_left}
 use Rattle.local_zone.proofs.GapLaws.{length_at}
 use Rattle.local_zone.proofs.GroupLaws.{parts}
 use Rattle.local_zone.proofs.record_list.RecordList.take_out.Goals as goal
@@ -34,7 +36,7 @@ invariant_of-result c =
     (parts octets items before gaps c.take_pass.new.taken.items c.take_pass.new.to.items c.move_groups.new.groups.items c.move_groups.new.owners.entries c.self.inside.owners.entries
     (subst (λ (x : List Record). AreWithin gaps x) (sym c.self.view_is) c.requires.within)
     (subst (λ (x : List Record). AreApart (at_gaps gaps x) (rest_of gaps x)) (sym c.self.view_is) c.requires.apart)
-    taken_is left_is c.self.invariant
+    taken_is left_is c.self.invariant.0
     (λ records h. c.move_groups.ensures.index records (subst (λ gs. IsGrouped octets items records (gs ++ c.self.inside.owners.entries)) (sym c.in_ok-groups.ensures.items) h))
     (subst (λ (ts : List Taken). AllByRecursion (λ (t : Taken). under octets (octets_of t.item.owner) c.move_groups.new.owners.entries ≡ None) ts) c.deref.ensures.value c.move_groups.ensures.gone)
     (λ owner none. c.move_groups.ensures.only owner (ap (λ (ts : List Taken). of_owner owner (records_of ts)) c.deref.ensures.value ∙ none) (ap (λ gs. under octets (octets_of owner) gs) c.in_ok-groups.ensures.items))).0
@@ -47,10 +49,16 @@ invariant_of-self c =
     ∙ ap (at_gaps c.args.gaps.now) (c.into_iter-from.ensures.rest ∙ ap (λ v. v.items) c.replace.ensures.value) in
     let left_is : c.take_pass.new.to.items ≡ rest_of gaps before = c.take_pass.ensures.to ∙ ap (λ (x : List Record). x ++ rest_of c.args.gaps.now (into_iter_items c.into_iter-from.result)) c.in_ok-left.ensures.items
     ∙ ap (rest_of c.args.gaps.now) (c.into_iter-from.ensures.rest ∙ ap (λ v. v.items) c.replace.ensures.value) in
+    let within : AreWithin gaps before = subst (λ (x : List Record). AreWithin gaps x) (sym c.self.view_is) c.requires.within in
+    let grouped =
     (parts octets items before gaps c.take_pass.new.taken.items c.take_pass.new.to.items c.move_groups.new.groups.items c.move_groups.new.owners.entries c.self.inside.owners.entries
     (subst (λ (x : List Record). AreWithin gaps x) (sym c.self.view_is) c.requires.within)
     (subst (λ (x : List Record). AreApart (at_gaps gaps x) (rest_of gaps x)) (sym c.self.view_is) c.requires.apart)
-    taken_is left_is c.self.invariant
+    taken_is left_is c.self.invariant.0
     (λ records h. c.move_groups.ensures.index records (subst (λ gs. IsGrouped octets items records (gs ++ c.self.inside.owners.entries)) (sym c.in_ok-groups.ensures.items) h))
     (subst (λ (ts : List Taken). AllByRecursion (λ (t : Taken). under octets (octets_of t.item.owner) c.move_groups.new.owners.entries ≡ None) ts) c.deref.ensures.value c.move_groups.ensures.gone)
-    (λ owner none. c.move_groups.ensures.only owner (ap (λ (ts : List Taken). of_owner owner (records_of ts)) c.deref.ensures.value ∙ none) (ap (λ gs. under octets (octets_of owner) gs) c.in_ok-groups.ensures.items))).1
+    (λ owner none. c.move_groups.ensures.only owner (ap (λ (ts : List Taken). of_owner owner (records_of ts)) c.deref.ensures.value ∙ none) (ap (λ gs. under octets (octets_of owner) gs) c.in_ok-groups.ensures.items))).1 in (
+      grouped,
+      counted_left before gaps c.take_pass.new.taken.items c.take_pass.new.to.items c.self.inside.below c.remove_all.new.self within taken_is left_is c.self.invariant.1
+          (λ name. c.remove_all.ensures name ∙ ap (λ (ts : List Taken). counted name c.self.inside.below - count_below name (records_of ts)) c.deref-2.ensures.value),
+    )
