@@ -10,8 +10,6 @@ SEED = 20_261_126
 LEAST_SIZE = 4_096
 ONE_IN = (7, 1_009)
 
-JOURNAL = 64
-
 
 def address(place):
     return f"192.{place // 65536}.{place // 256 % 256}.{place % 256}"
@@ -22,12 +20,12 @@ def address(place):
 class Undoable:
     """Commands that can be undone: each is a function that makes it and returns one that takes it back."""
 
-    def __init__(self):
-        self.tickets, self.done, self.undone = 0, [], []
+    def __init__(self, journal=64):
+        self.journal, self.tickets, self.done, self.undone = journal, 0, [], []
 
     def do(self, make):
         self.tickets += 1
-        self.done = (self.done + [(self.tickets, make, make())])[-JOURNAL:]
+        self.done = (self.done + [(self.tickets, make, make())])[-self.journal :]
         self.undone = []
         return f"ok {self.tickets}"
 
@@ -52,8 +50,8 @@ class Tables(Undoable):
 
     MOST = {"zones": 4_096, "records": 65_536, "stubs": 1_024}
 
-    def __init__(self):
-        super().__init__()
+    def __init__(self, journal=64):
+        super().__init__(journal)
         self.lists = {"zones": {}, "records": {}, "stubs": {}}
 
     def _is_full(self, name, key):
@@ -116,7 +114,7 @@ class Tables(Undoable):
         if verb == "local_data":
             return self._put_record(words[0], " ".join(words))
         if verb == "stub_add":
-            return self._put(("stubs", words[0], f"{words[0]} {words[1]}@53"))
+            return self._put(("stubs", words[0], " ".join([words[0], *(f"{word}@53" for word in words[1:])])))
         if verb == "local_zone_remove":
             return self._remove_zone(words[0])
         if verb == "local_data_remove":
@@ -131,10 +129,10 @@ class Tables(Undoable):
 
 
 class Cache(Undoable):
-    """Sets of one address each and denied names, all of rank 4. Nothing is admitted while a flush is in force."""
+    """Names of which each has one address or a negative answer, all of rank 4. Nothing is admitted while a flush is in force."""
 
-    def __init__(self, cells):
-        super().__init__()
+    def __init__(self, cells, journal=64):
+        super().__init__(journal)
         self.cells, self.moment = cells, 0
         self.held, self.hidden = {}, {}
 
@@ -172,11 +170,11 @@ class Cache(Undoable):
         if verb == "admit":
             _, name, lives, kind, data = words
             return self._admit(name, f"found 4 LEFT {name} {kind} {data}", int(lives))
-        if verb == "noname":
-            return self._admit(words[0], "noname LEFT", int(words[1]))
+        if verb in ("nodata", "noname"):
+            return self._admit(words[0], f"{verb} LEFT", int(words[1]))
         if verb == "flush_zone":
             return self._flush(lambda name: name.endswith("." + words[0]))
-        if verb == "flush":
+        if verb in ("flush", "flush_type"):
             return self._flush(lambda name: name == words[0])
         return self._look(words[0])
 

@@ -6,7 +6,7 @@ ghost use Rattle.shelf.specs.Told.{IsShelf};
 use crate::cells::address;
 use cell_store::NameSeed;
 use dns_name::Name;
-use dns_text::types;
+use dns_text::{Question, types};
 use ranked::{Flush, Rank, Reach, SharedFind};
 use shelf::{Shelf, StoreFault};
 use std::alloc::Global;
@@ -99,4 +99,66 @@ fn full_for_new<R: Abort>(rt: &R, alloc: Global, shelf: &mut Shelf) -> Result<()
 #[test]
 fn full_for_a_new_name_alone(rt: HostRuntime) -> Result<(), Fail> {
     full_for_new(&rt, rt.alloc(), &mut Shelf::new(rt.alloc(), 1))
+}
+
+/// A flush of the addresses of the name `a`.
+fn flush_of_a(alloc: Global) -> Result<Flush, Fail> {
+    Ok(Flush {
+        name: Name::from_text(alloc, b"a")?,
+        reach: Reach::OneType(types::A),
+    })
+}
+
+fn kept_after_flushes<R: Abort>(rt: &R, alloc: Global, shelf: &mut Shelf) -> Result<(), Fail>
+    requires whole { IsShelf shelf.old }
+    requires newest { shelf.old.top ≡ 0 }
+{
+    let question = Question {
+        owner: Name::from_text(alloc, b"a")?,
+        kind: types::A,
+    };
+    assert!(rt; shelf.kept(&question) == 0);
+    shelf.admit(address(alloc, b"a", Rank::AuthoritativeAnswer, 60)?, 0)?;
+    assert!(rt; shelf.kept(&question) == 1);
+    shelf.open_flush(flush_of_a(alloc)?, 1)?;
+    assert!(rt; shelf.kept(&question) == 2);
+    shelf.open_flush(flush_of_a(alloc)?, 2)?;
+    assert!(rt; shelf.kept(&question) == 2);
+    shelf.open_flush(flush_of_a(alloc)?, 3)?;
+    assert!(rt; shelf.kept(&question) == 2);
+    shelf.admit(address(alloc, b"a", Rank::AuthoritativeAnswer, 60)?, 0)?;
+    assert!(rt; shelf.kept(&question) == 1);
+    Ok(())
+}
+
+/// Versions that are empty alike are one cell, and so are those that hold one find.
+#[test]
+fn equal_neighbours_are_one_cell(rt: HostRuntime) -> Result<(), Fail> {
+    kept_after_flushes(&rt, rt.alloc(), &mut Shelf::new(rt.alloc(), 1))
+}
+
+fn reached_later<R: Abort>(rt: &R, alloc: Global, shelf: &mut Shelf) -> Result<(), Fail>
+    requires whole { IsShelf shelf.old }
+    requires newest { shelf.old.top ≡ 0 }
+{
+    let owner = Name::from_text(alloc, b"a.test")?;
+    shelf.admit(find(alloc, b"a.test")?, 0)?;
+    let flush = Flush {
+        name: Name::root(alloc),
+        reach: Reach::Zone,
+    };
+    shelf.open_flush(flush, 1)?;
+    shelf.settle(1);
+    assert!(rt; left(shelf, &owner, 1) == None);
+    assert!(rt; shelf.stored() == 1);
+    shelf.admit(find(alloc, b"b.test")?, 1)?;
+    assert!(rt; left(shelf, &owner, 1) == None);
+    assert!(rt; shelf.stored() == 1);
+    Ok(())
+}
+
+/// A permanent flush of everything is seen at once. It reaches the cells, and frees their places, at later admissions.
+#[test]
+fn a_permanent_flush_reaches_names_later(rt: HostRuntime) -> Result<(), Fail> {
+    reached_later(&rt, rt.alloc(), &mut Shelf::new(rt.alloc(), 2))
 }

@@ -20,7 +20,7 @@ use Rattle.cell_store.specs.Few.{content, contents, rank_of, same_content, AreFe
 use Rattle.cell_store.proofs.MergeLaws.{held_exact, joined}
 use Rattle.cell_store.proofs.FewLaws.{few_one, few_raised, few_admitted, few_tail, few_once, few_renamed, few_less, few_entries, AreLess}
 
-abbrev Content : Type 0
+abbrev pub Content : Type 0
 Content = Option (Option (Admitted ℕ))
 
 pub level_small : (rank : Rank) → level_of rank ≤ 4
@@ -35,7 +35,7 @@ level_some Answer = omega arith
 level_some Authority = omega arith
 level_some AuthoritativeAnswer = omega arith
 
-content_exact : (a b : Content) → same_content a b ≡ true → a ≡ b
+pub content_exact : (a b : Content) → same_content a b ≡ true → a ≡ b
 content_exact None None is = refl
 content_exact (Some a) (Some b) is = ap Some (held_exact a b is)
 content_exact None (Some b) is = absurd (false≢true is)
@@ -45,7 +45,7 @@ held_itself : (held : Option (Admitted ℕ)) → same_held held held ≡ true
 held_itself None = refl
 held_itself (Some a) = rw (eq-eqb (level_of a.rank) (level_of a.rank) refl, eq-eqb a.ttl a.ttl refl, eq-eqb a.since a.since refl, eq-eqb a.body a.body refl) refl
 
-content_itself : (a : Content) → same_content a a ≡ true
+pub content_itself : (a : Content) → same_content a a ≡ true
 content_itself None = refl
 content_itself (Some held) = held_itself held
 
@@ -142,7 +142,7 @@ ranked_one version none = (((λ is. none), tt), few_one rank_of same_content con
 
 -- ---- a flush becomes permanent
 
-contents_lowered : (number : ℕ) (versions : List (Version ℕ)) → contents (map (lowered number) versions) ≡ contents versions
+pub contents_lowered : (number : ℕ) (versions : List (Version ℕ)) → contents (map (lowered number) versions) ≡ contents versions
 contents_lowered number [] = refl
 contents_lowered number (x ∷ versions) = ap (λ (l : List Content). content x.place ∷ l) (contents_lowered number versions)
 
@@ -168,18 +168,18 @@ ranked_forgot number i versions lower news each is ranked =
 
 -- ---- a find gets another slot
 
-abbrev renamed_content : ℕ → ℕ → Content → Content
+abbrev pub renamed_content : ℕ → ℕ → Content → Content
 renamed_content old new None = None
 renamed_content old new (Some held) = Some (renamed_held old new held)
 
-content_renamed : (old new : ℕ) (place : Place ℕ) → cond place.left None (Some (renamed_held old new place.cell.held)) ≡ renamed_content old new (content place)
+pub content_renamed : (old new : ℕ) (place : Place ℕ) → cond place.left None (Some (renamed_held old new place.cell.held)) ≡ renamed_content old new (content place)
 content_renamed old new place = split place.left
   where
     split : (l : Bool) → cond l None (Some (renamed_held old new place.cell.held)) ≡ renamed_content old new (cond l None (Some place.cell.held))
     split true = refl
     split false = refl
 
-contents_renamed : (old new : ℕ) (versions : List (Version ℕ)) → contents (map (renamed old new) versions) ≡ map (renamed_content old new) (contents versions)
+pub contents_renamed : (old new : ℕ) (versions : List (Version ℕ)) → contents (map (renamed old new) versions) ≡ map (renamed_content old new) (contents versions)
 contents_renamed old new [] = refl
 contents_renamed old new (x ∷ versions) = (λ i. content_renamed old new x.place i ∷ contents_renamed old new versions i)
 

@@ -247,7 +247,7 @@ module _ {A : Type 0} (rank : A → ℕ) (same : A → A → Bool) (exact : (a b
   turns_most x [] = omega arith
   turns_most x (y ∷ ys) = omega (arith, low_cond (same x y), turns_most y ys)
 
-  apart_parts : (x y : A) (ys : List A) → turns same x (y ∷ ys) ≡ length (y ∷ ys) → (same x y ≡ false) × (turns same y ys ≡ length ys)
+  pub apart_parts : (x y : A) (ys : List A) → turns same x (y ∷ ys) ≡ length (y ∷ ys) → (same x y ≡ false) × (turns same y ys ≡ length ys)
   apart_parts x y ys is = split (same x y) refl (turns_most y ys)
     where
       split : (t : Bool) → same x y ≡ t → turns same y ys ≤ length ys → (same x y ≡ false) × (turns same y ys ≡ length ys)

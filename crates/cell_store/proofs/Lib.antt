@@ -18,3 +18,5 @@ mod StoreLaws
 mod HeldLaws
 mod EndLaws
 mod SpotLaws
+mod DifferLaws
+mod MixedLaws

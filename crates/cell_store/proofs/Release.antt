@@ -3,7 +3,7 @@ use Rattle.std.proofs.Common.{◌≡◌, ℕ, ◌≤◌, map, length, Vec, Globa
 use Rattle.std.specs.List.{AllByRecursion}
 use Rattle.ranked.specs.declared.find.Find.{Find}
 use Rattle.cell_store.specs.declared.version.Version.{Version}
-use Rattle.cell_store.specs.Few.{AreRanked}
+use Rattle.cell_store.specs.Few.{contents, AreRanked, DoDiffer}
 use Rattle.cell_store.specs.Slots.{version_of, IsWithin, AreNamed}
 
 pub record IsReleased (old_versions : Vec (Version ℕ) Global) (old_finds : Vec Find Global) (versions : Vec (Version ℕ) Global) (finds : Vec Find Global) (slot : ℕ) : Type 0 where
@@ -12,5 +12,6 @@ pub record IsReleased (old_versions : Vec (Version ℕ) Global) (old_finds : Vec
   pub within : AllByRecursion (IsWithin (length finds.items)) versions.items
   pub named : AreNamed versions.items slot
   pub ranked : AreRanked old_versions.items → AreRanked versions.items
+  pub differ : DoDiffer (contents old_versions.items) → DoDiffer (contents versions.items)
   pub capacity : vec_capacity versions ≡ vec_capacity old_versions
   pub room : vec_capacity finds ≡ vec_capacity old_finds

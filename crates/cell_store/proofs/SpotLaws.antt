@@ -1,8 +1,9 @@
 -- The places of names among the entries, when the cells of one have changed.
-use Rattle.std.proofs.Common.{◌≡◌, ℕ, zero, suc, ◌+◌, Bool, true, false, cond, Option, Some, None, List, [], ◌∷◌, length, refl, sym, ap, ◌∙◌, subst, arith, inl, inr}
+use Rattle.std.proofs.Common.{◌≡◌, ℕ, zero, suc, ◌+◌, Bool, true, false, cond, Option, Some, None, List, [], ◌∷◌, ◌++◌, length, refl, sym, ap, ◌∙◌, subst, arith, inl, inr}
 use Rattle.std.specs.Prelude.{not, slice_get}
 use Rattle.std.specs.List.{position_or_len}
 use Rattle.std.specs.Map.{keys_of, lookup, set_value}
+use Rattle.std.proofs.lemmas.Map.{keys-set_value}
 use Rattle.indexmap.specs.IndexMap.{insert_entry}
 use Rattle.dns_name.specs.Labels.{Labels}
 use Rattle.dns_name.specs.Order.{name_eq}
@@ -33,6 +34,7 @@ pub stays_set : (test : Labels → Bool) (name : Labels) (entries : List (Labels
 stays_set test name entries new is = record {
   others = λ i off. others_set test entries new i (λ same. off (same ∙ sym (ap (λ (t : Labels → Bool). position_or_len t (keys_of entries)) is)));
   size = inl (length_set test entries new);
+  names = inl (keys-set_value test entries new);
 }
 
 -- ---- a new name
@@ -53,5 +55,14 @@ last_put name [] new none = (refl, refl)
 last_put name (e ∷ entries) new none =
     last_step (name_eq name e.0) e entries (insert_entry name_eq entries name new) (lookup (name_eq name) entries) new (name_place name entries) none (last_put name entries new)
 
+keys_step : (b : Bool) (name : Labels) (e : Labels × OwnerCells) (entries rest : List (Labels × OwnerCells)) (found : Option OwnerCells) (new : OwnerCells) → cond b (Some e.1) found ≡ None → (found ≡ None → keys_of rest ≡ keys_of entries ++ name ∷ [])
+    → keys_of (cond b ((e.0, new) ∷ entries) (e ∷ rest)) ≡ e.0 ∷ (keys_of entries ++ name ∷ [])
+keys_step true name e entries rest found new none before = let some : Some e.1 ≡ None = none in absurd cc
+keys_step false name e entries rest found new none before = ap (λ (l : List Labels). e.0 ∷ l) (before none)
+
+keys_put : (name : Labels) (entries : List (Labels × OwnerCells)) (new : OwnerCells) → lookup (name_eq name) entries ≡ None → keys_of (insert_entry name_eq entries name new) ≡ keys_of entries ++ name ∷ []
+keys_put name [] new none = refl
+keys_put name (e ∷ entries) new none = keys_step (name_eq name e.0) name e entries (insert_entry name_eq entries name new) (lookup (name_eq name) entries) new none (keys_put name entries new)
+
 pub stays_put : (name : Labels) (old : List (Labels × OwnerCells)) (cells : OwnerCells) → lookup (name_eq name) old ≡ None → (new : List (Labels × OwnerCells)) → new ≡ insert_entry name_eq old name cells → StayBut name old new
-stays_put name old cells none new is = subst (λ (l : List (Labels × OwnerCells)). StayBut name old l) (sym is) (record { others = others_put name old cells; size = inr (last_put name old cells none) })
+stays_put name old cells none new is = subst (λ (l : List (Labels × OwnerCells)). StayBut name old l) (sym is) (record { others = others_put name old cells; size = inr (last_put name old cells none); names = inr (keys_put name old cells none) })

@@ -1,10 +1,11 @@
 -- The cells of all names, when those of one have changed.
-use Rattle.std.proofs.Common.{◌≡◌, ℕ, ◌≤◌, max, Bool, true, false, cond, Option, Some, None, List, [], ◌∷◌, refl, sym, ap, ◌∙◌, subst, inl, inr}
-use Rattle.std.specs.Prelude.{◌==◌, ◌&&◌, ◌||◌, IfSome}
+use Rattle.std.proofs.Common.{◌≡◌, ℕ, zero, suc, ◌+◌, ◌≤◌, max, Bool, true, false, cond, Option, Some, None, List, [], ◌∷◌, refl, sym, ap, ◌∙◌, subst, arith, slice_get, inl, inr}
+use Rattle.std.specs.Prelude.{◌==◌, ◌&&◌, ◌||◌, not, IfSome}
 use Rattle.std.specs.Option.{option_map_or}
 use Rattle.std.proofs.lemmas.Bool.{cases_Bool, false≢true}
-use Rattle.std.specs.List.{AllByRecursion, list_any}
-use Rattle.indexmap.specs.IndexMap.{IndexMap, get, Updates}
+use Rattle.std.specs.List.{AllByRecursion, list_any, position_or_len}
+use Rattle.std.specs.Map.{keys_of, lookup}
+use Rattle.indexmap.specs.IndexMap.{IndexMap, get, set_value_at, Updates}
 use Rattle.dns_name.specs.Labels.{Labels}
 use Rattle.dns_name.specs.Order.{name_eq, name_eq_exact}
 use Rattle.dns_text.specs.declared.record.Question.{Question}
@@ -14,11 +15,9 @@ use Rattle.ranked.specs.declared.cell.Admitted.{Admitted}
 use Rattle.ranked.specs.Find.{touches, has_kind}
 use Rattle.ranked.specs.Cell.{after_admission}
 use Rattle.cell_store.specs.declared.owner.OwnerCells.{OwnerCells}
-use Rattle.cell_store.specs.Walk.{IsEach, IsEntry, IsFound}
-use Rattle.cell_store.specs.WalkLaws.{found_each}
 use Rattle.dns_name.specs.Below.{is_at_or_below}
 use Rattle.cell_store.specs.Owner.{cell_in, IsUpTo, CanSettle}
-use Rattle.cell_store.specs.Store.{cell_by_owner, cell_of, AreUpTo, CanSettleAt}
+use Rattle.cell_store.specs.Store.{cell_by_owner, cell_of, name_place, AreUpTo, CanSettleAt, StayButAt}
 use Rattle.cell_store.specs.Count.{has_pair, has_place, pair_eq, scope_eq, AddPair, KeepPairs, KeepsPlaces}
 use Rattle.cell_store.proofs.PlaceLaws.{or_right}
 
@@ -118,51 +117,102 @@ pub by_none : (held : Option OwnerCells) (cells : OwnerCells) (b : Bool) (adm : 
 by_none held cells b adm k v empty none =
     ap (λ (h : Option (Admitted Find)). cond b (after_admission h adm) h) empty ∙ sym (ap (λ (o : Option OwnerCells). cond b (after_admission (cell_by_owner o k v) adm) (cell_by_owner o k v)) none)
 
--- ---- a walk over all names
+-- ---- the name at a place
 
--- the cells of a name, once a flush at or below a name is permanent
-pub record IsSettledBelow (zone : Labels) (number : ℕ) (name : Labels) (old new : OwnerCells) : Type 0 where
-  pub cells : (top : ℕ) → IsUpTo top old → (k v : ℕ) → cell_in new k v ≡ cell_in old k (cond (is_at_or_below name zone) (max number v) v)
-  pub upto : (top : ℕ) → IsUpTo top old → IsUpTo top new
-  pub settles : (n k : ℕ) → CanSettle n k old → CanSettle n k new
-  pub places : KeepsPlaces old new
+late : (n : ℕ) → ((1 + n) == 0) ≡ false
+late n = grind arith
 
-module _ {S : Type 0} (zone : Labels) (number : ℕ) (old new : IndexMap Labels OwnerCells S) (each : IsEach (IsEntry (IsSettledBelow zone number)) old.entries new.entries) where
-  found : (name : Labels) → IsFound (name_eq name) (IsSettledBelow zone number) (get name_eq old name) (get name_eq new name)
-  found name = found_each (IsSettledBelow zone number) (name_eq name) old.entries new.entries each
+early : (place : ℕ) → (0 == suc place) ≡ false
+early place = grind arith
 
-  below_cells : (q : Question) (top v : ℕ) (o n : Option OwnerCells) → IsFound (name_eq q.owner) (IsSettledBelow zone number) o n → IfSome o (IsUpTo top)
-      → cell_by_owner n q.kind v ≡ cell_by_owner o q.kind (cond (is_at_or_below q.owner zone) (max number v) v)
-  below_cells q top v None None is upto = refl
-  below_cells q top v None (Some n) is upto = absurd is
-  below_cells q top v (Some o) None is upto = absurd is
-  below_cells q top v (Some o) (Some n) is upto =
-      is.1.1.cells top upto q.kind v ∙ ap (λ (m : Labels). cell_in o q.kind (cond (is_at_or_below m zone) (max number v) v)) (sym (name_eq_exact q.owner is.0 is.1.0))
+next : (n place : ℕ) → ((1 + n) == suc place) ≡ (n == place)
+next n place = grind arith
 
-  pub cells_below : (top : ℕ) → AreUpTo top old → (q : Question) (v : ℕ) → cell_of new q v ≡ cell_of old q (cond (is_at_or_below q.owner zone) (max number v) v)
-  cells_below top upto q v = below_cells q top v (get name_eq old q.owner) (get name_eq new q.owner) (found q.owner) (upto q.owner)
+-- what a test finds, once the value at a place is another
+found_at : (test : Labels → Bool) (entries : List (Labels × OwnerCells)) (place : ℕ) (key : Labels) (lent new : OwnerCells) → slice_get entries place ≡ Some (key, lent)
+    → lookup test (set_value_at entries place new) ≡ cond (position_or_len test (keys_of entries) == place) (Some new) (lookup test entries)
+found_at test [] place key lent new is = let none : None ≡ Some (key, lent) = is in absurd cc
+found_at test (e ∷ entries) zero key lent new is = split (test e.0)
+  where
+    split : (b : Bool) → cond b (Some new) (lookup test entries) ≡ cond (cond (not b) (1 + position_or_len test (keys_of entries)) 0 == 0) (Some new) (cond b (Some e.1) (lookup test entries))
+    split true = refl
+    split false = sym (ap (λ c. cond c (Some new) (lookup test entries)) (late (position_or_len test (keys_of entries))))
+found_at test (e ∷ entries) (suc place) key lent new is = split (test e.0) (found_at test entries place key lent new is)
+  where
+    split : (b : Bool) → lookup test (set_value_at entries place new) ≡ cond (position_or_len test (keys_of entries) == place) (Some new) (lookup test entries)
+        → cond b (Some e.1) (lookup test (set_value_at entries place new)) ≡ cond (cond (not b) (1 + position_or_len test (keys_of entries)) 0 == suc place) (Some new) (cond b (Some e.1) (lookup test entries))
+    split true later = sym (ap (λ c. cond c (Some new) (Some e.1)) (early place))
+    split false later = later ∙ sym (ap (λ c. cond c (Some new) (lookup test entries)) (next (position_or_len test (keys_of entries)) place))
 
-  below_each : (P : OwnerCells → Type 0) (name : Labels) → ((o n : OwnerCells) → IsSettledBelow zone number name o n → P o → P n) → (o n : Option OwnerCells) → IsFound (name_eq name) (IsSettledBelow zone number) o n → IfSome o P → IfSome n P
-  below_each P name step None None is was = tt
-  below_each P name step None (Some n) is was = absurd is
-  below_each P name step (Some o) None is was = absurd is
-  below_each P name step (Some o) (Some n) is was = step o n (subst (λ (m : Labels). IsSettledBelow zone number m o n) (sym (name_eq_exact name is.0 is.1.0)) is.1.1) was
+-- the first name that passes a test is at its place
+there_at : (test : Labels → Bool) (entries : List (Labels × OwnerCells)) (place : ℕ) (key : Labels) (lent : OwnerCells) → slice_get entries place ≡ Some (key, lent)
+    → (position_or_len test (keys_of entries) == place) ≡ true → (lookup test entries ≡ Some lent) × (test key ≡ true)
+there_at test [] place key lent is at = let none : None ≡ Some (key, lent) = is in absurd cc
+there_at test (e ∷ entries) zero key lent is at =
+    let some : Some e ≡ Some (key, lent) = is in
+    let one : e ≡ (key, lent) = cc in
+    split (test e.0) refl one at
+  where
+    split : (b : Bool) → test e.0 ≡ b → e ≡ (key, lent) → (cond (not b) (1 + position_or_len test (keys_of entries)) 0 == 0) ≡ true → (cond b (Some e.1) (lookup test entries) ≡ Some lent) × (test key ≡ true)
+    split true passes one at = (ap (λ (x : Labels × OwnerCells). Some x.1) one, ap (λ (x : Labels × OwnerCells). test x.0) (sym one) ∙ passes)
+    split false passes one at = absurd (false≢true (sym (late (position_or_len test (keys_of entries))) ∙ at))
+there_at test (e ∷ entries) (suc place) key lent is at = split (test e.0) at (there_at test entries place key lent is)
+  where
+    split : (b : Bool) → (cond (not b) (1 + position_or_len test (keys_of entries)) 0 == suc place) ≡ true
+        → ((position_or_len test (keys_of entries) == place) ≡ true → (lookup test entries ≡ Some lent) × (test key ≡ true)) → (cond b (Some e.1) (lookup test entries) ≡ Some lent) × (test key ≡ true)
+    split true at later = absurd (false≢true (sym (early place) ∙ at))
+    split false at later = later (sym (next (position_or_len test (keys_of entries)) place) ∙ at)
 
-  pub upto_below : (top : ℕ) → AreUpTo top old → AreUpTo top new
-  upto_below top upto name = below_each (IsUpTo top) name (λ o n is was. is.upto top was) (get name_eq old name) (get name_eq new name) (found name) (upto name)
+keys_at : (entries : List (Labels × OwnerCells)) (place : ℕ) (new : OwnerCells) → keys_of (set_value_at entries place new) ≡ keys_of entries
+keys_at [] place new = refl
+keys_at (e ∷ entries) zero new = refl
+keys_at (e ∷ entries) (suc place) new = ap (λ (l : List Labels). e.0 ∷ l) (keys_at entries place new)
 
-  pub settles_below : (n k : ℕ) (name : Labels) → CanSettleAt n k name old → CanSettleAt n k name new
-  settles_below n k name settles = below_each (CanSettle n k) name (λ o m is was. is.settles n k was) (get name_eq old name) (get name_eq new name) (found name) settles
+others_at : (entries : List (Labels × OwnerCells)) (place : ℕ) (new : OwnerCells) (i : ℕ) → (i ≡ place → ⊥) → slice_get (set_value_at entries place new) i ≡ slice_get entries i
+others_at [] place new i off = refl
+others_at (e ∷ entries) zero new zero off = absurd (off refl)
+others_at (e ∷ entries) zero new (suc i) off = refl
+others_at (e ∷ entries) (suc place) new zero off = refl
+others_at (e ∷ entries) (suc place) new (suc i) off = others_at entries place new i (λ same. off (ap suc same))
 
-  below_places : (pair : Labels × Scope) (o n : Option OwnerCells) → IsFound (name_eq pair.0) (IsSettledBelow zone number) o n
-      → option_map_or (λ cells. has_place cells pair.1) n false ≡ true → option_map_or (λ cells. has_place cells pair.1) o false ≡ true
-  below_places pair None None is has = has
-  below_places pair None (Some n) is has = absurd is
-  below_places pair (Some o) None is has = absurd is
-  below_places pair (Some o) (Some n) is has = is.1.1.places pair.1 has
+pub stays_at : (entries : List (Labels × OwnerCells)) (place : ℕ) (new : OwnerCells) → StayButAt place entries (set_value_at entries place new)
+stays_at entries place new = record { others = others_at entries place new; names = keys_at entries place new }
 
-  pub pairs_below : KeepPairs old new
-  pairs_below pair has = below_places pair (get name_eq old pair.0) (get name_eq new pair.0) (found pair.0) has
+module _ {S : Type 0} (old new : IndexMap Labels OwnerCells S) (place : ℕ) (key : Labels) (lent cells : OwnerCells) (there : slice_get old.entries place ≡ Some (key, lent)) (put : new.entries ≡ set_value_at old.entries place cells) where
+  at_place : (name : Labels) → get name_eq new name ≡ cond (name_place name old.entries == place) (Some cells) (get name_eq old name)
+  at_place name = ap (λ (l : List (Labels × OwnerCells)). lookup (name_eq name) l) put ∙ found_at (name_eq name) old.entries place key lent cells there
+
+  -- a flush of every type at or below a name is permanent there
+  pub cells_at : (zone : Labels) (number : ℕ) → ((top : ℕ) → IsUpTo top lent → (k v : ℕ) → cell_in cells k v ≡ cell_in lent k (cond (is_at_or_below key zone) (max number v) v))
+      → (top : ℕ) → AreUpTo top old → (q : Question) (v : ℕ) → cell_of new q v ≡ cell_of old q (cond (name_place q.owner old.entries == place && is_at_or_below q.owner zone) (max number v) v)
+  cells_at zone number step top upto q v = ap (λ (o : Option OwnerCells). cell_by_owner o q.kind v) (at_place q.owner) ∙ split (name_place q.owner old.entries == place) refl
+    where
+      split : (b : Bool) → (name_place q.owner old.entries == place) ≡ b → cell_by_owner (cond b (Some cells) (get name_eq old q.owner)) q.kind v
+          ≡ cell_of old q (cond (name_place q.owner old.entries == place && is_at_or_below q.owner zone) (max number v) v)
+      split true at =
+          let here = there_at (name_eq q.owner) old.entries place key lent there at in
+          let same : q.owner ≡ key = name_eq_exact q.owner key here.1 in
+          step top (subst (λ (o : Option OwnerCells). IfSome o (IsUpTo top)) here.0 (upto q.owner)) q.kind v
+          ∙ (ap (λ (n : Labels). cell_in lent q.kind (cond (is_at_or_below n zone) (max number v) v)) (sym same)
+          ∙ (ap (λ (o : Option OwnerCells). cell_by_owner o q.kind (cond (is_at_or_below q.owner zone) (max number v) v)) (sym here.0)
+          ∙ ap (λ b. cell_of old q (cond (b && is_at_or_below q.owner zone) (max number v) v)) (sym at)))
+      split false off = ap (λ b. cell_of old q (cond (b && is_at_or_below q.owner zone) (max number v) v)) (sym off)
+
+  -- a fact of the cells of each name
+  pub each_at : (P : OwnerCells → Type 0) → (P lent → P cells) → (name : Labels) → IfSome (get name_eq old name) P → IfSome (get name_eq new name) P
+  each_at P step name was = subst (λ (o : Option OwnerCells). IfSome o P) (sym (at_place name)) (split (name_place name old.entries == place) refl)
+    where
+      split : (b : Bool) → (name_place name old.entries == place) ≡ b → IfSome (cond b (Some cells) (get name_eq old name)) P
+      split true at = step (subst (λ (o : Option OwnerCells). IfSome o P) (there_at (name_eq name) old.entries place key lent there at).0 was)
+      split false off = was
+
+  -- no place counts that did not
+  pub pairs_at : KeepsPlaces lent cells → KeepPairs old new
+  pairs_at step pair has = split (name_place pair.0 old.entries == place) refl (sym (ap (λ (o : Option OwnerCells). option_map_or (λ cells. has_place cells pair.1) o false) (at_place pair.0)) ∙ has)
+    where
+      split : (b : Bool) → (name_place pair.0 old.entries == place) ≡ b → option_map_or (λ cells. has_place cells pair.1) (cond b (Some cells) (get name_eq old pair.0)) false ≡ true → has_pair old pair ≡ true
+      split true at has = ap (λ (o : Option OwnerCells). option_map_or (λ cells. has_place cells pair.1) o false) (there_at (name_eq pair.0) old.entries place key lent there at).0 ∙ step pair.1 has
+      split false off has = has
 
 -- a flush of types of a name that has no cells can become permanent
 pub settles_absent : {S : Type 0} (owners after : IndexMap Labels OwnerCells S) (owner : Labels) (kinds : List ℕ) → after ≡ owners → get name_eq owners owner ≡ None → AllByRecursion (λ kind. (n : ℕ) → CanSettleAt n kind owner after) kinds

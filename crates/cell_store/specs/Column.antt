@@ -11,7 +11,7 @@ use Rattle.cell_store.specs.declared.version.Version.{Version}
 use Rattle.cell_store.specs.declared.version.Sight.{Sight}
 use Rattle.cell_store.specs.declared.version.Sight.TheVariants.{Left, Own}
 use Rattle.cell_store.specs.Version.{nothing, place_at, IsFromStart}
-use Rattle.cell_store.specs.Few.{AreRanked}
+use Rattle.cell_store.specs.Few.{contents, AreRanked, DoDiffer}
 use Rattle.cell_store.specs.Slots.{version_of, IsWithin, AreNamed}
 
 -- the entries of a column, each with the content from its version on, and the last version that an admission has reached
@@ -27,12 +27,13 @@ place_in cells v = if nat_lt cells.upto v then nothing else place_at cells.versi
 abbrev pub cells_of : Vec (Version ℕ) Global → Vec Find Global → ℕ → Cells
 cells_of versions finds upto = record { versions = map (version_of finds.items) versions.items; upto = upto }
 
--- Each cell refers to a find of the column, and some cell refers to each find. The first entry starts at version 0. There are at most five entries, and room for one more and its find.
+-- Each cell refers to a find of the column, and some cell refers to each find. The first entry starts at version 0. No two neighbours have the same content. There are at most five entries, and room for one more and its find.
 pub record IsColumn (versions : Vec (Version ℕ) Global) (finds : Vec Find Global) : Type 0 where
   pub within : AllByRecursion (IsWithin (length finds.items)) versions.items
   pub named : AreNamed versions.items (length finds.items)
   pub starts : IsFromStart (map (version_of finds.items) versions.items)
   pub ranked : AreRanked versions.items
+  pub differ : DoDiffer (contents versions.items)
   pub short : length versions.items ≤ 5
   pub room : 6 ≤ vec_capacity versions
   pub slots : 6 ≤ vec_capacity finds

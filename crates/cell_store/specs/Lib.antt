@@ -15,3 +15,5 @@ pub mod HeldLaws
 pub mod Seed
 pub mod Ends
 pub mod EndLaws
+pub mod Same
+pub mod Mixed

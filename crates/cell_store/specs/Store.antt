@@ -1,5 +1,5 @@
 -- The cells of all names.
-use Rattle.std.specs.Prelude.{◌≡◌, ◌≢◌, ◌⊎◌, ◌+◌, List, length, ◌<◌, ◌≤◌, ◌^◌, ℕ, Bool, true, false, swap_remove, Option, Some, None, IfSome, slice_get}
+use Rattle.std.specs.Prelude.{◌≡◌, ◌≢◌, ◌⊎◌, ◌+◌, ◌++◌, ◌∷◌, [], List, length, ◌<◌, ◌≤◌, ◌^◌, ℕ, Bool, true, false, swap_remove, Option, Some, None, IfSome, slice_get}
 use Rattle.indexmap.specs.IndexMap.{IndexMap, get}
 use Rattle.std.specs.Option.{option_map_or}
 use Rattle.std.specs.List.{position_or_len}
@@ -67,6 +67,12 @@ name_place name entries = position_or_len (name_eq name) (keys_of entries)
 pub record StayBut (name : Labels) (old new : List (Labels × OwnerCells)) : Type 0 where
   pub others : (i : ℕ) → i ≢ name_place name old → slice_get new i ≡ slice_get old i
   pub size : (length new ≡ length old) ⊎ ((name_place name old ≡ length old) × (length new ≡ length old + 1))
+  pub names : (keys_of new ≡ keys_of old) ⊎ (keys_of new ≡ keys_of old ++ name ∷ [])
+
+-- Each name keeps its place, and the entries of all places but one are as they were.
+pub record StayButAt (place : ℕ) (old new : List (Labels × OwnerCells)) : Type 0 where
+  pub others : (i : ℕ) → i ≢ place → slice_get new i ≡ slice_get old i
+  pub names : keys_of new ≡ keys_of old
 
 -- The counted places are as many as it says, and no admission has reached a version past `top`.
 pub record IsIndex {S : Type 0} (top stored : ℕ) (owners : IndexMap Labels OwnerCells S) : Type 0 where

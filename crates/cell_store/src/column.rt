@@ -9,10 +9,12 @@ ghost use Rattle.cell_store.specs.Prune.{is_asked, IsLess};
 ghost use Rattle.cell_store.specs.Sweep.{swept, IsSeenAt};
 ghost use Rattle.cell_store.specs.Count.{has_find, is_counted};
 ghost use Rattle.cell_store.specs.Ends.{first_end};
+ghost use Rattle.cell_store.specs.Mixed.{is_mixed, IsEven};
+ghost use Rattle.cell_store.specs.Same.{place_now};
 
 use crate::merge::merge;
 use crate::prune::prune;
-use crate::slots::{has_find, release};
+use crate::slots::{has_find, lend, release};
 use crate::version::{Place, Sight, Version};
 use crate::versions::{admit_each, first_end, forget_before, place_at, reach, sweep_each};
 use dns_name::NoMemory;
@@ -106,6 +108,14 @@ impl Column {
         has_find(&self.versions)
     }
 
+    /// Whether it has more than one entry.
+    pub fn is_mixed(&self) -> bool
+        ensures value { result ≡ is_mixed self.now }
+        ensures even { result ≡ false → IsEven self.now }
+    {
+        self.versions.len() > 1
+    }
+
     /// The first moment at which a find is dead, in seconds. It is the latest moment if there is none.
     pub fn first_end(&self) -> u64
         ensures { result ≡ first_end self.now.versions }
@@ -131,6 +141,25 @@ impl Column {
                 body: &self.finds[shown.body],
             })),
             None => Sight::Own(None),
+        }
+    }
+
+    /// The content of a version, alive or not.
+    pub fn place(&self, version: u64) -> Place<&SharedFind>
+        ensures { place_now result ≡ place_in self.now version }
+    {
+        if self.upto < version {
+            return Place {
+                left: false,
+                cell: Cell::empty(),
+            };
+        }
+        let place = place_at(&self.versions, version);
+        Place {
+            left: place.left,
+            cell: Cell {
+                held: lend(&self.finds, place.cell.held),
+            },
         }
     }
 

@@ -20,6 +20,10 @@ mod versions;
 mod column;
 // The cells of one name.
 mod owner;
+// The content of a cell in a version.
+mod content;
+// Names whose versions may have different content.
+mod mixed;
 // The hasher of the index.
 mod seed;
 // The cells of all names.
@@ -29,6 +33,7 @@ pub use column::Column;
 pub use owner::{KindColumn, OwnerCells, WholeFind};
 pub use seed::NameSeed;
 pub use store::{
-    Owners, admit, at, drop_if_uncounted, forget, has_place, open_kinds, settle_below, settle_kinds,
+    Owners, admit, at, drop_if_uncounted, forget, has_pair, has_place, is_same, open_kinds,
+    settle_at, settle_kinds,
 };
 pub use version::{Place, Sight, Version};

@@ -49,7 +49,7 @@ pub struct OwnerCells {
 }
 
 // The place of the column of a type.
-fn place_of(kinds: &[KindColumn], kind: u16) -> Option<usize>
+pub(crate) fn place_of(kinds: &[KindColumn], kind: u16) -> Option<usize>
     ensures some { IfSome result (IsPlaceOf kinds.now kind) }
     ensures none { IfNone result (column_of kinds.now kind ≡ None) }
 {

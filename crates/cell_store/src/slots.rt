@@ -2,12 +2,13 @@
 
 ghost use Rattle.std.specs.Prelude.{◌≡◌, ◌==◌, ℕ, map, length, vec_capacity};
 ghost use Rattle.std.specs.List.{AllByRecursion, list_any};
-ghost use Rattle.cell_store.specs.Slots.{names, renamed, version_of, IsWithin, AreNamed};
+ghost use Rattle.cell_store.specs.Same.{cell_now};
+ghost use Rattle.cell_store.specs.Slots.{held_of, names, renamed, version_of, IsHeldWithin, IsWithin, AreNamed};
 ghost use Rattle.cell_store.specs.Count.{has_find};
-ghost use Rattle.cell_store.specs.Few.{AreRanked};
+ghost use Rattle.cell_store.specs.Few.{contents, AreRanked, DoDiffer};
 
 use crate::version::Version;
-use ranked::SharedFind;
+use ranked::{Admitted, SharedFind};
 
 impl Version<usize> {
     // Whether it has a find.
@@ -64,12 +65,32 @@ fn rename(versions: &mut Vec<Version<usize>>, old: usize, new: usize)
     }
 }
 
+// The content of a cell, with the find in place of its slot.
+pub(crate) fn lend(
+    finds: &[SharedFind],
+    held: Option<Admitted<usize>>,
+) -> Option<Admitted<&SharedFind>>
+    requires { IsHeldWithin (length finds.now) held }
+    ensures { cell_now result ≡ held_of finds.now held }
+{
+    match held {
+        Some(held) => Some(Admitted {
+            rank: held.rank,
+            ttl: held.ttl,
+            since: held.since,
+            body: &finds[held.body],
+        }),
+        None => None,
+    }
+}
+
 // Drops the finds to which no cell refers. The last find moves into the gap.
 pub(crate) fn release(versions: &mut Vec<Version<usize>>, finds: &mut Vec<SharedFind>)
     requires within { AllByRecursion (IsWithin (length finds.old.items)) versions.old.items }
     ensures same { map (version_of finds.new.items) versions.new.items ≡ map (version_of finds.old.items) versions.old.items }
     ensures within { AllByRecursion (IsWithin (length finds.new.items)) versions.new.items }
     ensures ranked { AreRanked versions.old.items → AreRanked versions.new.items }
+    ensures differ { DoDiffer (contents versions.old.items) → DoDiffer (contents versions.new.items) }
     ensures named { AreNamed versions.new.items (length finds.new.items) }
     ensures capacity { vec_capacity versions.new ≡ vec_capacity versions.old }
     ensures room { vec_capacity finds.new ≡ vec_capacity finds.old }

@@ -2,6 +2,7 @@
 
 ghost use Rattle.std.specs.Prelude.{◌≡◌, ◌<◌, ◌≤◌, ◌==◌, ◌&&◌, ◌+◌, ◌^◌, ℕ, None, not, true, length, IsOk, OnOk, OnErr, if◌then◌else◌};
 ghost use Rattle.std.specs.List.{AllByRecursion, list_any};
+ghost use Rattle.std.specs.Map.{keys_of};
 ghost use Rattle.indexmap.specs.IndexMap.{get, swap_remove_entry};
 ghost use Rattle.dns_name.specs.Labels.{Labels};
 ghost use Rattle.dns_name.specs.Order.{name_eq};
@@ -10,14 +11,16 @@ ghost use Rattle.dns_text.specs.declared.record.Question.{Question};
 ghost use Rattle.ranked.specs.Find.{admission_of, touches};
 ghost use Rattle.ranked.specs.Cell.{shown_at};
 ghost use Rattle.cell_store.specs.Owner.{after_settle, after_touch, held_now};
-ghost use Rattle.cell_store.specs.Count.{has_place_for, one_if, pair_of, stored_in, AddPair, KeepPairs};
+ghost use Rattle.cell_store.specs.Count.{has_pair, has_place_for, one_if, pair_of, stored_in, AddPair, KeepPairs};
+ghost use Rattle.cell_store.specs.Same.{same_cell};
 ghost use Rattle.cell_store.specs.Store.{cell_of, AreLeft, AreSameCells, AreUpTo, CanSettleAt, IsDroppedAt, IsIndex, KeepSettling, KeepUpTo, StayBut};
+ghost use Rattle.cell_store.specs.Store.{name_place, StayButAt};
 
 use crate::owner::OwnerCells;
 use crate::seed::NameSeed;
 use dns_name::{Name, NoMemory};
 use indexmap::IndexMap;
-use ranked::{Find, Held, SharedFind};
+use ranked::{Find, Held, Scope, SharedFind};
 use std::alloc::Global;
 
 /// The cells of each name. Their order means nothing: a removal moves the last name into the gap.
@@ -90,7 +93,7 @@ pub fn open_kinds(
     ensures counted { stored_in owners.new ≡ stored_in owners.old }
     ensures pairs { KeepPairs owners.old owners.new }
     ensures entries { StayBut owner.now owners.old.entries owners.new.entries
-        × (length owners.new.entries ≡ length owners.old.entries) }
+        × (length owners.new.entries ≡ length owners.old.entries) × (keys_of owners.new.entries ≡ keys_of owners.old.entries) }
 {
     if let Some(cells) = owners.get_mut(owner) {
         return cells.open_each(kinds, top);
@@ -110,6 +113,8 @@ pub fn settle_kinds(owners: &mut Owners, stored: &mut u64, owner: &Name, kinds: 
     ensures counted { stored.new ≡ stored_in owners.new }
     ensures fewer { (stored.new ≤ stored.old) × (length owners.new.entries ≡ length owners.old.entries) }
     ensures pairs { KeepPairs owners.old owners.new }
+    ensures entries { StayBut owner.now owners.old.entries owners.new.entries
+        × (keys_of owners.new.entries ≡ keys_of owners.old.entries) }
 {
     if let Some(cells) = owners.get_mut(owner) {
         let others = *stored - cells.counted();
@@ -118,26 +123,23 @@ pub fn settle_kinds(owners: &mut Owners, stored: &mut u64, owner: &Name, kinds: 
     }
 }
 
-/// Makes a flush of every type at or below a name permanent. It takes no memory, and visits every name.
-pub fn settle_below(owners: &mut Owners, stored: &mut u64, zone: &Name, number: u64)
+/// Makes a flush of every type at or below a name permanent in the cells of the name at a place. It takes no memory.
+pub fn settle_at(owners: &mut Owners, stored: &mut u64, place: usize, zone: &Name, number: u64)
+    requires low { place < length owners.old.entries }
     requires counted { stored.old ≡ stored_in owners.old }
-    ensures cells { (top : ℕ) → AreUpTo top owners.old → (q : Question) (v : ℕ) →
-        cell_of owners.new q v ≡ cell_of owners.old q (after_settle (is_at_or_below q.owner zone.now) number v) }
+    ensures cells { (top : ℕ) → AreUpTo top owners.old → (q : Question) (v : ℕ) → cell_of owners.new q v ≡
+        cell_of owners.old q (after_settle (name_place q.owner owners.old.entries == place && is_at_or_below q.owner zone.now) number v) }
     ensures upto { KeepUpTo owners.old owners.new }
     ensures settles { KeepSettling owners.old owners.new }
-    ensures counted { stored.new ≡ stored_in owners.new }
-    ensures fewer { (stored.new ≤ stored.old) × (length owners.new.entries ≡ length owners.old.entries) }
+    ensures counted { (stored.new ≡ stored_in owners.new) × (stored.new ≤ stored.old) }
     ensures pairs { KeepPairs owners.old owners.new }
+    ensures entries { StayButAt place owners.old.entries owners.new.entries }
 {
-    let mut place = 0;
-    while place < owners.len() {
-        let (name, cells) = owners.pair_mut(place);
-        let covered = name.at_or_below(zone);
-        let others = *stored - cells.counted();
-        cells.settle_where(covered, number);
-        *stored = others + cells.counted();
-        place += 1;
-    }
+    let (name, cells) = owners.pair_mut(place);
+    let covered = name.at_or_below(zone);
+    let others = *stored - cells.counted();
+    cells.settle_where(covered, number);
+    *stored = others + cells.counted();
 }
 
 /// Whether the place of a find is counted already. A place is that of a name and type, or of a whole name.
@@ -147,6 +149,27 @@ pub fn has_place(owners: &Owners, find: &Find) -> bool
     match owners.get(&find.owner) {
         Some(cells) => cells.has_place(find.scope),
         None => false,
+    }
+}
+
+/// Whether the place of an owner and scope is counted.
+pub fn has_pair(owners: &Owners, owner: &Name, scope: Scope) -> bool
+    ensures { result ≡ has_pair owners.now (owner.now, scope) }
+{
+    match owners.get(owner) {
+        Some(cells) => cells.has_place(scope),
+        None => false,
+    }
+}
+
+/// Whether two versions of a question have the same find from the same moment, or both have none. It takes no memory.
+pub fn is_same(owners: &Owners, owner: &Name, kind: u16, version: u64, other: u64) -> bool
+    ensures { let q : Question = record { owner = owner.now; kind = kind } in
+        result ≡ same_cell (cell_of owners.now q version) (cell_of owners.now q other) }
+{
+    match owners.get(owner) {
+        Some(cells) => cells.is_same(kind, version, other),
+        None => true,
     }
 }
 

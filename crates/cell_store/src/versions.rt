@@ -5,7 +5,7 @@ ghost use Rattle.std.specs.List.{AllByRecursion, list_any};
 ghost use Rattle.cell_store.specs.Count.{has_find};
 ghost use Rattle.ranked.specs.Find.{admission_of};
 ghost use Rattle.cell_store.specs.Ends.{cell_end, first_end, latest};
-ghost use Rattle.cell_store.specs.Few.{AreRanked};
+ghost use Rattle.cell_store.specs.Few.{contents, AreRanked, DoDiffer};
 ghost use Rattle.cell_store.specs.Slots.{IsWithin};
 ghost use Rattle.cell_store.specs.Sweep.{swept, version_swept};
 ghost use Rattle.cell_store.specs.Version.{lowered, reached, version_after, place_at, IsFromStart};
@@ -78,6 +78,7 @@ pub(crate) fn forget_before(versions: &mut Vec<Version<usize>>, number: u64)
         × AllByRecursion (λ version. number < version.from) (drop 1 versions.new.items) }
     ensures finds { list_any has_find versions.new.items ≡ true → list_any has_find versions.old.items ≡ true }
     ensures ranked { AreRanked versions.old.items → AreRanked versions.new.items }
+    ensures differ { DoDiffer (contents versions.old.items) → DoDiffer (contents versions.new.items) }
     ensures capacity { vec_capacity versions.new ≡ vec_capacity versions.old }
 {
     lower_each(versions, number);

@@ -27,8 +27,9 @@ use Rattle.ranked.specs.declared.flush.Flush.{Flush}
 use Rattle.ranked.specs.Flush.{covers}
 use Rattle.shelf.specs.declared.shelf.Shelf.{Shelf}
 use Rattle.shelf.specs.declared.shelf.KeptFlush.{KeptFlush}
-use Rattle.shelf.specs.Kept.{is_version}
-use Rattle.shelf.specs.Clean.{dropped, fitted, touched, AreKeyed, IsClean, IsEnd}
+use Rattle.shelf.specs.Kept.{is_kept, is_version}
+use Rattle.shelf.specs.Clean.{dropped, evens, fitted, touched, AreBy, AreEnds, AreEvened, AreKeyed, IsClean, IsEnd}
+use Rattle.shelf.specs.declared.ends.Ends.{Ends}
 
 -- ---- lists
 
@@ -46,7 +47,7 @@ pub some_map : {A : Type 0} (P Q : A → Type 0) (o : Option A) → ((a : A) →
 some_map P Q None step is = tt
 some_map P Q (Some a) step is = step a is
 
-get_take : {X : Type 0} (m : ℕ) (xs : List X) (j : ℕ) → j < m → slice_get (take m xs) j ≡ slice_get xs j
+pub get_take : {X : Type 0} (m : ℕ) (xs : List X) (j : ℕ) → j < m → slice_get (take m xs) j ≡ slice_get xs j
 get_take zero xs j low = absurd (omega arith)
 get_take (suc m) [] j low = refl
 get_take (suc m) (x ∷ xs) zero low = refl
@@ -57,7 +58,7 @@ get_set_same [] i x low = absurd (omega arith)
 get_set_same (y ∷ xs) zero x low = refl
 get_set_same (y ∷ xs) (suc i) x low = get_set_same xs i x (omega arith)
 
-get_set_other : {X : Type 0} (xs : List X) (i j : ℕ) (x : X) → (j ≡ i → ⊥) → slice_get (set xs i x) j ≡ slice_get xs j
+pub get_set_other : {X : Type 0} (xs : List X) (i j : ℕ) (x : X) → (j ≡ i → ⊥) → slice_get (set xs i x) j ≡ slice_get xs j
 get_set_other [] i j x off = refl
 get_set_other (y ∷ xs) zero zero x off = absurd (off refl)
 get_set_other (y ∷ xs) zero (suc j) x off = refl
@@ -256,9 +257,44 @@ clean_kept kept more step t name cells is = record {
   counted = is.counted;
 }
 
-pub ends_kept : (kept more : List KeptFlush) → ((q : Question) (v : ℕ) → is_version kept q v ≡ true → is_version more q v ≡ true) → (entries : List (Labels × OwnerCells)) (ends : List ℕ)
+-- ---- the moments and those of the names that are not mixed
+
+keyed_kept : (kept more : List KeptFlush) → ((q : Question) (v : ℕ) → is_version kept q v ≡ true → is_version more q v ≡ true) → (entries : List (Labels × OwnerCells)) (ends : List ℕ)
     → AreKeyed (IsEnd kept) entries ends → AreKeyed (IsEnd more) entries ends
-ends_kept kept more step entries ends keyed = keyed_map (IsEnd kept) (IsEnd more) (λ e n is t low. clean_kept kept more step t e.0 e.1 (is t low)) entries ends keyed
+keyed_kept kept more step entries ends keyed = keyed_map (IsEnd kept) (IsEnd more) (λ e n is t low. clean_kept kept more step t e.0 e.1 (is t low)) entries ends keyed
+
+pub ends_kept : (kept more : List KeptFlush) → ((q : Question) (v : ℕ) → is_version kept q v ≡ true → is_version more q v ≡ true) → (entries : List (Labels × OwnerCells)) (ends : Ends)
+    → AreEnds kept entries ends → AreEnds more entries ends
+ends_kept kept more step entries ends is = record { now = keyed_kept kept more step entries ends.moments is.now; ever = is.ever; flags = is.flags }
+
+-- each list of moments has changed alike
+pub ends_by : (kept : List KeptFlush) (old new : List (Labels × OwnerCells)) (f : List ℕ → List ℕ) (was ends : Ends)
+    → ((P : Labels × OwnerCells → ℕ → Type 0) → ((e : Labels × OwnerCells) → P e 0) → (l : List ℕ) → AreKeyed P old l → AreKeyed P new (f l)) → AreBy f was ends → AreEnds kept old was → AreEnds kept new ends
+ends_by kept old new f was ends step by is = record {
+  now = subst (λ (l : List ℕ). AreKeyed (IsEnd kept) new l) (sym by.moments) (step (IsEnd kept) (end_zero kept) was.moments is.now);
+  ever = subst (λ (l : List ℕ). AreKeyed (IsEnd []) new l) (sym by.unmixed) (step (IsEnd []) (end_zero []) (evens was) is.ever);
+  flags = by.flags;
+}
+
+-- the oldest flush has gone: every name is to be visited
+pub ends_zero : (kept more : List KeptFlush) (old new : List (Labels × OwnerCells)) (was ends : Ends) → AreEnds kept old was → length new ≡ length old → AreBy (λ l. replicate (length l) 0) was ends → AreEnds more new ends
+ends_zero kept more old new was ends is size by = record {
+  now = subst (λ (l : List ℕ). AreKeyed (IsEnd more) new l) (sym by.moments) (keyed_zero (IsEnd more) (end_zero more) new (length was.moments) (is.now.size ∙ sym size));
+  ever = subst (λ (l : List ℕ). AreKeyed (IsEnd []) new l) (sym by.unmixed) (keyed_zero (IsEnd []) (end_zero []) new (length (evens was)) (is.ever.size ∙ sym size));
+  flags = by.flags;
+}
+
+or_false : (a b : Bool) → (a || false) ≡ true → (a || b) ≡ true
+or_false true b is = refl
+or_false false b is = let no : false ≡ true = is in absurd cc
+
+-- a flush has gone: only names that are mixed are to be visited
+pub ends_mixed : (kept more : List KeptFlush) (entries : List (Labels × OwnerCells)) (was ends : Ends) → AreEnds kept entries was → AreEvened was ends → AreEnds more entries ends
+ends_mixed kept more entries was ends is by = record {
+  now = subst (λ (l : List ℕ). AreKeyed (IsEnd more) entries l) (sym by.moments) (keyed_kept [] more (λ q v there. or_false (v == 0) (is_kept more q v) there) entries (evens was) is.ever);
+  ever = subst (λ (l : List ℕ). AreKeyed (IsEnd []) entries l) (sym by.unmixed) is.ever;
+  flags = by.flags;
+}
 
 or_more : (a b c : Bool) → (a || b) ≡ true → (a || (b || c)) ≡ true
 or_more true b c is = refl
@@ -270,17 +306,33 @@ version_more kept own q v there =
     ap (λ b. v == 0 || b) (list_any-append (λ (x : KeptFlush). x.number == v && covers x.flush q) kept (own ∷ []))
     ∙ or_more (v == 0) (list_any (λ (x : KeptFlush). x.number == v && covers x.flush q) kept) (list_any (λ (x : KeptFlush). x.number == v && covers x.flush q) (own ∷ [])) there
 
+-- a name has changed, and is to be visited
+pub ends_reset : (kept : List KeptFlush) (name : Labels) (old new : List (Labels × OwnerCells)) (was ends : Ends) → AreEnds kept old was → StayBut name old new → length new ≡ length old
+    → AreBy (λ l. set l (name_place name old) 0) was ends → AreEnds kept new ends
+ends_reset kept name old new was ends is stay size by = ends_by kept old new (λ l. set l (name_place name old) 0) was ends (λ P start l keyed. keyed_reset P start name old new l keyed stay size) by is
+
+-- the name at a place has changed, and is to be visited
+pub ends_put : (kept : List KeptFlush) (old new : List (Labels × OwnerCells)) (was ends : Ends) (place : ℕ) → AreEnds kept old was → ((i : ℕ) → (i ≡ place → ⊥) → slice_get new i ≡ slice_get old i) → length new ≡ length old → place < length old
+    → AreBy (λ l. set l place 0) was ends → AreEnds kept new ends
+ends_put kept old new was ends place is others size low by =
+    ends_by kept old new (λ l. set l place 0) was ends (λ P start l keyed. keyed_set P old new l place 0 keyed others size low (always_some (λ e. P e 0) (slice_get new place) start)) by is
+
 -- a flush was made
-pub reset_ends : (shelf : Shelf) (owners : IndexMap Labels OwnerCells NameSeed) (flush : Flush) (ends : List ℕ) → AreKeyed (IsEnd shelf.kept.items) shelf.owners.entries shelf.ends → StayBut flush.name shelf.owners.entries owners.entries
-    → length owners.entries ≡ length shelf.owners.entries → ends ≡ set shelf.ends (name_place flush.name shelf.owners.entries) 0 → AreKeyed (IsEnd shelf.kept.items) owners.entries ends
-reset_ends shelf owners flush ends keyed stay size is = subst (λ (l : List ℕ). AreKeyed (IsEnd shelf.kept.items) owners.entries l) (sym is)
-    (keyed_reset (IsEnd shelf.kept.items) (end_zero shelf.kept.items) flush.name shelf.owners.entries owners.entries shelf.ends keyed stay size)
+pub reset_ends : (shelf : Shelf) (owners : IndexMap Labels OwnerCells NameSeed) (flush : Flush) (ends : Ends) → AreEnds shelf.kept.items shelf.owners.entries shelf.ends → StayBut flush.name shelf.owners.entries owners.entries
+    → length owners.entries ≡ length shelf.owners.entries → AreBy (λ l. set l (name_place flush.name shelf.owners.entries) 0) shelf.ends ends → AreEnds shelf.kept.items owners.entries ends
+reset_ends shelf owners flush ends is stay size by = ends_reset shelf.kept.items flush.name shelf.owners.entries owners.entries shelf.ends ends is stay size by
+
+by_twice : (f g : List ℕ → List ℕ) (a b c : Ends) → AreBy f a b → AreBy g b c → AreBy (λ l. g (f l)) a c
+by_twice f g a b c first then = record { moments = then.moments ∙ ap g first.moments; unmixed = then.unmixed ∙ ap g first.unmixed; flags = then.flags }
 
 -- a find was admitted, or refused
-pub held_ends : (shelf : Shelf) (owners : IndexMap Labels OwnerCells NameSeed) (find : Find) (middle ends : List ℕ) → AreKeyed (IsEnd shelf.kept.items) shelf.owners.entries shelf.ends → StayBut find.owner shelf.owners.entries owners.entries
-    → middle ≡ touched (name_place find.owner shelf.owners.entries) shelf.ends → ends ≡ fitted (length owners.entries) middle → AreKeyed (IsEnd shelf.kept.items) owners.entries ends
-held_ends shelf owners find middle ends keyed stay at is = subst (λ (l : List ℕ). AreKeyed (IsEnd shelf.kept.items) owners.entries l) (sym (is ∙ ap (fitted (length owners.entries)) at))
-    (keyed_touched (IsEnd shelf.kept.items) (end_zero shelf.kept.items) find.owner shelf.owners.entries owners.entries shelf.ends keyed stay)
+pub held_ends : (shelf : Shelf) (owners : IndexMap Labels OwnerCells NameSeed) (find lent : Find) (middle ends : Ends) → AreEnds shelf.kept.items shelf.owners.entries shelf.ends → StayBut find.owner shelf.owners.entries owners.entries → lent ≡ find
+    → AreBy (touched (name_place lent.owner shelf.owners.entries)) shelf.ends middle → AreBy (fitted (length owners.entries)) middle ends → AreEnds shelf.kept.items owners.entries ends
+held_ends shelf owners find lent middle ends is stay same first then =
+    let touch : AreBy (touched (name_place find.owner shelf.owners.entries)) shelf.ends middle = subst (λ (x : Find). AreBy (touched (name_place x.owner shelf.owners.entries)) shelf.ends middle) same first in
+    ends_by shelf.kept.items shelf.owners.entries owners.entries (λ l. fitted (length owners.entries) (touched (name_place find.owner shelf.owners.entries) l)) shelf.ends ends
+    (λ P start l keyed. keyed_touched P start find.owner shelf.owners.entries owners.entries l keyed stay)
+    (by_twice (touched (name_place find.owner shelf.owners.entries)) (fitted (length owners.entries)) shelf.ends middle ends touch then) is
 
 pub held_ok : {X : Type 0} {T E : Type 0} (result : Result T E) (done : T) → OnOk result X → result ≡ Ok done → X
 held_ok {X} {T} {E} result done is same = subst (λ (r : Result T E). OnOk r X) same is

@@ -13,7 +13,9 @@ use Rattle.cell_store.specs.Owner.{IsWholeUpTo, IsUpTo}
 use Rattle.dns_name.specs.Labels.{Labels}
 use Rattle.dns_text.specs.declared.record.Question.{Question}
 use Rattle.cell_store.specs.declared.owner.OwnerCells.{OwnerCells}
-use Rattle.cell_store.specs.Store.{cell_of, AreUpTo, CanSettleAt}
+use Rattle.ranked.specs.declared.find.Find.{Find}
+use Rattle.ranked.specs.declared.cell.Admitted.{Admitted}
+use Rattle.cell_store.specs.Store.{AreUpTo, CanSettleAt}
 use Rattle.ranked.specs.declared.flush.Reach.TheVariants.{OneType, Name, Zone}
 use Rattle.ranked.specs.declared.flush.Flush.{Flush}
 use Rattle.shelf.specs.declared.shelf.KeptFlush.{KeptFlush}
@@ -21,7 +23,6 @@ use Rattle.ranked.specs.Flush.{covers, reaches, flushed_types}
 use Rattle.dns_name.specs.Below.{is_at_or_below}
 use Rattle.shelf.specs.Kept.{with_shown}
 use Rattle.shelf.specs.Told.{IsAscending, CanSettleFlush, types_of, later_chosen, chosen_version, without}
-use Rattle.shelf.proofs.ShelfLaws.{nothing_past}
 
 -- ---- a flush is undone or redone
 
@@ -53,16 +54,16 @@ low_fold top (x ∷ kept) question chosen v all low = low_fold top kept question
 pub chosen_low : (top : ℕ) (kept : List KeptFlush) (question : Question) (chosen : ℕ → Bool) → AllByRecursion (λ own. own.number ≤ top) kept → chosen_version kept question chosen ≤ top
 chosen_low top kept question chosen all = low_fold top kept question chosen 0 all (omega arith)
 
-pub flush_face : {S : Type 0} (owners after : IndexMap Labels OwnerCells S) (kept left : List KeptFlush) (top : ℕ) (own : KeptFlush) → AreUpTo top owners → top < own.number → ((q : Question) (v : ℕ) → cell_of after q v ≡ cell_of owners q v) → left ≡ kept ++ own ∷ []
-    → (chosen : ℕ → Bool) (q : Question) → cell_of after q (chosen_version left q chosen) ≡ cond (chosen own.number && covers own.flush q) None (cell_of owners q (chosen_version kept q chosen))
-flush_face owners after kept left top own upto newest cells is chosen q =
-    ap (λ (l : List KeptFlush). cell_of after q (chosen_version l q chosen)) is
+pub flush_face : (before after : Question → ℕ → Option (Admitted Find)) (kept left : List KeptFlush) (own : KeptFlush) → ((q : Question) → before q own.number ≡ None) → ((q : Question) (v : ℕ) → after q v ≡ before q v) → left ≡ kept ++ own ∷ []
+    → (chosen : ℕ → Bool) (q : Question) → after q (chosen_version left q chosen) ≡ cond (chosen own.number && covers own.flush q) None (before q (chosen_version kept q chosen))
+flush_face before after kept left own nothing cells is chosen q =
+    ap (λ (l : List KeptFlush). after q (chosen_version l q chosen)) is
     ∙ (cells q (chosen_version (kept ++ own ∷ []) q chosen)
-    ∙ (ap (cell_of owners q) (fold-append (later_chosen q chosen) 0 kept (own ∷ []))
+    ∙ (ap (before q) (fold-append (later_chosen q chosen) 0 kept (own ∷ []))
     ∙ split (chosen own.number && covers own.flush q)))
   where
-    split : (b : Bool) → cell_of owners q (cond b own.number (chosen_version kept q chosen)) ≡ cond b None (cell_of owners q (chosen_version kept q chosen))
-    split true = nothing_past owners top upto q own.number newest
+    split : (b : Bool) → before q (cond b own.number (chosen_version kept q chosen)) ≡ cond b None (before q (chosen_version kept q chosen))
+    split true = nothing q
     split false = refl
 
 all_append : (P : KeptFlush → Type 0) (kept : List KeptFlush) (own : KeptFlush) → AllByRecursion P kept → P own → AllByRecursion P (kept ++ own ∷ [])
@@ -97,10 +98,10 @@ max_later number w low = grind arith
 max_zero : (number : ℕ) → max number 0 ≡ number
 max_zero number = grind arith
 
-pub oldest_face : {S : Type 0} (owners after : IndexMap Labels OwnerCells S) (own : KeptFlush) (later : List KeptFlush) → IsAscending (own ∷ later)
-    → ((q : Question) (v : ℕ) → cell_of after q v ≡ cell_of owners q (cond (covers own.flush q) (max own.number v) v))
-    → (chosen : ℕ → Bool) → chosen own.number ≡ true → (q : Question) → cell_of after q (chosen_version later q chosen) ≡ cell_of owners q (chosen_version (own ∷ later) q chosen)
-oldest_face owners after own later is cells chosen with q = cells q (chosen_version later q chosen) ∙ ap (cell_of owners q) (split (covers own.flush q) refl)
+pub oldest_face : (before after : Question → ℕ → Option (Admitted Find)) (own : KeptFlush) (later : List KeptFlush) → IsAscending (own ∷ later)
+    → ((q : Question) (v : ℕ) → after q v ≡ before q (cond (covers own.flush q) (max own.number v) v))
+    → (chosen : ℕ → Bool) → chosen own.number ≡ true → (q : Question) → after q (chosen_version later q chosen) ≡ before q (chosen_version (own ∷ later) q chosen)
+oldest_face before after own later is cells chosen with q = cells q (chosen_version later q chosen) ∙ ap (before q) (split (covers own.flush q) refl)
   where
     start : later_chosen q chosen 0 own ≡ cond (covers own.flush q) own.number 0
     start = ap (λ b. cond (b && covers own.flush q) own.number 0) with
@@ -160,16 +161,16 @@ rest_first kept left own later removed is = removed ∙ ap (λ (l : List KeptFlu
 pub removed_kept : (kept left : List KeptFlush) → left ≡ remove kept 0 → (own : KeptFlush) (later : List KeptFlush) → kept ≡ own ∷ later → left ≡ later
 removed_kept kept left removed own later is = rest_first kept left own later removed is
 
-pub removed_face : {S : Type 0} (owners after : IndexMap Labels OwnerCells S) (kept left : List KeptFlush) (first : KeptFlush) → IsAscending kept → first ≡ get_or kept 0 first → left ≡ remove kept 0
-    → ((q : Question) (v : ℕ) → cell_of after q v ≡ cell_of owners q (cond (covers first.flush q) (max first.number v) v))
-    → (own : KeptFlush) (later : List KeptFlush) (chosen : ℕ → Bool) → kept ≡ own ∷ later → chosen own.number ≡ true → (q : Question) → cell_of after q (chosen_version left q chosen) ≡ cell_of owners q (chosen_version kept q chosen)
-removed_face owners after kept left first asc read removed cells own later chosen is with q =
+pub removed_face : (before after : Question → ℕ → Option (Admitted Find)) (kept left : List KeptFlush) (first : KeptFlush) → IsAscending kept → first ≡ get_or kept 0 first → left ≡ remove kept 0
+    → ((q : Question) (v : ℕ) → after q v ≡ before q (cond (covers first.flush q) (max first.number v) v))
+    → (own : KeptFlush) (later : List KeptFlush) (chosen : ℕ → Bool) → kept ≡ own ∷ later → chosen own.number ≡ true → (q : Question) → after q (chosen_version left q chosen) ≡ before q (chosen_version kept q chosen)
+removed_face before after kept left first asc read removed cells own later chosen is with q =
     let one : first ≡ own = read_first kept own first later read is in
-    let cells' : (q : Question) (v : ℕ) → cell_of after q v ≡ cell_of owners q (cond (covers own.flush q) (max own.number v) v) =
-    subst (λ (k : KeptFlush). (q : Question) (v : ℕ) → cell_of after q v ≡ cell_of owners q (cond (covers k.flush q) (max k.number v) v)) one cells in
-    ap (λ (l : List KeptFlush). cell_of after q (chosen_version l q chosen)) (rest_first kept left own later removed is)
-    ∙ (oldest_face owners after own later (subst (λ (l : List KeptFlush). IsAscending l) is asc) cells' chosen with q
-    ∙ ap (λ (l : List KeptFlush). cell_of owners q (chosen_version l q chosen)) (sym is))
+    let cells' : (q : Question) (v : ℕ) → after q v ≡ before q (cond (covers own.flush q) (max own.number v) v) =
+    subst (λ (k : KeptFlush). (q : Question) (v : ℕ) → after q v ≡ before q (cond (covers k.flush q) (max k.number v) v)) one cells in
+    ap (λ (l : List KeptFlush). after q (chosen_version l q chosen)) (rest_first kept left own later removed is)
+    ∙ (oldest_face before after own later (subst (λ (l : List KeptFlush). IsAscending l) is asc) cells' chosen with q
+    ∙ ap (λ (l : List KeptFlush). before q (chosen_version l q chosen)) (sym is))
 
 pub all_removed : (P : KeptFlush → Type 0) (kept left : List KeptFlush) → left ≡ remove kept 0 → AllByRecursion P kept → AllByRecursion P left
 all_removed P kept left removed all = subst (λ (l : List KeptFlush). AllByRecursion P l) (sym removed) (split kept all)

@@ -1,19 +1,16 @@
 -- Whether a find would be cached, and whether there is room for its place.
-use Rattle.std.proofs.Common.{◌≡◌, ℕ, ◌+◌, ◌<◌, ◌≤◌, Bool, true, false, cond, Some, None, List, [], ◌∷◌, refl, sym, ap, ◌∙◌, subst, arith, ◌⊎◌, inl, inr}
+use Rattle.std.proofs.Common.{◌≡◌, ℕ, ◌+◌, ◌<◌, ◌≤◌, Bool, true, false, cond, Option, Some, None, List, [], ◌∷◌, refl, sym, ap, ◌∙◌, subst, arith, ◌⊎◌, inl, inr}
 use Rattle.std.specs.Prelude.{fold, ◌==◌, ◌&&◌, ◌||◌, not}
 use Rattle.std.specs.Prelude.{Result, Ok, Err, IfErr, IsOk}
 use Rattle.std.proofs.lemmas.Bool.{cases_Bool, eq-eqb, eqb-true, false≢true, and_parts}
-use Rattle.indexmap.specs.IndexMap.{IndexMap}
-use Rattle.dns_name.specs.Labels.{Labels}
 use Rattle.dns_name.specs.Order.{name_eq_exact}
 use Rattle.dns_text.specs.declared.record.Question.{Question}
 use Rattle.ranked.specs.declared.find.Find.{Find}
 use Rattle.ranked.specs.declared.find.Scope.{Scope}
 use Rattle.ranked.specs.declared.find.Scope.TheVariants.{One, Whole}
+use Rattle.ranked.specs.declared.cell.Admitted.{Admitted}
 use Rattle.ranked.specs.Find.{touches, admission_of, has_kind}
 use Rattle.ranked.specs.Cell.{after_admission, turns_away}
-use Rattle.cell_store.specs.declared.owner.OwnerCells.{OwnerCells}
-use Rattle.cell_store.specs.Store.{cell_of}
 use Rattle.cell_store.specs.Count.{has_place_for, one_if}
 use Rattle.shelf.specs.declared.shelf.KeptFlush.{KeptFlush}
 use Rattle.shelf.specs.declared.shelf.Shelf.{Shelf}
@@ -22,7 +19,7 @@ use Rattle.shelf.specs.declared.fault.StoreFault.TheVariants.{NoMemory}
 use Rattle.shelf.specs.declared.room.Room.TheVariants as room
 use Rattle.ranked.specs.Flush.{covers}
 use Rattle.shelf.specs.Room.{takes, taken_by, is_taken, is_wanted, needs_place, room_for, IsFault}
-use Rattle.shelf.specs.Told.{is_kept, is_version, later_chosen, chosen_version}
+use Rattle.shelf.specs.Told.{cell_at, is_kept, is_version, later_chosen, chosen_version}
 
 -- ---- one version
 
@@ -31,16 +28,16 @@ some_is_none x is = cc
 
 -- ---- all versions
 
-module _ {S : Type 0} (owners : IndexMap Labels OwnerCells S) (find : Find) (moment : ℕ) (question : Question) where
-  taken_stays : (kept : List KeptFlush) → fold (taken_by owners find moment question) true kept ≡ true
+module _ (cells : Question → ℕ → Option (Admitted Find)) (find : Find) (moment : ℕ) (question : Question) where
+  taken_stays : (kept : List KeptFlush) → fold (taken_by cells find moment question) true kept ≡ true
   taken_stays [] = refl
-  taken_stays (x ∷ kept) = ap (λ b. fold (taken_by owners find moment question) b kept) (always (covers x.flush question && takes owners find moment question x.number)) ∙ taken_stays kept
+  taken_stays (x ∷ kept) = ap (λ b. fold (taken_by cells find moment question) b kept) (always (covers x.flush question && takes cells find moment question x.number)) ∙ taken_stays kept
     where
       always : (b : Bool) → cond b true true ≡ true
       always true = refl
       always false = refl
 
-  not_start : (kept : List KeptFlush) (t : Bool) → fold (taken_by owners find moment question) t kept ≡ false → t ≡ false
+  not_start : (kept : List KeptFlush) (t : Bool) → fold (taken_by cells find moment question) t kept ≡ false → t ≡ false
   not_start kept true is = absurd (false≢true (sym is ∙ taken_stays kept))
   not_start kept false is = refl
 
@@ -55,24 +52,24 @@ module _ {S : Type 0} (owners : IndexMap Labels OwnerCells S) (find : Find) (mom
   chosen_true true t is = is
   chosen_true false t is = refl
 
-  not_kept : (kept : List KeptFlush) (t : Bool) → fold (taken_by owners find moment question) t kept ≡ false → (v : ℕ) → is_kept kept question v ≡ true → takes owners find moment question v ≡ false
+  not_kept : (kept : List KeptFlush) (t : Bool) → fold (taken_by cells find moment question) t kept ≡ false → (v : ℕ) → is_kept kept question v ≡ true → takes cells find moment question v ≡ false
   not_kept [] t is v there = absurd (false≢true there)
   not_kept (x ∷ kept) t is v there = elim (either (x.number == v && covers x.flush question) (is_kept kept question v) there) [
     | inl here ↦
         let parts = and_parts _ _ here in
-        let off : (covers x.flush question && takes owners find moment question x.number) ≡ false = chosen_true _ t (not_start kept (taken_by owners find moment question t x) is) in
-        elim (cases_Bool (takes owners find moment question v)) [
-          | inl yes_v ↦ absurd (false≢true (sym off ∙ both _ _ parts.1 (ap (takes owners find moment question) (eqb-true x.number v parts.0) ∙ yes_v)))
+        let off : (covers x.flush question && takes cells find moment question x.number) ≡ false = chosen_true _ t (not_start kept (taken_by cells find moment question t x) is) in
+        elim (cases_Bool (takes cells find moment question v)) [
+          | inl yes_v ↦ absurd (false≢true (sym off ∙ both _ _ parts.1 (ap (takes cells find moment question) (eqb-true x.number v parts.0) ∙ yes_v)))
           | inr no_v ↦ no_v
         ]
-    | inr later ↦ not_kept kept (taken_by owners find moment question t x) is v later
+    | inr later ↦ not_kept kept (taken_by cells find moment question t x) is v later
   ]
 
   -- no version would cache it
-  pub not_version : (kept : List KeptFlush) → is_taken owners kept find moment question ≡ false → (v : ℕ) → is_version kept question v ≡ true → takes owners find moment question v ≡ false
+  pub not_version : (kept : List KeptFlush) → is_taken cells kept find moment question ≡ false → (v : ℕ) → is_version kept question v ≡ true → takes cells find moment question v ≡ false
   not_version kept is v there = elim (either (v == 0) (is_kept kept question v) there) [
-    | inl none ↦ ap (takes owners find moment question) (eqb-true v 0 none) ∙ not_start kept (takes owners find moment question 0) is
-    | inr some ↦ not_kept kept (takes owners find moment question 0) is v some
+    | inl none ↦ ap (takes cells find moment question) (eqb-true v 0 none) ∙ not_start kept (takes cells find moment question 0) is
+    | inr some ↦ not_kept kept (takes cells find moment question 0) is v some
   ]
 
 not_false : (b : Bool) → not b ≡ false → b ≡ true
@@ -80,18 +77,18 @@ not_false true is = refl
 not_false false is = absurd (false≢true (sym is))
 
 -- it leaves the cell as it is
-pub stays : {S : Type 0} (owners : IndexMap Labels OwnerCells S) (kept : List KeptFlush) (find : Find) (moment : ℕ) (kind : ℕ) → find.scope ≡ One kind → is_taken owners kept find moment (record { owner = find.owner; kind = kind }) ≡ false
-    → (q : Question) (v : ℕ) → is_version kept q v ≡ true → cell_of owners q v ≡ cond (touches find q) (after_admission (cell_of owners q v) (admission_of find find moment)) (cell_of owners q v)
-stays owners kept find moment kind scope none q v there = elim (cases_Bool (touches find q)) [
+pub stays : (cells : Question → ℕ → Option (Admitted Find)) (kept : List KeptFlush) (find : Find) (moment : ℕ) (kind : ℕ) → find.scope ≡ One kind → is_taken cells kept find moment (record { owner = find.owner; kind = kind }) ≡ false
+    → (q : Question) (v : ℕ) → is_version kept q v ≡ true → cells q v ≡ cond (touches find q) (after_admission (cells q v) (admission_of find find moment)) (cells q v)
+stays cells kept find moment kind scope none q v there = elim (cases_Bool (touches find q)) [
   | inl here ↦
       let parts = and_parts _ _ here in
       let owner : find.owner ≡ q.owner = name_eq_exact find.owner q.owner parts.0 in
       let type : kind ≡ q.kind = eqb-true kind q.kind (ap (λ s. has_kind s q.kind) (sym scope) ∙ parts.1) in
       let same : record { owner = find.owner; kind = kind } ≡ q = (λ i. record { owner = owner i; kind = type i }) in
-      let away : turns_away (cell_of owners q v) (admission_of find find moment) ≡ true =
-      not_false _ (not_version owners find moment q kept (ap (is_taken owners kept find moment) (sym same) ∙ none) v there) in
-      sym (ap (λ b. cond b (after_admission (cell_of owners q v) (admission_of find find moment)) (cell_of owners q v)) here ∙ ap (λ b. cond b (cell_of owners q v) (Some (admission_of find find moment))) away)
-  | inr gone ↦ sym (ap (λ b. cond b (after_admission (cell_of owners q v) (admission_of find find moment)) (cell_of owners q v)) gone)
+      let away : turns_away (cells q v) (admission_of find find moment) ≡ true =
+      not_false _ (not_version cells find moment q kept (ap (is_taken cells kept find moment) (sym same) ∙ none) v there) in
+      sym (ap (λ b. cond b (after_admission (cells q v) (admission_of find find moment)) (cells q v)) here ∙ ap (λ b. cond b (cells q v) (Some (admission_of find find moment))) away)
+  | inr gone ↦ sym (ap (λ b. cond b (after_admission (cells q v) (admission_of find find moment)) (cells q v)) gone)
 ]
 
 -- ---- a choice has a version
@@ -172,12 +169,12 @@ full_room shelf find moment same needs =
 
 -- an admission that every version outranks changes none
 pub unwanted_cell : (shelf : Shelf) (find : Find) (moment : ℕ) → is_wanted shelf find moment find.scope ≡ false → (q : Question) (v : ℕ) → is_version shelf.kept.items q v ≡ true
-    → cell_of shelf.owners q v ≡ cond (touches find q) (after_admission (cell_of shelf.owners q v) (admission_of find find moment)) (cell_of shelf.owners q v)
+    → cell_at shelf q v ≡ cond (touches find q) (after_admission (cell_at shelf q v) (admission_of find find moment)) (cell_at shelf q v)
 unwanted_cell shelf find moment none = split find.scope refl
   where
     split : (scope : Scope) → find.scope ≡ scope → (q : Question) (v : ℕ) → is_version shelf.kept.items q v ≡ true
-        → cell_of shelf.owners q v ≡ cond (touches find q) (after_admission (cell_of shelf.owners q v) (admission_of find find moment)) (cell_of shelf.owners q v)
-    split (One kind) is q v there = stays shelf.owners shelf.kept.items find moment kind is (ap (is_wanted shelf find moment) (sym is) ∙ none) q v there
+        → cell_at shelf q v ≡ cond (touches find q) (after_admission (cell_at shelf q v) (admission_of find find moment)) (cell_at shelf q v)
+    split (One kind) is q v there = stays (cell_at shelf) shelf.kept.items find moment kind is (ap (is_wanted shelf find moment) (sym is) ∙ none) q v there
     split Whole is q v there = absurd (false≢true (sym none ∙ ap (is_wanted shelf find moment) is))
 
 pub not_both : (shelf : Shelf) (find : Find) (moment : ℕ) → room.Free ≡ room_for shelf find moment → shelf.stored ≡ shelf.limit → needs_place shelf find moment ≡ true → ⊥

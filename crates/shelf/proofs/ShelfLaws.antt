@@ -11,6 +11,8 @@ use Rattle.std.proofs.Math.Bool.{or-false}
 use Rattle.dns_name.specs.Labels.{Labels}
 use Rattle.dns_name.specs.Order.{name_eq}
 use Rattle.dns_text.specs.declared.record.Question.{Question}
+use Rattle.ranked.specs.declared.find.Find.{Find}
+use Rattle.ranked.specs.declared.cell.Admitted.{Admitted}
 use Rattle.ranked.specs.Find.{admission_of}
 use Rattle.cell_store.specs.declared.owner.OwnerCells.{OwnerCells}
 use Rattle.cell_store.specs.declared.owner.KindColumn.{KindColumn}
@@ -126,12 +128,12 @@ assoc true b c h = refl
 assoc false b c h = h
 
 -- a flush more: the versions that were there stay, and the new one is empty
-pub flush_told : {S : Type 0} (owners : IndexMap Labels OwnerCells S) (kept : List KeptFlush) (top : ℕ) (told : List Told) (flush : Flush) (number : ℕ)
-    → AreUpTo top owners → AllByRecursion (λ own. own.number ≤ top) kept → top < number
-    → ((question : Question) (version : ℕ) → is_version kept question version ≡ true → cell_of owners question version ≡ cell_by question (only version) told)
+pub flush_told : (cells : Question → ℕ → Option (Admitted Find)) (kept : List KeptFlush) (top : ℕ) (told : List Told) (flush : Flush) (number : ℕ)
+    → ((question : Question) (v : ℕ) → top < v → cells question v ≡ None) → AllByRecursion (λ own. own.number ≤ top) kept → top < number
+    → ((question : Question) (version : ℕ) → is_version kept question version ≡ true → cells question version ≡ cell_by question (only version) told)
     → (question : Question) (version : ℕ) → is_version (kept ++ record { flush = flush; number = number; shown = true } ∷ []) question version ≡ true
-    → cell_of owners question version ≡ cell_by question (only version) (told ++ flushed flush number ∷ [])
-flush_told owners kept top told flush number upto numbers newest is question version there =
+    → cells question version ≡ cell_by question (only version) (told ++ flushed flush number ∷ [])
+flush_told cells kept top told flush number nothing numbers newest is question version there =
     elim (cases_Bool (is_version kept question version)) [
       | inl old ↦
           let low = version_low kept top question version numbers old in
@@ -144,7 +146,7 @@ flush_told owners kept top told flush number upto numbers newest is question ver
           let here : (number == version && covers flush question) ≡ true = sym (ap (λ b. b || (number == version && covers flush question)) not_old) ∙ split in
           let parts = and_parts _ _ here in
           let same : number ≡ version = eqb-true number version parts.0 in
-          nothing_past owners top upto question version (omega (arith, same))
+          nothing question version (omega (arith, same))
           ∙ sym (told_more question (only version) told (flushed flush number)
           ∙ ap (λ b. cond b None (cell_by question (only version) told)) (both _ _ parts.1 (eq-eqb version number (sym same))))
     ]

@@ -1,6 +1,6 @@
 -- The sweep of one name after the other.
 use Rattle.std.proofs.Common.{◌≡◌, ℕ, zero, suc, ◌+◌, ◌<◌, ◌≤◌, max, min, Bool, true, false, cond, Option, Some, None, List, [], ◌∷◌, length, get_or, refl, sym, ap, ◌∙◌, subst, arith, ◌⊎◌, inl, inr}
-use Rattle.std.specs.Prelude.{replicate, IfNone, IfSome, slice_get, swap_remove}
+use Rattle.std.specs.Prelude.{is_some, replicate, IfNone, IfSome, slice_get, swap_remove}
 use Rattle.std.specs.Map.{lookup}
 use Rattle.std.proofs.Math.ListN.{set}
 use Rattle.std.proofs.lemmas.Bool.Decides.{nat_tests}
@@ -16,12 +16,17 @@ use Rattle.cell_store.specs.Ends.{latest, name_end}
 use Rattle.cell_store.specs.EndLaws.{alive_before, alive_earlier, some_alive, whole_before, whole_earlier}
 use Rattle.cell_store.specs.Owner.{cell_in}
 use Rattle.cell_store.specs.Store.{AreLeft, AreSameCells}
-use Rattle.cell_store.specs.Sweep.{is_dead}
+use Rattle.cell_store.specs.Mixed.{IsLikeFirst}
+use Rattle.cell_store.specs.Sweep.{alive_at, is_dead}
+use Rattle.ranked.specs.declared.find.Find.{Find}
+use Rattle.ranked.specs.declared.cell.Admitted.{Admitted}
+use Rattle.std.proofs.lemmas.Bool.{false≢true}
 use Rattle.cell_store.specs.Walk.{IsEach, IsEntry}
 use Rattle.shelf.specs.declared.shelf.KeptFlush.{KeptFlush}
-use Rattle.shelf.specs.Clean.{AreKeyed, IsAlive, IsClean, IsEnd}
+use Rattle.shelf.specs.Clean.{evens, AreBy, AreEnds, AreKeyed, IsAlive, IsClean, IsEnd}
+use Rattle.shelf.specs.declared.ends.Ends.{Ends}
 use Rattle.shelf.specs.Sweep.{count_ended, one_ended, AreAlive, AreLessened, IsDue, IsLessened, IsNext, IsSwept, IsSweptAt, IsUnderway}
-use Rattle.shelf.proofs.EndLaws.{end_zero, keyed_map, keyed_set, keyed_swap, keyed_zero, some_map}
+use Rattle.shelf.proofs.EndLaws.{always_some, end_zero, ends_zero, keyed_map, keyed_set, keyed_swap, keyed_zero, some_map}
 use Rattle.shelf.proofs.SweepLaws.{less_left, less_more, less_same, not_dead, swept_less}
 
 -- ---- one name
@@ -96,13 +101,28 @@ next_at kept t name old new end after is at then some =
     early : (s : ℕ) → s < end → (s < name_end new) ⊎ (s ≤ t)
     early s low = grind (arith, at, then)
 
-pub swept_at : (kept : List KeptFlush) (t place : ℕ) (entries news : List (Labels × OwnerCells)) (key : Labels) (old new : OwnerCells) (end after : ℕ) → slice_get entries place ≡ Some (key, old) → IsSwept kept t key old new
-    → news ≡ set_value_at entries place new → end ≡ max (name_end new) after → after ≡ min (t + 1) latest → IsSweptAt kept t place entries news end
-swept_at kept t place entries news key old new end after there is put at then = subst (λ (l : List (Labels × OwnerCells)). IsSweptAt kept t place entries l end) (sym put) (record {
+clean_first : (kept : List KeptFlush) (t : ℕ) (name : Labels) (cells : OwnerCells) → IsLikeFirst cells → IsClean kept t name cells → IsClean [] t name cells
+clean_first kept t name cells like is = record {
+  kinds = λ k has. let was = is.kinds k has in elim (like k was.0) [
+    | inl same ↦ (0, (refl, ap (λ (h : Option (Admitted Find)). is_some (alive_at t h)) (sym same) ∙ was.1.1))
+    | inr none ↦ absurd (false≢true (sym (ap (λ (h : Option (Admitted Find)). is_some (alive_at t h)) none) ∙ was.1.1))
+  ];
+  whole = is.whole;
+  counted = is.counted;
+}
+
+next_first : (kept : List KeptFlush) (t : ℕ) (name : Labels) (cells : OwnerCells) (end : ℕ) → IsLikeFirst cells → IsNext kept t (name, cells) end → IsNext [] t (name, cells) end
+next_first kept t name cells end like next some =
+    let now = next some in ((λ s low. clean_first kept s name cells like (now.0 s low)), clean_first kept t name cells like now.1, now.2)
+
+pub swept_at : (kept : List KeptFlush) (t place : ℕ) (entries news : List (Labels × OwnerCells)) (key : Labels) (old new : OwnerCells) (end after : ℕ) (mixed : Bool) → (mixed ≡ false → IsLikeFirst new) → slice_get entries place ≡ Some (key, old) → IsSwept kept t key old new
+    → news ≡ set_value_at entries place new → end ≡ max (name_end new) after → after ≡ min (t + 1) latest → IsSweptAt kept t place entries news end mixed
+swept_at kept t place entries news key old new end after mixed like there is put at then = subst (λ (l : List (Labels × OwnerCells)). IsSweptAt kept t place entries l end mixed) (sym put) (record {
   each = each_at kept t entries place key old new there (lessened kept t key old new is);
   others = others_at entries place new;
   size = size_at entries place new;
   next = here_at (λ e. IsNext kept t e end) entries place key old new there (next_at kept t key old new end after is at then);
+  ever = λ none. here_at (λ e. IsNext [] t e end) entries place key old new there (next_first kept t key new end (like none) (next_at kept t key old new end after is at then));
 })
 
 -- ---- a visit
@@ -115,22 +135,34 @@ both_some kept t (Some e) end next some = next some
 pub due_zero : (kept : List KeptFlush) (t asked : ℕ) (e : Labels × OwnerCells) → IsDue kept t asked e 0
 due_zero kept t asked e low = absurd (omega arith)
 
-module _ {S : Type 0} (kept : List KeptFlush) (t place end : ℕ) (old middle new : IndexMap Labels OwnerCells S) (ends : List ℕ) (was stored : ℕ) (low : place < length old.entries) (size : length ends ≡ length old.entries)
-    (swept : IsSweptAt kept t place old.entries middle.entries end) (counted : stored ≡ stored_in middle) (fewer : stored ≤ was) (same : AreSameCells middle new) (left : AreLeft middle new) (count : stored_in new ≡ stored_in middle) where
+ever_end : (t : ℕ) (o : Option (Labels × OwnerCells)) (end : ℕ) (mixed : Bool) → (mixed ≡ false → IfSome o (λ e. IsNext [] t e end)) → IfSome o (λ e. 1 ≤ count_of e.1) → IfSome o (λ e. IsEnd [] e (cond mixed 0 end))
+ever_end t o end true next some = always_some (λ e. IsEnd [] e 0) o (end_zero [])
+ever_end t o end false next some =
+    some_map (λ e. IsEnd [] e end × IsClean [] t e.0 e.1 × ((s : ℕ) → s ≤ t → s < latest → s < end)) (λ e. IsEnd [] e end) o (λ e all. all.0) (both_some [] t o end (next refl) some)
+
+module _ {S : Type 0} (kept : List KeptFlush) (t place end : ℕ) (mixed : Bool) (old middle new : IndexMap Labels OwnerCells S) (ends after : Ends) (was stored : ℕ) (low : place < length old.entries) (size : length ends.moments ≡ length old.entries)
+    (swept : IsSweptAt kept t place old.entries middle.entries end mixed) (counted : stored ≡ stored_in middle) (fewer : stored ≤ was) (same : AreSameCells middle new) (left : AreLeft middle new) (count : stored_in new ≡ stored_in middle) where
   less : AreLessened kept t old new
   less = less_more kept t old middle new (swept_less kept t old middle swept.each) (less_left kept t middle new same left)
 
   -- the name stays
-  pub on_kept : new.entries ≡ middle.entries → IfSome (slice_get middle.entries place) (λ e. 1 ≤ count_of e.1) → (asked most : ℕ) (first : IndexMap Labels OwnerCells S) → asked ≤ t → asked < latest
-      → IsUnderway kept t asked first most old ends was → IsUnderway kept t asked first most new (set ends place end) stored
-  on_kept entries some asked most first before small is = record {
+  pub on_kept : after.moments ≡ set ends.moments place end → evens after ≡ set (evens ends) place (cond mixed 0 end) → length after.mixed.items ≡ length after.moments
+      → new.entries ≡ middle.entries → IfSome (slice_get middle.entries place) (λ e. 1 ≤ count_of e.1) → (asked most : ℕ) (first : IndexMap Labels OwnerCells S) → asked ≤ t → asked < latest
+      → IsUnderway kept t asked first most old ends was → IsUnderway kept t asked first most new after stored
+  on_kept moments unmixed flags entries some asked most first before small is = record {
     less = less_more kept t first old new is.less less;
-    ends = subst (λ (l : List (Labels × OwnerCells)). AreKeyed (IsEnd kept) l (set ends place end)) (sym entries)
-        (keyed_set (IsEnd kept) old.entries middle.entries ends place end is.ends swept.others swept.size low
-        (some_map (λ e. IsEnd kept e end × IsClean kept t e.0 e.1 × ((s : ℕ) → s ≤ t → s < latest → s < end)) (λ e. IsEnd kept e end) (slice_get middle.entries place) (λ e all. all.0) both));
-    due = subst (λ (l : List (Labels × OwnerCells)). AreKeyed (IsDue kept t asked) l (set ends place end)) (sym entries)
-        (keyed_set (IsDue kept t asked) old.entries middle.entries ends place end is.due swept.others swept.size low
-        (some_map (λ e. IsEnd kept e end × IsClean kept t e.0 e.1 × ((s : ℕ) → s ≤ t → s < latest → s < end)) (λ e. IsDue kept t asked e end) (slice_get middle.entries place) (λ e all after. all.1) both));
+    ends = subst (λ (l : List (Labels × OwnerCells)). AreEnds kept l after) (sym entries) (record {
+      now = subst (λ (l : List ℕ). AreKeyed (IsEnd kept) middle.entries l) (sym moments)
+          (keyed_set (IsEnd kept) old.entries middle.entries ends.moments place end is.ends.now swept.others swept.size low
+          (some_map (λ e. IsEnd kept e end × IsClean kept t e.0 e.1 × ((s : ℕ) → s ≤ t → s < latest → s < end)) (λ e. IsEnd kept e end) (slice_get middle.entries place) (λ e all. all.0) both));
+      ever = subst (λ (l : List ℕ). AreKeyed (IsEnd []) middle.entries l) (sym unmixed)
+          (keyed_set (IsEnd []) old.entries middle.entries (evens ends) place (cond mixed 0 end) is.ends.ever swept.others swept.size low (ever_end t (slice_get middle.entries place) end mixed swept.ever some));
+      flags = flags;
+    });
+    due = subst (λ (l : List (Labels × OwnerCells)). AreKeyed (IsDue kept t asked) l after.moments) (sym entries)
+        (subst (λ (l : List ℕ). AreKeyed (IsDue kept t asked) middle.entries l) (sym moments)
+        (keyed_set (IsDue kept t asked) old.entries middle.entries ends.moments place end is.due swept.others swept.size low
+        (some_map (λ e. IsEnd kept e end × IsClean kept t e.0 e.1 × ((s : ℕ) → s ≤ t → s < latest → s < end)) (λ e. IsDue kept t asked e end) (slice_get middle.entries place) (λ e all late. all.1) both)));
     counted = counted ∙ sym count;
     fewer = omega (arith, fewer, is.fewer);
   }
@@ -139,20 +171,24 @@ module _ {S : Type 0} (kept : List KeptFlush) (t place end : ℕ) (old middle ne
       both = both_some kept t (slice_get middle.entries place) end swept.next some
 
   -- the name goes
-  pub on_gone : (d : Labels × OwnerCells) → new.entries ≡ swap_remove middle.entries place d → (asked most : ℕ) (first : IndexMap Labels OwnerCells S)
-      → IsUnderway kept t asked first most old ends was → IsUnderway kept t asked first most new (swap_remove ends place 0) stored
-  on_gone d entries asked most first is = record {
+  pub on_gone : AreBy (λ l. swap_remove l place 0) ends after → (d : Labels × OwnerCells) → new.entries ≡ swap_remove middle.entries place d → (asked most : ℕ) (first : IndexMap Labels OwnerCells S)
+      → IsUnderway kept t asked first most old ends was → IsUnderway kept t asked first most new after stored
+  on_gone by d entries asked most first is = record {
     less = less_more kept t first old new is.less less;
-    ends = subst (λ (l : List (Labels × OwnerCells)). AreKeyed (IsEnd kept) l (swap_remove ends place 0)) (sym entries) (moved (IsEnd kept) is.ends);
-    due = subst (λ (l : List (Labels × OwnerCells)). AreKeyed (IsDue kept t asked) l (swap_remove ends place 0)) (sym entries) (moved (IsDue kept t asked) is.due);
+    ends = record {
+      now = subst (λ (l : List ℕ). AreKeyed (IsEnd kept) new.entries l) (sym by.moments) (moved (IsEnd kept) ends.moments size is.ends.now);
+      ever = subst (λ (l : List ℕ). AreKeyed (IsEnd []) new.entries l) (sym by.unmixed) (moved (IsEnd []) (evens ends) is.ends.ever.size is.ends.ever);
+      flags = by.flags;
+    };
+    due = subst (λ (l : List ℕ). AreKeyed (IsDue kept t asked) new.entries l) (sym by.moments) (moved (IsDue kept t asked) ends.moments size is.due);
     counted = counted ∙ sym count;
     fewer = omega (arith, fewer, is.fewer);
   }
     where
-      moved : (P : Labels × OwnerCells → ℕ → Type 0) → AreKeyed P old.entries ends → AreKeyed P (swap_remove middle.entries place d) (swap_remove ends place 0)
-      moved P keyed =
-          keyed_swap P middle.entries ends place d (size ∙ sym swept.size)
-          (λ i off. subst (λ (o : Option (Labels × OwnerCells)). IfSome o (λ e. P e (get_or ends i 0))) (sym (swept.others i off)) (keyed.each i)) (omega (arith, swept.size, low))
+      moved : (P : Labels × OwnerCells → ℕ → Type 0) (l : List ℕ) → length l ≡ length old.entries → AreKeyed P old.entries l → AreKeyed P new.entries (swap_remove l place 0)
+      moved P l long keyed = subst (λ (e : List (Labels × OwnerCells)). AreKeyed P e (swap_remove l place 0)) (sym entries)
+          (keyed_swap P middle.entries l place d (long ∙ sym swept.size)
+          (λ i off. subst (λ (o : Option (Labels × OwnerCells)). IfSome o (λ e. P e (get_or l i 0))) (sym (swept.others i off)) (keyed.each i)) (omega (arith, swept.size, low)))
 
 -- ---- fewer names have ended
 
@@ -207,21 +243,21 @@ all_alive kept t owners all = record {
 
 -- ---- the first visit
 
-pub start : {S : Type 0} (kept : List KeptFlush) (t : ℕ) (owners : IndexMap Labels OwnerCells S) (ends : List ℕ) (stored : ℕ) → AreKeyed (IsEnd kept) owners.entries ends → stored ≡ stored_in owners → IsUnderway kept t t owners stored owners ends stored
-start kept t owners ends stored keyed counted = record {
+pub start : {S : Type 0} (kept : List KeptFlush) (t : ℕ) (owners : IndexMap Labels OwnerCells S) (ends : Ends) (stored : ℕ) → AreEnds kept owners.entries ends → stored ≡ stored_in owners → IsUnderway kept t t owners stored owners ends stored
+start kept t owners ends stored is counted = record {
   less = less_same kept t owners;
-  ends = keyed;
-  due = keyed_map (IsEnd kept) (IsDue kept t t) (λ e n is late. is t late) owners.entries ends keyed;
+  ends = is;
+  due = keyed_map (IsEnd kept) (IsDue kept t t) (λ e n now late. now t late) owners.entries ends.moments is.now;
   counted = counted;
   fewer = omega arith;
 }
 
-pub start_all : {S : Type 0} (kept : List KeptFlush) (t asked : ℕ) (owners : IndexMap Labels OwnerCells S) (old ends : List ℕ) (stored : ℕ) → AreKeyed (IsEnd kept) owners.entries old → ends ≡ replicate (length old) 0 → stored ≡ stored_in owners
+pub start_all : {S : Type 0} (kept : List KeptFlush) (t asked : ℕ) (owners : IndexMap Labels OwnerCells S) (old ends : Ends) (stored : ℕ) → AreEnds kept owners.entries old → AreBy (λ l. replicate (length l) 0) old ends → stored ≡ stored_in owners
     → IsUnderway kept t asked owners stored owners ends stored
-start_all kept t asked owners old ends stored keyed is counted = record {
+start_all kept t asked owners old ends stored is by counted = record {
   less = less_same kept t owners;
-  ends = subst (λ (l : List ℕ). AreKeyed (IsEnd kept) owners.entries l) (sym is) (keyed_zero (IsEnd kept) (end_zero kept) owners.entries (length old) keyed.size);
-  due = subst (λ (l : List ℕ). AreKeyed (IsDue kept t asked) owners.entries l) (sym is) (keyed_zero (IsDue kept t asked) (due_zero kept t asked) owners.entries (length old) keyed.size);
+  ends = ends_zero kept kept owners.entries owners.entries old ends is refl by;
+  due = subst (λ (l : List ℕ). AreKeyed (IsDue kept t asked) owners.entries l) (sym by.moments) (keyed_zero (IsDue kept t asked) (due_zero kept t asked) owners.entries (length old.moments) is.now.size);
   counted = counted;
   fewer = omega arith;
 }

@@ -1,11 +1,13 @@
 -- The names that need no sweep, and the moment from which each may need one.
-use Rattle.std.specs.Prelude.{◌≡◌, ◌<◌, ◌≤◌, ℕ, true, false, nat_lt, ◌-◌, ◌++◌, [], ◌∷◌, is_some, IfSome, Option, None, Some, List, length, take, slice_get, slice_index_or, slice_set, swap_remove, if◌then◌else◌}
+use Rattle.std.specs.Prelude.{◌≡◌, ◌<◌, ◌≤◌, ℕ, Bool, true, false, nat_lt, ◌-◌, ◌++◌, [], ◌∷◌, is_some, IfSome, Option, None, Some, List, length, take, slice_get, slice_index_or, slice_set, swap_remove, if◌then◌else◌}
 use Rattle.dns_name.specs.Labels.{Labels}
 use Rattle.ranked.specs.declared.find.Scope.TheVariants.{One}
 use Rattle.cell_store.specs.declared.owner.OwnerCells.{OwnerCells}
 use Rattle.cell_store.specs.Owner.{cell_in}
 use Rattle.cell_store.specs.Count.{count_of, has_place}
 use Rattle.cell_store.specs.Sweep.{alive_at, is_dead}
+use Rattle.cell_store.specs.Store.{name_place}
+use Rattle.shelf.specs.declared.ends.Ends.{Ends}
 use Rattle.shelf.specs.declared.shelf.KeptFlush.{KeptFlush}
 use Rattle.shelf.specs.Kept.{is_version}
 
@@ -40,3 +42,35 @@ fitted names ends = if nat_lt names (length ends) then take (length ends - 1) en
 abbrev pub dropped : Option ℕ → List ℕ → List ℕ
 dropped None ends = ends
 dropped (Some place) ends = swap_remove ends place 0
+
+-- each moment whose flag is not set, and 0 for the others
+abbrev pub evens_of : List ℕ → List Bool → List ℕ
+evens_of [] mixed = []
+evens_of (end ∷ ends) [] = 0 ∷ evens_of ends []
+evens_of (end ∷ ends) (mixed ∷ more) = (if mixed then 0 else end) ∷ evens_of ends more
+
+-- the moments of the names that are not mixed, and 0 for the others
+abbrev pub evens : Ends → List ℕ
+evens ends = evens_of ends.moments ends.mixed.items
+
+-- The moments have changed in this way, and so have those of the names that are not mixed.
+pub record AreBy (f : List ℕ → List ℕ) (old new : Ends) : Type 0 where
+  pub moments : new.moments ≡ f old.moments
+  pub unmixed : evens new ≡ f (evens old)
+  pub flags : length new.mixed.items ≡ length new.moments
+
+-- The moments of the names that are mixed are 0, and the others are as they were.
+pub record AreEvened (old new : Ends) : Type 0 where
+  pub moments : new.moments ≡ evens old
+  pub unmixed : evens new ≡ evens old
+  pub flags : length new.mixed.items ≡ length new.moments
+
+-- No name needs a sweep before its moment. A name that is not mixed needs none whatever flushes are kept: version 0 alone says so.
+pub record AreEnds (kept : List KeptFlush) (entries : List (Labels × OwnerCells)) (ends : Ends) : Type 0 where
+  pub now : AreKeyed (IsEnd kept) entries ends.moments
+  pub ever : AreKeyed (IsEnd []) entries (evens ends)
+  pub flags : length ends.mixed.items ≡ length ends.moments
+
+-- There is a moment for each entry, and a flag for each moment.
+abbrev pub HaveEnds : List (Labels × OwnerCells) → Ends → Type 0
+HaveEnds entries ends = (length ends.moments ≡ length entries) × (length ends.mixed.items ≡ length ends.moments)

@@ -1,17 +1,14 @@
 -- Room for a find: whether a version would cache it, and whether there is room for its place.
-use Rattle.std.specs.Prelude.{◌≡◌, ℕ, Bool, true, false, ◌==◌, ◌&&◌, not, List, fold, if◌then◌else◌}
-use Rattle.indexmap.specs.IndexMap.{IndexMap}
-use Rattle.dns_name.specs.Labels.{Labels}
+use Rattle.std.specs.Prelude.{◌≡◌, ℕ, Bool, true, false, ◌==◌, ◌&&◌, not, List, Option, fold, if◌then◌else◌}
 use Rattle.dns_text.specs.declared.record.Question.{Question}
 use Rattle.ranked.specs.declared.find.Find.{Find}
 use Rattle.ranked.specs.declared.find.Scope.{Scope}
 use Rattle.ranked.specs.declared.find.Scope.TheVariants.{One, Whole}
+use Rattle.ranked.specs.declared.cell.Admitted.{Admitted}
 use Rattle.ranked.specs.declared.cell.Fate.{Fate}
 use Rattle.ranked.specs.declared.cell.Fate.TheVariants.{Taken, Outranked}
 use Rattle.ranked.specs.Find.{admission_of}
 use Rattle.ranked.specs.Cell.{turns_away}
-use Rattle.cell_store.specs.declared.owner.OwnerCells.{OwnerCells}
-use Rattle.cell_store.specs.Store.{cell_of}
 use Rattle.cell_store.specs.Count.{has_place_for}
 use Rattle.shelf.specs.declared.shelf.KeptFlush.{KeptFlush}
 use Rattle.shelf.specs.declared.shelf.Shelf.{Shelf}
@@ -20,23 +17,23 @@ use Rattle.shelf.specs.declared.room.Room.TheVariants as room
 use Rattle.shelf.specs.declared.fault.StoreFault.{StoreFault}
 use Rattle.shelf.specs.declared.fault.StoreFault.TheVariants.{Full, NoMemory}
 use Rattle.ranked.specs.Flush.{covers}
-use Rattle.shelf.specs.Told.{shown_version}
+use Rattle.shelf.specs.Told.{cell_at, shown_version}
 
 -- whether a version would cache the find: its content is dead by then, or not of higher rank
-abbrev pub takes : {S : Type 0} → IndexMap Labels OwnerCells S → Find → ℕ → Question → ℕ → Bool
-takes owners find moment question v = not (turns_away (cell_of owners question v) (admission_of find find moment))
+abbrev pub takes : (Question → ℕ → Option (Admitted Find)) → Find → ℕ → Question → ℕ → Bool
+takes cells find moment question v = not (turns_away (cells question v) (admission_of find find moment))
 
 -- whether a version so far would, or that of this flush if it covers the question
-abbrev pub taken_by : {S : Type 0} → IndexMap Labels OwnerCells S → Find → ℕ → Question → Bool → KeptFlush → Bool
-taken_by owners find moment question taken own = if covers own.flush question && takes owners find moment question own.number then true else taken
+abbrev pub taken_by : (Question → ℕ → Option (Admitted Find)) → Find → ℕ → Question → Bool → KeptFlush → Bool
+taken_by cells find moment question taken own = if covers own.flush question && takes cells find moment question own.number then true else taken
 
 -- whether some version would cache the find: version 0, or that of a kept flush that covers the question
-abbrev pub is_taken : {S : Type 0} → IndexMap Labels OwnerCells S → List KeptFlush → Find → ℕ → Question → Bool
-is_taken owners kept find moment question = fold (taken_by owners find moment question) (takes owners find moment question 0) kept
+abbrev pub is_taken : (Question → ℕ → Option (Admitted Find)) → List KeptFlush → Find → ℕ → Question → Bool
+is_taken cells kept find moment question = fold (taken_by cells find moment question) (takes cells find moment question 0) kept
 
 -- whether some version would cache a find of this scope: a find about every type is always cached
 abbrev pub is_wanted : Shelf → Find → ℕ → Scope → Bool
-is_wanted shelf find moment (One kind) = is_taken shelf.owners shelf.kept.items find moment (record { owner = find.owner; kind = kind })
+is_wanted shelf find moment (One kind) = is_taken (cell_at shelf) shelf.kept.items find moment (record { owner = find.owner; kind = kind })
 is_wanted shelf find moment Whole = true
 
 -- whether the find needs a new place
@@ -52,7 +49,7 @@ room_for shelf find moment =
 -- the outcome for a find about one type: it is outranked if the content in force is alive then and of higher rank
 abbrev pub kind_fate : Shelf → Find → ℕ → ℕ → Fate
 kind_fate shelf find moment kind =
-    if turns_away (cell_of shelf.owners (record { owner = find.owner; kind = kind }) (shown_version shelf.kept.items (record { owner = find.owner; kind = kind }))) (admission_of find find moment) then Outranked else Taken
+    if turns_away (cell_at shelf (record { owner = find.owner; kind = kind }) (shown_version shelf.kept.items (record { owner = find.owner; kind = kind }))) (admission_of find find moment) then Outranked else Taken
 
 -- the outcome of an admission; nothing outranks a find about every type
 abbrev pub fate_of : Shelf → Find → ℕ → Scope → Fate

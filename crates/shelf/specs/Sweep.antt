@@ -1,5 +1,5 @@
 -- The sweep: the cells after it.
-use Rattle.std.specs.Prelude.{◌≡◌, ◌≢◌, ◌<◌, ◌≤◌, ℕ, true, false, IfSome, List, [], ◌∷◌, ◌++◌, fold, nat_le, sum_by, length, slice_get, if◌then◌else◌}
+use Rattle.std.specs.Prelude.{◌≡◌, ◌≢◌, ◌<◌, ◌≤◌, ℕ, Bool, true, false, IfSome, List, [], ◌∷◌, ◌++◌, fold, nat_le, sum_by, length, slice_get, if◌then◌else◌}
 use Rattle.indexmap.specs.IndexMap.{IndexMap, get}
 use Rattle.dns_name.specs.Labels.{Labels}
 use Rattle.dns_name.specs.Order.{name_eq}
@@ -16,7 +16,8 @@ use Rattle.shelf.specs.declared.shelf.KeptFlush.{KeptFlush}
 use Rattle.ranked.specs.Flush.{covers}
 use Rattle.shelf.specs.Kept.{is_version}
 pub use Rattle.shelf.specs.Clean.{IsAlive}
-use Rattle.shelf.specs.Clean.{AreKeyed, IsClean, IsEnd}
+use Rattle.shelf.specs.Clean.{AreEnds, AreKeyed, IsClean, IsEnd}
+use Rattle.shelf.specs.declared.ends.Ends.{Ends}
 
 -- the numbers so far, and that of a flush if it covers the question
 abbrev pub number_more : Question → List ℕ → KeptFlush → List ℕ
@@ -60,22 +61,23 @@ pub record AreLessened {S : Type 0} (kept : List KeptFlush) (t : ℕ) (old new :
 abbrev pub IsNext : List KeptFlush → ℕ → Labels × OwnerCells → ℕ → Type 0
 IsNext kept t entry end = 1 ≤ count_of entry.1 → IsEnd kept entry end × IsClean kept t entry.0 entry.1 × ((s : ℕ) → s ≤ t → s < latest → s < end)
 
--- The name at a place was swept, and the others are as they were.
-pub record IsSweptAt (kept : List KeptFlush) (t place : ℕ) (old new : List (Labels × OwnerCells)) (end : ℕ) : Type 0 where
+-- The name at a place was swept, and the others are as they were. If it is not mixed, it does not matter which flushes are kept.
+pub record IsSweptAt (kept : List KeptFlush) (t place : ℕ) (old new : List (Labels × OwnerCells)) (end : ℕ) (mixed : Bool) : Type 0 where
   pub each : IsEach (IsEntry (IsLessened kept t)) old new
   pub others : (i : ℕ) → i ≢ place → slice_get new i ≡ slice_get old i
   pub size : length new ≡ length old
   pub next : IfSome (slice_get new place) (λ entry. IsNext kept t entry end)
+  pub ever : mixed ≡ false → IfSome (slice_get new place) (λ entry. IsNext [] t entry end)
 
 -- A name that ends after a moment needs no sweep at another.
 abbrev pub IsDue : List KeptFlush → ℕ → ℕ → Labels × OwnerCells → ℕ → Type 0
 IsDue kept t asked entry end = asked < end → IsClean kept t entry.0 entry.1
 
 -- The sweep so far: each name that ends after `asked` needs none, and the counted places are counted.
-pub record IsUnderway {S : Type 0} (kept : List KeptFlush) (t asked : ℕ) (first : IndexMap Labels OwnerCells S) (most : ℕ) (owners : IndexMap Labels OwnerCells S) (moments : List ℕ) (stored : ℕ) : Type 0 where
+pub record IsUnderway {S : Type 0} (kept : List KeptFlush) (t asked : ℕ) (first : IndexMap Labels OwnerCells S) (most : ℕ) (owners : IndexMap Labels OwnerCells S) (ends_now : Ends) (stored : ℕ) : Type 0 where
   pub less : AreLessened kept t first owners
-  pub ends : AreKeyed (IsEnd kept) owners.entries moments
-  pub due : AreKeyed (IsDue kept t asked) owners.entries moments
+  pub ends : AreEnds kept owners.entries ends_now
+  pub due : AreKeyed (IsDue kept t asked) owners.entries ends_now.moments
   pub counted : stored ≡ stored_in owners
   pub fewer : stored ≤ most
 

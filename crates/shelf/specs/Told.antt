@@ -1,5 +1,5 @@
 -- The replay of a shelf: its admissions and flushes in order, and the cells that they give.
-use Rattle.std.specs.Prelude.{ℕ, Bool, true, ◌++◌, ◌==◌, ◌&&◌, ◌≡◌, ◌≤◌, ◌<◌, ◌^◌, length, vec_capacity, List, [], ◌∷◌, Option, None, fold, if◌then◌else◌}
+use Rattle.std.specs.Prelude.{ℕ, Bool, true, ◌++◌, ◌==◌, ◌&&◌, ◌≡◌, ◌≤◌, ◌<◌, ◌^◌, length, vec_capacity, List, [], ◌∷◌, Option, None, IfSome, fold, if◌then◌else◌}
 use Rattle.std.specs.List.{AllByRecursion}
 use Rattle.dns_name.specs.Labels.{Labels}
 use Rattle.dns_text.specs.declared.record.Question.{Question}
@@ -9,7 +9,7 @@ use Rattle.ranked.specs.Cell.{after_admission}
 use Rattle.ranked.specs.Find.{touches, admission_of}
 use Rattle.indexmap.specs.IndexMap.{IndexMap}
 use Rattle.cell_store.specs.declared.owner.OwnerCells.{OwnerCells}
-use Rattle.cell_store.specs.Store.{cell_of, AreAbout, AreUpTo, CanSettleAt}
+use Rattle.cell_store.specs.Store.{AreAbout, AreUpTo, CanSettleAt}
 use Rattle.cell_store.specs.Count.{pair_of, stored_in, AddPair, KeepPairs}
 use Rattle.cell_store.specs.Owner.{after_touch}
 use Rattle.ranked.specs.declared.flush.Flush.{Flush}
@@ -18,7 +18,8 @@ use Rattle.ranked.specs.declared.flush.Reach.TheVariants.{OneType, Name, Zone}
 use Rattle.shelf.specs.declared.shelf.KeptFlush.{KeptFlush}
 use Rattle.shelf.specs.declared.shelf.Shelf.{Shelf}
 pub use Rattle.shelf.specs.Kept.{is_kept, is_version}
-use Rattle.shelf.specs.Clean.{AreKeyed, IsEnd}
+use Rattle.shelf.specs.Clean.{AreEnds}
+use Rattle.shelf.specs.Settling.{settled_cell, IsSettling}
 use Rattle.ranked.specs.Flush.{covers, flushed_types}
 
 -- an admission of a find at a moment, or a flush with its number
@@ -47,9 +48,13 @@ later_shown question version own = if own.shown && covers own.flush question the
 abbrev pub shown_version : List KeptFlush → Question → ℕ
 shown_version kept question = fold (later_shown question) 0 kept
 
+-- the content of the cell of a question in a version
+abbrev pub cell_at : Shelf → Question → ℕ → Option (Admitted Find)
+cell_at shelf question v = settled_cell shelf.settling shelf.owners question v
+
 -- the content of the cell of a question, by the flushes in force
 abbrev pub shown_cell : Shelf → Question → Option (Admitted Find)
-shown_cell shelf question = cell_of shelf.owners question (shown_version shelf.kept.items question)
+shown_cell shelf question = cell_at shelf question (shown_version shelf.kept.items question)
 
 -- the content of the cell of a question by a replay, with the flushes in force
 abbrev pub replayed_cell : List KeptFlush → Question → List Told → Option (Admitted Find)
@@ -74,7 +79,7 @@ CanSettleFlush owners number flush = AllByRecursion (λ kind. CanSettleAt number
 abbrev pub CanSettleKept : {S : Type 0} → IndexMap Labels OwnerCells S → KeptFlush → Type 0
 CanSettleKept owners own = CanSettleFlush owners own.number own.flush
 
--- No admission has reached a version past the greatest number, and each cell has only a find about its question. Each kept flush can become permanent with no memory. The places that count are counted, and are at most the limit. No name needs a sweep before its end.
+-- No admission has reached a version past the greatest number, and each cell has only a find about its question. Each kept flush can become permanent with no memory. The places that count are counted, and are at most the limit. No name needs a sweep before its end. A permanent flush has reached each name from its place on.
 pub record IsShelf (shelf : Shelf) : Type 0 where
   pub upto : AreUpTo shelf.top shelf.owners
   pub about : AreAbout shelf.owners
@@ -85,7 +90,8 @@ pub record IsShelf (shelf : Shelf) : Type 0 where
   pub few : shelf.stored ≤ shelf.limit
   pub small : shelf.limit ≤ 2 ^ 32
   pub room : length shelf.kept.items ≤ vec_capacity shelf.numbers
-  pub ends : AreKeyed (IsEnd shelf.kept.items) shelf.owners.entries shelf.ends
+  pub ends : AreEnds shelf.kept.items shelf.owners.entries shelf.ends
+  pub settling : IfSome shelf.settling (IsSettling shelf.top shelf.owners)
 
 -- the version so far, or that of a flush if it is chosen and covers the question
 abbrev pub later_chosen : Question → (ℕ → Bool) → ℕ → KeptFlush → ℕ
@@ -97,7 +103,7 @@ chosen_version kept question chosen = fold (later_chosen question chosen) 0 kept
 
 -- the content of the cell of a question, if only the chosen ones of the kept flushes were in force
 abbrev pub face_of : Shelf → (ℕ → Bool) → Question → Option (Admitted Find)
-face_of shelf chosen question = cell_of shelf.owners question (chosen_version shelf.kept.items question chosen)
+face_of shelf chosen question = cell_at shelf question (chosen_version shelf.kept.items question chosen)
 
 -- the kept flushes without that of a number
 abbrev pub without : ℕ → List KeptFlush → List KeptFlush
@@ -106,7 +112,7 @@ without number (own ∷ later) = if own.number == number then later else own ∷
 
 -- Each version of each question is that of the replay in which the version's flush alone is in force.
 abbrev pub IsShelfOf : Shelf → List Told → Type 0
-IsShelfOf shelf told = (question : Question) (version : ℕ) → is_version shelf.kept.items question version ≡ true → cell_of shelf.owners question version ≡ cell_by question (only version) told
+IsShelfOf shelf told = (question : Question) (version : ℕ) → is_version shelf.kept.items question version ≡ true → cell_at shelf question version ≡ cell_by question (only version) told
 
 -- A shelf replies to every question as another does, whatever choice of the kept flushes is in force. Each place that counts did so before.
 pub record IsSame (old new : Shelf) : Type 0 where

@@ -9,14 +9,20 @@ mod fault;
 mod room;
 // The moments before which names need no sweep.
 mod ends;
+// A permanent flush of a zone, while it reaches the names.
+mod settling;
 // The shelf: cells and flushes.
 mod shelf;
 // What the counted places are.
 mod laws;
 // The sweep of dead finds and unused versions.
 mod sweep;
+// The cells that are kept for a question.
+mod kept;
 
+pub use ends::Ends;
 pub use fault::StoreFault;
 pub use laws::admitted_law;
 pub use room::Room;
+pub use settling::Settling;
 pub use shelf::{KeptFlush, Shelf};

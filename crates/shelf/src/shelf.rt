@@ -1,8 +1,9 @@
 //! The shelf: cached cells, and the flushes that can be undone or redone.
 
-ghost use Rattle.std.specs.Prelude.{◌≡◌, ◌<◌, ◌≤◌, ◌+◌, ◌^◌, ◌∷◌, ◌&&◌, [], ℕ, Bool, List, None, true, false, not, length, map, vec_capacity};
-ghost use Rattle.std.specs.Prelude.{IfErr, IsOk, OnOk, OnErr, if◌then◌else◌};
+ghost use Rattle.std.specs.Prelude.{◌≡◌, ◌<◌, ◌≤◌, ◌+◌, ◌-◌, ◌^◌, ◌∷◌, ◌&&◌, [], ℕ, Bool, List, None, true, false, not, length, map, vec_capacity};
+ghost use Rattle.std.specs.Prelude.{IfErr, IfSome, IsOk, OnOk, OnErr, if◌then◌else◌};
 ghost use Rattle.std.specs.List.{AllByRecursion};
+ghost use Rattle.std.specs.Map.{keys_of};
 ghost use Rattle.indexmap.specs.IndexMap.{hasher_of};
 ghost use Rattle.dns_name.specs.Labels.{Labels};
 ghost use Rattle.dns_name.specs.Order.{name_eq};
@@ -15,25 +16,28 @@ ghost use Rattle.cell_store.specs.Owner.{after_settle, held_now};
 ghost use Rattle.cell_store.specs.Store.{cell_of, AreUpTo, StayBut};
 ghost use Rattle.cell_store.specs.Sweep.{alive_at};
 ghost use Rattle.shelf.specs.declared.shelf.KeptFlush.{KeptFlush};
+ghost use Rattle.shelf.specs.Clean.{AreEnds, HaveEnds};
 ghost use Rattle.shelf.specs.Kept.{with_shown, stands_first};
 ghost use Rattle.shelf.specs.Room.{fate_of, kind_fate, is_taken, is_wanted, room_for, IsFault};
+ghost use Rattle.shelf.specs.Settling.{names_left, reached_at_once, IsMoved, IsSettling};
 ghost use Rattle.shelf.specs.Sweep.{AreAlive};
 ghost use Rattle.shelf.specs.Told.{without, CanSettleFlush, CanSettleKept};
 ghost use Rattle.ranked.specs.declared.find.Scope.{Scope};
 
-use crate::ends::{drop_end, fit, reset, touch};
+use crate::ends::{Ends, drop_end, end_mixed, fit, no_ends, reset, touch};
 use crate::fault::StoreFault;
 use crate::room::Room;
-use crate::sweep::sweep_all;
-use cell_store::{
-    NameSeed, Owners, admit, at, forget, has_place, open_kinds, settle_below, settle_kinds,
+use crate::settling::{
+    REACHED_AT_ONCE, Settling, fit_place, reach_all, reach_some, settle_name, settle_zone,
+    settled_version,
 };
+use crate::sweep::sweep_all;
+use cell_store::{NameSeed, Owners, admit, at, forget, has_place, open_kinds};
 use dns_name::{Name, NoMemory};
 use dns_text::types;
 use indexmap::IndexMap;
 use ranked::{Fate, Find, Flush, Held, Reach, Scope, SharedFind};
 use std::alloc::Global;
-use winner_tree::WinnerTree;
 
 /// A flush that can be undone or redone.
 #[derive(Drop)]
@@ -61,7 +65,9 @@ pub struct Shelf {
     /// Room for the numbers of the kept flushes, so that a sweep takes no memory.
     pub numbers: Vec<u64>,
     /// For each name, a moment before which a sweep finds nothing to remove there.
-    pub ends: WinnerTree,
+    pub ends: Ends,
+    /// A permanent flush of a zone that has not reached the cells of each name yet.
+    pub settling: Option<Settling>,
 }
 
 impl KeptFlush {
@@ -85,7 +91,7 @@ fn set_shown(kept: &mut Vec<KeptFlush>, number: u64, shown: bool)
 }
 
 impl Shelf {
-    ghost use Rattle.shelf.specs.Told.{Told, HasAdmitted, HasFlushed, IsShelf, IsShelfOf, IsSame, KeepsFlushes, shown_version, shown_cell, replayed_cell, face_of};
+    ghost use Rattle.shelf.specs.Told.{Told, HasAdmitted, HasFlushed, IsShelf, IsShelfOf, IsSame, KeepsFlushes, cell_at, shown_version, shown_cell, replayed_cell, face_of};
     ghost use Rattle.shelf.specs.Stored.{count_pairs, pairs_in, HasAdmittedEach, IsAliveInFace, IsAliveInReplay, IsByRoom};
 
     /// An empty cache of at most `limit` places, whose index hashes with the fixed seed. It is for scripts and tests.
@@ -120,7 +126,8 @@ impl Shelf {
             stored: 0,
             limit,
             numbers: Vec::new(alloc),
-            ends: WinnerTree::new(alloc),
+            ends: no_ends(alloc),
+            settling: None,
         }
     }
 
@@ -157,8 +164,9 @@ impl Shelf {
     // Whether a version has content of a type that is alive at the moment and outranks a find.
     fn turns_away(&self, find: &Find, kind: u16, version: u64, moment: u64) -> bool
         ensures { result ≡ turns_away
-            (cell_of self.now.owners (record { owner = find.now.owner; kind = kind }) version) (admission_of find.now find.now moment) }
+            (cell_at self.now (record { owner = find.now.owner; kind = kind }) version) (admission_of find.now find.now moment) }
     {
+        let version = settled_version(&self.settling, &find.owner, version);
         match at(&self.owners, &find.owner, kind, version, moment) {
             Some(shown) => find.rank.level() < shown.rank.level(),
             None => false,
@@ -167,7 +175,8 @@ impl Shelf {
 
     // Whether some version would cache a find of a type.
     fn is_taken(&self, find: &Find, kind: u16, moment: u64) -> bool
-        ensures { result ≡ is_taken self.now.owners self.now.kept.items find.now moment (record { owner = find.now.owner; kind = kind }) }
+        ensures { result ≡
+            is_taken (cell_at self.now) self.now.kept.items find.now moment (record { owner = find.now.owner; kind = kind }) }
     {
         let mut taken = !self.turns_away(find, kind, 0, moment);
         for own in &self.kept {
@@ -262,6 +271,7 @@ impl Shelf {
         ensures same { OnErr result (IsSame self.old self.new) }
         ensures flushes { KeepsFlushes self.old self.new }
         ensures stored { self.new.stored ≤ self.old.stored + 1 }
+        ensures left { OnOk result (names_left self.new.settling ≡ names_left self.old.settling - reached_at_once) }
     {
         touch(&self.owners, &mut self.ends, &find.find().owner)?;
         let result = admit(
@@ -274,6 +284,7 @@ impl Shelf {
         );
         fit(&self.owners, &mut self.ends);
         result?;
+        self.reach_names();
         Ok(())
     }
 
@@ -283,7 +294,8 @@ impl Shelf {
         ensures cells { (told : List Told) → IsShelfOf self.now told →
             held_now result ≡ shown_at (replayed_cell self.now.kept.items (record { owner = owner.now; kind = kind }) told) moment }
     {
-        at(&self.owners, owner, kind, self.version(owner, kind), moment)
+        let version = settled_version(&self.settling, owner, self.version(owner, kind));
+        at(&self.owners, owner, kind, version, moment)
     }
 
     /// Undoes a flush. It clears one flag, however much the flush covers.
@@ -338,7 +350,7 @@ impl Shelf {
     }
 
     /// Drops the finds that are dead at a moment, the versions that no kept flush needs, and the names of which nothing is left.
-    /// It takes no memory.
+    /// A permanent flush of a zone reaches each name first. It takes no memory.
     pub fn sweep(&mut self, moment: u64)
         requires whole { IsShelf self.old }
         ensures whole { IsShelf self.new }
@@ -348,7 +360,14 @@ impl Shelf {
         ensures flushes { KeepsFlushes self.old self.new }
         ensures stored { self.new.stored ≤ self.old.stored }
         ensures pairs { KeepPairs self.old.owners self.new.owners }
+        ensures settling { self.new.settling ≡ None }
     {
+        reach_all(
+            &mut self.owners,
+            &mut self.ends,
+            &mut self.stored,
+            &mut self.settling,
+        );
         sweep_all(
             &mut self.owners,
             &mut self.ends,
@@ -371,10 +390,28 @@ impl Shelf {
     {
         drop_end(&self.owners, &mut self.ends, owner);
         forget(&mut self.owners, &mut self.stored, owner);
+        fit_place(&self.owners, &mut self.settling);
     }
 
-    /// Makes a flush permanent if it is the oldest and in force. Else drops it for good. It takes no memory.
+    /// Makes a flush permanent if it is the oldest and in force. Else drops it for good. It takes no memory. A flush of a zone is permanent
+    /// at once, and reaches the names a few at a time: here, at later admissions, and the rest at a sweep.
     pub fn settle(&mut self, number: u64)
+        requires whole { IsShelf self.old }
+        ensures whole { IsShelf self.new }
+        ensures faces { (chosen : ℕ → Bool) → chosen number ≡ stands_first number self.old.kept.items →
+            (q : Question) → face_of self.new chosen q ≡ face_of self.old chosen q }
+        ensures kept { self.new.kept.items ≡ without number self.old.kept.items }
+        ensures top { self.new.top ≡ self.old.top }
+        ensures limit { self.new.limit ≡ self.old.limit }
+        ensures stored { self.new.stored ≤ self.old.stored }
+        ensures pairs { KeepPairs self.old.owners self.new.owners }
+    {
+        self.settle_kept(number);
+        self.reach_names();
+    }
+
+    // Does that, and lets the flush reach no name.
+    fn settle_kept(&mut self, number: u64)
         requires whole { IsShelf self.old }
         ensures whole { IsShelf self.new }
         ensures faces { (chosen : ℕ → Bool) → chosen number ≡ stands_first number self.old.kept.items →
@@ -390,6 +427,25 @@ impl Shelf {
             return;
         }
         self.settle_cleared(number);
+    }
+
+    // Lets the permanent flush reach some names more. It takes no memory.
+    fn reach_names(&mut self)
+        requires whole { IsShelf self.old }
+        ensures whole { IsShelf self.new }
+        ensures cells { (q : Question) (v : ℕ) → cell_at self.new q v ≡ cell_at self.old q v }
+        ensures flushes { KeepsFlushes self.old self.new }
+        ensures stored { self.new.stored ≤ self.old.stored }
+        ensures pairs { KeepPairs self.old.owners self.new.owners }
+        ensures left { names_left self.new.settling ≡ names_left self.old.settling - reached_at_once }
+    {
+        reach_some(
+            &mut self.owners,
+            &mut self.ends,
+            &mut self.stored,
+            &mut self.settling,
+            REACHED_AT_ONCE,
+        );
     }
 
     /// Makes the oldest flush permanent: it can no longer be undone, and the versions before it go. It takes no memory.
@@ -410,11 +466,19 @@ impl Shelf {
             return;
         }
         let own = self.kept.remove(0);
-        settle_flush(&mut self.owners, &mut self.stored, &own.flush, own.number);
-        self.ends.end_all();
+        end_mixed(&mut self.ends);
+        settle_flush(
+            &mut self.owners,
+            &mut self.ends,
+            &mut self.stored,
+            &mut self.settling,
+            own.flush,
+            own.number,
+        );
     }
 
-    /// Drops an undone flush for good: it can no longer be redone. Its versions go at the next sweep. It takes no memory.
+    /// Drops an undone flush for good: it can no longer be redone. Its versions go at the next sweep, which visits only the names
+    /// where they may differ. It takes no memory.
     pub fn settle_cleared(&mut self, number: u64)
         ensures whole { IsShelf self.old → IsShelf self.new }
         ensures faces { (chosen : ℕ → Bool) → chosen number ≡ false →
@@ -426,7 +490,7 @@ impl Shelf {
         ensures owners { self.new.owners ≡ self.old.owners }
     {
         remove_number(&mut self.kept, number);
-        self.ends.end_all();
+        end_mixed(&mut self.ends);
     }
 }
 
@@ -480,7 +544,7 @@ fn open_flush(owners: &mut Owners, flush: &Flush, top: u64) -> Result<(), NoMemo
     ensures counted { stored_in owners.new ≡ stored_in owners.old }
     ensures pairs { KeepPairs owners.old owners.new }
     ensures entries { StayBut flush.now.name owners.old.entries owners.new.entries
-        × (length owners.new.entries ≡ length owners.old.entries) }
+        × (length owners.new.entries ≡ length owners.old.entries) × (keys_of owners.new.entries ≡ keys_of owners.old.entries) }
 {
     match flush.reach {
         Reach::OneType(kind) => open_kinds(owners, &flush.name, &[kind], top),
@@ -490,22 +554,29 @@ fn open_flush(owners: &mut Owners, flush: &Flush, top: u64) -> Result<(), NoMemo
 }
 
 // Makes a flush permanent.
-fn settle_flush(owners: &mut Owners, stored: &mut u64, flush: &Flush, number: u64)
+fn settle_flush(
+    owners: &mut Owners,
+    ends: &mut Ends,
+    stored: &mut u64,
+    settling: &mut Option<Settling>,
+    flush: Flush,
+    number: u64,
+)
+    requires low { IfSome settling.old (λ own. own.left ≤ length owners.old.entries) × HaveEnds owners.old.entries ends.old }
     requires counted { stored.old ≡ stored_in owners.old }
-    requires settles { CanSettleFlush owners.old number flush.now }
-    ensures cells { (top : ℕ) → AreUpTo top owners.old → (q : Question) (v : ℕ) →
-        cell_of owners.new q v ≡ cell_of owners.old q (after_settle (covers flush.now q) number v) }
-    ensures upto { (top : ℕ) → AreUpTo top owners.old → AreUpTo top owners.new }
+    requires settles { CanSettleFlush owners.old number flush }
+    ensures moved { (top : ℕ) → number ≤ top → AreUpTo top owners.old → IfSome settling.old (IsSettling top owners.old) →
+        IsMoved (λ q v. after_settle (covers flush q) number v) top settling.old settling.new owners.old owners.new }
     ensures settles { (kept : List KeptFlush) →
         AllByRecursion (CanSettleKept owners.old) kept → AllByRecursion (CanSettleKept owners.new) kept }
-    ensures counted { stored.new ≡ stored_in owners.new }
-    ensures fewer { (stored.new ≤ stored.old) × (length owners.new.entries ≡ length owners.old.entries) }
+    ensures counted { (stored.new ≡ stored_in owners.new) × (stored.new ≤ stored.old) }
     ensures pairs { KeepPairs owners.old owners.new }
+    ensures ends { (kept : List KeptFlush) → AreEnds kept owners.old.entries ends.old → AreEnds kept owners.new.entries ends.new }
 {
     match flush.reach {
-        Reach::OneType(kind) => settle_kinds(owners, stored, &flush.name, &[kind], number),
-        Reach::Name => settle_kinds(owners, stored, &flush.name, &flushed_types(), number),
-        Reach::Zone => settle_below(owners, stored, &flush.name, number),
+        Reach::OneType(kind) => settle_name(owners, ends, stored, &flush.name, &[kind], number),
+        Reach::Name => settle_name(owners, ends, stored, &flush.name, &flushed_types(), number),
+        Reach::Zone => settle_zone(owners, ends, stored, settling, flush.name, number),
     }
 }
 

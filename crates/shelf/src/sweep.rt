@@ -7,13 +7,13 @@ ghost use Rattle.cell_store.specs.Count.{stored_in};
 ghost use Rattle.cell_store.specs.Ends.{latest};
 ghost use Rattle.cell_store.specs.declared.owner.OwnerCells.{OwnerCells};
 ghost use Rattle.cell_store.specs.declared.seed.NameSeed.{NameSeed};
-ghost use Rattle.shelf.specs.Clean.{AreKeyed, IsEnd};
+ghost use Rattle.shelf.specs.Clean.{AreEnds};
 ghost use Rattle.shelf.specs.Sweep.{count_ended, numbers_of, AreAlive, AreLessened, IsSwept, IsSweptAt, IsUnderway};
 
+use crate::ends::{Ends, drop_at, end_all, put};
 use crate::shelf::KeptFlush;
 use cell_store::{OwnerCells, Owners, drop_if_uncounted};
 use dns_name::Name;
-use winner_tree::WinnerTree;
 
 // The numbers of the kept flushes that cover the question of a name and type.
 fn collect(kept: &[KeptFlush], owner: &Name, kind: u16, numbers: &mut Vec<u64>)
@@ -51,7 +51,8 @@ fn sweep_name(
     }
 }
 
-// Sweeps the name at a place, and gives the moment of its next sweep. It is later than this one, but that of a name without finds.
+// Sweeps the name at a place, and returns the moment of its next sweep. It is later than this one, but that of a name without finds.
+// It also returns whether that moment is right only as long as no kept flush goes.
 fn sweep_at(
     owners: &mut Owners,
     stored: &mut u64,
@@ -59,11 +60,11 @@ fn sweep_at(
     numbers: &mut Vec<u64>,
     place: usize,
     moment: u64,
-) -> u64
+) -> (u64, bool)
     requires low { place < length owners.old.entries }
     requires room { length kept.now ≤ vec_capacity numbers.old }
     requires counted { stored.old ≡ stored_in owners.old }
-    ensures swept { IsSweptAt kept.now moment place owners.old.entries owners.new.entries result }
+    ensures swept { IsSweptAt kept.now moment place owners.old.entries owners.new.entries result.0 result.1 }
     ensures counted { stored.new ≡ stored_in owners.new }
     ensures fewer { stored.new ≤ stored.old }
     ensures capacity { vec_capacity numbers.new ≡ vec_capacity numbers.old }
@@ -72,41 +73,43 @@ fn sweep_at(
     let others = *stored - cells.counted();
     sweep_name(cells, name, kept, numbers, moment);
     *stored = others + cells.counted();
-    cells.first_end().max(moment.saturating_add(1))
+    let end = cells.first_end().max(moment.saturating_add(1));
+    (end, cells.is_mixed())
 }
 
 // Sweeps the name at a place, and removes it if nothing of it is left.
 fn visit(
     owners: &mut Owners,
-    ends: &mut WinnerTree,
+    ends: &mut Ends,
     stored: &mut u64,
     kept: &[KeptFlush],
     numbers: &mut Vec<u64>,
     place: usize,
     moment: u64,
 )
-    requires low { (place < length owners.old.entries) × (length ends.old ≡ length owners.old.entries) }
+    requires low { (place < length owners.old.entries) × (length ends.old.moments ≡ length owners.old.entries) }
+    requires flags { length ends.old.mixed.items ≡ length ends.old.moments }
     requires room { length kept.now ≤ vec_capacity numbers.old }
     requires counted { stored.old ≡ stored_in owners.old }
     ensures on { (asked most : ℕ) (first : IndexMap Labels OwnerCells NameSeed) → asked ≤ moment → asked < latest →
         IsUnderway kept.now moment asked first most owners.old ends.old stored.old →
         IsUnderway kept.now moment asked first most owners.new ends.new stored.new }
-    ensures ended { (asked : ℕ) → asked ≤ moment → asked < latest → slice_index_or ends.old place 0 ≤ asked →
-        count_ended asked ends.new < count_ended asked ends.old }
+    ensures ended { (asked : ℕ) → asked ≤ moment → asked < latest → slice_index_or ends.old.moments place 0 ≤ asked →
+        count_ended asked ends.new.moments < count_ended asked ends.old.moments }
     ensures capacity { vec_capacity numbers.new ≡ vec_capacity numbers.old }
 {
-    let end = sweep_at(owners, stored, kept, numbers, place, moment);
+    let (end, mixed) = sweep_at(owners, stored, kept, numbers, place, moment);
     if drop_if_uncounted(owners, place) {
-        ends.swap_remove(place);
+        drop_at(ends, place);
     } else {
-        ends.set(place, end);
+        put(ends, place, end, mixed);
     }
 }
 
 // Sweeps the names that end at `asked` or before. It takes no memory.
 fn sweep_ended(
     owners: &mut Owners,
-    ends: &mut WinnerTree,
+    ends: &mut Ends,
     stored: &mut u64,
     kept: &[KeptFlush],
     numbers: &mut Vec<u64>,
@@ -120,7 +123,7 @@ fn sweep_ended(
     ensures alive { AreAlive kept.now moment owners.new }
     ensures capacity { vec_capacity numbers.new ≡ vec_capacity numbers.old }
 {
-    while let Some(place) = ends.first_ended(asked) {
+    while let Some(place) = ends.moments.first_ended(asked) {
         visit(owners, ends, stored, kept, numbers, place, moment);
     }
 }
@@ -129,7 +132,7 @@ fn sweep_ended(
 #[tactic(auto, using(crate::proofs::VisitLaws::start, crate::proofs::VisitLaws::start_all))]
 pub(crate) fn sweep_all(
     owners: &mut Owners,
-    ends: &mut WinnerTree,
+    ends: &mut Ends,
     stored: &mut u64,
     kept: &[KeptFlush],
     numbers: &mut Vec<u64>,
@@ -137,9 +140,9 @@ pub(crate) fn sweep_all(
 )
     requires room { length kept.now ≤ vec_capacity numbers.old }
     requires counted { stored.old ≡ stored_in owners.old }
-    requires ends { AreKeyed (IsEnd kept.now) owners.old.entries ends.old }
+    requires ends { AreEnds kept.now owners.old.entries ends.old }
     ensures less { AreLessened kept.now moment owners.old owners.new }
-    ensures ends { AreKeyed (IsEnd kept.now) owners.new.entries ends.new }
+    ensures ends { AreEnds kept.now owners.new.entries ends.new }
     ensures alive { AreAlive kept.now moment owners.new }
     ensures counted { (stored.new ≡ stored_in owners.new) × (stored.new ≤ stored.old) }
     ensures capacity { vec_capacity numbers.new ≡ vec_capacity numbers.old }
@@ -149,6 +152,6 @@ pub(crate) fn sweep_all(
         return;
     }
     // No moment is later than this one, so each name is visited.
-    ends.end_all();
+    end_all(ends);
     sweep_ended(owners, ends, stored, kept, numbers, moment - 1, moment);
 }

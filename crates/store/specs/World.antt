@@ -21,23 +21,26 @@ use Rattle.shelf.specs.declared.fault.StoreFault.{StoreFault}
 use Rattle.shelf.specs.declared.fault.StoreFault.TheVariants as store
 use Rattle.shelf.specs.declared.shelf.KeptFlush.{KeptFlush}
 use Rattle.shelf.specs.declared.shelf.Shelf.{Shelf}
+use Rattle.shelf.specs.declared.settling.Settling.{Settling}
+use Rattle.shelf.specs.Settling.{settled_version}
 use Rattle.shelf.specs.Told.{chosen_version, shown_version}
 use Rattle.store.specs.declared.world.SavedFlush.{SavedFlush}
 
--- what a shelf holds, by names, which flushes it keeps, the greatest number so far, how many places count, and how many may
+-- what a shelf holds, by names, which flushes it keeps, the permanent one that has not reached each name, the greatest number so far, how many places count, and how many may
 pub record Shelved : Type 0 where
   pub names : List (Labels × OwnerCells)
   pub flushes : List KeptFlush
+  pub settling : Option Settling
   pub top : ℕ
   pub stored : ℕ
   pub limit : ℕ
 
 abbrev pub shelved : Shelf → Shelved
-shelved shelf = record { names = shelf.owners.entries; flushes = shelf.kept.items; top = shelf.top; stored = shelf.stored; limit = shelf.limit }
+shelved shelf = record { names = shelf.owners.entries; flushes = shelf.kept.items; settling = shelf.settling; top = shelf.top; stored = shelf.stored; limit = shelf.limit }
 
 -- the cell of a question in a version
 abbrev pub cell_at : Shelved → Question → ℕ → Option (Admitted Find)
-cell_at shelf q v = cell_by_owner (lookup (name_eq q.owner) shelf.names) q.kind v
+cell_at shelf q v = cell_by_owner (lookup (name_eq q.owner) shelf.names) q.kind (settled_version shelf.settling q.owner v)
 
 -- the cell of a question, if of the kept flushes just the chosen ones were in force
 abbrev pub cell_by : Shelved → (ℕ → Bool) → Question → Option (Admitted Find)

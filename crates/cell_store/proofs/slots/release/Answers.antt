@@ -2,7 +2,8 @@ use Rattle.std.proofs.Common.{◌≡◌, ℕ, ◌+◌, ◌<◌, ◌≤◌, false
 use Rattle.std.specs.List.{AllByRecursion, list_any}
 use Rattle.cell_store.specs.declared.version.Version.{Version}
 use Rattle.cell_store.specs.Slots.{names, renamed, version_of, IsWithin, AreNamed}
-use Rattle.cell_store.specs.Few.{AreRanked}
+use Rattle.cell_store.specs.Few.{contents, AreRanked, DoDiffer}
+use Rattle.cell_store.proofs.DifferLaws.{differ_renamed}
 use Rattle.cell_store.proofs.EntryLaws.{ranked_renamed}
 use Rattle.cell_store.proofs.SlotLaws.{IsWithout, same_each, within_each, still_named_each}
 use Rattle.cell_store.proofs.slots.release.Goals as goal
@@ -33,6 +34,7 @@ loop-slot-preserved c =
           (subst (λ n. AllByRecursion (IsWithin n) (map (renamed last slot) versions)) (sym fewer) (within_each all rest slot last c.swap_remove.result is in_all versions within none));
       named = subst (λ (l : List (Version ℕ)). AreNamed l slot) (sym c.rename.ensures.each) (still_named_each slot last below versions c.loop-slot.invariant.named);
       ranked = λ was. subst (λ (l : List (Version ℕ)). AreRanked l) (sym c.rename.ensures.each) (ranked_renamed last slot versions (c.loop-slot.invariant.ranked was));
+      differ = λ was. subst (λ (l : List (Version ℕ)). DoDiffer (contents l)) (sym c.rename.ensures.each) (differ_renamed last slot versions none (c.loop-slot.invariant.differ was));
       capacity = c.rename.ensures.capacity ∙ c.loop-slot.invariant.capacity;
       room = c.swap_remove.ensures.capacity ∙ c.loop-slot.invariant.room;
     }

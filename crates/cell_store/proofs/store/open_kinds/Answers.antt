@@ -1,5 +1,7 @@
 use Rattle.std.proofs.Common.{◌≡◌, ◌∙◌, List, length, subst, Option, Some, None, ap, false, arith, refl, rules, sym}
+use Rattle.std.specs.Map.{keys_of}
 use Rattle.std.specs.Option.{option_map_or}
+use Rattle.std.proofs.lemmas.Map.{keys-set_value}
 use Rattle.cell_store.specs.declared.owner.OwnerCells.{OwnerCells}
 use Rattle.indexmap.specs.IndexMap.{get}
 use Rattle.std.proofs.lemmas.Grind.{common_steps}
@@ -43,4 +45,4 @@ returns-in-Some-clause-entries c =
     let owner = c.args.owner.now in
     let new = c.open_each.new.self in
     let put = (c.get_mut.follows.holds new).0 in
-    (subst (λ (l : List (Labels × OwnerCells)). StayBut owner owners.entries l) (sym put) (stays_set (name_eq owner) owner owners.entries new refl), ap length put ∙ length_set (name_eq owner) owners.entries new)
+    (subst (λ (l : List (Labels × OwnerCells)). StayBut owner owners.entries l) (sym put) (stays_set (name_eq owner) owner owners.entries new refl), ap length put ∙ length_set (name_eq owner) owners.entries new, ap keys_of put ∙ keys-set_value (name_eq owner) owners.entries new)

@@ -1,4 +1,4 @@
-use Rattle.std.proofs.Common.{◌≡◌, length, false, max, cond, Option, Some, refl, sym, ap, ◌∙◌, subst, rules, arith}
+use Rattle.std.proofs.Common.{◌≡◌, List, length, false, max, cond, Option, Some, refl, sym, ap, ◌∙◌, subst, rules, arith}
 use Rattle.std.specs.Prelude.{◌==◌, IfSome}
 use Rattle.std.specs.List.{list_any}
 use Rattle.indexmap.specs.IndexMap.{get}
@@ -6,12 +6,15 @@ use Rattle.std.proofs.lemmas.Grind.{common_steps}
 use Rattle.dns_name.specs.Order.{name_eq}
 use Rattle.cell_store.specs.declared.owner.OwnerCells.{OwnerCells}
 use Rattle.cell_store.specs.Owner.{IsUpTo}
-use Rattle.cell_store.specs.Store.{cell_by_owner}
+use Rattle.cell_store.specs.Store.{cell_by_owner, StayBut}
 use Rattle.std.specs.Option.{option_map_or}
 use Rattle.cell_store.specs.Count.{count_entries, has_place}
 use Rattle.cell_store.proofs.CountLaws.{count_set, count_found}
 use Rattle.cell_store.proofs.StoreLaws.{cells_settled, each_updated, pairs_kept, settles_there}
-use Rattle.cell_store.proofs.SpotLaws.{length_set}
+use Rattle.cell_store.proofs.SpotLaws.{length_set, stays_set}
+use Rattle.dns_name.specs.Labels.{Labels}
+use Rattle.std.specs.Map.{keys_of}
+use Rattle.std.proofs.lemmas.Map.{keys-set_value}
 use Rattle.cell_store.proofs.store.settle_kinds.Goals as goal
 
 pub returns-in-Some-clause-cells : goal.returns-in-Some-clause-cells
@@ -71,3 +74,11 @@ returns-in-Some-clause-pairs c =
     let held : Some c.in-Some.cells.now ≡ get name_eq owners owner = grind (arith, common_steps) in
     pairs_kept owners owners (c.get_mut.follows.lender new) owner owner new refl refl updates
     (λ scope has. ap (λ (o : Option OwnerCells). option_map_or (λ cells. has_place cells scope) o false) (sym held) ∙ c.settle_kinds.ensures.places scope has)
+
+pub returns-in-Some-clause-entries : goal.returns-in-Some-clause-entries
+returns-in-Some-clause-entries c =
+    let owners = c.args.owners.now in
+    let owner = c.args.owner.now in
+    let new = c.settle_kinds.new.self in
+    let put = (c.get_mut.follows.holds new).0 in
+    (subst (λ (l : List (Labels × OwnerCells)). StayBut owner owners.entries l) (sym put) (stays_set (name_eq owner) owner owners.entries new refl), ap keys_of put ∙ keys-set_value (name_eq owner) owners.entries new)

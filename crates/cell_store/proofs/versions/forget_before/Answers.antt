@@ -3,6 +3,7 @@ use Rattle.std.proofs.Common.{ℕ, List, sym, subst}
 use Rattle.std.specs.List.{AllByRecursion}
 use Rattle.cell_store.specs.declared.version.Version.{Version}
 use Rattle.cell_store.specs.Slots.{IsWithin}
+use Rattle.cell_store.proofs.DifferLaws.{differ_forgot}
 use Rattle.cell_store.proofs.EntryLaws.{ranked_forgot}
 use Rattle.cell_store.proofs.ForgetLaws.{forgot_place, forgot_later, lower_within, drop_within, forgot_starts}
 use Rattle.cell_store.proofs.versions.forget_before.Goals as goal
@@ -31,3 +32,6 @@ returns-clause-finds c = forgot_finds c.args.number c.last_start-before.result c
 
 pub returns-clause-ranked : goal.returns-clause-ranked
 returns-clause-ranked c = ranked_forgot c.args.number c.last_start-before.result c.args.versions.now.items c.lower_each.new.versions.items c.drop_front.new.versions.items c.lower_each.ensures.each c.drop_front.ensures.items
+
+pub returns-clause-differ : goal.returns-clause-differ
+returns-clause-differ c = differ_forgot c.args.number c.last_start-before.result c.args.versions.now.items c.lower_each.new.versions.items c.drop_front.new.versions.items c.lower_each.ensures.each c.drop_front.ensures.items

@@ -11,9 +11,9 @@ overflow_sub-others c = omega (arith, count_found_at c.args.owners.now.entries c
 pub returns-clause-swept : goal.returns-clause-swept
 returns-clause-swept c =
     let new = c.sweep_name.new.cells in
-    let at : c.max.result ≡ max (name_end new) c.saturating_add.result = omega (arith, c.max.ensures, c.first_end.ensures) in
+    let at : c.max-end.result ≡ max (name_end new) c.saturating_add.result = omega (arith, c.max-end.ensures, c.first_end.ensures) in
     let then : c.saturating_add.result ≡ min (c.args.moment + 1) latest = omega (arith, c.saturating_add.ensures) in
-    swept_at c.args.kept.now c.args.moment c.args.place c.args.owners.now.entries (set_value_at c.args.owners.now.entries c.args.place new) c.pair_mut-cells.result.0.now c.pair_mut-cells.result.1.now new c.max.result c.saturating_add.result
+    swept_at c.args.kept.now c.args.moment c.args.place c.args.owners.now.entries (set_value_at c.args.owners.now.entries c.args.place new) c.pair_mut-cells.result.0.now c.pair_mut-cells.result.1.now new c.max-end.result c.saturating_add.result c.is_mixed.result c.is_mixed.ensures.alike
     c.pair_mut-cells.ensures.value c.sweep_name.ensures.swept refl at then
 
 pub returns-clause-counted : goal.returns-clause-counted

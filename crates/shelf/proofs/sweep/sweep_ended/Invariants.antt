@@ -10,4 +10,4 @@ invariant-loop-place l = record {
 }
 
 abbrev pub decreases-loop-place : goal.decreases-loop-place
-decreases-loop-place l = count_ended l.asked l.ends
+decreases-loop-place l = count_ended l.asked l.ends.moments

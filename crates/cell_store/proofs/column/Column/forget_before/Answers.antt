@@ -30,6 +30,7 @@ invariant_of-self c =
       within = c.release.ensures.within;
       named = c.release.ensures.named;
       ranked = c.release.ensures.ranked (c.forget_before.ensures.ranked c.self.invariant.ranked);
+      differ = c.release.ensures.differ (c.forget_before.ensures.differ c.self.invariant.differ);
       short = omega (arith, lengths, c.forget_before.ensures.fewer, c.self.invariant.short);
       room = omega (arith, c.release.ensures.capacity, c.forget_before.ensures.capacity, c.self.invariant.room);
       slots = omega (arith, c.release.ensures.room, c.self.invariant.slots);

@@ -84,6 +84,7 @@ invariant_of-self c =
       starts = subst (λ (l : List (Version Find)). IsFromStart l) (sym c.release.ensures.same)
           (seen_starts c.push_reserved.new.self.items c.merge.new.versions.items (c.merge.ensures.starts (starts_seen c.push_reserved.new.self.items c.admit_each.new.versions.items after)));
       ranked = c.release.ensures.ranked (c.merge.ensures.ranked afters);
+      differ = c.release.ensures.differ (c.merge.ensures.differ afters);
       short = omega (arith, lengths, short c.merge.new.versions.items (c.merge.ensures.ranked afters) (c.merge.ensures.differ afters));
       room = omega (arith, c.release.ensures.capacity, c.merge.ensures.capacity, c.admit_each.ensures.capacity, c.reach.ensures.capacity, c.self.invariant.room);
       slots = omega (arith, c.release.ensures.room, c.push_reserved.ensures.capacity, c.self.invariant.slots);

@@ -92,6 +92,7 @@ invariant_of-self c =
       named = c.release.ensures.named;
       starts = subst (λ (l : List (Version Find)). IsFromStart l) (sym c.release.ensures.same) (seen_starts finds c.merge-2.new.versions.items (c.merge-2.ensures.starts after));
       ranked = c.release.ensures.ranked (c.merge-2.ensures.ranked pruned_ranked);
+      differ = c.release.ensures.differ (c.merge-2.ensures.differ pruned_ranked);
       short = omega (arith, lengths, short c.merge-2.new.versions.items (c.merge-2.ensures.ranked pruned_ranked) (c.merge-2.ensures.differ pruned_ranked));
       room = omega (arith, c.release.ensures.capacity, c.merge-2.ensures.capacity, c.prune.ensures.capacity, c.merge.ensures.capacity, c.sweep_each.ensures.capacity, c.self.invariant.room);
       slots = omega (arith, c.release.ensures.room, c.self.invariant.slots);

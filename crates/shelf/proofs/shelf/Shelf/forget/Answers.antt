@@ -1,20 +1,28 @@
-use Rattle.std.proofs.Common.{ℕ, List, sym, subst, arith}
+use Rattle.std.proofs.Common.{ℕ, List, length, sym, subst, arith}
+use Rattle.std.specs.Prelude.{position}
+use Rattle.std.specs.Map.{keys_of}
 use Rattle.indexmap.specs.IndexMap.{swap_remove_entry}
 use Rattle.dns_name.specs.Labels.{Labels}
 use Rattle.cell_store.specs.declared.owner.OwnerCells.{OwnerCells}
-use Rattle.shelf.specs.Clean.{AreKeyed, IsEnd}
-use Rattle.shelf.proofs.EndLaws.{keyed_dropped}
+use Rattle.shelf.specs.Clean.{dropped, AreEnds}
+use Rattle.shelf.proofs.EndLaws.{ends_by, keyed_dropped}
 use Rattle.shelf.specs.Told.{chosen_version}
 use Rattle.dns_name.specs.Order.{name_eq}
 use Rattle.shelf.proofs.AboutLaws.{about_forgot}
 use Rattle.shelf.proofs.FaceLaws.{settles_each}
+use Rattle.shelf.proofs.SettlingLaws.{forgot_face, forgot_settling}
 use Rattle.shelf.proofs.shelf.Shelf.forget.Goals as goal
+
+pub drop_end-requires : goal.drop_end-requires
+drop_end-requires c = record { size = c.requires.whole.ends.now.size; flags = c.requires.whole.ends.flags }
 
 pub forget-requires : goal.forget-requires
 forget-requires c = record { counted = c.requires.whole.counted }
 
 pub returns-clause-faces : goal.returns-clause-faces
-returns-clause-faces c = λ chosen q. c.forget.ensures.cells q (chosen_version c.args.self.now.kept.items q chosen)
+returns-clause-faces c = λ chosen q.
+    let self = c.args.self.now in
+    forgot_face self.owners c.forget.new.owners c.args.owner.now (length c.forget.new.owners.entries) c.forget.ensures.cells self.settling c.fit_place.new.settling c.fit_place.ensures q (chosen_version self.kept.items q chosen)
 
 pub returns-clause-whole : goal.returns-clause-whole
 returns-clause-whole c =
@@ -30,7 +38,8 @@ returns-clause-whole c =
       few = omega (arith, c.forget.ensures.fewer, whole.few);
       small = whole.small;
       room = whole.room;
-      ends = subst (λ (l : List (Labels × OwnerCells)). AreKeyed (IsEnd self.kept.items) l c.drop_end.new.ends) (sym c.forget.ensures.gone.1)
-          (subst (λ (l : List ℕ). AreKeyed (IsEnd self.kept.items) (swap_remove_entry (name_eq c.args.owner.now) self.owners.entries) l) (sym c.drop_end.ensures)
-          (keyed_dropped (IsEnd self.kept.items) (name_eq c.args.owner.now) self.owners.entries self.ends whole.ends));
+      ends = subst (λ (l : List (Labels × OwnerCells)). AreEnds self.kept.items l c.drop_end.new.ends) (sym c.forget.ensures.gone.1)
+          (ends_by self.kept.items self.owners.entries (swap_remove_entry (name_eq c.args.owner.now) self.owners.entries) (dropped (position (name_eq c.args.owner.now) (keys_of self.owners.entries))) self.ends c.drop_end.new.ends
+          (λ P start l keyed. keyed_dropped P (name_eq c.args.owner.now) self.owners.entries l keyed) c.drop_end.ensures whole.ends);
+      settling = forgot_settling self.top self.owners c.forget.new.owners c.args.owner.now c.forget.ensures.cells c.forget.ensures.gone.1 self.settling c.fit_place.new.settling c.fit_place.ensures whole.settling;
     }

@@ -1,21 +1,52 @@
-use Rattle.std.proofs.Common.{◌≡◌, Option, cond, sym, ap, ◌∙◌, arith}
+use Rattle.std.proofs.Common.{◌≡◌, ◌≤◌, Option, List, Bool, cond, true, false, sym, ap, ◌∙◌, subst, arith}
 use Rattle.ranked.specs.declared.find.Find.{Find}
 use Rattle.ranked.specs.declared.cell.Admitted.{Admitted}
 use Rattle.ranked.specs.Find.{touches, admission_of}
 use Rattle.ranked.specs.Cell.{after_admission}
-use Rattle.shelf.specs.Told.{only, chosen_version}
+use Rattle.shelf.specs.declared.shelf.KeptFlush.{KeptFlush}
+use Rattle.shelf.specs.Settling.{settled_version}
+use Rattle.shelf.specs.Told.{cell_at, only, chosen_version, is_version}
 use Rattle.shelf.specs.Told.Told.{admitted}
-use Rattle.std.specs.Prelude.{Ok}
-use Rattle.cell_store.specs.Store.{name_place}
-use Rattle.shelf.specs.Clean.{touched}
-use Rattle.shelf.proofs.EndLaws.{held_about, held_ends, held_ok}
+use Rattle.std.specs.Prelude.{not, Ok}
+use Rattle.cell_store.specs.Count.{has_place_for, one_if}
+use Rattle.shelf.proofs.EndLaws.{ends_by, held_about, held_ends, held_ok}
 use Rattle.shelf.proofs.AboutLaws.{about_admitted}
-use Rattle.shelf.proofs.ShelfLaws.{version_low, told_more}
+use Rattle.shelf.proofs.ShelfLaws.{told_more}
+use Rattle.shelf.proofs.ShelfLaws as shelf
 use Rattle.shelf.proofs.FaceLaws.{chosen_low, settles_kept}
+use Rattle.shelf.proofs.SettlingLaws.{admitted_settling, held_settling, size_more, version_low}
 use Rattle.shelf.proofs.shelf.Shelf.hold.Goals as goal
+
+pub touch-requires : goal.touch-requires
+touch-requires c = record { size = c.requires.whole.ends.now.size; flags = c.requires.whole.ends.flags }
+
+pub fit-requires : goal.fit-requires
+fit-requires c = record { flags = c.in_ok-touch.ensures.ok.flags }
 
 pub admit-result-requires : goal.admit-result-requires
 admit-result-requires c = record { index = record { upto = c.requires.whole.upto; counted = c.requires.whole.counted; few = omega (arith, c.requires.whole.few, c.requires.whole.small) } }
+
+pub reach_names-requires : goal.reach_names-requires
+reach_names-requires c =
+    let self = c.args.self.now in
+    let done : c.admit-result.result ≡ Ok c.in_ok-result.field-0 = cc in
+    let cells = held_ok c.admit-result.result c.in_ok-result.field-0 c.admit-result.ensures.cells done in
+    record {
+      whole = record {
+        upto = c.admit-result.ensures.upto;
+        about = about_admitted self.owners c.admit-result.new.owners c.args.find c.args.moment self.top c.admit-result.ensures.upto cells c.requires.whole.about;
+        numbers = c.requires.whole.numbers;
+        ascending = c.requires.whole.ascending;
+        settles = settles_kept self.owners c.admit-result.new.owners self.top self.kept.items c.admit-result.ensures.settles c.requires.whole.numbers c.requires.whole.settles;
+        counted = c.admit-result.ensures.counted;
+        few = omega (arith, c.admit-result.ensures.bound.0, c.requires.room);
+        small = c.requires.whole.small;
+        room = c.requires.whole.room;
+        ends = held_ends self c.admit-result.new.owners c.args.find c.find-2.result.now c.touch.new.ends c.fit.new.ends c.requires.whole.ends c.admit-result.ensures.bound.2 c.find-2.ensures c.in_ok-touch.ensures.ok c.fit.ensures;
+        settling = admitted_settling self.top self.owners c.admit-result.new.owners c.args.find.owner c.admit-result.ensures.bound.2.names (size_more self.owners.entries c.admit-result.new.owners.entries c.args.find.owner c.admit-result.ensures.bound.2.size)
+            c.args.find c.args.moment cells self.settling c.requires.whole.settling;
+      };
+    }
 
 pub returns-clause-admitted : goal.returns-clause-admitted
 returns-clause-admitted c =
@@ -23,34 +54,29 @@ returns-clause-admitted c =
     let new = admission_of c.args.find c.args.find c.args.moment in
     let done : c.admit-result.result ≡ Ok c.in_ok-result.field-0 = cc in
     let cells = held_ok c.admit-result.result c.in_ok-result.field-0 c.admit-result.ensures.cells done in
+    let kept = c.reach_names.ensures.flushes.0 in
+    let low = version_low self.owners self.top self.settling c.requires.whole.settling in
     record {
       cells = λ told is question version there.
-          cells question version (version_low self.kept.items self.top question version c.requires.whole.numbers there)
-          ∙ (ap (λ (h : Option (Admitted Find)). cond (touches c.args.find question) (after_admission h new) h) (is question version there)
-          ∙ sym (told_more question (only version) told (admitted c.args.find c.args.moment)));
+          let was = subst (λ (l : List KeptFlush). is_version l question version ≡ true) kept there in
+          c.reach_names.ensures.cells question version
+          ∙ (cells question (settled_version self.settling question.owner version) (low question.owner version (shelf.version_low self.kept.items self.top question version c.requires.whole.numbers was))
+          ∙ (ap (λ (h : Option (Admitted Find)). cond (touches c.args.find question) (after_admission h new) h) (is question version was)
+          ∙ sym (told_more question (only version) told (admitted c.args.find c.args.moment))));
       faces = λ chosen q.
-          cells q (chosen_version self.kept.items q chosen) (chosen_low self.top self.kept.items q chosen c.requires.whole.numbers);
-      pairs = c.admit-result.ensures.bound.1;
+          let version = chosen_version self.kept.items q chosen in
+          ap (λ (l : List KeptFlush). cell_at c.reach_names.new.self q (chosen_version l q chosen)) kept
+          ∙ (c.reach_names.ensures.cells q version
+          ∙ cells q (settled_version self.settling q.owner version) (low q.owner version (chosen_low self.top self.kept.items q chosen c.requires.whole.numbers)));
+      pairs = λ pair has. c.admit-result.ensures.bound.1 pair (c.reach_names.ensures.pairs pair has);
     }
 
-pub returns-clause-whole : goal.returns-clause-whole
-returns-clause-whole c =
-    let self = c.args.self.now in
-    let done : c.admit-result.result ≡ Ok c.in_ok-result.field-0 = cc in
-    let cells = held_ok c.admit-result.result c.in_ok-result.field-0 c.admit-result.ensures.cells done in
-    record {
-      upto = c.admit-result.ensures.upto;
-      about = about_admitted self.owners c.admit-result.new.owners c.args.find c.args.moment self.top c.admit-result.ensures.upto cells c.requires.whole.about;
-      numbers = c.requires.whole.numbers;
-      ascending = c.requires.whole.ascending;
-      settles = settles_kept self.owners c.admit-result.new.owners self.top self.kept.items c.admit-result.ensures.settles c.requires.whole.numbers c.requires.whole.settles;
-      counted = c.admit-result.ensures.counted;
-      few = omega (arith, c.admit-result.ensures.bound.0, c.requires.room);
-      small = c.requires.whole.small;
-      room = c.requires.whole.room;
-      ends = held_ends self c.admit-result.new.owners c.args.find c.touch.new.ends c.fit.new.ends c.requires.whole.ends c.admit-result.ensures.bound.2
-          (c.in_ok-touch.ensures.ok ∙ ap (λ (f : Find). touched (name_place f.owner self.owners.entries) self.ends) c.find-2.ensures) c.fit.ensures;
-    }
+at_most_one : (b : Bool) → one_if b ≤ 1
+at_most_one true = omega arith
+at_most_one false = omega arith
+
+pub returns-clause-stored : goal.returns-clause-stored
+returns-clause-stored c = omega (arith, c.reach_names.ensures.stored, c.admit-result.ensures.bound.0, at_most_one (not (has_place_for c.args.self.now.owners c.args.find)))
 
 pub returns-in_err-result-clause-whole : goal.returns-in_err-result-clause-whole
 returns-in_err-result-clause-whole c =
@@ -65,6 +91,25 @@ returns-in_err-result-clause-whole c =
       few = omega (arith, c.admit-result.ensures.bound.0, c.requires.room);
       small = c.requires.whole.small;
       room = c.requires.whole.room;
-      ends = held_ends self c.admit-result.new.owners c.args.find c.touch.new.ends c.fit.new.ends c.requires.whole.ends c.admit-result.ensures.bound.2
-          (c.in_ok-touch.ensures.ok ∙ ap (λ (f : Find). touched (name_place f.owner self.owners.entries) self.ends) c.find-2.ensures) c.fit.ensures;
+      ends = held_ends self c.admit-result.new.owners c.args.find c.find-2.result.now c.touch.new.ends c.fit.new.ends c.requires.whole.ends c.admit-result.ensures.bound.2 c.find-2.ensures c.in_ok-touch.ensures.ok c.fit.ensures;
+      settling = held_settling self.owners c.admit-result.new.owners c.args.find c.args.moment self.top self.stored c.admit-result.new.stored c.admit-result.result c.admit-result.ensures.cells c.admit-result.ensures.err c.admit-result.ensures.bound.2.names
+          (size_more self.owners.entries c.admit-result.new.owners.entries c.args.find.owner c.admit-result.ensures.bound.2.size) self.settling c.requires.whole.settling;
+    }
+
+pub returns-in_err-touch-clause-whole : goal.returns-in_err-touch-clause-whole
+returns-in_err-touch-clause-whole c =
+    let self = c.args.self.now in
+    let whole = c.requires.whole in
+    record {
+      upto = whole.upto;
+      about = whole.about;
+      numbers = whole.numbers;
+      ascending = whole.ascending;
+      settles = whole.settles;
+      counted = whole.counted;
+      few = whole.few;
+      small = whole.small;
+      room = whole.room;
+      ends = ends_by self.kept.items self.owners.entries self.owners.entries (λ l. l) self.ends c.touch.new.ends (λ P start l keyed. keyed) c.in_err-touch.ensures.err whole.ends;
+      settling = whole.settling;
     }

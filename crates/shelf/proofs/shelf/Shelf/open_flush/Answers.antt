@@ -1,13 +1,18 @@
-use Rattle.std.proofs.Common.{◌≤◌, List, length, true, refl, sym, ap, ◌∙◌, subst, arith}
+use Rattle.std.proofs.Common.{◌≤◌, List, length, true, inl, refl, sym, ap, ◌∙◌, subst, arith}
 use Rattle.std.specs.List.{AllByRecursion}
 use Rattle.shelf.specs.declared.shelf.KeptFlush.{KeptFlush}
-use Rattle.shelf.specs.Told.{is_version, IsAscending, CanSettleFlush}
-use Rattle.shelf.specs.Clean.{AreKeyed, IsEnd}
+use Rattle.shelf.specs.Settling.{settled_cell, settled_version}
+use Rattle.shelf.specs.Told.{cell_at, is_version, IsAscending, CanSettleFlush}
+use Rattle.shelf.specs.Clean.{AreEnds}
 use Rattle.shelf.proofs.EndLaws.{ends_kept, reset_ends, version_more}
 use Rattle.shelf.proofs.AboutLaws.{about_same}
 use Rattle.shelf.proofs.ShelfLaws.{flush_told}
 use Rattle.shelf.proofs.FaceLaws.{flush_face, all_more, ascending_more, upto_greater}
+use Rattle.shelf.proofs.SettlingLaws.{kept_settling, newer_settling, nothing_settled}
 use Rattle.shelf.proofs.shelf.Shelf.open_flush.Goals as goal
+
+pub reset-requires : goal.reset-requires
+reset-requires c = record { size = c.requires.whole.ends.now.size; flags = c.requires.whole.ends.flags }
 
 pub open_flush-requires : goal.open_flush-requires
 open_flush-requires c = record { upto = c.requires.whole.upto }
@@ -17,11 +22,12 @@ returns-clause-flushed c =
     let self = c.args.self.now in
     record {
       cells = λ told is question version there.
-          c.open_flush.ensures.cells question version
-          ∙ flush_told self.owners self.kept.items self.top told c.args.flush c.args.number c.requires.whole.upto c.requires.whole.numbers c.requires.newest is question version
+          c.open_flush.ensures.cells question (settled_version self.settling question.owner version)
+          ∙ flush_told (cell_at self) self.kept.items self.top told c.args.flush c.args.number (nothing_settled self.owners self.top self.settling c.requires.whole.upto) c.requires.whole.numbers c.requires.newest is question version
           (ap (λ (l : List KeptFlush). is_version l question version) (sym c.in_ok-push.ensures.items) ∙ there);
       kept = c.in_ok-push.ensures.items;
-      faces = flush_face self.owners c.open_flush.new.owners self.kept.items c.push.new.self.items self.top (record { flush = c.args.flush; number = c.args.number; shown = true }) c.requires.whole.upto c.requires.newest c.open_flush.ensures.cells c.in_ok-push.ensures.items;
+      faces = flush_face (cell_at self) (settled_cell self.settling c.open_flush.new.owners) self.kept.items c.push.new.self.items (record { flush = c.args.flush; number = c.args.number; shown = true })
+          (λ q. nothing_settled self.owners self.top self.settling c.requires.whole.upto q c.args.number c.requires.newest) (λ q v. c.open_flush.ensures.cells q (settled_version self.settling q.owner v)) c.in_ok-push.ensures.items;
       top = refl;
       pairs = c.open_flush.ensures.pairs;
     }
@@ -45,6 +51,8 @@ returns-clause-whole c =
       room = omega (arith, c.in_ok-reserve.ensures.room, c.in_ok-push.ensures.len, c.len.ensures);
       ends = ends_kept self.kept.items c.push.new.self.items (λ q v there. ap (λ (l : List KeptFlush). is_version l q v) c.in_ok-push.ensures.items ∙ version_more self.kept.items own q v there) owners.entries c.reset.new.ends
           (reset_ends self owners c.args.flush c.reset.new.ends c.requires.whole.ends c.open_flush.ensures.entries.0 c.open_flush.ensures.entries.1 c.reset.ensures);
+      settling = newer_settling self.top c.args.number owners (omega (arith, c.requires.newest)) self.settling
+          (kept_settling self.top self.owners owners c.args.flush.name (inl c.open_flush.ensures.entries.2) (omega (arith, c.open_flush.ensures.entries.1)) c.open_flush.ensures.cells self.settling c.requires.whole.settling);
     }
 
 pub returns-in_err-push-clause-whole : goal.returns-in_err-push-clause-whole
@@ -63,8 +71,9 @@ returns-in_err-push-clause-whole c =
       few = whole.few;
       small = whole.small;
       room = omega (arith, ap length items, c.reserve.ensures.more, whole.room);
-      ends = subst (λ (l : List KeptFlush). AreKeyed (IsEnd l) owners.entries c.reset.new.ends) (sym items)
+      ends = subst (λ (l : List KeptFlush). AreEnds l owners.entries c.reset.new.ends) (sym items)
           (reset_ends self owners c.args.flush c.reset.new.ends whole.ends c.open_flush.ensures.entries.0 c.open_flush.ensures.entries.1 c.reset.ensures);
+      settling = kept_settling self.top self.owners owners c.args.flush.name (inl c.open_flush.ensures.entries.2) (omega (arith, c.open_flush.ensures.entries.1)) c.open_flush.ensures.cells self.settling whole.settling;
     }
 
 pub returns-in_err-open_flush-clause-whole : goal.returns-in_err-open_flush-clause-whole
@@ -83,4 +92,5 @@ returns-in_err-open_flush-clause-whole c =
       small = whole.small;
       room = omega (arith, c.reserve.ensures.more, whole.room);
       ends = reset_ends self owners c.args.flush c.reset.new.ends whole.ends c.open_flush.ensures.entries.0 c.open_flush.ensures.entries.1 c.reset.ensures;
+      settling = kept_settling self.top self.owners owners c.args.flush.name (inl c.open_flush.ensures.entries.2) (omega (arith, c.open_flush.ensures.entries.1)) c.open_flush.ensures.cells self.settling whole.settling;
     }

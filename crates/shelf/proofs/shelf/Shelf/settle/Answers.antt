@@ -1,29 +1,17 @@
-use Rattle.std.proofs.Common.{◌≡◌, ◌∙◌, ℕ, Bool, true, false, arith}
-use Rattle.std.proofs.lemmas.Grind.{common_steps}
+use Rattle.std.proofs.Common.{◌≡◌, ◌∙◌, ℕ, Bool, List, ap}
 use Rattle.dns_text.specs.declared.record.Question.{Question}
-use Rattle.shelf.specs.Kept.{stands_first}
-use Rattle.shelf.specs.Told.{face_of}
-use Rattle.shelf.proofs.KeptLaws.{oldest_kept, oldest_same}
-use Rattle.shelf.proofs.ByRoomLaws.{owners_pairs}
+use Rattle.shelf.specs.declared.shelf.KeptFlush.{KeptFlush}
+use Rattle.shelf.specs.declared.shelf.Shelf.{Shelf}
+use Rattle.shelf.specs.Told.{cell_at, chosen_version, face_of}
 use Rattle.shelf.proofs.shelf.Shelf.settle.Goals as goal
 
-pub returns-then-stands_first-clause-faces : goal.returns-then-stands_first-clause-faces
-returns-then-stands_first-clause-faces c =
-    let olds = c.args.self.now.kept.items in
-    let first : stands_first c.args.number olds ≡ true = grind (arith, common_steps) in
-    λ chosen there. oldest_same {X = λ (choice : ℕ → Bool). (q : Question) → face_of c.settle_oldest.new.self choice q ≡ face_of c.args.self.now choice q}
-    c.args.number olds chosen first there c.settle_oldest.ensures.faces
-
-pub returns-then-stands_first-clause-kept : goal.returns-then-stands_first-clause-kept
-returns-then-stands_first-clause-kept c =
-    let olds = c.args.self.now.kept.items in
-    let first : stands_first c.args.number olds ≡ true = grind (arith, common_steps) in
-    oldest_kept c.args.number olds c.settle_oldest.new.self.kept.items first c.settle_oldest.ensures.kept
+reached_face : (old new : Shelf) → new.kept.items ≡ old.kept.items → ((q : Question) (v : ℕ) → cell_at new q v ≡ cell_at old q v) → (chosen : ℕ → Bool) (q : Question) → face_of new chosen q ≡ face_of old chosen q
+reached_face old new kept cells chosen q = ap (λ (l : List KeptFlush). cell_at new q (chosen_version l q chosen)) kept ∙ cells q (chosen_version old.kept.items q chosen)
 
 pub returns-clause-faces : goal.returns-clause-faces
-returns-clause-faces c =
-    let first : stands_first c.args.number c.args.self.now.kept.items ≡ false = grind (arith, common_steps) in
-    λ chosen there. c.settle_cleared.ensures.faces chosen (there ∙ first)
+returns-clause-faces c chosen there q =
+    reached_face c.settle_kept.new.self c.reach_names.new.self c.reach_names.ensures.flushes.0 c.reach_names.ensures.cells chosen q
+    ∙ c.settle_kept.ensures.faces chosen there q
 
 pub returns-clause-pairs : goal.returns-clause-pairs
-returns-clause-pairs c = owners_pairs c.args.self.now.owners c.settle_cleared.new.self.owners c.settle_cleared.ensures.owners
+returns-clause-pairs c = λ pair has. c.settle_kept.ensures.pairs pair (c.reach_names.ensures.pairs pair has)

@@ -1,17 +1,15 @@
-use Rattle.shelf.specs.Clean.{AreKeyed, IsEnd}
-use Rattle.shelf.proofs.EndLaws.{end_zero, keyed_zero}
+use Rattle.shelf.proofs.EndLaws.{ends_mixed}
 use Rattle.std.proofs.Common.{◌≤◌, ℕ, List, sym, ap, ◌∙◌, subst, length, arith}
 use Rattle.std.specs.List.{AllByRecursion}
-use Rattle.cell_store.specs.Store.{cell_of}
 use Rattle.shelf.specs.declared.shelf.KeptFlush.{KeptFlush}
-use Rattle.shelf.specs.Told.{chosen_version, IsAscending, CanSettleFlush}
+use Rattle.shelf.specs.Told.{cell_at, chosen_version, IsAscending, CanSettleFlush}
 use Rattle.shelf.proofs.FaceLaws.{length_without, all_without, ascending_without, chosen_without}
 use Rattle.shelf.proofs.shelf.Shelf.settle_cleared.Goals as goal
 
 pub returns-clause-faces : goal.returns-clause-faces
 returns-clause-faces c = λ chosen off q.
-    ap (λ (l : List KeptFlush). cell_of c.args.self.now.owners q (chosen_version l q chosen)) c.remove_number.ensures
-    ∙ ap (cell_of c.args.self.now.owners q) (chosen_without c.args.number c.args.self.now.kept.items q chosen off)
+    ap (λ (l : List KeptFlush). cell_at c.args.self.now q (chosen_version l q chosen)) c.remove_number.ensures
+    ∙ ap (cell_at c.args.self.now q) (chosen_without c.args.number c.args.self.now.kept.items q chosen off)
 
 pub returns-clause-whole : goal.returns-clause-whole
 returns-clause-whole c = λ is.
@@ -27,6 +25,6 @@ returns-clause-whole c = λ is.
       few = is.few;
       small = is.small;
       room = omega (arith, ap length c.remove_number.ensures, length_without c.args.number kept, is.room);
-      ends = subst (λ (l : List ℕ). AreKeyed (IsEnd c.remove_number.new.kept.items) c.args.self.now.owners.entries l) (sym c.end_all.ensures)
-          (keyed_zero (IsEnd c.remove_number.new.kept.items) (end_zero c.remove_number.new.kept.items) c.args.self.now.owners.entries (length c.args.self.now.ends) is.ends.size);
+      ends = ends_mixed kept c.remove_number.new.kept.items c.args.self.now.owners.entries c.args.self.now.ends c.end_mixed.new.ends is.ends (c.end_mixed.ensures is.ends.flags);
+      settling = is.settling;
     }

@@ -1,23 +1,31 @@
-use Rattle.std.proofs.Common.{◌≤◌, ℕ, List, length, sym, ◌∙◌, subst, arith}
-use Rattle.shelf.specs.Clean.{AreKeyed, IsEnd}
-use Rattle.shelf.proofs.EndLaws.{end_zero, keyed_zero}
-use Rattle.ranked.specs.Flush.{covers}
-use Rattle.cell_store.specs.Owner.{after_settle}
-use Rattle.shelf.specs.Told.{CanSettleFlush}
-use Rattle.shelf.proofs.AboutLaws.{about_moved}
+use Rattle.std.proofs.Common.{◌≤◌, length, ap, ◌∙◌, arith}
+use Rattle.shelf.proofs.EndLaws.{ends_mixed}
+use Rattle.shelf.proofs.EvenLaws.{evens_length}
+use Rattle.shelf.specs.Settling.{settled_cell}
+use Rattle.shelf.specs.Told.{cell_at, CanSettleFlush}
 use Rattle.shelf.proofs.FaceLaws.{removed_face, removed_kept, all_removed, ascending_removed, all_first}
+use Rattle.shelf.proofs.SettlingLaws.{within_names}
 use Rattle.shelf.proofs.shelf.Shelf.settle_oldest.Goals as goal
 
 pub settle_flush-requires : goal.settle_flush-requires
 settle_flush-requires c = record {
+  low = (
+    within_names c.args.self.now.top c.args.self.now.owners c.args.self.now.settling c.requires.whole.settling,
+    (
+      ap length (c.end_mixed.ensures c.requires.whole.ends.flags).moments ∙ (evens_length c.args.self.now.ends.moments c.args.self.now.ends.mixed.items ∙ c.requires.whole.ends.now.size),
+      (c.end_mixed.ensures c.requires.whole.ends.flags).flags,
+    ),
+  );
   counted = c.requires.whole.counted;
   settles = all_first (λ own. CanSettleFlush c.args.self.now.owners own.number own.flush) c.args.self.now.kept.items c.remove-own.result (omega arith) c.remove-own.ensures.value c.requires.whole.settles;
 }
 
 pub returns-clause-faces : goal.returns-clause-faces
 returns-clause-faces c =
-    removed_face c.args.self.now.owners c.settle_flush.new.owners c.args.self.now.kept.items c.remove-own.new.self.items c.remove-own.result c.requires.whole.ascending c.remove-own.ensures.value c.remove-own.ensures.items
-    (c.settle_flush.ensures.cells c.args.self.now.top c.requires.whole.upto)
+    let self = c.args.self.now in
+    let older = all_first (λ own. own.number ≤ self.top) self.kept.items c.remove-own.result (omega arith) c.remove-own.ensures.value c.requires.whole.numbers in
+    removed_face (cell_at self) (settled_cell c.settle_flush.new.settling c.settle_flush.new.owners) self.kept.items c.remove-own.new.self.items c.remove-own.result c.requires.whole.ascending c.remove-own.ensures.value c.remove-own.ensures.items
+    (c.settle_flush.ensures.moved self.top older c.requires.whole.upto c.requires.whole.settling).cells
 
 pub returns-clause-kept : goal.returns-clause-kept
 returns-clause-kept c = removed_kept c.args.self.now.kept.items c.remove-own.new.self.items c.remove-own.ensures.items
@@ -25,17 +33,20 @@ returns-clause-kept c = removed_kept c.args.self.now.kept.items c.remove-own.new
 pub returns-clause-whole : goal.returns-clause-whole
 returns-clause-whole c =
     let self = c.args.self.now in
+    let whole = c.requires.whole in
+    let older = all_first (λ own. own.number ≤ self.top) self.kept.items c.remove-own.result (omega arith) c.remove-own.ensures.value whole.numbers in
+    let moved = c.settle_flush.ensures.moved self.top older whole.upto whole.settling in
     record {
-      upto = c.settle_flush.ensures.upto self.top c.requires.whole.upto;
-      about = about_moved self.owners c.settle_flush.new.owners (λ q v. after_settle (covers c.remove-own.result.flush q) c.remove-own.result.number v) (c.settle_flush.ensures.cells self.top c.requires.whole.upto) c.requires.whole.about;
-      numbers = all_removed (λ own. own.number ≤ self.top) self.kept.items c.remove-own.new.self.items c.remove-own.ensures.items c.requires.whole.numbers;
-      ascending = ascending_removed self.kept.items c.remove-own.new.self.items c.remove-own.ensures.items c.requires.whole.ascending;
+      upto = moved.upto;
+      about = moved.about whole.about;
+      numbers = all_removed (λ own. own.number ≤ self.top) self.kept.items c.remove-own.new.self.items c.remove-own.ensures.items whole.numbers;
+      ascending = ascending_removed self.kept.items c.remove-own.new.self.items c.remove-own.ensures.items whole.ascending;
       settles = c.settle_flush.ensures.settles c.remove-own.new.self.items
-          (all_removed (λ own. CanSettleFlush self.owners own.number own.flush) self.kept.items c.remove-own.new.self.items c.remove-own.ensures.items c.requires.whole.settles);
-      counted = c.settle_flush.ensures.counted;
-      few = omega (arith, c.settle_flush.ensures.fewer.0, c.requires.whole.few);
-      small = c.requires.whole.small;
-      room = omega (arith, c.remove-own.ensures.len, c.requires.whole.room);
-      ends = subst (λ (l : List ℕ). AreKeyed (IsEnd c.remove-own.new.self.items) c.settle_flush.new.owners.entries l) (sym c.end_all.ensures)
-          (keyed_zero (IsEnd c.remove-own.new.self.items) (end_zero c.remove-own.new.self.items) c.settle_flush.new.owners.entries (length self.ends) (c.requires.whole.ends.size ∙ sym c.settle_flush.ensures.fewer.1));
+          (all_removed (λ own. CanSettleFlush self.owners own.number own.flush) self.kept.items c.remove-own.new.self.items c.remove-own.ensures.items whole.settles);
+      counted = c.settle_flush.ensures.counted.0;
+      few = omega (arith, c.settle_flush.ensures.counted.1, whole.few);
+      small = whole.small;
+      room = omega (arith, c.remove-own.ensures.len, whole.room);
+      ends = c.settle_flush.ensures.ends c.remove-own.new.self.items (ends_mixed self.kept.items c.remove-own.new.self.items self.owners.entries self.ends c.end_mixed.new.ends whole.ends (c.end_mixed.ensures whole.ends.flags));
+      settling = moved.settling;
     }

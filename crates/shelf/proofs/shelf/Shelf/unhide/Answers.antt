@@ -1,8 +1,7 @@
 use Rattle.std.proofs.Common.{◌≤◌, List, true, sym, ap, ◌∙◌, subst, length, arith}
 use Rattle.std.specs.List.{AllByRecursion}
-use Rattle.cell_store.specs.Store.{cell_of}
 use Rattle.shelf.specs.declared.shelf.KeptFlush.{KeptFlush}
-use Rattle.shelf.specs.Told.{is_version, chosen_version, IsAscending, CanSettleFlush}
+use Rattle.shelf.specs.Told.{cell_at, is_version, chosen_version, IsAscending, CanSettleFlush}
 use Rattle.shelf.proofs.EndLaws.{ends_kept}
 use Rattle.shelf.proofs.ShelfLaws.{same_version, same_numbers}
 use Rattle.shelf.proofs.FaceLaws.{length_shown, same_all, same_ascending, same_chosen}
@@ -15,8 +14,8 @@ returns-clause-cells c = λ told is question version there.
 
 pub returns-clause-faces : goal.returns-clause-faces
 returns-clause-faces c = λ chosen q.
-    ap (λ (l : List KeptFlush). cell_of c.args.self.now.owners q (chosen_version l q chosen)) c.set_shown.ensures
-    ∙ ap (cell_of c.args.self.now.owners q) (same_chosen c.args.number true c.args.self.now.kept.items q chosen)
+    ap (λ (l : List KeptFlush). cell_at c.args.self.now q (chosen_version l q chosen)) c.set_shown.ensures
+    ∙ ap (cell_at c.args.self.now q) (same_chosen c.args.number true c.args.self.now.kept.items q chosen)
 
 pub returns-clause-whole : goal.returns-clause-whole
 returns-clause-whole c = λ is.
@@ -34,4 +33,5 @@ returns-clause-whole c = λ is.
       room = omega (arith, ap length c.set_shown.ensures, length_shown c.args.number true kept, is.room);
       ends = ends_kept kept c.set_shown.new.kept.items (λ q v there. ap (λ (l : List KeptFlush). is_version l q v) c.set_shown.ensures ∙ (same_version c.args.number true kept q v ∙ there))
           c.args.self.now.owners.entries c.args.self.now.ends is.ends;
+      settling = is.settling;
     }

@@ -1,0 +1,32 @@
+use Rattle.std.proofs.Common.{arith}
+use Rattle.shelf.proofs.FaceLaws.{settles_each}
+use Rattle.shelf.proofs.SettlingLaws.{within_names}
+use Rattle.shelf.proofs.shelf.Shelf.reach_names.Goals as goal
+
+pub reach_some-requires : goal.reach_some-requires
+reach_some-requires c = record {
+  low = (within_names c.args.self.now.top c.args.self.now.owners c.args.self.now.settling c.requires.whole.settling, (c.requires.whole.ends.now.size, c.requires.whole.ends.flags));
+  counted = c.requires.whole.counted;
+}
+
+pub returns-clause-cells : goal.returns-clause-cells
+returns-clause-cells c = (c.reach_some.ensures.moved c.args.self.now.top c.requires.whole.upto c.requires.whole.settling).cells
+
+pub returns-clause-whole : goal.returns-clause-whole
+returns-clause-whole c =
+    let self = c.args.self.now in
+    let whole = c.requires.whole in
+    let moved = c.reach_some.ensures.moved self.top whole.upto whole.settling in
+    record {
+      upto = moved.upto;
+      about = moved.about whole.about;
+      numbers = whole.numbers;
+      ascending = whole.ascending;
+      settles = settles_each self.owners c.reach_some.new.owners self.kept.items c.reach_some.ensures.settles whole.settles;
+      counted = c.reach_some.ensures.counted.0;
+      few = omega (arith, c.reach_some.ensures.counted.1, whole.few);
+      small = whole.small;
+      room = whole.room;
+      ends = c.reach_some.ensures.ends self.kept.items whole.ends;
+      settling = moved.settling;
+    }

@@ -1,0 +1,29 @@
+use Rattle.std.proofs.Common.{◌≡◌, ◌∙◌, ℕ, Bool, true, false, arith}
+use Rattle.std.proofs.lemmas.Grind.{common_steps}
+use Rattle.dns_text.specs.declared.record.Question.{Question}
+use Rattle.shelf.specs.Kept.{stands_first}
+use Rattle.shelf.specs.Told.{face_of}
+use Rattle.shelf.proofs.KeptLaws.{oldest_kept, oldest_same}
+use Rattle.shelf.proofs.ByRoomLaws.{owners_pairs}
+use Rattle.shelf.proofs.shelf.Shelf.settle_kept.Goals as goal
+
+pub returns-then-stands_first-clause-faces : goal.returns-then-stands_first-clause-faces
+returns-then-stands_first-clause-faces c =
+    let olds = c.args.self.now.kept.items in
+    let first : stands_first c.args.number olds ≡ true = grind (arith, common_steps) in
+    λ chosen there. oldest_same {X = λ (choice : ℕ → Bool). (q : Question) → face_of c.settle_oldest.new.self choice q ≡ face_of c.args.self.now choice q}
+    c.args.number olds chosen first there c.settle_oldest.ensures.faces
+
+pub returns-then-stands_first-clause-kept : goal.returns-then-stands_first-clause-kept
+returns-then-stands_first-clause-kept c =
+    let olds = c.args.self.now.kept.items in
+    let first : stands_first c.args.number olds ≡ true = grind (arith, common_steps) in
+    oldest_kept c.args.number olds c.settle_oldest.new.self.kept.items first c.settle_oldest.ensures.kept
+
+pub returns-clause-faces : goal.returns-clause-faces
+returns-clause-faces c =
+    let first : stands_first c.args.number c.args.self.now.kept.items ≡ false = grind (arith, common_steps) in
+    λ chosen there. c.settle_cleared.ensures.faces chosen (there ∙ first)
+
+pub returns-clause-pairs : goal.returns-clause-pairs
+returns-clause-pairs c = owners_pairs c.args.self.now.owners c.settle_cleared.new.self.owners c.settle_cleared.ensures.owners
