@@ -233,6 +233,39 @@ def drawn(checks):
     run_drawn.end()
 
 
+# ---- the places of a worker
+
+# How many there are, how many of them are kept for servers with less than their share, and that share.
+PLACES, KEPT, SHARE = 64, 4, 4
+
+SERVERS = 4
+
+
+def places(checks):
+    """Questions for four servers: whether each begins an exchange, or gets SERVFAIL while places are free or none is. In turn, one
+    server is asked alone while many exchanges end, and all are while few do."""
+    some, talker, under_way, kinds = random.Random(11), Talker(), {}, Counter()
+    for line in [f"limit {PLACES}", HINTS, *(f"stub_add s{n}.test. 127.0.1.{n}@5301" for n in range(SERVERS))]:
+        talker.say(line)
+    for client in range(1_500):
+        one = client % 100 < 60
+        server = 0 if one else some.randrange(SERVERS)
+        taken, own = len(under_way), list(under_way.values()).count(server)
+        begins = taken < PLACES - KEPT or taken < PLACES and own < SHARE
+        told = talker.say(f"client {client} {query(client, f'n{client}.s{server}.test. A').hex()}")
+        wanted = "open" if begins else f"failed {client} too_many"
+        checks.equal(f"{taken} places are taken, {own} of them for server {server}", told[0][: len(wanted)], wanted)
+        if begins:
+            under_way[told[0].split()[1]] = server
+        kinds["begins" if begins else "full" if taken == PLACES else "kept"] += 1
+        if some.random() < (0.6 if one else 0.1):
+            key = some.choice([*under_way])
+            talker.say(f"look {key} broken")
+            del under_way[key]
+    checks.equal("the places of a worker: status", talker.end(), 0)
+    checks.check("the places of a worker: each case", None if min(kinds[kind] for kind in ("begins", "full", "kept")) > 20 else str(kinds))
+
+
 def main():
     checks = Checks()
     for file in sorted(os.listdir(FOLDER)):
@@ -243,6 +276,7 @@ def main():
             checks.equal(about, told_in(done.out), wanted)
             refuse_each(checks, about, lines)
     drawn(checks)
+    places(checks)
     checks.end()
 
 

@@ -1,6 +1,7 @@
 """`resolver serve` with very many questions at once over UDP. None is lost or answered twice, whatever name servers do. Cached
 answers wait for none of them, and `stop` ends the service at once."""
 
+import contextlib
 import itertools
 import re
 import resource
@@ -14,7 +15,7 @@ from lib.behaviours import EXCHANGE, REPLIED, RIGHT, WRONG, Lies, address, answe
 from lib.checks import Checks
 from lib.crowds import Crowd, LateServer, waiting_at
 from lib.programs import RESOLVER, library
-from lib.service import CANNOT_LISTEN, HOST, IN_USE, STOPPED, Service, free_port, until
+from lib.service import CANNOT_LISTEN, HOST, IN_USE, STOPPED, Service, free_port, query, until
 
 HELD = "aa | answer held.test. A 192.0.2.1"
 STARTED = b"resolver: started"
@@ -331,6 +332,55 @@ def check_interrupted(checks):
         checks.equal("interrupted: faults", service.log().count(b"fault"), 0)
 
 
+def floods(service, ended):
+    """Asks for 1,000 new names below a zone each second, until an event. It takes no replies."""
+    with service.client() as client:
+        client.sock.setblocking(False)
+        began, sent = time.monotonic(), 0
+        while not ended.wait(0.01):
+            while sent < 1_000 * (time.monotonic() - began):
+                with contextlib.suppress(OSError):
+                    client.send(query(f"flood{sent}.mute.test.", "A", sent % 65_536))
+                sent += 1
+
+
+def check_mute_zone(checks):
+    """1,000 new names a second of a zone whose server answers hardly any: of 200 new names elsewhere 95 in 100 are answered.
+
+    The server answers some, so it is not passed over."""
+
+    def does(asked):
+        name = asked.question.split()[0]
+        if asked.server == HOST and name.endswith(".mute.test."):
+            yield 0, asked.response("| authority mute.test. 60 NS ns.mute.test. | additional ns.mute.test. 60 A 127.0.0.3")
+        elif asked.server == HOST:
+            yield 0.02, right(asked)
+        elif int(re.search(r"\d+", name).group()) % 20 == 0:
+            yield 0, right(asked)
+
+    ended = threading.Event()
+    with LateServer(does, [HOST, "127.0.0.3"]) as server:
+        with Service([server.hint], "--server-port", str(server.port)) as service, Crowd(service) as crowd:
+            flood = threading.Thread(target=floods, args=(service, ended))
+            flood.start()
+            try:
+                full = until(lambda: service.figures()["total.requestlist.exceeded"] > 100)
+                checks.equal("a mute zone: it has all the exchanges that it may have", full, True)
+                for name in names_of("new", 200):
+                    crowd.send(name)
+                    crowd.take(0.02)
+                crowd.wait()
+                told = service.figures()
+            finally:
+                ended.set()
+                flood.join()
+            count = sum(words == answered(name) for name, words in zip(crowd.names, crowd.words()))
+            checks.check("a mute zone: new names elsewhere", None if count >= 190 else f"{count} of 200 are answered")
+            checks.check("a mute zone: exchanges", None if told["num.exchange.current"] > 400 else f"{told['num.exchange.current']} at the end")
+            checks.equal("a mute zone: it is logged", TOO_MANY in service.log(), True)
+            checks.equal("a mute zone: stopped", service.stop(), STOPPED)
+
+
 def check_rest(checks):
     """The service uses no processor while it waits: neither after a crowd, nor while 200 questions are in flight."""
     with LateServer(lambda asked: at_once(asked) if asked.question.startswith("n") else never(asked)) as server:
@@ -443,6 +493,7 @@ def main():
     checks.make(check_bursts)
     checks.make(check_stopped_clock)
     checks.make(check_interrupted)
+    checks.make(check_mute_zone)
     checks.make(check_rest)
     checks.make(check_memory)
     checks.make(check_ipv6)

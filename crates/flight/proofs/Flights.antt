@@ -1,27 +1,37 @@
 -- What is in flight, as exchanges begin and end.
-use Rattle.std.proofs.Common.{◌≡◌, ◌≢◌, ◌∙◌, ◌⊎◌, ◌<◌, ◌≤◌, ◌+◌, ℕ, max, map, List, [], ◌∷◌, ◌++◌, Some, None, ap, sym, arith, inl, inr}
+use Rattle.std.proofs.Common.{◌≡◌, ◌≢◌, ◌∙◌, ◌⊎◌, ◌<◌, ◌≤◌, ◌+◌, ℕ, max, map, List, [], ◌∷◌, ◌++◌, Option, Some, None, ap, sym, arith, inl, inr}
 use Rattle.std.proofs.lemmas.Bool.{cases_eq}
 use Rattle.std.proofs.lemmas.List.{map-append}
 use Rattle.slab.specs.Slab.{Slab, get, slab_len, Updates}
 use Rattle.flight.specs.declared.table.Wait.{Wait}
 use Rattle.flight.proofs.Counting.{time_over, fewer_over_then}
-use Rattle.flight.specs.Waiting.{FlightState, Begins, EarlyGoOn, GoesOnOrBegins, WaitsFrom, outstanding, since_at}
+use Rattle.flight.specs.Waiting.{FlightState, UnderWay, Begins, EarlyGoOn, GoesOnOrBegins, WaitsFrom, outstanding, since_at, since_in, since_of}
 
 -- An exchange begins under the key of a question that is kept.
-pub begins : (now : ℕ) (old new : FlightState) (before after : Slab ℕ) (since : ℕ)
-    → before.slots ≡ old.exchanges → new.exchanges ≡ after.slots → get before before.vacant_key ≡ None → Updates before after before.vacant_key (Some since) → slab_len after ≡ slab_len before + 1
-    → since ≡ max now old.latest → new.begun ≡ old.begun ++ since ∷ [] → new.latest ≡ since → new.limit ≡ old.limit → Begins now old new
-begins now old new before after since same is vacant updates more now_is begun latest limit =
+pub begins : (now : ℕ) (old new : FlightState) (before after : Slab UnderWay) (exchange : UnderWay) (since : ℕ)
+    → before.slots ≡ old.exchanges → new.exchanges ≡ after.slots → get before before.vacant_key ≡ None → Updates before after before.vacant_key (Some exchange) → slab_len after ≡ slab_len before + 1
+    → exchange.since ≡ since → since ≡ max now old.latest → new.begun ≡ old.begun ++ since ∷ [] → new.latest ≡ since → new.limit ≡ old.limit → Begins now old new
+begins now old new before after exchange since same is vacant updates more began now_is begun latest limit =
     record {
       key = before.vacant_key;
-      vacant = rw same at vacant;
-      begins = rw (is, ← now_is) updates.changed;
-      others = λ other differs. rw (is, ← same) (updates.others other differs);
+      vacant = sym (ap (λ (list : List (Option UnderWay)). since_in list before.vacant_key) same) ∙ ap since_of vacant;
+      begins = ap (λ (list : List (Option UnderWay)). since_in list before.vacant_key) is ∙ ap since_of updates.changed ∙ ap Some (began ∙ now_is);
+      others = λ other differs.
+          ap (λ (list : List (Option UnderWay)). since_in list other) is ∙ ap since_of (updates.others other differs) ∙ ap (λ (list : List (Option UnderWay)). since_in list other) same;
       one_more = rw (is, ← same) more;
       begun = rw (← now_is) begun;
       latest = latest ∙ now_is;
       limit = limit;
     }
+
+-- An exchange that is put back under its key is under way as it was.
+pub put_back_same : (old between new : Slab UnderWay) (key : ℕ) (exchange : UnderWay) → Some exchange ≡ get old key → Updates old between key None → between.vacant_key ≡ key
+    → Updates between new between.vacant_key (Some exchange) → (at : ℕ) → get new at ≡ get old at
+put_back_same old between new key exchange here before next after at =
+    elim (cases_eq at key) [
+      | inl same ↦ ap (get new) (same ∙ sym next) ∙ after.changed ∙ here ∙ ap (get old) (sym same)
+      | inr differs ↦ after.others at (λ is. differs (is ∙ next)) ∙ before.others at differs
+    ]
 
 -- So it is after those that began before.
 pub begun_behind : (before after : List Wait) (last : Wait) (begun : List ℕ) → after ≡ before ++ last ∷ [] → map (λ wait. wait.since) before ≡ begun → map (λ wait. wait.since) after ≡ begun ++ last.since ∷ []
@@ -52,7 +62,7 @@ early_then patience now key due first old between new early was is_due others wa
     goes_on_under now between new waits at since (others at differs ∙ still)
 
 -- What is under way goes on or begins now: where all goes on as it was,
-as_it_was : (now : ℕ) (old new : FlightState) → ((key : ℕ) → since_at new key ≡ since_at old key) → new.latest ≡ old.latest → GoesOnOrBegins now old new
+pub as_it_was : (now : ℕ) (old new : FlightState) → ((key : ℕ) → since_at new key ≡ since_at old key) → new.latest ≡ old.latest → GoesOnOrBegins now old new
 as_it_was now old new same latest = record { under_way = λ key since here. inl (sym (same key) ∙ here); latest = inl latest }
 
 -- where one was taken out,

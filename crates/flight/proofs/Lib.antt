@@ -8,3 +8,4 @@ mod Flights
 mod Looking
 mod Keeping
 mod Settling
+mod Places

@@ -8,6 +8,7 @@ use Rattle.std.proofs.lemmas.List.Sorted.{IsNonDecreasingBy-drop, IsNonDecreasin
 use Rattle.std.proofs.lemmas.List.Sums.{sum_by-cons}
 use Rattle.flight.specs.declared.table.Wait.{Wait}
 use Rattle.flight.specs.Queue.{FirstIs, IsQueue, is_queued}
+use Rattle.flight.specs.Waiting.{UnderWay, since_in}
 
 or_left : (a b : Bool) → a ≡ true → (a || b) ≡ true
 or_left a b is = grind arith
@@ -55,14 +56,14 @@ pub left_behind : (waits behind : List Wait) (wait : Wait) → FirstIs waits wai
 left_behind waits behind wait first is = first.is ∙ ap (λ (rest : List Wait). wait ∷ rest) (sym (is ∙ ap (drop 1) first.is))
 
 -- None is under way where none is under any key.
-pub none_under_way : (exchanges : List (Option ℕ)) → ((key since : ℕ) → ¬ (get_or exchanges key None ≡ Some since)) → count_by is_some exchanges ≡ 0
+pub none_under_way : (exchanges : List (Option UnderWay)) → ((key since : ℕ) → ¬ (since_in exchanges key ≡ Some since)) → count_by is_some exchanges ≡ 0
 none_under_way [] none = refl
 none_under_way (None ∷ rest) none = omega (arith, none_under_way rest (λ key since is. none (suc key) since is), sum_by-cons (λ o. cond (is_some o) 1 0) None rest)
-none_under_way (Some since ∷ rest) none = absurd (none 0 since refl)
+none_under_way (Some exchange ∷ rest) none = absurd (none 0 exchange.since refl)
 
-module _ (exchanges : List (Option ℕ)) (waits : List Wait) (latest : ℕ) (queue : IsQueue exchanges waits latest) where
+module _ (exchanges : List (Option UnderWay)) (waits : List Wait) (latest : ℕ) (queue : IsQueue exchanges waits latest) where
   -- Where none is in the queue, none is under way.
-  pub none_queued : waits ≡ [] → (key since : ℕ) → ¬ (get_or exchanges key None ≡ Some since)
+  pub none_queued : waits ≡ [] → (key since : ℕ) → ¬ (since_in exchanges key ≡ Some since)
   none_queued is key since here =
       let stands : IsTrue (is_queued [] key since) = rw is at (queue.queued key since here) in
       absurd (cc stands)
@@ -71,7 +72,7 @@ module _ (exchanges : List (Option ℕ)) (waits : List Wait) (latest : ℕ) (que
   idle_queue is = none_under_way exchanges (none_queued is)
 
   -- The first began no later than any that is under way.
-  pub first_began : (wait : Wait) (rest : List Wait) → waits ≡ wait ∷ rest → (key since : ℕ) → get_or exchanges key None ≡ Some since → wait.since ≤ since
+  pub first_began : (wait : Wait) (rest : List Wait) → waits ≡ wait ∷ rest → (key since : ℕ) → since_in exchanges key ≡ Some since → wait.since ≤ since
   first_began wait rest is key since here =
       let found = Any-from_list_any (is_wait key since) waits (queue.queued key since here) in
       let both = and_parts (found.1.key == key) (found.1.since == since) found.4 in
@@ -81,11 +82,11 @@ module _ (exchanges : List (Option ℕ)) (waits : List Wait) (latest : ℕ) (que
       omega (arith, eqb-true found.1.since since both.1)
 
   -- None is under way but those that were.
-  pub queue_without : (exchanges' : List (Option ℕ)) → ((key since : ℕ) → get_or exchanges' key None ≡ Some since → get_or exchanges key None ≡ Some since) → IsQueue exchanges' waits latest
+  pub queue_without : (exchanges' : List (Option UnderWay)) → ((key since : ℕ) → since_in exchanges' key ≡ Some since → since_in exchanges key ≡ Some since) → IsQueue exchanges' waits latest
   queue_without exchanges' kept = record { ordered = queue.ordered; past = queue.past; queued = λ key since here. queue.queued key since (kept key since here) }
 
   -- But for them one that is in the queue is under way.
-  pub queue_with : (exchanges' : List (Option ℕ)) (key since : ℕ) → get_or exchanges' key None ≡ Some since → ((other : ℕ) → other ≢ key → get_or exchanges' other None ≡ get_or exchanges other None)
+  pub queue_with : (exchanges' : List (Option UnderWay)) (key since : ℕ) → since_in exchanges' key ≡ Some since → ((other : ℕ) → other ≢ key → since_in exchanges' other ≡ since_in exchanges other)
       → IsTrue (is_queued waits key since) → IsQueue exchanges' waits latest
   queue_with exchanges' key since here others stands =
       record {
@@ -100,7 +101,7 @@ module _ (exchanges : List (Option ℕ)) (waits : List Wait) (latest : ℕ) (que
       }
 
   -- One begins.
-  pub queue_grown : (exchanges' : List (Option ℕ)) (key since : ℕ) → get_or exchanges' key None ≡ Some since → ((other : ℕ) → other ≢ key → get_or exchanges' other None ≡ get_or exchanges other None)
+  pub queue_grown : (exchanges' : List (Option UnderWay)) (key since : ℕ) → since_in exchanges' key ≡ Some since → ((other : ℕ) → other ≢ key → since_in exchanges' other ≡ since_in exchanges other)
       → latest ≤ since → IsQueue exchanges' (waits ++ record { key = key; since = since } ∷ []) since
   queue_grown exchanges' key since here others later =
       let last : Wait = record { key = key; since = since } in
@@ -117,7 +118,7 @@ module _ (exchanges : List (Option ℕ)) (waits : List Wait) (latest : ℕ) (que
 
   module _ (behind : List Wait) (wait : Wait) (first : FirstIs waits wait) (is : behind ≡ drop 1 waits) where
     -- The first leaves the queue, and is not under way.
-    passed : (exchanges' : List (Option ℕ)) → ((key since : ℕ) → get_or exchanges' key None ≡ Some since → (get_or exchanges key None ≡ Some since) × ¬ ((wait.key ≡ key) × (wait.since ≡ since))) → IsQueue exchanges' behind latest
+    passed : (exchanges' : List (Option UnderWay)) → ((key since : ℕ) → since_in exchanges' key ≡ Some since → (since_in exchanges key ≡ Some since) × ¬ ((wait.key ≡ key) × (wait.since ≡ since))) → IsQueue exchanges' behind latest
     passed exchanges' kept =
         let whole = left_behind waits behind wait first is in
         record {
@@ -129,21 +130,21 @@ module _ (exchanges : List (Option ℕ)) (waits : List Wait) (latest : ℕ) (que
         }
 
     -- None is under way under its key.
-    pub passed_none : None ≡ get_or exchanges wait.key None → IsQueue exchanges behind latest
-    passed_none none = passed exchanges (λ key since here. (here, λ same. absurd (cc (none, here, ap (λ (at : ℕ). get_or exchanges at None) same.0))))
+    pub passed_none : None ≡ since_in exchanges wait.key → IsQueue exchanges behind latest
+    passed_none none = passed exchanges (λ key since here. (here, λ same. absurd (cc (none, here, ap (since_in exchanges) same.0))))
 
     -- One that began later is.
-    pub passed_early : (later : ℕ) → Some later ≡ get_or exchanges wait.key None → wait.since < later → IsQueue exchanges behind latest
+    pub passed_early : (later : ℕ) → Some later ≡ since_in exchanges wait.key → wait.since < later → IsQueue exchanges behind latest
     passed_early later under early = passed exchanges (λ key since here. (
       here,
       λ same.
-          let is : later ≡ since = cc (under, here, ap (λ (at : ℕ). get_or exchanges at None) same.0) in
+          let is : later ≡ since = cc (under, here, ap (since_in exchanges) same.0) in
           omega (arith, same.1),
     ))
 
     -- One was, and is no more.
-    pub passed_taken : (exchanges' : List (Option ℕ)) → get_or exchanges' wait.key None ≡ None → ((other : ℕ) → other ≢ wait.key → get_or exchanges' other None ≡ get_or exchanges other None) → IsQueue exchanges' behind latest
+    pub passed_taken : (exchanges' : List (Option UnderWay)) → since_in exchanges' wait.key ≡ None → ((other : ℕ) → other ≢ wait.key → since_in exchanges' other ≡ since_in exchanges other) → IsQueue exchanges' behind latest
     passed_taken exchanges' none others = passed exchanges' (λ key since here. elim (cases_eq key wait.key) [
-      | inl same ↦ absurd (cc (none, here, ap (λ (at : ℕ). get_or exchanges' at None) same))
+      | inl same ↦ absurd (cc (none, here, ap (since_in exchanges') same))
       | inr differs ↦ (sym (others key differs) ∙ here, λ is. differs (sym is.0))
     ])

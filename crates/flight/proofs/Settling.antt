@@ -1,17 +1,19 @@
 -- A client that is settled.
-use Rattle.std.proofs.Common.{◌≡◌, ◌∙◌, ℕ, List, Option, ap, inl, inr, arith}
+use Rattle.std.proofs.Common.{◌≡◌, ◌∙◌, ℕ, List, Option, is_some, count_by, ap, inl, inr, subst, sym, arith}
 use Rattle.flight.specs.declared.counts.Counts.{Counts}
-use Rattle.flight.specs.Clients.{Settles, SettlesOrWaits}
+use Rattle.flight.specs.Clients.{LosesNone, Settles, SettlesOrWaits}
 use Rattle.flight.specs.Counted.{CountsSettled}
 use Rattle.flight.specs.Told.{Keeps}
-use Rattle.flight.specs.Waiting.{FlightState, IsAccounted, outstanding}
+use Rattle.flight.specs.Waiting.{FlightState, IsAccounted, UnderWay, count_with, outstanding, since_in}
 use Rattle.flight.proofs.Keeping.{kept_on}
+use Rattle.flight.proofs.Flights.{as_it_was, on_or_begun_then}
+use Rattle.flight.proofs.Places.{kept_fewer, kept_same, kept_then}
 
 -- what is seen of the questions in flight, by its parts
-abbrev state_of : List (Option ℕ) → List ℕ → ℕ → ℕ → FlightState
+abbrev state_of : List (Option UnderWay) → List ℕ → ℕ → ℕ → FlightState
 state_of exchanges begun latest limit = record { exchanges = exchanges; begun = begun; latest = latest; limit = limit }
 
-same_parts : (exchanges exchanges' : List (Option ℕ)) (begun begun' : List ℕ) (latest latest' limit limit' : ℕ) → exchanges' ≡ exchanges → begun' ≡ begun → latest' ≡ latest → limit' ≡ limit
+same_parts : (exchanges exchanges' : List (Option UnderWay)) (begun begun' : List ℕ) (latest latest' limit limit' : ℕ) → exchanges' ≡ exchanges → begun' ≡ begun → latest' ≡ latest → limit' ≡ limit
     → state_of exchanges' begun' latest' limit' ≡ state_of exchanges begun latest limit
 same_parts exchanges exchanges' begun begun' latest latest' limit limit' is_exchanges is_begun is_latest is_limit = cc
 
@@ -48,5 +50,21 @@ settled_there {server_port = server_port} {counts = counts} {told = told} now fl
       unexpired = settles.settled.expired ∙ ap (λ (c : Counts). c.expired) counted;
       waits = inl same;
       within = λ few. rw same few;
+      places = kept_same flight flight' same;
       limit = ap (λ (state : FlightState). state.limit) same;
+    }
+
+-- None is lost if the same exchanges are under way, however many the queue names.
+pub loses_as_before : {W K : Type 0} {server_port : W → ℕ} {counts : W → Counts} {told : W → K → List ℕ → Type 0} (now : ℕ) (first old new : FlightState) (before between : W)
+    → LosesNone server_port counts told now first before old between → new.exchanges ≡ old.exchanges → new.latest ≡ old.latest → new.limit ≡ old.limit
+    → LosesNone server_port counts told now first before new between
+loses_as_before {counts = counts} now first old new before between so_far exchanges latest limit =
+    let many : outstanding new ≡ outstanding old = ap (count_by is_some) exchanges in
+    record {
+      keeps = so_far.keeps;
+      accounted = subst (λ (waiting : ℕ). IsAccounted 0 (outstanding first) (counts before) waiting (counts between)) (sym many) so_far.accounted;
+      begins = on_or_begun_then now first old new so_far.begins (as_it_was now old new (λ key. ap (λ (list : List (Option UnderWay)). since_in list key) exchanges) latest);
+      no_more = omega (arith, many, so_far.no_more);
+      places = kept_then first old new so_far.places (kept_fewer old new (λ server. omega (arith, ap (count_with server) exchanges))) (omega (arith, many)) limit;
+      limit = limit ∙ so_far.limit;
     }

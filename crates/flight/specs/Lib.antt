@@ -3,6 +3,7 @@ pub mod Told
 pub mod Asking
 pub mod Counted
 pub mod Waiting
+pub mod Places
 pub mod Clients
 pub mod Queue
 pub mod Table

@@ -1,11 +1,19 @@
 -- The clients that wait, each for one exchange.
-use Rattle.std.specs.Prelude.{◌≡◌, ◌≢◌, ◌⊎◌, ◌<◌, ◌≤◌, ℕ, ◌+◌, ◌-◌, min, max, Option, Some, None, is_some, count_by, slice_index_or, List, [], ◌∷◌, ◌++◌}
+use Rattle.std.specs.Prelude.{◌≡◌, ◌≢◌, ◌⊎◌, ◌<◌, ◌≤◌, ℕ, ◌+◌, ◌-◌, min, max, Bool, false, Option, Some, None, is_some, count_by, slice_index_or, List, [], ◌∷◌, ◌++◌}
+use Rattle.dns_text.specs.declared.addr.Addr.{Addr}
+use Rattle.dns_text.specs.Equal.{addr_eq}
 use Rattle.flight.specs.declared.counts.Counts.{Counts}
 use Rattle.flight.specs.Counted.{NeverFall, IsFull}
+use Rattle.flight.specs.Flight.{Sent}
+
+-- an exchange under way
+pub record UnderWay : Type 0 where
+  pub since : ℕ  -- the moment, in milliseconds, at which it began
+  pub asked : Sent  -- the query that went out
 
 -- the visible state of the questions in flight
 pub record FlightState : Type 0 where
-  pub exchanges : List (Option ℕ)  -- under each key the moment, in milliseconds, at which the exchange under way began
+  pub exchanges : List (Option UnderWay)  -- under each key the exchange under way
   pub begun : List ℕ  -- the moments at which exchanges began, in order: those under way, and some that have ended since
   pub latest : ℕ  -- the latest moment at which one began
   pub limit : ℕ  -- how many exchanges may be under way
@@ -14,9 +22,31 @@ pub record FlightState : Type 0 where
 abbrev pub outstanding : FlightState → ℕ
 outstanding state = count_by is_some state.exchanges
 
+-- the moment at which an exchange began
+abbrev pub since_of : Option UnderWay → Option ℕ
+since_of None = None
+since_of (Some exchange) = Some exchange.since
+
+-- of a list of exchanges, the moment at which the one under a key began
+abbrev pub since_in : List (Option UnderWay) → ℕ → Option ℕ
+since_in exchanges key = since_of (slice_index_or exchanges key None)
+
 -- the moment at which the exchange under a key began
 abbrev pub since_at : FlightState → ℕ → Option ℕ
-since_at state key = slice_index_or state.exchanges key None
+since_at state key = since_in state.exchanges key
+
+-- whether an exchange is with a server
+abbrev pub is_with : Addr → Option UnderWay → Bool
+is_with server None = false
+is_with server (Some exchange) = addr_eq exchange.asked.server server
+
+-- how many exchanges of a list are with a server
+abbrev pub count_with : Addr → List (Option UnderWay) → ℕ
+count_with server exchanges = count_by (is_with server) exchanges
+
+-- how many exchanges with a server are under way
+abbrev pub with_server : Addr → FlightState → ℕ
+with_server server state = count_with server state.exchanges
 
 -- Each client waits or was settled once: those that waited before, and so many more. Each exchange that began is under way for one of them, or ended once.
 pub record AddUp (more waiting : ℕ) (old : Counts) (waiting' : ℕ) (new : Counts) : Type 0 where

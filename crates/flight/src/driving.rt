@@ -6,6 +6,7 @@ ghost use Rattle.flight.specs.Asking.{HasHeard, IsAskedBy};
 ghost use Rattle.flight.specs.Flight.{Flies, IsOpen, query_to};
 ghost use Rattle.flight.specs.Told.{Keeps};
 ghost use Rattle.flight.specs.Clients.{SettlesOrWaits};
+ghost use Rattle.flight.specs.Places.{KeepsPlaces};
 ghost use Rattle.flight.specs.Waiting.{IsAccounted, WaitsFrom, outstanding};
 ghost use Rattle.iterate.specs.declared.want.Want.{Want};
 
@@ -35,6 +36,7 @@ impl<D: Numbered, L: InFlight, C: Clock, G: Rng, K: Client> Flight<D, L, C, G, K
         ensures accounted { IsAccounted 0 (outstanding self.old + 1) (O.counts outside.old) (outstanding self.new) (O.counts outside.new) }
         ensures heard { Rises (O.counts outside.old).listened (O.counts outside.new).listened }
         ensures waits { WaitsFrom now self.old self.new }
+        ensures places { KeepsPlaces self.old self.new }
         ensures limit { self.new.limit ≡ self.old.limit }
     {
         let Job {
@@ -128,7 +130,7 @@ impl<D: Numbered, L: InFlight, C: Clock, G: Rng, K: Client> Flight<D, L, C, G, K
                     over,
                     bytes,
                 } => {
-                    let copy = match self.table.make_room(octets) {
+                    let copy = match self.table.make_room(&server, octets) {
                         Ok(copy) => copy,
                         Err(why) => {
                             refuse::<D, L, C, K, O>(outside, asking, octets, why);

@@ -42,7 +42,7 @@ pub enum Listened {
 pub enum Unserved {
     /// There is no memory.
     NoMemory,
-    /// As many exchanges are under way as there may be at most.
+    /// No place is free for an exchange, or only places that are kept for other servers are.
     TooMany,
     /// The desk or the port of name servers is not the one with which the question began.
     Elsewhere,

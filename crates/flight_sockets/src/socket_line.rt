@@ -54,6 +54,10 @@ impl<R: ReadyNet> InFlight for SocketLine<R> {
     // Octets that fit the query and came from the server's address, over the same transport, after the query.
     ghost hears = { IsServerReply R.Datagrams.opened R.Datagrams.sent R.Datagrams.came
         R.Connection.connected R.Connection.contents R.Connection.remaining };
+
+    fn server(&self) -> Addr {
+        self.server
+    }
 }
 
 impl<R: ReadyNet> SocketLine<R> {
@@ -91,13 +95,6 @@ impl<R: ReadyNet> SocketLine<R> {
             token,
             way,
         })
-    }
-
-    /// The server that is asked.
-    pub fn server(&self) -> Addr
-        ensures { result ≡ self.now.asked.server }
-    {
-        self.server
     }
 
     /// The transport of the query.

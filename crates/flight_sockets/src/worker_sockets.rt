@@ -33,7 +33,7 @@ use dns_query::Over;
 use dns_sockets::ReadyNet;
 use dns_text::{Addr, NoMemory, Octets, Shared};
 use dns_wire::{Rcode, fault_reply};
-use flight::{Counts, Listened, Numbered, Outside, ReplyOctets, Unserved};
+use flight::{Counts, InFlight, Listened, Numbered, Outside, ReplyOctets, Unserved};
 use front_workers::{DEVICE_FAULT, MOST_MESSAGE, wants_reply};
 use log::{Log, warn};
 use mio::{Events, Token};

@@ -36,6 +36,10 @@ impl InFlight for Wire {
     ghost asked = { λ wire. query_to wire.server wire.over wire.query };
 
     ghost hears = { λ _ _. Unit {0} };
+
+    fn server(&self) -> Addr {
+        self.server
+    }
 }
 
 /// Clients and lines: what they are told is written down.

@@ -1,9 +1,11 @@
-use Rattle.std.proofs.Common.{◌∙◌, ℕ, ap, inr, map, max, refl, sym, arith, rules}
-use Rattle.flight.specs.Flight.{failed}
-use Rattle.flight.specs.Waiting.{FlightState}
+use Rattle.std.proofs.Common.{◌∙◌, ◌+◌, ℕ, List, Option, Some, is_some, cond, count_by, ap, inr, map, max, refl, subst, sym, arith, rules}
+use Rattle.flight.specs.Flight.{Sent, failed}
+use Rattle.flight.specs.Places.{HasPlace}
+use Rattle.flight.specs.Waiting.{FlightState, UnderWay, count_with, is_with}
 use Rattle.flight.proofs.Flights.{begins, begun_behind}
 use Rattle.flight.proofs.Flying.{asked_on, awaits_at, due, flown, lands_at, open_on}
 use Rattle.flight.proofs.Keeping.{kept_on}
+use Rattle.flight.proofs.Places.{kept_begun}
 use Rattle.flight.proofs.Settling.{same_state, settled_there}
 use Rattle.flight.proofs.engine.Flight.drive.Goals as goal
 
@@ -82,14 +84,23 @@ returns-in-Some g c =
     let begun = begun_behind table.waits.items kept.waits.items (record { key = table.jobs.vacant_key; since = c.since-since.result }) c.args.self.now.begun c.keep.ensures.waits
     (ap (map (λ wait. wait.since)) c.make_room.ensures.waits ∙ before.begun_kept)
     in
+    let new : FlightState = record { exchanges = kept.jobs.slots; begun = map (λ wait. wait.since) kept.waits.items; latest = kept.latest; limit = kept.limit } in
+    let exchange : UnderWay = record { since = c.since-since.result; asked = g.L.InFlight.asked c.in-Some.line } in
+    let same = c.make_room.ensures.jobs ∙ before.exchanges_kept in
+    let place = subst (λ (limit : ℕ). HasPlace c.in-Send.server c.args.self.now.exchanges limit) (before.limit_kept ∙ sym limit)
+    (subst (λ (exchanges : List (Option UnderWay)). HasPlace c.in-Send.server exchanges c.loop-want.self-inside.table.limit) before.exchanges_kept c.in-Ok-make_room.ensures.place)
+    in
     record {
       keeps = kept_on before.keeps c.open.ensures.keeps;
       accounted = search rules;
       unheard = search rules;
       unexpired = search rules;
-      waits = inr (begins c.args.now c.args.self.now (record { exchanges = kept.jobs.slots; begun = map (λ wait. wait.since) kept.waits.items; latest = kept.latest; limit = kept.limit })
-          table.jobs kept.jobs c.since-since.result (c.make_room.ensures.jobs ∙ before.exchanges_kept) refl c.keep.ensures.vacant c.keep.ensures.one_more.updates c.keep.ensures.one_more.len
-          now_is begun c.keep.ensures.latest limit);
+      waits = inr (begins c.args.now c.args.self.now new
+          table.jobs kept.jobs exchange c.since-since.result same refl c.keep.ensures.vacant c.keep.ensures.one_more.updates c.keep.ensures.one_more.len
+          refl now_is begun c.keep.ensures.latest limit);
       within = search rules;
+      places = kept_begun c.in-Send.server exchange c.args.self.now new (ap (λ (asked : Sent). asked.server) c.in-Some.ensures.asked) place
+          (λ other. c.keep.ensures.one_more.counts other ∙ ap (λ (exchanges : List (Option UnderWay)). count_with other exchanges + cond (is_with other (Some exchange)) 1 0) same)
+          (c.keep.ensures.one_more.len ∙ ap (λ (exchanges : List (Option UnderWay)). count_by is_some exchanges + 1) same);
       limit = limit;
     }

@@ -1,22 +1,23 @@
-use Rattle.std.proofs.Common.{arith}
+use Rattle.std.proofs.Common.{ap, arith}
+use Rattle.flight.specs.Waiting.{UnderWay, since_of}
 use Rattle.flight.proofs.Queueing.{passed_early, passed_none, passed_taken}
 use Rattle.flight.proofs.table.Table.pass.Goals as goal
 
 pub invariant_of-self : goal.invariant_of-self
 invariant_of-self g c =
     let old = c.args.self.now in
-    record { queue = passed_none old.jobs.slots old.waits.items old.latest old.queue _ c.args.wait c.requires.first c.pop_front.ensures.rest c.in_err-job.ensures }
+    record { queue = passed_none old.jobs.slots old.waits.items old.latest old.queue _ c.args.wait c.requires.first c.pop_front.ensures.rest (ap since_of c.in_err-job.ensures) }
 
 pub invariant_of-self-then-saturating_sub-lt-PATIENCE : goal.invariant_of-self-then-saturating_sub-lt-PATIENCE
 invariant_of-self-then-saturating_sub-lt-PATIENCE g c =
     let old = c.args.self.now in
     record {
-      queue = passed_early old.jobs.slots old.waits.items old.latest old.queue _ c.args.wait c.requires.first c.pop_front.ensures.rest c.in_ok-job.job.now c.in_ok-job.ensures
-          (omega (arith, c.requires.due, c.saturating_sub.ensures, c.job.view_is));
+      queue = passed_early old.jobs.slots old.waits.items old.latest old.queue _ c.args.wait c.requires.first c.pop_front.ensures.rest c.in_ok-job.job.now.since (ap since_of c.in_ok-job.ensures)
+          (omega (arith, c.requires.due, c.saturating_sub.ensures, ap (λ (job : UnderWay). job.since) c.job.view_is));
     }
 
 pub invariant_of-self-2 : goal.invariant_of-self-2
 invariant_of-self-2 g c =
     let old = c.args.self.now in
     let updates = c.try_remove.ensures.updates in
-    record { queue = passed_taken old.jobs.slots old.waits.items old.latest old.queue _ c.args.wait c.requires.first c.pop_front.ensures.rest _ updates.changed updates.others }
+    record { queue = passed_taken old.jobs.slots old.waits.items old.latest old.queue _ c.args.wait c.requires.first c.pop_front.ensures.rest _ (ap since_of updates.changed) (λ other differs. ap since_of (updates.others other differs)) }
