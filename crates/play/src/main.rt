@@ -11,6 +11,7 @@
 //! | `resolve` | the resolution of questions, at name servers that the lines play |
 //! | `serve` | queries, streams and workers, at name servers that the lines play |
 //! | `flight` | many questions in flight, at clients, name servers and sockets that the lines play |
+//! | `largest` | the book that keeps no history, with the largest settings, and workers that share one |
 //!
 //! The file of each word says which lines it takes. `play` ends with status 0 at the end of the input, with 1 if a read or a
 //! write fails or a line is malformed, and with 3 if there is no memory; `control` has statuses of its own besides.
@@ -32,10 +33,12 @@ mod script; // a script over the book that replays its history
 mod resolve; // one question at a time
 mod serve; // queries and streams
 mod in_flight; // many questions at once
+mod largest; // the largest sizes
 
 use control::play_control;
 use in_flight::play_flight;
 use in_journal::play_journal;
+use largest::play_largest;
 use log::Log;
 use resolve::play_resolve;
 use script::play_script;
@@ -43,6 +46,7 @@ use serve::play_serve;
 use std::env;
 use std::process::ExitCode;
 use std::sync::Wait;
+use std::thread::Threads;
 use stop::Stop;
 use stubs::play_stubs;
 use zones::play_zones;
@@ -59,7 +63,11 @@ fn arguments(rt: &HostRuntime) -> Result<Vec<String>, Stop> {
 }
 
 /// Plays what the first argument says, and returns the status to end with.
-fn play<W: Wait + Log>(rt: &HostRuntime, waiting: &W, all: &[String]) -> Result<u8, Stop> {
+fn play<W: Threads + Wait + Log + Sync>(
+    rt: &HostRuntime,
+    waiting: &W,
+    all: &[String],
+) -> Result<u8, Stop> {
     let [_, word, words @ ..] = all else {
         return Err(Stop::Device);
     };
@@ -72,6 +80,7 @@ fn play<W: Wait + Log>(rt: &HostRuntime, waiting: &W, all: &[String]) -> Result<
         "resolve" => play_resolve(rt)?,
         "serve" => play_serve(rt, waiting)?,
         "flight" => play_flight(rt)?,
+        "largest" => play_largest(rt, waiting, words)?,
         _ => return Err(Stop::Device),
     }
     Ok(0)

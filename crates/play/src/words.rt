@@ -50,7 +50,8 @@ pub fn number_in(text: &[u8]) -> Result<u64, Stop>
     Ok(number)
 }
 
-fn addr_in(word: &[u8]) -> Result<Addr, Stop>
+/// The address that a word says.
+pub fn addr_in(word: &[u8]) -> Result<Addr, Stop>
     ensures { result ≡ or_fault Stop.Device (addr_in word.now) }
 {
     match read_addr(word) {

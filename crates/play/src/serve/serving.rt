@@ -3,11 +3,12 @@
 use crate::queries::push_digits;
 use crate::serve::coming::Arrivals;
 use crate::serve::pieces::{PieceReader, PieceWriter};
-use crate::serve::world::World;
+use crate::serve::world::{LineTools, World};
 use crate::stop::Stop;
 use crate::words::{octets_in, pieces_in};
 use dns_query::Over;
 use front_workers::{StreamFault, WorkEnd, serve_query, serve_stream, work_tcp, work_udp};
+use history::Desk;
 use log::Log;
 use std::alloc::Global;
 use std::io::Write;
@@ -23,23 +24,36 @@ pub fn tell_octets(rt: &HostRuntime, word: &[u8], octets: &[u8]) -> Result<(), S
     Ok(rt.stdout().write_all(line.as_slice())?)
 }
 
-/// Serves a query.
-pub fn serve(rt: &HostRuntime, world: &mut World, over: Over, digits: &[u8]) -> Result<(), Stop> {
+/// Writes the queries to name servers, which then begin anew.
+fn tell_asked(rt: &HostRuntime, tools: &mut LineTools) -> Result<(), Stop> {
+    rt.stdout().write_all(tools.exchange.asked())?;
+    tools.exchange.forget();
+    Ok(())
+}
+
+/// Serves a query at a desk.
+pub fn serve_at<D: Desk>(
+    rt: &HostRuntime,
+    desk: &mut D,
+    tools: &mut LineTools,
+    over: Over,
+    digits: &[u8],
+) -> Result<(), Stop> {
     let octets = octets_in(rt.alloc(), digits)?;
-    let reply = serve_query(
-        rt.alloc(),
-        &mut world.book,
-        &mut world.tools,
-        over,
-        octets.as_slice(),
-    );
-    rt.stdout().write_all(world.tools.exchange.asked())?;
-    world.forget();
+    let reply = serve_query(rt.alloc(), desk, tools, over, octets.as_slice());
+    tell_asked(rt, tools)?;
     match reply {
         Ok(Some(out)) => tell_octets(rt, b"reply", out.as_slice()),
         Ok(None) => Ok(rt.stdout().write_all(b"none\n")?),
         Err(_) => Ok(rt.stdout().write_all(b"no_memory\n")?),
     }
+}
+
+/// Serves a query.
+pub fn serve(rt: &HostRuntime, world: &mut World, over: Over, digits: &[u8]) -> Result<(), Stop> {
+    serve_at(rt, &mut world.book, &mut world.tools, over, digits)?;
+    world.forget();
+    Ok(())
 }
 
 /// How a stream ended.
@@ -53,33 +67,40 @@ fn end_words(end: Result<(), StreamFault>) -> &'static [u8] {
     }
 }
 
-/// Serves a stream, and how it ended.
-fn serve_whole(
+/// Serves a stream, and returns how it ended.
+fn serve_whole<D: Desk>(
     alloc: Global,
-    world: &mut World,
+    desk: &mut D,
+    tools: &mut LineTools,
     pieces: PieceReader,
     out: &mut PieceWriter,
 ) -> Result<(), StreamFault> {
     let mut reader = CountedReader::new(pieces);
     let mut writer = CountedWriter::new(out);
-    serve_stream(
-        alloc,
-        &mut world.book,
-        &mut world.tools,
-        &mut reader,
-        &mut writer,
-    )
+    serve_stream(alloc, desk, tools, &mut reader, &mut writer)
+}
+
+/// Serves a stream of pieces at a desk.
+pub fn serve_pieces_at<D: Desk>(
+    rt: &HostRuntime,
+    desk: &mut D,
+    tools: &mut LineTools,
+    pieces: PieceReader,
+    out: &mut PieceWriter,
+) -> Result<(), Stop> {
+    let end = serve_whole(rt.alloc(), desk, tools, pieces, out);
+    tell_asked(rt, tools)?;
+    tell_octets(rt, b"wrote", out.octets.as_slice())?;
+    Ok(rt.stdout().write_all(end_words(end))?)
 }
 
 /// Serves a stream of pieces.
 pub fn serve_pieces(rt: &HostRuntime, world: &mut World, text: &[u8]) -> Result<(), Stop> {
     let pieces = PieceReader::new(pieces_in(rt.alloc(), text)?, world.read);
     let mut out = PieceWriter::new(rt.alloc(), world.most, world.write);
-    let end = serve_whole(rt.alloc(), world, pieces, &mut out);
-    rt.stdout().write_all(world.tools.exchange.asked())?;
+    serve_pieces_at(rt, &mut world.book, &mut world.tools, pieces, &mut out)?;
     world.forget();
-    tell_octets(rt, b"wrote", out.octets.as_slice())?;
-    Ok(rt.stdout().write_all(end_words(end))?)
+    Ok(())
 }
 
 /// A worker serves what comes.
@@ -96,7 +117,7 @@ pub fn work<W: Wait + Log>(
         Over::Udp => work_udp(waiting, rt.alloc(), book, &mut arrivals, tools),
         Over::Tcp => work_tcp(waiting, rt.alloc(), book, &mut arrivals, tools),
     };
-    rt.stdout().write_all(world.tools.exchange.asked())?;
+    tell_asked(rt, &mut world.tools)?;
     world.forget();
     let word = match end {
         WorkEnd::Ended => "ended",

@@ -26,11 +26,24 @@ impl Clock for LineClock {
     }
 }
 
+/// What is lent with a book.
+pub type LineTools = Tools<Servers, LineClock, Pcg32>;
+
+/// Name servers that have nothing to say, and a clock at 0.
+pub fn new_tools(alloc: Global) -> LineTools {
+    Tools {
+        exchange: Servers::new(alloc),
+        clock: LineClock { moment: 0 },
+        ids: Pcg32::new(1, 1),
+        server_port: DNS_PORT,
+    }
+}
+
 /// A book, what is lent with it, and which calls for the next query or stream fail.
 #[derive(Drop)]
 pub struct World {
     pub book: PlainBook,
-    pub tools: Tools<Servers, LineClock, Pcg32>,
+    pub tools: LineTools,
     /// Which read and which write fails; 0 for none.
     pub read: u64,
     pub write: u64,
@@ -42,12 +55,7 @@ impl World {
     pub fn new(alloc: Global) -> Result<World, Stop> {
         Ok(World {
             book: book_with(alloc, Vec::new(alloc), DNS_PORT)?,
-            tools: Tools {
-                exchange: Servers::new(alloc),
-                clock: LineClock { moment: 0 },
-                ids: Pcg32::new(1, 1),
-                server_port: DNS_PORT,
-            },
+            tools: new_tools(alloc),
             read: 0,
             write: 0,
             most: usize::MAX,
