@@ -1,6 +1,6 @@
 // ask PORT SOCKETS EACH PAUSE SECONDS MOST NAMES PREFIX: asks a server on loopback for addresses, until SECONDS have passed or
-// MOST questions were asked (0: no limit), and prints the counts. Of the first few thousand questions it also prints how many
-// microseconds each took.
+// MOST questions were asked (0: no limit), and prints the counts. It also prints how many microseconds the slowest reply took, and
+// each of the first few thousand.
 //
 // Each of the sockets has EACH questions in flight. A question that is answered is followed by the next, PAUSE microseconds later.
 // The names are PREFIXn.test., where n goes from 0 to NAMES - 1 again and again, or on and on if NAMES is 0. A question
@@ -29,7 +29,7 @@ static struct pollfd socks[MOST_SOCKETS];
 static float took[MOST_KEPT];
 static long asked, answered, failed, lost, strange, most;
 static int sockets, each, names;
-static double pause_between, due;
+static double pause_between, due, longest;
 static const char *prefix;
 
 static double now(void)
@@ -73,8 +73,10 @@ static void take(int sock)
         }
         double time = now();
         failed += (octets[3] & 15) != 0;
+        double waited = (time - slot->sent) * 1e6;
+        longest = waited > longest ? waited : longest;
         if (answered < MOST_KEPT)
-            took[answered] = (time - slot->sent) * 1e6;
+            took[answered] = waited;
         answered++;
         slot->sent = 0;
         slot->at = time + pause_between;
@@ -137,7 +139,8 @@ int main(int count, char **words)
         last = now();
     }
     double ran = (most ? last : time) - began;
-    printf("{\"seconds\": %.6f, \"answered\": %ld, \"failed\": %ld, \"lost\": %ld, \"strange\": %ld, \"took\": [", ran, answered, failed, lost, strange);
+    printf("{\"seconds\": %.6f, \"answered\": %ld, \"failed\": %ld, \"lost\": %ld, \"strange\": %ld, \"longest\": %.1f, \"took\": [",
+           ran, answered, failed, lost, strange, longest);
     for (long place = 0; place < answered && place < MOST_KEPT; place++)
         printf("%s%.1f", place ? ", " : "", took[place]);
     puts("]}");

@@ -1,4 +1,5 @@
-// late PORT MILLISECONDS: a name server that answers each question for an address after that time, whatever its name is.
+// late PORT MILLISECONDS [TTL]: a name server that answers each question for an address after that time, whatever its name is.
+// The address may be cached for TTL seconds, else for a day.
 #define _GNU_SOURCE
 #include <arpa/inet.h>
 #include <netinet/in.h>
@@ -27,7 +28,7 @@ static double now(void)
 }
 
 // Makes a query the reply to it: its question, and one address. Returns the length of the reply, or 0 if it is no query.
-static int reply(unsigned char *octets, int length)
+static int reply(unsigned char *octets, int length, unsigned ttl)
 {
     int end = 12;
     while (end < length && octets[end])
@@ -35,8 +36,7 @@ static int reply(unsigned char *octets, int length)
     end += 5;
     if (length < 17 || end > length)
         return 0;
-    // An address that may be kept for a day.
-    const unsigned char record[16] = {0xC0, 12, 0, 1, 0, 1, 0, 1, 0x51, 0x80, 0, 4, 192, 0, 2, 1};
+    const unsigned char record[16] = {0xC0, 12, 0, 1, 0, 1, ttl >> 24, ttl >> 16, ttl >> 8, ttl, 0, 4, 192, 0, 2, 1};
     const unsigned char head[10] = {0x84, 0, 0, 1, 0, 1};
     memcpy(octets + 2, head, sizeof head);
     memcpy(octets + end, record, sizeof record);
@@ -45,8 +45,9 @@ static int reply(unsigned char *octets, int length)
 
 int main(int count, char **words)
 {
-    if (count != 3)
+    if (count != 3 && count != 4)
         return 2;
+    unsigned ttl = count == 4 ? atoi(words[3]) : 86400;
     int sock = socket(AF_INET, SOCK_DGRAM, 0), room = 4 << 20;
     double delay = atof(words[2]) / 1000;
     struct sockaddr_in at = {.sin_family = AF_INET, .sin_port = htons(atoi(words[1])), .sin_addr.s_addr = htonl(INADDR_LOOPBACK)};
@@ -68,7 +69,7 @@ int main(int count, char **words)
             ssize_t length = recvfrom(sock, waiting[next % ROOM].octets, LONGEST, MSG_DONTWAIT, (struct sockaddr *)&waiting[next % ROOM].peer, &size);
             if (length < 0)
                 break;
-            waiting[next % ROOM].length = reply(waiting[next % ROOM].octets, length);
+            waiting[next % ROOM].length = reply(waiting[next % ROOM].octets, length, ttl);
             waiting[next % ROOM].when = now() + delay;
             next += waiting[next % ROOM].length > 0;
         }

@@ -1,0 +1,164 @@
+"""What `bench/service` and `bench/endurance` share: `resolver serve`, unbound and a bare echo on loopback, and who asks them."""
+
+import contextlib
+import json
+import os
+import resource
+import shutil
+import socket
+import subprocess
+import sys
+
+HERE = os.path.dirname(os.path.abspath(__file__))
+sys.path.insert(0, os.path.join(HERE, "..", "tests"))
+sys.dont_write_bytecode = True
+from lib.programs import RESOLVER
+from lib.service import HOST, Service, free_port
+
+# The descriptors that unbound needs for its questions in flight. Each program gets as many, or as many as it may have.
+DESCRIPTORS = min(8_192, resource.getrlimit(resource.RLIMIT_NOFILE)[1])
+
+UNBOUND = """
+server:
+  interface: 127.0.0.1
+  port: {port}
+  access-control: 127.0.0.0/8 allow
+  do-daemonize: no
+  use-syslog: no
+  verbosity: 0
+  chroot: ""
+  username: ""
+  directory: "{folder}"
+  pidfile: ""
+  num-threads: {workers}
+  do-not-query-localhost: no
+  module-config: "iterator"
+  qname-minimisation: no
+  minimal-responses: yes
+  outgoing-range: 4096
+  num-queries-per-thread: 2048
+  so-rcvbuf: 1m
+  rrset-cache-size: 256m
+  msg-cache-size: 256m
+  local-zone: "test." transparent
+  local-data: "ready0.test. A 192.0.2.1"
+{more}
+remote-control:
+  control-enable: yes
+  control-interface: "{folder}/control"
+  control-use-cert: no
+forward-zone:
+  name: "."
+  forward-addr: 127.0.0.1@{late}
+"""
+
+
+def built(folder, name):
+    program = os.path.join(folder, name)
+    compiler = os.environ.get("CC", "cc").split()
+    subprocess.run([*compiler, "-O2", "-o", program, os.path.join(HERE, "network", name + ".c")], check=True)
+    return program
+
+
+def begun(command):
+    """A program, once it has said that it is ready."""
+    process = subprocess.Popen(command, stdout=subprocess.PIPE)
+    if process.stdout.readline() != b"ready\n":
+        sys.exit(f"bench/service: {command} does not begin")
+    return process
+
+
+def ended(*processes):
+    for process in processes:
+        process.kill()
+        process.wait()
+
+
+def cpu(pids):
+    """The microseconds of a processor that all threads of processes have had."""
+    threads = [f"/proc/{pid}/task/{task}/schedstat" for pid in pids for task in os.listdir(f"/proc/{pid}/task")]
+    total = 0
+    for thread in threads:
+        with open(thread, encoding="ascii") as file:
+            total += int(file.read().split()[0])
+    return total / 1_000
+
+
+@contextlib.contextmanager
+def operator(who, place):
+    """A function that gives a line to a program and returns the reply. Ours get all lines over one connection."""
+    if who == "ours":
+        with socket.create_connection((HOST, place)) as connection, connection.makefile("rb") as file:
+            def obey(line):
+                connection.sendall(line.encode() + b"\n")
+                return expected(line, file.readline(), (b"ok ", b"undone ", b"redone "))
+
+            yield obey
+    else:
+        def obey(line):
+            with socket.socket(socket.AF_UNIX) as connection, connection.makefile("rb") as file:
+                connection.connect(place)
+                connection.sendall(b"UBCT1 " + line.encode() + b"\n")
+                return expected(line, file.readline(), (b"ok",))
+
+        yield obey
+
+
+def expected(line, told, starts):
+    """The reply, which has to begin with one of these."""
+    if not told.startswith(starts):
+        sys.exit(f"bench: the reply to {line} is {told}")
+    return told
+
+
+class Programs:
+    """The programs that are measured, and those that measure."""
+
+    def __init__(self, folder, program):
+        self.folder, self.program = folder, program
+        self.ask_program, self.echo, self.late = (built(folder, name) for name in ("ask", "echo", "late"))
+        self.unbound = shutil.which("unbound", path=os.environ.get("PATH", "") + ":/usr/sbin")
+        self.who = ["ours", "unbound", "echo"] if self.unbound else ["ours", "echo"]
+
+    def asking(self, port, sockets, each, names, prefix, seconds=60, most=0, pause=0):
+        """A driver with `sockets` times `each` questions in flight, until its seconds are over or `most` were asked."""
+        words = [port, sockets, each, pause, seconds, most, names, prefix]
+        return subprocess.Popen([self.ask_program, *map(str, words)], stdout=subprocess.PIPE)
+
+    def ask(self, *words, **more):
+        return json.loads(self.asking(*words, **more).communicate()[0])
+
+    @contextlib.contextmanager
+    def late_by(self, milliseconds, *ttl):
+        port = free_port()
+        process = begun([self.late, str(port), str(milliseconds), *map(str, ttl)])
+        try:
+            yield port
+        finally:
+            ended(process)
+
+    @contextlib.contextmanager
+    def serving(self, who, late, workers=1, options=(), more=""):
+        """The port of a program that serves, its processes, and where it takes commands. `options` are for ours, `more` is for the
+        configuration of unbound."""
+        if who == "ours":
+            hint = f"{HOST}@{late}"
+            given = ["--udp", str(workers), *options]
+            with Service([hint], *given, most_descriptors=DESCRIPTORS, program=self.program) as service:
+                yield service.port, [service.process.pid], service.control_port
+            return
+        port = free_port()
+        if who == "echo":
+            processes = [begun([self.echo, str(port)]) for _ in range(workers)]
+        else:
+            path = os.path.join(self.folder, "unbound.conf")
+            with open(path, "w", encoding="ascii") as file:
+                file.write(UNBOUND.format(port=port, folder=self.folder, workers=workers, late=late, more=more))
+            command = ["prlimit", f"--nofile={DESCRIPTORS}", self.unbound, "-d", "-p", "-c", path]
+            processes = [subprocess.Popen(command, stdout=subprocess.DEVNULL, stderr=subprocess.DEVNULL)]
+        try:
+            while who == "unbound" and not self.ask(port, 1, 1, 1, "ready", seconds=0.1, most=1)["answered"]:
+                pass
+            yield port, [process.pid for process in processes], os.path.join(self.folder, "control")
+        finally:
+            ended(*processes)
