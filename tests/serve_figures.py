@@ -124,7 +124,8 @@ def check_long_datagrams(checks):
 
 
 def check_under_way(checks):
-    """600 questions at once where a worker may have 512 exchanges: those under way, those refused, and later all those in vain."""
+    """600 questions at once for one server, which may have 480 of a worker's exchanges: those under way, those refused, and later
+    all those in vain."""
     with LateServer(never) as server, Service([server.hint]) as service, Crowd(service) as crowd:
         crowd.send_all(f"n{place}.test." for place in range(600))
         until(lambda: service.figures()["total.num.queries"] == 600)
@@ -133,7 +134,7 @@ def check_under_way(checks):
         # The first exchanges may have ended by now, if the machine is slow.
         in_vain = told["num.exchange.unanswered"]
         checks.equal("under way: misses, refused, failed", found, [600, 600 - told["num.query.udpout"], found[1] + in_vain])
-        checks.check("under way: room", None if 512 <= told["num.query.udpout"] <= 512 + in_vain else str(told["num.query.udpout"]))
+        checks.check("under way: room", None if 480 <= told["num.query.udpout"] <= 480 + in_vain else str(told["num.query.udpout"]))
         under_way = told["num.query.udpout"] - in_vain
         checks.equal("under way: now", (told["total.requestlist.current.all"], told["num.exchange.current"]), (under_way, under_way))
         checks.check("under way: status", None if re.search(r"/ queries: \d+ under way /", service.obey("status")[0]) else "no line")
