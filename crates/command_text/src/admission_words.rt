@@ -84,6 +84,8 @@ fn read_set(alloc: Global, kind: u16, text: &[u8]) -> Result<Items<Data>, LineFa
         data.push(read_datum(alloc, kind, piece)?)?;
         rest = after;
     }
+    // The cache keeps them, and most sets have one datum: room for no more.
+    data.reserve_exact(1)?;
     data.push(read_datum(alloc, kind, rest)?)?;
     Ok(Items::new(data))
 }

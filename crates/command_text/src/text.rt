@@ -69,14 +69,20 @@ fn push_find(find: &Find, items: &[Data], out: &mut Vec<u8>) -> Result<(), NoMem
     push_set(items, out)
 }
 
+/// The room with which the line of a cached set begins, in octets. A short one then takes one block.
+const FOUND_ROOM: usize = 96;
+
 /// The line of a cached set.
 #[tactic(auto, unfolding(crate::specs::Text::found_text))]
 fn found_line(alloc: Global, shown: &Shown<SharedFind>, items: &[Data]) -> Result<Vec<u8>, NoMemory>
     ensures { IfOk result (λ text. text.items ≡ with_end (codes "found " ++ found_text shown.now items.now)) }
 {
-    let rank = shown.rank.level();
-    let left = shown.left;
-    let mut out = format!(in alloc; "found {rank} {left}")?.into_bytes();
+    let mut digits = Buffer::new();
+    let mut out = Vec::with_capacity(alloc, FOUND_ROOM)?;
+    out.extend_from_slice(b"found ")?;
+    out.extend_from_slice(digits.format(u64::from(shown.rank.level())).as_bytes())?;
+    out.push(b' ')?;
+    out.extend_from_slice(digits.format(u64::from(shown.left)).as_bytes())?;
     push_find(shown.body.find(), items, &mut out)?;
     out.push(b'\n')?;
     Ok(out)

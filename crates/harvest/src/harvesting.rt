@@ -23,7 +23,8 @@ use std::alloc::Global;
 fn copy_all(alloc: Global, lent: &[&Data]) -> Result<Items<Data>, NoMemory>
     ensures { IfOk result (λ copies. copies ≡ map (λ d. d.now) lent.now) }
 {
-    let mut copies = Vec::new(alloc);
+    // The cache keeps them: room for no more than there are.
+    let mut copies = Vec::with_capacity(alloc, lent.len())?;
     for datum in lent {
         copies.push(datum.copy(alloc)?)?;
     }

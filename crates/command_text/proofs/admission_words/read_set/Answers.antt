@@ -1,4 +1,4 @@
-use Rattle.std.proofs.Common.{ℕ, List, Ok, sym, ap, subst, ◌∙◌}
+use Rattle.std.proofs.Common.{◌≡◌, ℕ, List, [], ◌∷◌, ◌++◌, Ok, sym, ap, subst, ◌∙◌}
 use Rattle.std.specs.List.{AllByRecursion}
 use Rattle.std.proofs.lemmas.Result.{err_from_is_err_and}
 use Rattle.dns_name.specs.ListLaws.{all_push}
@@ -39,10 +39,11 @@ pub returns-clause-value : goal.returns-clause-value
 returns-clause-value c =
     let items = c.loop-piece.data.items in
     let is = c.loop-piece.invariant.read ∙ ap (λ (ps : List (List ℕ)). behind items (data_of c.args.kind ps)) c.in_default.ensures.cut in
-    last-one BadData (data_in c.args.kind) _ items _ _ is c.in_ok-read_datum-2.ensures.value ∙ ap (λ (l : List Data). Ok l) (sym c.in_ok-push-2.ensures.items ∙ sym c.new.ensures)
+    let made : items ++ c.in_ok-read_datum-2.field-0 ∷ [] ≡ c.new.result = ap (λ (l : List Data). l ++ c.in_ok-read_datum-2.field-0 ∷ []) (sym c.in_ok-reserve_exact.ensures.items) ∙ sym c.in_ok-push-2.ensures.items ∙ sym c.new.ensures in
+    last-one BadData (data_in c.args.kind) _ items _ _ is c.in_ok-read_datum-2.ensures.value ∙ ap (λ (l : List Data). Ok l) made
 
 pub returns-clause-formed : goal.returns-clause-formed
 returns-clause-formed c =
     let items = c.loop-piece.data.items in
-    subst (λ (l : List Data). AllByRecursion (HasForm c.args.kind) l) (sym c.in_ok-push-2.ensures.items ∙ sym c.new.ensures)
-    (all_push (HasForm c.args.kind) items _ c.loop-piece.invariant.formed c.in_ok-read_datum-2.ensures.form)
+    let made : items ++ c.in_ok-read_datum-2.field-0 ∷ [] ≡ c.new.result = ap (λ (l : List Data). l ++ c.in_ok-read_datum-2.field-0 ∷ []) (sym c.in_ok-reserve_exact.ensures.items) ∙ sym c.in_ok-push-2.ensures.items ∙ sym c.new.ensures in
+    subst (λ (l : List Data). AllByRecursion (HasForm c.args.kind) l) made (all_push (HasForm c.args.kind) items _ c.loop-piece.invariant.formed c.in_ok-read_datum-2.ensures.form)
