@@ -137,28 +137,63 @@ fn equal_neighbours_are_one_cell(rt: HostRuntime) -> Result<(), Fail> {
     kept_after_flushes(&rt, rt.alloc(), &mut Shelf::new(rt.alloc(), 1))
 }
 
+/// Caches the addresses of so many names, each of two letters.
+fn fill(alloc: Global, shelf: &mut Shelf, count: u16) -> Result<(), Fail>
+    requires whole { IsShelf shelf.old }
+    requires newest { shelf.old.top ≡ 0 }
+    ensures whole { IsShelf shelf.new }
+    ensures newest { shelf.new.top ≡ 0 }
+{
+    for number in 0..count {
+        let letters = [b'a' + (number / 26 % 26) as u8, b'a' + (number % 26) as u8];
+        shelf.admit(find(alloc, &letters)?, 0)?;
+    }
+    Ok(())
+}
+
 fn reached_later<R: Abort>(rt: &R, alloc: Global, shelf: &mut Shelf) -> Result<(), Fail>
     requires whole { IsShelf shelf.old }
     requires newest { shelf.old.top ≡ 0 }
 {
-    let owner = Name::from_text(alloc, b"a.test")?;
-    shelf.admit(find(alloc, b"a.test")?, 0)?;
+    let first = Name::from_text(alloc, b"aa")?;
+    fill(alloc, shelf, 300)?;
     let flush = Flush {
         name: Name::root(alloc),
         reach: Reach::Zone,
     };
     shelf.open_flush(flush, 1)?;
+    assert!(rt; shelf.stored() == 300);
     shelf.settle(1);
-    assert!(rt; left(shelf, &owner, 1) == None);
-    assert!(rt; shelf.stored() == 1);
+    assert!(rt; left(shelf, &first, 1) == None);
+    assert!(rt; shelf.stored() == 44);
     shelf.admit(find(alloc, b"b.test")?, 1)?;
-    assert!(rt; left(shelf, &owner, 1) == None);
     assert!(rt; shelf.stored() == 1);
     Ok(())
 }
 
-/// A permanent flush of everything is seen at once. It reaches the cells, and frees their places, at later admissions.
+/// A permanent flush of everything is seen at once. It reaches 256 names then, and as many at each later admission.
 #[test]
 fn a_permanent_flush_reaches_names_later(rt: HostRuntime) -> Result<(), Fail> {
-    reached_later(&rt, rt.alloc(), &mut Shelf::new(rt.alloc(), 2))
+    reached_later(&rt, rt.alloc(), &mut Shelf::new(rt.alloc(), 301))
+}
+
+fn swept_in_turns<R: Abort>(rt: &R, alloc: Global, shelf: &mut Shelf) -> Result<(), Fail>
+    requires whole { IsShelf shelf.old }
+    requires newest { shelf.old.top ≡ 0 }
+{
+    fill(alloc, shelf, 300)?;
+    assert!(rt; shelf.sweep_some(59));
+    assert!(rt; !shelf.sweep_some(59));
+    assert!(rt; shelf.stored() == 300);
+    assert!(rt; shelf.sweep_some(60));
+    assert!(rt; shelf.stored() == 44);
+    assert!(rt; !shelf.sweep_some(60));
+    assert!(rt; shelf.stored() == 0);
+    Ok(())
+}
+
+/// A turn of a sweep visits 256 names at most. The last turn says that no more is left.
+#[test]
+fn a_sweep_in_turns_removes_what_a_sweep_does(rt: HostRuntime) -> Result<(), Fail> {
+    swept_in_turns(&rt, rt.alloc(), &mut Shelf::new(rt.alloc(), 300))
 }

@@ -79,6 +79,11 @@ pub trait World: Drop {
         ensures row { IsEachRowFrom table keeps face moment (λ f. f) self.old self.new }
         ensures counts { IsNoMore newest stored limit counts self.old self.new };
 
+    /// Removes some of that content, so that no call is long, and returns whether there may be more of it.
+    fn sweep_some(&mut self, moment: u64) -> bool
+        ensures row { IsEachRowFrom table keeps face moment (λ f. f) self.old self.new }
+        ensures counts { IsNoMore newest stored limit counts self.old self.new };
+
     /// A law: the face that it shows is the face of the changes in effect.
     ghost shows: { (world : Self) (kept : List (KeptChange Self.Saved)) (chosen : ℕ → Bool) → keeps world kept → IsPresent kept chosen →
         IsSame (face world kept chosen) (shown world) };

@@ -80,6 +80,13 @@ pub trait Book: Drop {
         ensures same_store { OnErr result (stored self.new ≡ stored self.old) }
         ensures settings { settings self.new ≡ settings self.old };
 
+    /// Frees some of the memory of what no reply can show any more, so that no call is long. Returns whether there may be more of it.
+    /// It is no event, and takes no memory.
+    fn sweep_some(&mut self) -> bool
+        ensures stands { (h : List Event) → stands_for self.old h → stands_for self.new h }
+        ensures stored { stored self.new ≤ stored self.old }
+        ensures settings { settings self.new ≡ settings self.old };
+
     /// The reply that a lookup at this moment would get. It moves no clock, and no moment is too late for it.
     fn seen(&self, ask: &Ask, moment: u64) -> Result<Seen, NoMemory>
         ensures { (h : List Event) → stands_for self.now h →

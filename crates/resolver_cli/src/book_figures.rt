@@ -145,6 +145,12 @@ impl<B: Book> Book for WatchedBook<B> {
         replied
     }
 
+    fn sweep_some(&mut self) -> bool {
+        let more = self.book.sweep_some();
+        set(&self.figures.get().cells, self.book.stored() as u64);
+        more
+    }
+
     fn seen(&self, ask: &Ask, moment: u64) -> Result<Seen, NoMemory> {
         self.book.seen(ask, moment)
     }

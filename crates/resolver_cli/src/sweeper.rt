@@ -19,6 +19,13 @@ const GLANCE_MILLISECONDS: u64 = 50;
 /// The least time between two sweeps, in milliseconds. A TTL counts whole seconds, so more sweeps would remove no more.
 const LEAST_MILLISECONDS: u64 = 1_000;
 
+/// A cache of a million names is swept within so many turns: each visits 256 names at most, first for a permanent flush, then to
+/// remove what it has emptied.
+const MOST_TURNS: u32 = 8_192;
+
+/// The time between two turns, in microseconds. Whoever waits for the lock gets it then.
+const BETWEEN_TURNS: u64 = 50;
+
 /// A sweep holds the lock while it visits names. So the next one waits for so many times as long as the last one took:
 /// sweeps take at most one part in 200 of the time, however full the cache is.
 const RESTS: u64 = 199;
@@ -43,11 +50,23 @@ pub(crate) fn sweep_often<L: CallLedger, R: Wait + std::rt::Clock + Log>(
         let began = clock.millis();
         if began >= due {
             let moment = clock.now();
+            sweep_by_turns(rt, lent);
             // A sweep takes no memory. The only fault is that too many events were taken, and then nothing is cached either.
             let _ = desk.call(Event::Sweep { moment });
             due = next_due(began, clock.millis());
             room.tell(rt, lent.gauges.book.get());
         }
+    }
+}
+
+/// Frees what no reply can show any more, some names a turn, until nothing is left or the service stops. So a sweep after it is short,
+/// and no lookup waits long for the lock.
+fn sweep_by_turns<L: CallLedger, R: Wait + std::rt::Clock>(rt: &R, lent: &Lent<'_, L>) {
+    for _ in 0..MOST_TURNS {
+        if lent.stop.load(Ordering::SeqCst) || !lent.book.sweep_some(rt) {
+            return;
+        }
+        thread::sleep(rt, Duration::from_micros(BETWEEN_TURNS));
     }
 }
 

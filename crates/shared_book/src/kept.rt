@@ -1,10 +1,11 @@
 //! The state under the lock: the book, the record of its calls, their total.
 
-ghost use Rattle.std.specs.Prelude.{◌≡◌, ◌<◌, ◌≤◌, ◌^◌, ◌↔◌, [], IfOk, IfErr, OnOk, IsOk, IsErrOf};
+ghost use Rattle.std.specs.Prelude.{◌≡◌, ◌<◌, ◌≤◌, ◌^◌, ◌↔◌, List, [], IfOk, IfErr, OnOk, IsOk, IsErrOf};
+ghost use Rattle.history.specs.declared.event.Event.{Event};
 ghost use Rattle.history.specs.Answers.{IsTimely};
 ghost use Rattle.shared_book.specs.declared.kept.TheConstants.{MOST_RECORDED};
 ghost use Rattle.shared_book.specs.Pass.{PassState, first_pass};
-ghost use Rattle.shared_book.specs.Kept.{first_kept, IsKept, IsWholeRecord, IsStep};
+ghost use Rattle.shared_book.specs.Kept.{first_kept, IsKept, IsWholeRecord, IsSameRecord, IsStep};
 
 use crate::ledger::{Blank, CallLedger};
 use crate::next_reply::{make_ready, told_again};
@@ -126,6 +127,17 @@ impl<B: Book, L: CallLedger> Kept<B, L> {
         ensures settings { B.settings result.now ≡ L.settings }
     {
         &self.book
+    }
+
+    /// Frees some of the memory of what no reply can show any more, and returns whether there may be more of it. It is no call, so it
+    /// takes no pass and is not recorded. Before a sweep it is called again and again, so that the sweep has little left to do.
+    pub fn sweep_some(&mut self) -> bool
+        ensures stands { (h : List Event) → B.stands_for self.old.book h → B.stands_for self.new.book h }
+        ensures stored { B.stored self.new.book ≤ B.stored self.old.book }
+        ensures settings { B.settings self.new.book ≡ B.settings self.old.book }
+        ensures same_record { IsSameRecord self.old self.new }
+    {
+        self.book.sweep_some()
     }
 
     /// Takes an event, and records the call.

@@ -124,6 +124,12 @@ impl<B: Book, L: CallLedger> SharedBook<B, L> {
         self.kept.lock(rt).call_unrecorded(pass, event)
     }
 
+    /// Frees some of the memory of what no reply can show any more, and returns whether there may be more of it. A service calls it
+    /// again and again before a sweep, and each time holds the lock briefly. So no lookup waits long for the lock.
+    pub fn sweep_some<R: Wait>(&self, rt: &R) -> bool {
+        self.kept.lock(rt).sweep_some()
+    }
+
     /// The step. Only this is done under the lock.
     fn step<R: Wait>(
         &self,

@@ -1,6 +1,6 @@
 //! A permanent flush of a zone. It reaches the cells of the names a few at a time, so that no call visits many of them.
 
-ghost use Rattle.std.specs.Prelude.{◌≡◌, ◌≤◌, ◌-◌, ◌==◌, ◌&&◌, ℕ, Some, None, IfSome, List, length};
+ghost use Rattle.std.specs.Prelude.{◌≡◌, ◌≤◌, ◌-◌, nat_lt, ◌==◌, ◌&&◌, ℕ, Some, None, IfSome, List, length};
 ghost use Rattle.std.specs.List.{list_any, AllByRecursion};
 ghost use Rattle.std.specs.Map.{keys_of};
 ghost use Rattle.dns_name.specs.Below.{is_at_or_below};
@@ -124,6 +124,16 @@ pub(crate) fn reach_all(
     let names = owners.len();
     reach_some(owners, ends, stored, settling, names);
     *settling = None;
+}
+
+// Whether the permanent flush has names to reach.
+pub(crate) fn is_reaching(settling: &Option<Settling>) -> bool
+    ensures { result ≡ nat_lt 0 (names_left settling.now) }
+{
+    match settling {
+        Some(own) => own.left > 0,
+        None => false,
+    }
 }
 
 // Whether a flush of every type at or below a name covers all that the permanent flush covers, and is not older.

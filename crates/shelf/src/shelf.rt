@@ -28,10 +28,8 @@ use crate::ends::{Ends, drop_end, end_mixed, fit, no_ends, reset, touch};
 use crate::fault::StoreFault;
 use crate::room::Room;
 use crate::settling::{
-    REACHED_AT_ONCE, Settling, fit_place, reach_all, reach_some, settle_name, settle_zone,
-    settled_version,
+    REACHED_AT_ONCE, Settling, fit_place, reach_some, settle_name, settle_zone, settled_version,
 };
-use crate::sweep::sweep_all;
 use cell_store::{NameSeed, Owners, admit, at, forget, has_place, open_kinds};
 use dns_name::{Name, NoMemory};
 use dns_text::types;
@@ -349,35 +347,6 @@ impl Shelf {
         Ok(())
     }
 
-    /// Drops the finds that are dead at a moment, the versions that no kept flush needs, and the names of which nothing is left.
-    /// A permanent flush of a zone reaches each name first. It takes no memory.
-    pub fn sweep(&mut self, moment: u64)
-        requires whole { IsShelf self.old }
-        ensures whole { IsShelf self.new }
-        ensures faces { (chosen : ℕ → Bool) (q : Question) →
-            alive_at moment (face_of self.new chosen q) ≡ alive_at moment (face_of self.old chosen q) }
-        ensures alive { AreAlive self.old.kept.items moment self.new.owners }
-        ensures flushes { KeepsFlushes self.old self.new }
-        ensures stored { self.new.stored ≤ self.old.stored }
-        ensures pairs { KeepPairs self.old.owners self.new.owners }
-        ensures settling { self.new.settling ≡ None }
-    {
-        reach_all(
-            &mut self.owners,
-            &mut self.ends,
-            &mut self.stored,
-            &mut self.settling,
-        );
-        sweep_all(
-            &mut self.owners,
-            &mut self.ends,
-            &mut self.stored,
-            &self.kept,
-            &mut self.numbers,
-            moment,
-        );
-    }
-
     /// Removes a name, from every version. It takes no memory.
     pub fn forget(&mut self, owner: &Name)
         requires whole { IsShelf self.old }
@@ -430,7 +399,7 @@ impl Shelf {
     }
 
     // Lets the permanent flush reach some names more. It takes no memory.
-    fn reach_names(&mut self)
+    pub(crate) fn reach_names(&mut self)
         requires whole { IsShelf self.old }
         ensures whole { IsShelf self.new }
         ensures cells { (q : Question) (v : ℕ) → cell_at self.new q v ≡ cell_at self.old q v }

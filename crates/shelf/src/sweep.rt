@@ -1,17 +1,20 @@
-//! The sweep: it removes expired finds, and the versions that no kept flush needs.
+//! The sweep: it removes expired finds, and the versions that no kept flush needs, at once or some names at a time.
 
-ghost use Rattle.std.specs.Prelude.{◌≡◌, ◌<◌, ◌≤◌, ℕ, length, slice_index_or, vec_capacity};
+ghost use Rattle.std.specs.Prelude.{◌≡◌, ◌<◌, ◌≤◌, ◌+◌, ℕ, Bool, None, true, false, length, slice_index_or, vec_capacity};
 ghost use Rattle.indexmap.specs.IndexMap.{IndexMap};
 ghost use Rattle.dns_name.specs.Labels.{Labels};
-ghost use Rattle.cell_store.specs.Count.{stored_in};
+ghost use Rattle.dns_text.specs.declared.record.Question.{Question};
+ghost use Rattle.cell_store.specs.Count.{stored_in, KeepPairs};
 ghost use Rattle.cell_store.specs.Ends.{latest};
 ghost use Rattle.cell_store.specs.declared.owner.OwnerCells.{OwnerCells};
 ghost use Rattle.cell_store.specs.declared.seed.NameSeed.{NameSeed};
+ghost use Rattle.cell_store.specs.Sweep.{alive_at};
 ghost use Rattle.shelf.specs.Clean.{AreEnds};
 ghost use Rattle.shelf.specs.Sweep.{count_ended, numbers_of, AreAlive, AreLessened, IsSwept, IsSweptAt, IsUnderway};
 
 use crate::ends::{Ends, drop_at, end_all, put};
-use crate::shelf::KeptFlush;
+use crate::settling::{is_reaching, reach_all};
+use crate::shelf::{KeptFlush, Shelf};
 use cell_store::{OwnerCells, Owners, drop_if_uncounted};
 use dns_name::Name;
 
@@ -128,6 +131,41 @@ fn sweep_ended(
     }
 }
 
+// The names that one call of `sweep_few` visits at most, so that no call is long.
+const SWEPT_AT_ONCE: usize = 256;
+
+// Sweeps some of the names that end at a moment or before, and returns whether there may be more. It takes no memory.
+pub(crate) fn sweep_few(
+    owners: &mut Owners,
+    ends: &mut Ends,
+    stored: &mut u64,
+    kept: &[KeptFlush],
+    numbers: &mut Vec<u64>,
+    moment: u64,
+) -> bool
+    requires room { length kept.now ≤ vec_capacity numbers.old }
+    requires counted { stored.old ≡ stored_in owners.old }
+    requires ends { AreEnds kept.now owners.old.entries ends.old }
+    ensures less { AreLessened kept.now moment owners.old owners.new }
+    ensures ends { AreEnds kept.now owners.new.entries ends.new }
+    ensures alive { moment < latest → result ≡ false → AreAlive kept.now moment owners.new }
+    ensures counted { (stored.new ≡ stored_in owners.new) × (stored.new ≤ stored.old) }
+    ensures capacity { vec_capacity numbers.new ≡ vec_capacity numbers.old }
+{
+    if moment == u64::MAX {
+        return false;
+    }
+    let mut left = SWEPT_AT_ONCE;
+    while left > 0 {
+        match ends.moments.first_ended(moment) {
+            Some(place) => visit(owners, ends, stored, kept, numbers, place, moment),
+            None => return false,
+        }
+        left -= 1;
+    }
+    true
+}
+
 // Sweeps the names that need it at a moment. It takes no memory.
 #[tactic(auto, using(crate::proofs::VisitLaws::start, crate::proofs::VisitLaws::start_all))]
 pub(crate) fn sweep_all(
@@ -154,4 +192,69 @@ pub(crate) fn sweep_all(
     // No moment is later than this one, so each name is visited.
     end_all(ends);
     sweep_ended(owners, ends, stored, kept, numbers, moment - 1, moment);
+}
+
+impl Shelf {
+    ghost use Rattle.shelf.specs.Told.{IsShelf, KeepsFlushes, face_of};
+
+    /// Drops the finds that are dead at a moment, the versions that no kept flush needs, and the names of which nothing is left.
+    /// A permanent flush of a zone reaches each name first. It takes no memory.
+    pub fn sweep(&mut self, moment: u64)
+        requires whole { IsShelf self.old }
+        ensures whole { IsShelf self.new }
+        ensures faces { (chosen : ℕ → Bool) (q : Question) →
+            alive_at moment (face_of self.new chosen q) ≡ alive_at moment (face_of self.old chosen q) }
+        ensures alive { AreAlive self.old.kept.items moment self.new.owners }
+        ensures flushes { KeepsFlushes self.old self.new }
+        ensures stored { self.new.stored ≤ self.old.stored }
+        ensures pairs { KeepPairs self.old.owners self.new.owners }
+        ensures settling { self.new.settling ≡ None }
+    {
+        reach_all(
+            &mut self.owners,
+            &mut self.ends,
+            &mut self.stored,
+            &mut self.settling,
+        );
+        sweep_all(
+            &mut self.owners,
+            &mut self.ends,
+            &mut self.stored,
+            &self.kept,
+            &mut self.numbers,
+            moment,
+        );
+    }
+
+    /// Drops some of what a sweep at the moment drops, and returns whether there may be more. A permanent flush of a zone reaches some
+    /// more names first. It takes no memory.
+    pub fn sweep_some(&mut self, moment: u64) -> bool
+        requires whole { IsShelf self.old }
+        ensures whole { IsShelf self.new }
+        ensures faces { (chosen : ℕ → Bool) (q : Question) →
+            alive_at moment (face_of self.new chosen q) ≡ alive_at moment (face_of self.old chosen q) }
+        ensures alive { moment < latest → result ≡ false → AreAlive self.old.kept.items moment self.new.owners }
+        ensures flushes { KeepsFlushes self.old self.new }
+        ensures stored { self.new.stored ≤ self.old.stored }
+        ensures pairs { KeepPairs self.old.owners self.new.owners }
+    {
+        if is_reaching(&self.settling) {
+            self.reach_names();
+            return true;
+        }
+        reach_all(
+            &mut self.owners,
+            &mut self.ends,
+            &mut self.stored,
+            &mut self.settling,
+        );
+        sweep_few(
+            &mut self.owners,
+            &mut self.ends,
+            &mut self.stored,
+            &self.kept,
+            &mut self.numbers,
+            moment,
+        )
+    }
 }

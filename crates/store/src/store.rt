@@ -108,6 +108,10 @@ impl World for Store {
         self.cells.sweep(moment);
     }
 
+    fn sweep_some(&mut self, moment: u64) -> bool {
+        self.cells.sweep_some(moment)
+    }
+
     ghost clears = { λ world kept h. clears_store world kept h };
 }
 

@@ -169,6 +169,10 @@ impl World for ShelfWorld {
     fn sweep(&mut self, moment: u64) {
         self.shelf.sweep(moment);
     }
+
+    fn sweep_some(&mut self, moment: u64) -> bool {
+        self.shelf.sweep_some(moment)
+    }
 }
 
 impl Change for FlushChange {

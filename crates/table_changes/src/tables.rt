@@ -130,6 +130,10 @@ impl World for TableWorld {
 
     fn sweep(&mut self, _moment: u64) {}
 
+    fn sweep_some(&mut self, _moment: u64) -> bool {
+        false
+    }
+
     ghost clears = { λ world kept h. clears_both world kept h };
 }
 

@@ -110,6 +110,10 @@ impl Book for PlainBook {
         self.take_event(event)
     }
 
+    fn sweep_some(&mut self) -> bool {
+        false
+    }
+
     fn seen(&self, ask: &Ask, moment: u64) -> Result<Seen, NoMemory> {
         seen(self.alloc, &self.past, &self.tables, ask, moment)
     }

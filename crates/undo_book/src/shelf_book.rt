@@ -98,6 +98,10 @@ impl Book for ShelfBook {
         }
     }
 
+    fn sweep_some(&mut self) -> bool {
+        self.book.sweep_some()
+    }
+
     fn seen(&self, ask: &Ask, moment: u64) -> Result<Seen, NoMemory> {
         let seen = self.book.seen(ask, moment)?;
         Ok(seen)

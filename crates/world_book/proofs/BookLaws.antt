@@ -27,7 +27,7 @@ use Rattle.world_book.specs.Book.{BookState, IsBookOf, IsUntouched}
 use Rattle.world_book.specs.Deeds.{empty_face}
 use Rattle.world_book.specs.Step.{IsFaultOf}
 use Rattle.world_book.specs.Versions.{find_admitted, finds_admitted, pairs_admitted}
-use Rattle.world_book.specs.Tied.{IsTied, IsHistoryReply, TakesIn, TakesNothingIn}
+use Rattle.world_book.specs.Tied.{IsTied, IsHistoryReply, StaysTied, TakesIn, TakesNothingIn}
 
 pub past_more : (bound : ℕ) (h : List Event) (event : Event) → past_of bound (h ++ event ∷ []) ≡ followed_by bound (past_of bound h) event
 past_more bound h event = fold-append (followed_by bound) nothing h (event ∷ [])
@@ -73,6 +73,19 @@ module _ {W S : Type 0} (by : Ghosts W Tables S Command) where
         most = same ∙ so.most;
         some_commands = so.some_commands;
       }
+
+  -- after a sweep that is no event
+  pub swept_some : (book : BookState W S) (w' : W) → StaysTied by book.moment book.world book.changes w' → by.stored w' ≤ by.stored book.world + 0 → by.limit w' ≡ by.limit book.world →
+      AddsPairs by.counts [] book.world w' → (h : List Event) → BookOf book h → BookOf (record { world = w'; changes = book.changes; settings = book.settings; moment = book.moment; count = book.count }) h
+  swept_some book w' tied fewer same adds h so = record {
+    tied = tied book.settings.journal (past_of book.settings.journal h) so.moment so.tied;
+    moment = so.moment;
+    count = so.count;
+    few = omega (arith, fewer, so.few);
+    pairs = λ pair has. so.pairs pair (adds pair has);
+    most = same ∙ so.most;
+    some_commands = so.some_commands;
+  }
 
   -- after a fault
   pub stays : (book : BookState W S) (w' : W) (changes' : Changes S) → TakesNothingIn by book.world book.changes w' changes' → by.limit w' ≡ by.limit book.world →

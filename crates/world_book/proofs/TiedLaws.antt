@@ -266,6 +266,21 @@ module _ {W S : Type 0} (by : Ghosts W Tables S Command) where
       (stands_swept by.has_cells by.table by.keeps by.face empty_face w w' changes past.now now (deeds_of past.log) (is_struck past.marks) (omega arith) row tied.stands)
       tied.done tied.undone refl refl refl refl refl tied
 
+  -- a sweep that is no event
+  pub tied_unmoved : (w w' : W) (changes : Changes S) (bound clock : ℕ) (past : Past) → clock ≡ past.now → IsRowFrom by.table by.keeps by.face clock (λ f. f) w changes.kept w' →
+      Tied w changes bound past → Tied w' changes bound past
+  tied_unmoved w w' changes bound clock past is row tied = record {
+    cells = tied.cells;
+    stands = stands_swept by.has_cells by.table by.keeps by.face empty_face w w' changes past.now past.now (deeds_of past.log) (is_struck past.marks) (omega arith)
+        (subst (λ (m : ℕ). IsRowFrom by.table by.keeps by.face m (λ f. f) w changes.kept w') is row) tied.stands;
+    done = tied.done;
+    undone = tied.undone;
+    tickets = tied.tickets;
+    limit = tied.limit;
+    given = tied.given;
+    tables = tied.tables;
+  }
+
   pub tied_came : (w w' : W) (changes : Changes S) (bound moment : ℕ) (find : Find) (past : Past) →
       IsRowFrom by.table by.keeps by.face (max past.now moment) (face_with by.has_cells find (max past.now moment)) w changes.kept w' →
       Tied w changes bound past → Tied w' changes bound (followed_by bound past (Admit moment find))

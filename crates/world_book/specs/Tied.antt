@@ -48,6 +48,11 @@ abbrev pub TakesIn : {W S : Type 0} → Ghosts W Tables S Command → ℕ → Ev
 TakesIn by clock event world changes world' changes' =
     (bound : ℕ) (past : Past) → clock ≡ max past.now (moment_of event) → IsTied by world changes bound past → IsTied by world' changes' bound (followed_by bound past event)
 
+-- Whatever history the world and its journal came to, they come to it still. The clock is at its last moment.
+abbrev pub StaysTied : {W S : Type 0} → Ghosts W Tables S Command → ℕ → W → Changes S → W → Type 0
+StaysTied by clock world changes world' =
+    (bound : ℕ) (past : Past) → clock ≡ past.now → IsTied by world changes bound past → IsTied by world' changes bound past
+
 -- A fault took nothing in: the world and its journal come to the same histories, no ticket was given out, as many cells are stored, and no more pairs count.
 pub record TakesNothingIn {W S : Type 0} (by : Ghosts W Tables S Command) (world : W) (changes : Changes S) (world' : W) (changes' : Changes S) : Type 0 where
   pub tied : (bound : ℕ) (past : Past) → IsTied by world changes bound past → IsTied by world' changes' bound past

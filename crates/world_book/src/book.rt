@@ -5,6 +5,7 @@ ghost use Rattle.history.specs.Event.{AreSettings};
 ghost use Rattle.world_book.specs.Book.{IsUntouched};
 ghost use Rattle.world_book.specs.Deeds.{empty_face};
 
+use crate::finds::sweep_some;
 use crate::obey::obey;
 use crate::seen::seen;
 use crate::world::{BookChange, BookWorld};
@@ -126,6 +127,10 @@ impl<C: BookChange> Book for WorldBook<C> {
             }
             Err(fault) => Err(fault),
         }
+    }
+
+    fn sweep_some(&mut self) -> bool {
+        sweep_some(&self.journal, &mut self.world, self.moment)
     }
 
     fn seen(&self, ask: &Ask, moment: u64) -> Result<Seen, NoMemory> {

@@ -5,7 +5,7 @@ ghost use Rattle.change_law.specs.Pairs.{IsAliveIn, pair_of};
 ghost use Rattle.history.specs.declared.event.Event.TheVariants.{Admit, Sweep};
 ghost use Rattle.history.specs.declared.event.Settings.{Settings};
 ghost use Rattle.world_book.specs.Step.{IsSound, IsSoundAfter, IsFaultOf, reply_of_fate};
-ghost use Rattle.world_book.specs.Tied.{IsHistoryReply, TakesIn, TakesNothingIn};
+ghost use Rattle.world_book.specs.Tied.{IsHistoryReply, StaysTied, TakesIn, TakesNothingIn};
 
 use crate::world::BookChange;
 use change_law::{World, WorldFault};
@@ -45,6 +45,20 @@ fn reply_of_fate(fate: Fate) -> Reply
         Fate::Taken => Reply::Taken,
         Fate::Outranked => Reply::Outranked,
     }
+}
+
+/// Lets the world remove some of what has expired by the clock, and returns whether there may be more.
+pub(crate) fn sweep_some<C: BookChange>(
+    journal: &Journal<C>,
+    world: &mut C::World,
+    clock: u64,
+) -> bool
+    requires { IsSound C.World.World world.old journal.now }
+    ensures tied { StaysTied C.World.World clock world.old journal.now world.new }
+    ensures sound { IsSoundAfter C.World.World 0 [] world.old journal.now world.new journal.now }
+{
+    let _ = journal;
+    world.sweep_some(clock)
 }
 
 /// Lets the world remove what has expired. `clock` is the clock after the sweep.

@@ -1,0 +1,16 @@
+use Rattle.std.proofs.Common.{arith}
+use Rattle.store.specs.World.{shelved}
+use Rattle.store.specs.WorldLaws.{row_swept}
+use Rattle.store.proofs.world.ShelfWorldWorld.sweep_some.Goals as goal
+
+pub returns-clause-row : goal.returns-clause-row
+returns-clause-row c = rw (← c.self.view_is) (λ kept h.
+    row_swept (shelved c.self.inside.shelf) (shelved c.sweep_some.new.self) kept c.args.moment h c.sweep_some.ensures.flushes.0 c.sweep_some.ensures.faces)
+
+pub returns-clause-counts : goal.returns-clause-counts
+returns-clause-counts c = rw (← c.self.view_is) ((
+  omega (arith, c.sweep_some.ensures.flushes.1),
+  c.sweep_some.ensures.stored,
+  c.sweep_some.ensures.flushes.2,
+  λ pair has. c.sweep_some.ensures.pairs pair has,
+))
