@@ -157,6 +157,7 @@ impl WinnerTree {
 }
 
 // Mends the nodes from a position up to the root, if each other node is right.
+// It stops at a node whose least moment has not changed: then the nodes above are right too.
 fn mend(ends: &[u64], least: &mut Vec<u64>, place: usize)
     requires size { length least.old.items ≡ length ends.now }
     requires low { place < length ends.now }
@@ -166,6 +167,9 @@ fn mend(ends: &[u64], least: &mut Vec<u64>, place: usize)
     let mut node = place + 1;
     while node > 0 {
         let end = least_of(ends, least, node - 1);
+        if least[node - 1] == end {
+            return;
+        }
         least[node - 1] = end;
         node /= 2;
     }
