@@ -164,6 +164,7 @@ impl OwnerCells {
         ensures opened { OnOk result ((1 ≤ vec_len self.new.kinds) × IsPlaceOf self.new.kinds.items kind (vec_len self.new.kinds - 1)) }
     {
         let column = self.derived(top)?;
+        // Most names have one type: a growth by the usual rule would take room for four.
         self.kinds.reserve_exact(1)?;
         self.kinds.push_reserved(KindColumn { kind, column });
         Ok(())
