@@ -8,6 +8,7 @@ use Rattle.cell_store.specs.Slots.{version_of, IsWithin, AreNamed}
 
 pub record IsReleased (old_versions : Vec (Version ℕ) Global) (old_finds : Vec Find Global) (versions : Vec (Version ℕ) Global) (finds : Vec Find Global) (slot : ℕ) : Type 0 where
   pub few : slot ≤ length finds.items
+  pub fewer : length finds.items ≤ length old_finds.items
   pub same : map (version_of finds.items) versions.items ≡ map (version_of old_finds.items) old_versions.items
   pub within : AllByRecursion (IsWithin (length finds.items)) versions.items
   pub named : AreNamed versions.items slot

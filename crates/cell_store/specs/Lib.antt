@@ -17,3 +17,4 @@ pub mod Ends
 pub mod EndLaws
 pub mod Same
 pub mod Mixed
+pub mod Entry

@@ -12,10 +12,11 @@ ghost use Rattle.cell_store.specs.Ends.{first_end};
 ghost use Rattle.cell_store.specs.Mixed.{is_mixed, IsEven};
 ghost use Rattle.cell_store.specs.Same.{place_now};
 
+use crate::entry::Entry;
 use crate::merge::merge;
 use crate::prune::prune;
 use crate::slots::{has_find, lend, release};
-use crate::version::{Place, Sight, Version};
+use crate::version::{Place, Sight, Slot, Version};
 use crate::versions::{admit_each, first_end, forget_before, place_at, reach, sweep_each};
 use dns_name::NoMemory;
 use ranked::{Cell, SharedFind, Shown};
@@ -29,7 +30,7 @@ const ENTRIES: usize = 6;
 /// The cells of one name and type, one for each version. It keeps a find once, however many versions have it.
 #[derive(Drop)]
 pub struct Column {
-    versions: Vec<Version<usize>>,
+    versions: Vec<Entry>,
     finds: Vec<SharedFind>,
     // The last version that an admission has reached. Later versions are empty.
     upto: u64,
@@ -58,13 +59,13 @@ impl Column {
     {
         let mut versions = Vec::with_capacity(alloc, ENTRIES)?;
         let finds = Vec::with_capacity(alloc, ENTRIES)?;
-        versions.push_reserved(Version {
+        versions.push_reserved(Entry::new(Version {
             from: 0,
             place: Place {
                 left: false,
                 cell: Cell::empty(),
             },
-        });
+        }));
         Ok(Column {
             versions,
             finds,
@@ -80,13 +81,13 @@ impl Column {
     {
         let mut versions = Vec::with_capacity(alloc, ENTRIES)?;
         let finds = Vec::with_capacity(alloc, ENTRIES)?;
-        versions.push_reserved(Version {
+        versions.push_reserved(Entry::new(Version {
             from: 0,
             place: Place {
                 left: true,
                 cell: Cell::empty(),
             },
-        });
+        }));
         Ok(Column {
             versions,
             finds,
@@ -138,7 +139,7 @@ impl Column {
             Some(shown) => Sight::Own(Some(Shown {
                 rank: shown.rank,
                 left: shown.left,
-                body: &self.finds[shown.body],
+                body: &self.finds[usize::from(shown.body)],
             })),
             None => Sight::Own(None),
         }
@@ -180,7 +181,7 @@ impl Column {
         admit_each(
             &mut self.versions,
             self.finds[slot].find(),
-            slot,
+            slot as Slot,
             moment,
             outranked,
         );
@@ -219,13 +220,13 @@ impl Column {
         ensures counted { is_counted self.new ≡ false }
     {
         self.versions.truncate(1);
-        self.versions[0] = Version {
+        self.versions[0] = Entry::new(Version {
             from: 0,
             place: Place {
                 left: false,
                 cell: Cell::empty(),
             },
-        };
+        });
         self.finds.clear();
     }
 

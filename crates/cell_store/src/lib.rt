@@ -8,6 +8,8 @@
 
 // The content of a cell, from one version on.
 mod version;
+// An entry of a column, in memory.
+mod entry;
 // The finds of a column, each kept once.
 mod slots;
 // Equal neighbours, kept once.

@@ -8,29 +8,33 @@ ghost use Rattle.cell_store.specs.Few.{contents, AreRanked, DoDiffer};
 ghost use Rattle.cell_store.specs.Merge.{holds_same, same_held, started};
 ghost use Rattle.cell_store.specs.Slots.{IsWithin};
 
-use crate::version::Version;
+use crate::entry::Entry;
+use crate::version::Slot;
 use ranked::Admitted;
 
-impl Version<usize> {
+impl Entry {
     // Whether another entry has the same content.
-    fn holds_same(&self, other: &Version<usize>) -> bool
+    fn holds_same(&self, other: &Entry) -> bool
         ensures { result ≡ holds_same self.now other.now }
     {
-        self.place.left == other.place.left
-            && same_held(&self.place.cell.held, &other.place.cell.held)
+        let own = self.version().place;
+        let others = other.version().place;
+        own.left == others.left && same_held(&own.cell.held, &others.cell.held)
     }
 
     // Moves the start to a version, if it was later.
     fn start_by(&mut self, number: u64)
         ensures { self.new ≡ started number self.old }
     {
-        if number < self.from {
-            self.from = number;
+        let mut version = self.version();
+        if number < version.from {
+            version.from = number;
+            *self = Entry::new(version);
         }
     }
 }
 
-fn same_held(a: &Option<Admitted<usize>>, b: &Option<Admitted<usize>>) -> bool
+fn same_held(a: &Option<Admitted<Slot>>, b: &Option<Admitted<Slot>>) -> bool
     ensures { result ≡ same_held a.now b.now }
 {
     match a {
@@ -51,7 +55,7 @@ fn same_held(a: &Option<Admitted<usize>>, b: &Option<Admitted<usize>>) -> bool
 }
 
 // Removes each entry that has the content of the entry before it, and moves the start of that one if it was later.
-pub(crate) fn merge(versions: &mut Vec<Version<usize>>)
+pub(crate) fn merge(versions: &mut Vec<Entry>)
     ensures places { (v : ℕ) → place_at versions.new.items v ≡ place_at versions.old.items v }
     ensures within { (slots : ℕ) →
         AllByRecursion (IsWithin slots) versions.old.items → AllByRecursion (IsWithin slots) versions.new.items }
@@ -66,7 +70,7 @@ pub(crate) fn merge(versions: &mut Vec<Version<usize>>)
     while place < versions.len() {
         if versions[place - 1].holds_same(&versions[place]) {
             let later = versions.remove(place);
-            versions[place - 1].start_by(later.from);
+            versions[place - 1].start_by(later.version().from);
         } else {
             place += 1;
         }

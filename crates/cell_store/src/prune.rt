@@ -4,34 +4,35 @@ ghost use Rattle.std.specs.Prelude.{◌≡◌, ◌<◌, ◌+◌, ℕ, length, dr
 ghost use Rattle.std.specs.List.{list_any};
 ghost use Rattle.cell_store.specs.Prune.{is_from, is_held_at, is_seen, kept_entry, pruned};
 
+use crate::entry::Entry;
 use crate::version::{Place, Version};
 use ranked::Cell;
 
-impl Version<usize> {
+impl Entry {
     // Whether it starts at a version or before.
     fn is_from(&self, number: u64) -> bool
         ensures { result ≡ is_from number self.now }
     {
-        self.from <= number
+        self.version().from <= number
     }
 }
 
 // Whether a version has the content of an entry: the entry starts there or before, and no later one does.
-fn is_held_at(versions: &[Version<usize>], place: usize, number: u64) -> bool
+fn is_held_at(versions: &[Entry], place: usize, number: u64) -> bool
     requires { place < length versions.now }
     ensures { (d : Version ℕ) → result ≡ is_held_at number (slice_index_or versions.now place d) (drop (place + 1) versions.now) }
 {
     versions[place].is_from(number) && !any_from(&versions[place + 1..], number)
 }
 
-fn any_from(versions: &[Version<usize>], number: u64) -> bool
+fn any_from(versions: &[Entry], number: u64) -> bool
     ensures { result ≡ list_any (is_from number) versions.now }
 {
-    versions.iter().any(|version| version.is_from(number))
+    versions.iter().any(|entry| entry.is_from(number))
 }
 
 // Whether a version in use has the content of an entry.
-fn is_seen(versions: &[Version<usize>], place: usize, numbers: &[u64], upto: u64) -> bool
+fn is_seen(versions: &[Entry], place: usize, numbers: &[u64], upto: u64) -> bool
     requires { place < length versions.now }
     ensures { (d : Version ℕ) →
         result ≡ is_seen numbers.now upto (slice_index_or versions.now place d) (drop (place + 1) versions.now) }
@@ -46,31 +47,26 @@ fn is_seen(versions: &[Version<usize>], place: usize, numbers: &[u64], upto: u64
 }
 
 // The entry, emptied if no version in use has its content.
-fn kept_entry(
-    versions: &[Version<usize>],
-    place: usize,
-    numbers: &[u64],
-    upto: u64,
-) -> Version<usize>
+fn kept_entry(versions: &[Entry], place: usize, numbers: &[u64], upto: u64) -> Entry
     requires { place < length versions.now }
     ensures { (d : Version ℕ) →
         result ≡ kept_entry numbers.now upto (slice_index_or versions.now place d) (drop (place + 1) versions.now) }
 {
-    let version = versions[place];
+    let version = versions[place].version();
     if is_seen(versions, place, numbers, upto) {
-        return version;
+        return Entry::new(version);
     }
-    Version {
+    Entry::new(Version {
         from: version.from,
         place: Place {
             left: false,
             cell: Cell::empty(),
         },
-    }
+    })
 }
 
 // Empties the entries whose content no version in use has. Version 0 and those of `numbers` are in use.
-pub(crate) fn prune(versions: &mut Vec<Version<usize>>, numbers: &[u64], upto: u64)
+pub(crate) fn prune(versions: &mut Vec<Entry>, numbers: &[u64], upto: u64)
     ensures each { versions.new.items ≡ pruned numbers.now upto versions.old.items }
     ensures capacity { vec_capacity versions.new ≡ vec_capacity versions.old }
 {

@@ -1,74 +1,77 @@
 //! The finds of a column, each in one slot. The cells of all versions refer to a find by its slot.
 
-ghost use Rattle.std.specs.Prelude.{◌≡◌, ◌==◌, ℕ, map, length, vec_capacity};
+ghost use Rattle.std.specs.Prelude.{◌≡◌, ◌==◌, ◌≤◌, ℕ, map, length, vec_capacity};
 ghost use Rattle.std.specs.List.{AllByRecursion, list_any};
 ghost use Rattle.cell_store.specs.Same.{cell_now};
 ghost use Rattle.cell_store.specs.Slots.{held_of, names, renamed, version_of, IsHeldWithin, IsWithin, AreNamed};
 ghost use Rattle.cell_store.specs.Count.{has_find};
 ghost use Rattle.cell_store.specs.Few.{contents, AreRanked, DoDiffer};
 
-use crate::version::Version;
+use crate::entry::Entry;
+use crate::version::Slot;
 use ranked::{Admitted, SharedFind};
 
-impl Version<usize> {
+impl Entry {
     // Whether it has a find.
     fn has_find(&self) -> bool
         ensures { result ≡ has_find self.now }
     {
-        self.place.cell.held.is_some()
+        self.version().place.cell.held.is_some()
     }
 
     // Whether its cell refers to a slot.
     fn names(&self, slot: usize) -> bool
         ensures { result ≡ names slot self.now }
     {
-        match self.place.cell.held {
-            Some(held) => held.body == slot,
+        match self.version().place.cell.held {
+            Some(held) => usize::from(held.body) == slot,
             None => false,
         }
     }
 
     // Refers to another slot, if it referred to the old one.
-    fn rename(&mut self, old: usize, new: usize)
+    fn rename(&mut self, old: usize, new: Slot)
         ensures { self.new ≡ renamed old new self.old }
     {
-        if let Some(mut held) = self.place.cell.held {
-            if held.body == old {
+        let mut version = self.version();
+        if let Some(mut held) = version.place.cell.held {
+            if usize::from(held.body) == old {
                 held.body = new;
-                self.place.cell.held = Some(held);
+                version.place.cell.held = Some(held);
+                *self = Entry::new(version);
             }
         }
     }
 }
 
 // Whether some version has a find.
-pub(crate) fn has_find(versions: &[Version<usize>]) -> bool
+pub(crate) fn has_find(versions: &[Entry]) -> bool
     ensures { result ≡ list_any has_find versions.now }
 {
-    versions.iter().any(|version| version.has_find())
+    versions.iter().any(|entry| entry.has_find())
 }
 
 // Whether some cell refers to a slot.
-fn is_named(versions: &[Version<usize>], slot: usize) -> bool
+fn is_named(versions: &[Entry], slot: usize) -> bool
     ensures { result ≡ list_any (names slot) versions.now }
 {
-    versions.iter().any(|version| version.names(slot))
+    versions.iter().any(|entry| entry.names(slot))
 }
 
 // Replaces the old slot by the new one in each cell that refers to it.
-fn rename(versions: &mut Vec<Version<usize>>, old: usize, new: usize)
+fn rename(versions: &mut Vec<Entry>, old: usize, new: Slot)
     ensures each { versions.new.items ≡ map (renamed old new) versions.old.items }
     ensures capacity { vec_capacity versions.new ≡ vec_capacity versions.old }
 {
-    for version in versions.iter_mut() {
-        version.rename(old, new);
+    for entry in versions.iter_mut() {
+        entry.rename(old, new);
     }
 }
 
 // The content of a cell, with the find in place of its slot.
 pub(crate) fn lend(
     finds: &[SharedFind],
-    held: Option<Admitted<usize>>,
+    held: Option<Admitted<Slot>>,
 ) -> Option<Admitted<&SharedFind>>
     requires { IsHeldWithin (length finds.now) held }
     ensures { cell_now result ≡ held_of finds.now held }
@@ -78,14 +81,15 @@ pub(crate) fn lend(
             rank: held.rank,
             ttl: held.ttl,
             since: held.since,
-            body: &finds[held.body],
+            body: &finds[usize::from(held.body)],
         }),
         None => None,
     }
 }
 
 // Drops the finds to which no cell refers. The last find moves into the gap.
-pub(crate) fn release(versions: &mut Vec<Version<usize>>, finds: &mut Vec<SharedFind>)
+pub(crate) fn release(versions: &mut Vec<Entry>, finds: &mut Vec<SharedFind>)
+    requires few { length finds.old.items ≤ 256 }
     requires within { AllByRecursion (IsWithin (length finds.old.items)) versions.old.items }
     ensures same { map (version_of finds.new.items) versions.new.items ≡ map (version_of finds.old.items) versions.old.items }
     ensures within { AllByRecursion (IsWithin (length finds.new.items)) versions.new.items }
@@ -101,7 +105,7 @@ pub(crate) fn release(versions: &mut Vec<Version<usize>>, finds: &mut Vec<Shared
             slot += 1;
         } else {
             finds.swap_remove(slot);
-            rename(versions, finds.len(), slot);
+            rename(versions, finds.len(), slot as Slot);
         }
     }
 }

@@ -6,6 +6,9 @@ ghost use Rattle.cell_store.specs.Version.{after_find};
 
 use ranked::{Cell, Find, Held};
 
+/// The place of a find among those of its column. A column has at most six, so one octet is enough.
+pub(crate) type Slot = u8;
+
 /// The content of a cell in one version.
 #[derive(Clone, Copy, PartialEq, Eq)]
 pub struct Place<B> {

@@ -10,40 +10,52 @@ ghost use Rattle.cell_store.specs.Slots.{IsWithin};
 ghost use Rattle.cell_store.specs.Sweep.{swept, version_swept};
 ghost use Rattle.cell_store.specs.Version.{lowered, reached, version_after, place_at, IsFromStart};
 
-use crate::version::{Place, Version};
+use crate::entry::Entry;
+use crate::version::{Place, Slot, Version};
 use ranked::{Cell, Find};
 
-impl<B: Copy> Version<B> {
+impl Entry {
     // Caches a find, as its place does.
-    fn admit(&mut self, find: &Find, body: B, moment: u64, outranked: bool)
-        ensures { self.new ≡ version_after (admission_of find.now body moment) outranked self.old }
+    fn admit(&mut self, find: &Find, slot: Slot, moment: u64, outranked: bool)
+        ensures { self.new ≡ version_after (admission_of find.now slot moment) outranked self.old }
     {
-        self.place.admit(find, body, moment, outranked);
+        let mut version = self.version();
+        version.place.admit(find, slot, moment, outranked);
+        *self = Entry::new(version);
     }
-}
 
-impl<B: Copy> Version<B> {
     // Moves the start to version 0, if it is at a number or before.
     fn lower(&mut self, number: u64)
         ensures { self.new ≡ lowered number self.old }
     {
-        if self.from <= number {
-            self.from = 0;
+        let mut version = self.version();
+        if version.from <= number {
+            version.from = 0;
+            *self = Entry::new(version);
         }
+    }
+
+    // Drops the find, if it is dead at a moment.
+    fn sweep(&mut self, moment: u64)
+        ensures { self.new ≡ version_swept moment self.old }
+    {
+        let mut version = self.version();
+        version.place.sweep(moment);
+        *self = Entry::new(version);
     }
 }
 
-fn lower_each(versions: &mut Vec<Version<usize>>, number: u64)
+fn lower_each(versions: &mut Vec<Entry>, number: u64)
     ensures each { versions.new.items ≡ map (lowered number) versions.old.items }
     ensures capacity { vec_capacity versions.new ≡ vec_capacity versions.old }
 {
-    for version in versions.iter_mut() {
-        version.lower(number);
+    for entry in versions.iter_mut() {
+        entry.lower(number);
     }
 }
 
 // The place of the last entry that starts at version 0.
-fn last_start(versions: &[Version<usize>]) -> usize
+fn last_start(versions: &[Entry]) -> usize
     requires starts { IsFromStart versions.now }
     ensures within { result < length versions.now }
     ensures start { (d : Version ℕ) → (slice_index_or versions.now result d).from ≡ 0 }
@@ -51,15 +63,15 @@ fn last_start(versions: &[Version<usize>]) -> usize
         ((slice_index_or versions.now i d).from == 0) ≡ false }
 {
     let mut last = 0;
-    for (place, version) in versions.iter().enumerate() {
-        if version.from == 0 {
+    for (place, entry) in versions.iter().enumerate() {
+        if entry.version().from == 0 {
             last = place;
         }
     }
     last
 }
 
-fn drop_front(versions: &mut Vec<Version<usize>>, count: usize)
+fn drop_front(versions: &mut Vec<Entry>, count: usize)
     requires { count ≤ length versions.old.items }
     ensures items { versions.new.items ≡ drop count versions.old.items }
     ensures capacity { vec_capacity versions.new ≡ vec_capacity versions.old }
@@ -68,7 +80,7 @@ fn drop_front(versions: &mut Vec<Version<usize>>, count: usize)
 }
 
 // Gives every version before one the content of that one.
-pub(crate) fn forget_before(versions: &mut Vec<Version<usize>>, number: u64)
+pub(crate) fn forget_before(versions: &mut Vec<Entry>, number: u64)
     requires starts { IsFromStart versions.old.items }
     ensures places { (v : ℕ) → place_at versions.new.items v ≡ place_at versions.old.items (max number v) }
     ensures within { (slots : ℕ) →
@@ -88,29 +100,30 @@ pub(crate) fn forget_before(versions: &mut Vec<Version<usize>>, number: u64)
 
 // Caches a find in each version.
 pub(crate) fn admit_each(
-    versions: &mut Vec<Version<usize>>,
+    versions: &mut Vec<Entry>,
     find: &Find,
-    slot: usize,
+    slot: Slot,
     moment: u64,
     outranked: bool,
 )
     ensures each { versions.new.items ≡ map (version_after (admission_of find.now slot moment) outranked) versions.old.items }
     ensures capacity { vec_capacity versions.new ≡ vec_capacity versions.old }
 {
-    for version in versions.iter_mut() {
-        version.admit(find, slot, moment, outranked);
+    for entry in versions.iter_mut() {
+        entry.admit(find, slot, moment, outranked);
     }
 }
 
 // The content in a version.
-pub(crate) fn place_at(versions: &[Version<usize>], number: u64) -> Place<usize>
+pub(crate) fn place_at(versions: &[Entry], number: u64) -> Place<Slot>
     ensures { result ≡ place_at versions.now number }
 {
     let mut place = Place {
         left: false,
         cell: Cell::empty(),
     };
-    for version in versions {
+    for entry in versions {
+        let version = entry.version();
         if version.from <= number {
             place = version.place;
         }
@@ -136,28 +149,20 @@ impl<B: Copy> Place<B> {
     }
 }
 
-impl<B: Copy> Version<B> {
-    fn sweep(&mut self, moment: u64)
-        ensures { self.new ≡ version_swept moment self.old }
-    {
-        self.place.sweep(moment);
-    }
-}
-
 // Adds an empty entry for the versions from `upto` to `top`, which an admission can change.
-pub(crate) fn reach(versions: &mut Vec<Version<usize>>, upto: u64, top: u64)
+pub(crate) fn reach(versions: &mut Vec<Entry>, upto: u64, top: u64)
     requires { length versions.old.items < vec_capacity versions.old }
     ensures items { versions.new.items ≡ reached upto top versions.old.items }
     ensures capacity { vec_capacity versions.new ≡ vec_capacity versions.old }
 {
     if upto < top {
-        versions.push_reserved(Version {
+        versions.push_reserved(Entry::new(Version {
             from: upto + 1,
             place: Place {
                 left: false,
                 cell: Cell::empty(),
             },
-        });
+        }));
     }
 }
 
@@ -184,22 +189,22 @@ pub(crate) fn cell_end(since: u64, ttl: u32) -> u64
 }
 
 // The first moment at which an entry ends.
-pub(crate) fn first_end(versions: &[Version<usize>]) -> u64
+pub(crate) fn first_end(versions: &[Entry]) -> u64
     ensures { result ≡ first_end versions.now }
 {
     let mut end = u64::MAX;
-    for version in versions {
-        end = end.min(version.place.end());
+    for entry in versions {
+        end = end.min(entry.version().place.end());
     }
     end
 }
 
 // Drops the finds that are dead at a moment, from each version.
-pub(crate) fn sweep_each(versions: &mut Vec<Version<usize>>, moment: u64)
+pub(crate) fn sweep_each(versions: &mut Vec<Entry>, moment: u64)
     ensures each { versions.new.items ≡ map (version_swept moment) versions.old.items }
     ensures capacity { vec_capacity versions.new ≡ vec_capacity versions.old }
 {
-    for version in versions.iter_mut() {
-        version.sweep(moment);
+    for entry in versions.iter_mut() {
+        entry.sweep(moment);
     }
 }

@@ -1,5 +1,7 @@
-use Rattle.std.proofs.Common.{◌≡◌, ◌+◌, ◌-◌, ◌<◌, length, slice_set, sym, ap, ◌∙◌, arith}
+use Rattle.std.proofs.Common.{◌≡◌, ℕ, ◌+◌, ◌-◌, ◌<◌, length, slice_set, sym, ap, ◌∙◌, arith}
 use Rattle.std.specs.Vec.{with_item}
+use Rattle.cell_store.specs.declared.version.Version.{Version}
+use Rattle.cell_store.specs.Merge.{started}
 use Rattle.cell_store.proofs.EntryLaws.{ranked_joined, all_differ}
 use Rattle.cell_store.proofs.MergeLaws.{merged_less, merged_more}
 use Rattle.cell_store.proofs.merge.merge.Goals as goal
@@ -13,7 +15,7 @@ loop-place-preserved-then-holds_same c =
     merged_less _ versions c.loop-place.place i c.index.result.now c.index-in-loop-place.result.now c.loop-place.invariant at low c.index.ensures c.index-in-loop-place.ensures
     (λ d same is. ranked_joined i versions.items d (omega arith) same is)
     (with_item c.remove-later.new.self i c.start_by.new.self) c.remove-later.new.self.items c.remove-later.result c.index_mut.result.now (sym c.holds_same.ensures ∙ c.if-holds_same.true) c.remove-later.ensures.items c.remove-later.ensures.value c.index_mut.ensures.value
-    (ap (slice_set c.remove-later.new.self.items i) c.start_by.ensures) c.remove-later.ensures.capacity
+    (ap (slice_set c.remove-later.new.self.items i) (c.start_by.ensures ∙ ap (λ (later : Version ℕ). started later.from c.index_mut.result.now) c.version.ensures)) c.remove-later.ensures.capacity
 
 pub loop-place-preserved : goal.loop-place-preserved
 loop-place-preserved c =

@@ -29,6 +29,7 @@ loop-slot-preserved c =
     let below : slot ≤ last = omega arith in
     record {
       few = omega arith;
+      fewer = omega (arith, c.loop-slot.invariant.fewer);
       same = ap (map (version_of rest)) c.rename.ensures.each ∙ (same_each all rest slot last c.swap_remove.result is in_all versions within none ∙ c.loop-slot.invariant.same);
       within = subst (λ (l : List (Version ℕ)). AllByRecursion (IsWithin (length rest)) l) (sym c.rename.ensures.each)
           (subst (λ n. AllByRecursion (IsWithin n) (map (renamed last slot) versions)) (sym fewer) (within_each all rest slot last c.swap_remove.result is in_all versions within none));

@@ -5,10 +5,10 @@ use Rattle.cell_store.specs.Version.{version_after}
 use Rattle.cell_store.proofs.Each.{each_more}
 use Rattle.cell_store.proofs.versions.admit_each.Goals as goal
 
-pub loop-version-preserved : goal.loop-version-preserved
-loop-version-preserved c =
-    let value = c.deref_mut-version-items.ensures.value in
-    let within = subst (λ (l : List (Version ℕ)). c.loop-version.version-index < length l) value c.loop-version-test.true in
-    let same = subst (λ (l : List (Version ℕ)). length c.loop-version.version-items ≡ length l) value c.loop-version.auto.version-items in
-    each_more (version_after (admission_of c.args.find.now c.args.slot c.args.moment) c.args.outranked) c.args.versions.now.items c.loop-version.version-items c.loop-version.version-index _ c.admit.new.self
-    within same c.loop-version.invariant c.admit.ensures
+pub loop-entry-preserved : goal.loop-entry-preserved
+loop-entry-preserved c =
+    let value = c.deref_mut-entry-items.ensures.value in
+    let within = subst (λ (l : List (Version ℕ)). c.loop-entry.entry-index < length l) value c.loop-entry-test.true in
+    let same = subst (λ (l : List (Version ℕ)). length c.loop-entry.entry-items ≡ length l) value c.loop-entry.auto.entry-items in
+    each_more (version_after (admission_of c.args.find.now c.args.slot c.args.moment) c.args.outranked) c.args.versions.now.items c.loop-entry.entry-items c.loop-entry.entry-index _ c.admit.new.self
+    within same c.loop-entry.invariant c.admit.ensures

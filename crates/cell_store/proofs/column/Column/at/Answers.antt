@@ -1,4 +1,4 @@
-use Rattle.std.proofs.Common.{Some, None, cond, length, sym, ap, ◌∙◌, arith}
+use Rattle.std.proofs.Common.{◌≡◌, Some, None, cond, length, get_or, sym, ap, ◌∙◌, arith}
 use Rattle.ranked.specs.declared.find.Find.{Find}
 use Rattle.ranked.specs.Cell.{shown_at}
 use Rattle.cell_store.specs.declared.version.Place.{Place}
@@ -26,8 +26,9 @@ returns-in-Some c =
     let finds = c.self.inside.finds.items in
     let here = seen_here c.args.self.now c.self.inside.versions c.self.inside.finds c.self.inside.upto c.args.version c.deref.result.now place c.self.view_is c.if-self-version.false c.deref.ensures.value c.place_at-place.ensures in
     let low = within_here c.self.inside.versions.items (length finds) c.args.version c.deref.result.now place c.self.invariant.within c.deref.ensures.value c.place_at-place.ensures in
+    let slot : c.from.result ≡ c.in-Some.shown.body = cc in
     sym (ap (λ (p : Place Find). sight_at p c.args.moment) here ∙ (ap (λ b. cond b None (Some (shown_at (held_of finds place.cell.held) c.args.moment))) c.if-place.false
-    ∙ ap Some (shown_seen finds c.args.moment place.cell.held low c.in-Some.shown (sym c.in-Some.ensures.value) c.index.result.now c.index.ensures).1))
+    ∙ ap Some (shown_seen finds c.args.moment place.cell.held low c.in-Some.shown (sym c.in-Some.ensures.value) c.index.result.now (c.index.ensures ∙ ap (λ slot. get_or finds slot c.index.result.now) slot)).1))
 
 pub returns-in-None : goal.returns-in-None
 returns-in-None c =

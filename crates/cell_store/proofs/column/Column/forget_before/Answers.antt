@@ -6,7 +6,7 @@ use Rattle.ranked.specs.declared.find.Find.{Find}
 use Rattle.cell_store.specs.declared.version.Version.{Version}
 use Rattle.cell_store.specs.Version.{IsFromStart}
 use Rattle.cell_store.specs.Column.{Cells, cells_of, place_in}
-use Rattle.cell_store.proofs.ColumnLaws.{same_length}
+use Rattle.cell_store.proofs.ColumnLaws.{few_finds, same_length}
 use Rattle.cell_store.proofs.ForgetLaws.{forgotten, seen_starts, starts_seen}
 use Rattle.cell_store.proofs.column.Column.forget_before.Goals as goal
 
@@ -14,7 +14,10 @@ pub forget_before-requires : goal.forget_before-requires
 forget_before-requires c = record { starts = starts_seen c.self.inside.finds.items c.self.inside.versions.items c.self.invariant.starts }
 
 pub release-requires : goal.release-requires
-release-requires c = record { within = c.forget_before.ensures.within (length c.self.inside.finds.items) c.self.invariant.within }
+release-requires c = record {
+  few = omega (arith, few_finds c.self.inside.versions.items (length c.self.inside.finds.items) c.self.invariant.named, c.self.invariant.short);
+  within = c.forget_before.ensures.within (length c.self.inside.finds.items) c.self.invariant.within;
+}
 
 pub returns-clause-places : goal.returns-clause-places
 returns-clause-places c =

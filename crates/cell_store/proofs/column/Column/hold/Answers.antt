@@ -19,12 +19,16 @@ reach-requires c = omega (arith, c.self.invariant.short, c.self.invariant.room)
 pub push_reserved-requires : goal.push_reserved-requires
 push_reserved-requires c = omega (arith, few_finds c.self.inside.versions.items (length c.self.inside.finds.items) c.self.invariant.named, c.self.invariant.short, c.self.invariant.slots)
 
+pub overflow_cast-slot : goal.overflow_cast-slot
+overflow_cast-slot c = omega (arith, few_finds c.self.inside.versions.items (length c.self.inside.finds.items) c.self.invariant.named, c.self.invariant.short, c.len-slot.ensures)
+
 pub release-requires : goal.release-requires
 release-requires c =
     let slots = length c.self.inside.finds.items in
     let within : AllByRecursion (IsWithin slots) c.reach.new.versions.items =
     subst (λ (l : List (Version ℕ)). AllByRecursion (IsWithin slots) l) (sym c.reach.ensures.items) (reached_within slots c.self.inside.upto c.args.top c.self.inside.versions.items c.self.invariant.within) in
     record {
+      few = omega (arith, few_finds c.self.inside.versions.items slots c.self.invariant.named, c.self.invariant.short, c.push_reserved.ensures.len);
       within = c.merge.ensures.within (length c.push_reserved.new.self.items) (admit_within c.self.inside.finds.items c.push_reserved.new.self.items c.reach.new.versions.items c.admit_each.new.versions.items c.args.find c.find.result.now c.len-slot.result c.args.moment c.args.outranked
           within (omega arith) c.push_reserved.ensures.items c.admit_each.ensures.each);
     }

@@ -8,7 +8,7 @@ use Rattle.cell_store.specs.Slots.{IsWithin}
 use Rattle.cell_store.specs.Column.{Cells, place_in, cells_of, has_find, is_counted}
 use Rattle.cell_store.specs.Prune.{is_asked, pruned, IsLess}
 use Rattle.cell_store.specs.Sweep.{swept, version_swept}
-use Rattle.cell_store.proofs.ColumnLaws.{same_length}
+use Rattle.cell_store.proofs.ColumnLaws.{few_finds, same_length}
 use Rattle.cell_store.proofs.ForgetLaws.{seen_starts, starts_seen}
 use Rattle.cell_store.proofs.CountLaws.{counted_seen}
 use Rattle.cell_store.proofs.EntryLaws.{ranked_swept, ranked_pruned, short}
@@ -21,7 +21,10 @@ release-requires c =
     let slots = length c.self.inside.finds.items in
     let swept_in = subst (λ (l : List (Version ℕ)). AllByRecursion (IsWithin slots) l) (sym c.sweep_each.ensures.each) (swept_within c.args.moment slots c.self.inside.versions.items c.self.invariant.within) in
     let pruned_in = subst (λ (l : List (Version ℕ)). AllByRecursion (IsWithin slots) l) (sym c.prune.ensures.each) (pruned_within c.args.numbers.now c.self.inside.upto slots c.merge.new.versions.items (c.merge.ensures.within slots swept_in)) in
-    record { within = c.merge-2.ensures.within slots pruned_in }
+    record {
+      few = omega (arith, few_finds c.self.inside.versions.items slots c.self.invariant.named, c.self.invariant.short);
+      within = c.merge-2.ensures.within slots pruned_in;
+    }
 
 pub returns-clause-places : goal.returns-clause-places
 returns-clause-places c =
