@@ -5,7 +5,7 @@ use Rattle.std.specs.Option.{option_map_or}
 use Rattle.std.proofs.lemmas.Bool.{cases_Bool, false≢true}
 use Rattle.std.specs.List.{AllByRecursion, list_any, position_or_len}
 use Rattle.std.specs.Map.{keys_of, lookup}
-use Rattle.indexmap.specs.IndexMap.{IndexMap, get, set_value_at, Updates}
+use Rattle.indexmap.specs.IndexMap.{IndexMap, get, set_value_at, with_entries, with_value_at, Updates}
 use Rattle.dns_name.specs.Labels.{Labels}
 use Rattle.dns_name.specs.Order.{name_eq, name_eq_exact}
 use Rattle.dns_text.specs.declared.record.Question.{Question}
@@ -177,6 +177,18 @@ others_at (e ∷ entries) (suc place) new (suc i) off = others_at entries place 
 
 pub stays_at : (entries : List (Labels × OwnerCells)) (place : ℕ) (new : OwnerCells) → StayButAt place entries (set_value_at entries place new)
 stays_at entries place new = record { others = others_at entries place new; names = keys_at entries place new }
+
+back_at : (entries : List (Labels × OwnerCells)) (place : ℕ) (key : Labels) (cells : OwnerCells) → slice_get entries place ≡ Some (key, cells) → set_value_at entries place cells ≡ entries
+back_at [] place key cells is = refl
+back_at (e ∷ entries) zero key cells is =
+    let there : Some e ≡ Some (key, cells) = is in
+    let one : e ≡ (key, cells) = cc in
+    ap (λ (x : Labels × OwnerCells). (e.0, x.1) ∷ entries) (sym one)
+back_at (e ∷ entries) (suc place) key cells is = ap (λ (l : List (Labels × OwnerCells)). e ∷ l) (back_at entries place key cells is)
+
+-- the cells that a name has are put in their place
+pub put_back : {S : Type 0} (owners : IndexMap Labels OwnerCells S) (place : ℕ) (key : Labels) (cells : OwnerCells) → slice_get owners.entries place ≡ Some (key, cells) → with_value_at owners place cells ≡ owners
+put_back owners place key cells there = ap (with_entries owners) (back_at owners.entries place key cells there)
 
 module _ {S : Type 0} (old new : IndexMap Labels OwnerCells S) (place : ℕ) (key : Labels) (lent cells : OwnerCells) (there : slice_get old.entries place ≡ Some (key, lent)) (put : new.entries ≡ set_value_at old.entries place cells) where
   at_place : (name : Labels) → get name_eq new name ≡ cond (name_place name old.entries == place) (Some cells) (get name_eq old name)

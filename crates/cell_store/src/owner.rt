@@ -420,6 +420,7 @@ impl OwnerCells {
         ensures settles { KeepsSettling self.old self.new }
         ensures count { count_of self.new ≤ count_of self.old }
         ensures places { KeepsPlaces self.old self.new }
+        ensures same { covered ≡ false → self.new ≡ self.old }
     {
         if covered {
             self.settle_all(number);

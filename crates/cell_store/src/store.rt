@@ -1,6 +1,7 @@
 //! The cells of all names, in an index with a seeded hasher.
 
-ghost use Rattle.std.specs.Prelude.{◌≡◌, ◌<◌, ◌≤◌, ◌==◌, ◌&&◌, ◌+◌, ◌^◌, ℕ, None, not, true, length, IsOk, OnOk, OnErr, if◌then◌else◌};
+ghost use Rattle.std.specs.Prelude.{◌≡◌, ◌<◌, ◌≤◌, ◌==◌, ◌&&◌, ◌+◌, ◌^◌, ℕ, None, not, true, false, length, slice_get};
+ghost use Rattle.std.specs.Prelude.{IfSome, IsOk, OnOk, OnErr, if◌then◌else◌};
 ghost use Rattle.std.specs.List.{AllByRecursion, list_any};
 ghost use Rattle.std.specs.Map.{keys_of};
 ghost use Rattle.indexmap.specs.IndexMap.{get, swap_remove_entry};
@@ -123,23 +124,32 @@ pub fn settle_kinds(owners: &mut Owners, stored: &mut u64, owner: &Name, kinds: 
     }
 }
 
-/// Makes a flush of every type at or below a name permanent in the cells of the name at a place. It takes no memory.
-pub fn settle_at(owners: &mut Owners, stored: &mut u64, place: usize, zone: &Name, number: u64)
+/// Makes a flush of every type at or below a name permanent in the cells of the name at a place, and says whether it covers that name.
+/// It takes no memory.
+pub fn settle_at(
+    owners: &mut Owners,
+    stored: &mut u64,
+    place: usize,
+    zone: &Name,
+    number: u64,
+) -> bool
     requires low { place < length owners.old.entries }
     requires counted { stored.old ≡ stored_in owners.old }
     ensures cells { (top : ℕ) → AreUpTo top owners.old → (q : Question) (v : ℕ) → cell_of owners.new q v ≡
         cell_of owners.old q (after_settle (name_place q.owner owners.old.entries == place && is_at_or_below q.owner zone.now) number v) }
-    ensures upto { KeepUpTo owners.old owners.new }
-    ensures settles { KeepSettling owners.old owners.new }
+    ensures kept { KeepUpTo owners.old owners.new × KeepSettling owners.old owners.new }
     ensures counted { (stored.new ≡ stored_in owners.new) × (stored.new ≤ stored.old) }
     ensures pairs { KeepPairs owners.old owners.new }
     ensures entries { StayButAt place owners.old.entries owners.new.entries }
+    ensures covered { IfSome (slice_get owners.old.entries place) (λ entry. result ≡ is_at_or_below entry.0 zone.now)
+        × (result ≡ false → (owners.new ≡ owners.old) × (stored.new ≡ stored.old)) }
 {
     let (name, cells) = owners.pair_mut(place);
     let covered = name.at_or_below(zone);
     let others = *stored - cells.counted();
     cells.settle_where(covered, number);
     *stored = others + cells.counted();
+    covered
 }
 
 /// Whether the place of a find is counted already. A place is that of a name and type, or of a whole name.

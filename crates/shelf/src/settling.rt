@@ -49,7 +49,7 @@ fn later(covered: bool, number: u64, version: u64) -> u64
     }
 }
 
-// Lets a flush reach so many names more, from the place `left` down. It takes no memory.
+// Lets a flush reach so many names more, from the place `left` down. The next sweep visits those that it covers. It takes no memory.
 fn reach(
     owners: &mut Owners,
     ends: &mut Ends,
@@ -73,8 +73,9 @@ fn reach(
     let mut place = left;
     while place > last {
         place -= 1;
-        settle_at(owners, stored, place, zone, number);
-        put(ends, place, 0, false);
+        if settle_at(owners, stored, place, zone, number) {
+            put(ends, place, 0, false);
+        }
     }
     place
 }

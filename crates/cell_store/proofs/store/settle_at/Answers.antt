@@ -1,8 +1,13 @@
-use Rattle.std.proofs.Common.{max, cond, refl, ap, ◌∙◌, arith}
+use Rattle.std.proofs.Common.{◌≡◌, max, cond, Option, refl, sym, ap, ◌∙◌, subst, arith}
+use Rattle.std.specs.Prelude.{IfSome}
 use Rattle.indexmap.specs.IndexMap.{with_value_at}
+use Rattle.dns_name.specs.Labels.{Labels}
+use Rattle.dns_name.specs.Below.{is_at_or_below}
+use Rattle.cell_store.specs.declared.owner.OwnerCells.{OwnerCells}
+use Rattle.cell_store.specs.Count.{count_of}
 use Rattle.cell_store.specs.Owner.{cell_in, CanSettle, IsUpTo}
 use Rattle.cell_store.specs.StoredLaws.{count_set_at, count_found_at}
-use Rattle.cell_store.proofs.StoreLaws.{cells_at, each_at, pairs_at, stays_at}
+use Rattle.cell_store.proofs.StoreLaws.{cells_at, each_at, pairs_at, put_back, stays_at}
 use Rattle.cell_store.proofs.store.settle_at.Goals as goal
 
 pub overflow_sub-others : goal.overflow_sub-others
@@ -17,17 +22,14 @@ returns-clause-cells c =
     cells_at old (with_value_at old c.args.place new) c.args.place c.pair_mut-cells.result.0.now lent new c.pair_mut-cells.ensures.value refl c.args.zone.now c.args.number
     (λ top is k v. c.settle_where.ensures.cells top is k v ∙ ap (λ b. cell_in lent k (cond b (max c.args.number v) v)) c.at_or_below-covered.ensures.value)
 
-pub returns-clause-upto : goal.returns-clause-upto
-returns-clause-upto c = λ top is name.
+pub returns-clause-kept : goal.returns-clause-kept
+returns-clause-kept c =
     let old = c.args.owners.now in
     let new = c.settle_where.new.self in
-    each_at old (with_value_at old c.args.place new) c.args.place c.pair_mut-cells.result.0.now c.pair_mut-cells.result.1.now new c.pair_mut-cells.ensures.value refl (IsUpTo top) (c.settle_where.ensures.upto top) name (is name)
-
-pub returns-clause-settles : goal.returns-clause-settles
-returns-clause-settles c = λ number kind name is.
-    let old = c.args.owners.now in
-    let new = c.settle_where.new.self in
-    each_at old (with_value_at old c.args.place new) c.args.place c.pair_mut-cells.result.0.now c.pair_mut-cells.result.1.now new c.pair_mut-cells.ensures.value refl (CanSettle number kind) (c.settle_where.ensures.settles number kind) name is
+    let each = each_at old (with_value_at old c.args.place new) c.args.place c.pair_mut-cells.result.0.now c.pair_mut-cells.result.1.now new c.pair_mut-cells.ensures.value refl in (
+      λ top is name. each (IsUpTo top) (c.settle_where.ensures.upto top) name (is name),
+      λ number kind name is. each (CanSettle number kind) (c.settle_where.ensures.settles number kind) name is,
+    )
 
 pub returns-clause-counted : goal.returns-clause-counted
 returns-clause-counted c =
@@ -45,3 +47,18 @@ returns-clause-pairs c =
 
 pub returns-clause-entries : goal.returns-clause-entries
 returns-clause-entries c = stays_at c.args.owners.now.entries c.args.place c.settle_where.new.self
+
+pub returns-clause-covered : goal.returns-clause-covered
+returns-clause-covered c =
+    let old = c.args.owners.now in
+    let place = c.args.place in
+    let key = c.pair_mut-cells.result.0.now in
+    let lent = c.pair_mut-cells.result.1.now in
+    let there = c.pair_mut-cells.ensures.value in (
+      subst (λ (o : Option (Labels × OwnerCells)). IfSome o (λ entry. c.at_or_below-covered.result ≡ is_at_or_below entry.0 c.args.zone.now)) (sym there) c.at_or_below-covered.ensures.value,
+      λ off.
+          let same = c.settle_where.ensures.same off in (
+            ap (with_value_at old place) same ∙ put_back old place key lent there,
+            omega (arith, ap count_of same, count_found_at old.entries place key lent there, c.requires.counted, c.counted-2.ensures, c.counted.ensures),
+          ),
+    )

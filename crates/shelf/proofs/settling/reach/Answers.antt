@@ -1,5 +1,10 @@
-use Rattle.std.proofs.Common.{◌≡◌, ◌+◌, ◌-◌, ◌<◌, length, refl, sym, ap, ◌∙◌, arith}
+use Rattle.std.proofs.Common.{◌≡◌, ◌+◌, ◌-◌, ◌<◌, length, refl, sym, ap, ◌∙◌, subst, arith}
 use Rattle.std.proofs.Math.ListN.{length-set}
+use Rattle.indexmap.specs.IndexMap.{IndexMap}
+use Rattle.dns_name.specs.Labels.{Labels}
+use Rattle.cell_store.specs.declared.owner.OwnerCells.{OwnerCells}
+use Rattle.cell_store.specs.declared.seed.NameSeed.{NameSeed}
+use Rattle.shelf.specs.Clean.{AreEnds, HaveEnds}
 use Rattle.shelf.proofs.EndLaws.{ends_put}
 use Rattle.shelf.proofs.SettlingLaws.{reach_more, reach_none, same_length}
 use Rattle.shelf.proofs.settling.reach.Goals as goal
@@ -30,8 +35,8 @@ put-requires c = record {
   flags = c.loop-place.invariant.size.1;
 }
 
-pub loop-place-preserved : goal.loop-place-preserved
-loop-place-preserved c =
+pub loop-place-preserved-then-settle_at : goal.loop-place-preserved-then-settle_at
+loop-place-preserved-then-settle_at c =
     let was = c.loop-place.invariant in
     let place = c.loop-place.place - 1 in
     let olds = c.loop-place.owners.entries in
@@ -46,14 +51,38 @@ loop-place-preserved c =
       reaching = λ top is.
           let so_far = was.reaching top is in
           reach_more c.args.zone.now c.args.number top c.args.left c.loop-place.place place c.args.owners.now c.loop-place.owners c.settle_at.new.owners before so_far names
-          (c.settle_at.ensures.upto top so_far.upto) (c.settle_at.ensures.cells top so_far.upto);
-      settles = λ number kind name is. c.settle_at.ensures.settles number kind name (was.settles number kind name is);
+          (c.settle_at.ensures.kept.0 top so_far.upto) (c.settle_at.ensures.cells top so_far.upto);
+      settles = λ number kind name is. c.settle_at.ensures.kept.1 number kind name (was.settles number kind name is);
       counted = c.settle_at.ensures.counted.0;
       fewer = omega (arith, was.fewer, c.settle_at.ensures.counted.1);
       pairs = λ pair has. was.pairs pair (c.settle_at.ensures.pairs pair has);
       ends = λ kept is. ends_put kept olds news c.loop-place.ends c.put.new.ends place (was.ends kept is) c.settle_at.ensures.entries.others size low
           (record { moments = c.put.ensures.moments; unmixed = c.put.ensures.unmixed; flags = c.put.ensures.flags });
       size = (ap length c.put.ensures.moments ∙ (length-set c.loop-place.ends.moments place 0 ∙ (was.size.0 ∙ sym size)), c.put.ensures.flags);
+      names = names ∙ was.names;
+    }
+
+-- the flush does not cover the name
+pub loop-place-preserved : goal.loop-place-preserved
+loop-place-preserved c =
+    let was = c.loop-place.invariant in
+    let place = c.loop-place.place - 1 in
+    let names = c.settle_at.ensures.entries.names in
+    let before : place + 1 ≡ c.loop-place.place = omega (arith, c.loop-place-test.true) in
+    let same : c.settle_at.new.owners ≡ c.loop-place.owners = (c.settle_at.ensures.covered.1 c.if-settle_at.false).0 in
+    record {
+      low = omega (arith, was.low);
+      last = omega (arith, c.loop-place-test.true);
+      reaching = λ top is.
+          let so_far = was.reaching top is in
+          reach_more c.args.zone.now c.args.number top c.args.left c.loop-place.place place c.args.owners.now c.loop-place.owners c.settle_at.new.owners before so_far names
+          (c.settle_at.ensures.kept.0 top so_far.upto) (c.settle_at.ensures.cells top so_far.upto);
+      settles = λ number kind name is. c.settle_at.ensures.kept.1 number kind name (was.settles number kind name is);
+      counted = c.settle_at.ensures.counted.0;
+      fewer = omega (arith, was.fewer, c.settle_at.ensures.counted.1);
+      pairs = λ pair has. was.pairs pair (c.settle_at.ensures.pairs pair has);
+      ends = λ kept is. subst (λ (o : IndexMap Labels OwnerCells NameSeed). AreEnds kept o.entries c.loop-place.ends) (sym same) (was.ends kept is);
+      size = subst (λ (o : IndexMap Labels OwnerCells NameSeed). HaveEnds o.entries c.loop-place.ends) (sym same) was.size;
       names = names ∙ was.names;
     }
 
