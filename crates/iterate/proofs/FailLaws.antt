@@ -23,7 +23,7 @@ unanswered : {port : ℕ} {question : Question} {log : List Exchange} {rcode : �
     → ResolvedAs port question log rcode aa aliases last authority → rcode ≡ 2 → BeganUnanswered question log
 unanswered (ResolvedAs.at_once began ends) fails = absurd (ends_well ends fails)
 unanswered (ResolvedAs.looked began chain few happened ends) fails = began
-unanswered (ResolvedAs.found began chain few known) fails = began
+unanswered (ResolvedAs.found began chain few unknown known) fails = began
 unanswered (ResolvedAs.denied began chain few is) fails = began
 unanswered (ResolvedAs.refused began) fails = absurd (omega (arith, fails))
 unanswered (ResolvedAs.failed began chain failing) fails = began

@@ -94,9 +94,9 @@ joined_formed : (front back : List AnswerSet) → AllByRecursion IsFormed (flat_
 joined_formed front back all more =
     subst (λ (records : List Record). AllByRecursion IsFormed records) (sym (flat_map-append records_told front back)) (all-append IsFormed (flat_map records_told front) (flat_map records_told back) all more)
 
-chain_formed : {port : ℕ} {log : List Exchange} {name to : Labels} {sets : List AnswerSet} → Chain port log name sets to → AllByRecursion IsFormed (flat_map records_told sets)
+chain_formed : {port : ℕ} {log : List Exchange} {question : Question} {to : Labels} {sets : List AnswerSet} → Chain port log question sets to → AllByRecursion IsFormed (flat_map records_told sets)
 chain_formed Chain.start = tt
-chain_formed (Chain.alias {front = front} {told = told} chain known is are) =
+chain_formed (Chain.alias {front = front} {told = told} chain unknown known is are) =
     subst (λ (sets : List AnswerSet). AllByRecursion IsFormed (flat_map records_told sets)) (sym are) (joined_formed front (told ∷ []) (chain_formed chain) (last_formed told (told_formed known)))
 
 -- ---- SOA records
@@ -136,7 +136,7 @@ resolved_formed : {port : ℕ} {question : Question} {log : List Exchange} {rcod
 resolved_formed (ResolvedAs.at_once began ends) = ends_formed ends
 resolved_formed (ResolvedAs.looked {front = front} {last = last} began chain few happened ends) =
     let formed = ends_formed ends in (joined_formed front (option_to_list last) (chain_formed chain) formed.0, formed.1)
-resolved_formed (ResolvedAs.found {front = front} {told = told} began chain few known) =
+resolved_formed (ResolvedAs.found {front = front} {told = told} began chain few unknown known) =
     (joined_formed front (told ∷ []) (chain_formed chain) (last_formed told (told_formed known)), tt)
 resolved_formed (ResolvedAs.denied {front = front} began chain few is) = (
   joined_formed front [] (chain_formed chain) tt,

@@ -60,9 +60,9 @@ began_more {log} {after} {y} {question} b a = record {
   no_answer = b.no_answer;
 }
 
-pub chain_more : {port : ℕ} {log after : List Exchange} {y : Exchange} {name : Labels} {sets : List AnswerSet} {to : Labels} → Adds log y after → Chain port log name sets to → Chain port after name sets to
+pub chain_more : {port : ℕ} {log after : List Exchange} {y : Exchange} {question : Question} {sets : List AnswerSet} {to : Labels} → Adds log y after → Chain port log question sets to → Chain port after question sets to
 chain_more a Chain.start = Chain.start
-chain_more a (Chain.alias front known target is) = Chain.alias (chain_more a front) (Known.kept a known) target is
+chain_more a (Chain.alias front unknown known target is) = Chain.alias (chain_more a front) (unknown_more unknown a) (Known.kept a known) target is
 
 -- with an exchange that is no query
 pub path_more : {port : ℕ} {question : Question} {log after : List Exchange} {y : Exchange} {path : Path} → IsPath port question log path → Adds log y after → is_send y ≡ false → IsPath port question after path

@@ -79,12 +79,17 @@ answering answer resolved few less = record { wants = resolved; drawn = refl; fi
 few_sent : {port : ℕ} {question : Question} {log : List Exchange} {path : Path} → IsPath port question log path → count_sends log ≤ 64
 few_sent p = omega (arith, p.counted, p.few)
 
+-- A look at the last name found nothing.
+unknown_last : {port : ℕ} {question : Question} {log : List Exchange} {path : Path} → IsAskable port question log path → WasUnknown log (question_at question path.last.owner)
+unknown_last {log = log} {path = path} p = subst (λ (k : ℕ). WasUnknown log (record { owner = path.last.owner; kind = k })) p.is_path.kind p.unknown
+
 -- A set that is known ends the path.
-pub telling : {port : ℕ} {question : Question} {log : List Exchange} {moment : ℕ} {id : Stream} {left : ℕ} (path : Path) (told : AnswerSet) → left_in Ended < left → IsPath port question log path → Known port log (Had path.last told)
+pub telling : {port : ℕ} {question : Question} {log : List Exchange} {moment : ℕ} {id : Stream} {left : ℕ} (path : Path) (told : AnswerSet) → left_in Ended < left → IsAskable port question log path → Known port log (Had path.last told)
     → Goes port question log moment (idle id) left Ended (Finish (Replies 0 false path.sets.items (Some told) None))
-telling {port} {question} {log} path told less p known =
+telling {port} {question} {log} path told less a known =
+    let p = a.is_path in
     let there : Known port log (Had (question_at question path.last.owner) told) = subst (λ (k : ℕ). Known port log (Had (record { owner = path.last.owner; kind = k }) told)) p.kind known in
-    answering (Replies 0 false path.sets.items (Some told) None) (ResolvedAs.found {front = path.sets.items} {told = told} p.began p.chain p.short there) (few_sent p) less
+    answering (Replies 0 false path.sets.items (Some told) None) (ResolvedAs.found {front = path.sets.items} {told = told} p.began p.chain p.short (unknown_last a) there) (few_sent p) less
 
 -- So does what a response denies.
 pub denying : {port : ℕ} {question : Question} {log : List Exchange} {moment : ℕ} {id : Stream} {left : ℕ} (path : Path) (rcode : ℕ) (authority : Option Soa) → left_in Ended < left → IsPath port question log path
@@ -109,7 +114,7 @@ seeing {port} {question} {before} {log} {m} path seen {rcode} {last} {authority}
 -- ---- failing
 
 pub failing_behind : {port : ℕ} {question : Question} {log : List Exchange} {moment : ℕ} {id : Stream} {left : ℕ} (front : List AnswerSet) (last : Question) → left_in Ended < left → BeganUnanswered question log
-    → Chain port log question.owner front last.owner → last.kind ≡ question.kind → Fails port log last (length front) → count_sends log ≤ 64
+    → Chain port log question front last.owner → last.kind ≡ question.kind → Fails port log last (length front) → count_sends log ≤ 64
     → Goes port question log moment (idle id) left Ended (Finish (Replies 2 false [] None None))
 failing_behind {port} {question} {log} front last less began chain kind fails few =
     let there : Fails port log (question_at question last.owner) (length front) = subst (λ (k : ℕ). Fails port log (record { owner = last.owner; kind = k }) (length front)) kind fails in
@@ -132,44 +137,33 @@ failing_barred {m = m} path seen less p some adds barred =
     failing path less (path_more p adds refl) (Fails.barred {moment = m} {seen = seen} some (happened_last adds) barred)
 
 -- There are more aliases than are followed.
-pub failing_long : {port : ℕ} {question : Question} {log : List Exchange} {moment : ℕ} {id : Stream} {left : ℕ} (path : Path) (told : AnswerSet) (to : Labels) → left_in Ended < left → IsPath port question log path
+pub failing_long : {port : ℕ} {question : Question} {log : List Exchange} {moment : ℕ} {id : Stream} {left : ℕ} (path : Path) (told : AnswerSet) (to : Labels) → left_in Ended < left → IsAskable port question log path
     → Known port log (Had (alias_question path.last.owner) told) → IsTarget told to → 16 ≤ length path.sets.items → Goes port question log moment (idle id) left Ended (Finish (Replies 2 false [] None None))
-failing_long path told to less p known target long =
+failing_long path told to less a known target long =
+    let p = a.is_path in
     let longer : length (path.sets.items ++ told ∷ []) ≡ length path.sets.items + 1 = length-append path.sets.items (told ∷ []) in
-    failing_behind (path.sets.items ++ told ∷ []) (record { owner = to; kind = path.last.kind }) less p.began (Chain.alias p.chain known target refl) p.kind
+    failing_behind (path.sets.items ++ told ∷ []) (record { owner = to; kind = path.last.kind }) less p.began (Chain.alias p.chain (unknown_last a) known target refl) p.kind
     (Fails.long (omega (arith, longer, long, p.short))) (few_sent p)
 
 -- ---- the path
 
 -- It goes on along an alias.
-pub longer_path : {port : ℕ} {question : Question} {log : List Exchange} {path next : Path} {told : AnswerSet} {to : Labels} → IsPath port question log path → Known port log (Had (alias_question path.last.owner) told)
+pub longer_path : {port : ℕ} {question : Question} {log : List Exchange} {path next : Path} {told : AnswerSet} {to : Labels} → IsAskable port question log path → Known port log (Had (alias_question path.last.owner) told)
     → IsTarget told to → IsLonger path told to next → IsPath port question log next
-longer_path {port} {question} {log} {path} {next} p known target l = record {
-  began = p.began;
-  chain = subst (λ (q : Question). Chain port log question.owner next.sets.items q.owner) (sym l.last) (Chain.alias p.chain known target l.sets);
-  kind = ap (λ (q : Question). q.kind) l.last ∙ p.kind;
-  short = l.short;
-  counted = l.sent ∙ p.counted;
-  few = omega (arith, l.sent, p.few);
-}
+longer_path {port} {question} {log} {path} {next} a known target l =
+    let p = a.is_path in record {
+      began = p.began;
+      chain = subst (λ (q : Question). Chain port log question next.sets.items q.owner) (sym l.last) (Chain.alias p.chain (unknown_last a) known target l.sets);
+      kind = ap (λ (q : Question). q.kind) l.last ∙ p.kind;
+      short = l.short;
+      counted = l.sent ∙ p.counted;
+      few = omega (arith, l.sent, p.few);
+    }
 
 pub longer_some : {path next : Path} {told : AnswerSet} {to : Labels} → IsLonger path told to next → 1 ≤ length next.sets.items
 longer_some {path} {next} {told} {to} l =
     let longer : length next.sets.items ≡ length path.sets.items + 1 = ap (λ (xs : List AnswerSet). length xs) l.sets ∙ length-append path.sets.items (told ∷ []) in
     omega (arith, longer)
-
-pub no_longer : {path next : Path} {told : AnswerSet} {to : Labels} → IsLonger path told to next → next.sets.items ≡ [] → ⊥
-no_longer {next = next} l none =
-    let some = longer_some l in
-    let few = ap (λ (xs : List AnswerSet). length xs) none in
-    absurd (omega (arith, some, few))
-
-none_of : (sets : List AnswerSet) → length sets ≡ 0 → sets ≡ []
-none_of [] none = refl
-none_of (told ∷ sets) none = absurd (omega (arith, none))
-
-pub no_sets : (path : Path) → length path.sets.items ≡ 0 → path.sets.items ≡ []
-no_sets path none = none_of path.sets.items none
 
 -- The set that a look showed is known.
 pub set_known : (port m : ℕ) (question : Question) (input : Input) (before log : List Exchange) (seen : SeenValue) (told : AnswerSet) → IsReplied question input seen → IsSetSeen seen told
@@ -265,7 +259,7 @@ pub first_path : {port : ℕ} {question : Question} {log : List Exchange} {m : �
 first_path {port} {question} {log} path adds last none unsent =
     let sent = sends_same adds refl in record {
       began = record { input = Reply (Seen Unknown); began = first_began adds; no_answer = tt };
-      chain = subst (λ (xs : List AnswerSet). Chain port log question.owner xs path.last.owner) (sym none) (subst (λ (q : Question). Chain port log question.owner [] q.owner) (sym last) Chain.start);
+      chain = subst (λ (xs : List AnswerSet). Chain port log question xs path.last.owner) (sym none) (subst (λ (q : Question). Chain port log question [] q.owner) (sym last) Chain.start);
       kind = ap (λ (q : Question). q.kind) last;
       short = omega (arith, ap (λ (xs : List AnswerSet). length xs) none);
       counted = unsent ∙ sym sent;

@@ -5,7 +5,7 @@ use Rattle.dns_text.specs.declared.record.Question.{Question}
 use Rattle.iterate.specs.declared.answer.Answer.{Answer}
 use Rattle.iterate.specs.declared.phase.Advance.{Advance}
 use Rattle.iterate.specs.declared.phase.Phase.{Phase}
-use Rattle.iterate.specs.declared.phase.Phase.TheVariants.{Fresh, First, Aliasing, Looking, Listing, Seeking, Sent, Admitting, Ended, Broken}
+use Rattle.iterate.specs.declared.phase.Phase.TheVariants.{Fresh, First, Aliasing, Looking, Following, Listing, Seeking, Sent, Admitting, Ended, Broken}
 use Rattle.iterate.specs.declared.path.Path.{Path}
 use Rattle.iterate.specs.declared.task.State.{State}
 use Rattle.iterate.specs.declared.want.Input.{Input}
@@ -91,6 +91,7 @@ few_open port question log want Broken f = absurd f
 few_open port question log want First f = none_open log want (ap sends f.1.wanted) (omega (arith, ap count_sends f.0))
 few_open port question log want (Aliasing path) f = none_open log want (ap sends f.1.wanted) (path_few f.0.is_path)
 few_open port question log want (Looking path) f = none_open log want (ap sends f.2.wanted) (path_few f.0)
+few_open port question log want (Following path harvest) f = none_open log want (ap sends f.3.wanted) (path_few f.0)
 few_open port question log want (Listing path) f = none_open log want (ap sends f.1.wanted) (path_few f.0.is_path)
 few_open port question log want (Seeking hunting target stage) f = none_open log want (ap sends f.1.wanted) (path_few f.0.is_search.path)
 few_open port question log want (Sent hunting server id over) f = one_open log want (ap sends f.wanted) (omega (arith, f.is_search.path.counted, f.some))
@@ -107,6 +108,7 @@ task_of port question Broken s f = absurd f
 task_of port question First s f = record { log = _; want = _; stands = s; fits = f }
 task_of port question (Aliasing path) s f = record { log = _; want = _; stands = s; fits = f }
 task_of port question (Looking path) s f = record { log = _; want = _; stands = s; fits = f }
+task_of port question (Following path harvest) s f = record { log = _; want = _; stands = s; fits = f }
 task_of port question (Listing path) s f = record { log = _; want = _; stands = s; fits = f }
 task_of port question (Seeking hunting target stage) s f = record { log = _; want = _; stands = s; fits = f }
 task_of port question (Sent hunting server id over) s f = record { log = _; want = _; stands = s; fits = f }
@@ -155,6 +157,7 @@ stepping port question steps moment id input Broken after want t due goes fresh 
 stepping port question steps moment id input First after want t due goes fresh broken = step_next t.stands (goes t.log _ t.want t.fits (stands_due t.stands input due) (record { adds = refl }))
 stepping port question steps moment id input (Aliasing path) after want t due goes fresh broken = step_next t.stands (goes t.log _ t.want t.fits (stands_due t.stands input due) (record { adds = refl }))
 stepping port question steps moment id input (Looking path) after want t due goes fresh broken = step_next t.stands (goes t.log _ t.want t.fits (stands_due t.stands input due) (record { adds = refl }))
+stepping port question steps moment id input (Following path harvest) after want t due goes fresh broken = step_next t.stands (goes t.log _ t.want t.fits (stands_due t.stands input due) (record { adds = refl }))
 stepping port question steps moment id input (Listing path) after want t due goes fresh broken = step_next t.stands (goes t.log _ t.want t.fits (stands_due t.stands input due) (record { adds = refl }))
 stepping port question steps moment id input (Seeking hunting target stage) after want t due goes fresh broken = step_next t.stands (goes t.log _ t.want t.fits (stands_due t.stands input due) (record { adds = refl }))
 stepping port question steps moment id input (Sent hunting server i over) after want t due goes fresh broken = step_next t.stands (goes t.log _ t.want t.fits (stands_due t.stands input due) (record { adds = refl }))

@@ -3,7 +3,7 @@ use Rattle.std.specs.Prelude.{ℕ, ◌+◌, ◌-◌, ◌*◌, ◌^◌, ◌<◌, 
 use Rattle.iterate.specs.declared.limits.TheConstants.{MOST_ALIASES, MOST_BEGUN, MOST_SENDS}
 use Rattle.iterate.specs.declared.path.Path.{Path}
 use Rattle.iterate.specs.declared.phase.Phase.{Phase}
-use Rattle.iterate.specs.declared.phase.Phase.TheVariants.{Fresh, First, Aliasing, Looking, Listing, Seeking, Sent, Admitting, Ended, Broken}
+use Rattle.iterate.specs.declared.phase.Phase.TheVariants.{Fresh, First, Aliasing, Looking, Following, Listing, Seeking, Sent, Admitting, Ended, Broken}
 use Rattle.iterate.specs.declared.phase.Stage.{Stage}
 use Rattle.iterate.specs.declared.phase.Stage.TheVariants.{Address, Alias, Servers}
 use Rattle.iterate.specs.declared.search.Nested.{Nested}
@@ -56,6 +56,7 @@ digits_of_seek search Servers = digits_of_path search.path 0 1 0 0
 abbrev pub digits_in : Phase → List ℕ
 digits_in Fresh = 66 ∷ 0 ∷ 0 ∷ 0 ∷ 0 ∷ 0 ∷ []
 digits_in First = 65 ∷ 0 ∷ 0 ∷ 0 ∷ 0 ∷ 0 ∷ []
+digits_in (Following path harvest) = digits_of_path path 0 0 top 4
 digits_in (Looking path) = digits_of_path path 0 0 top 3
 digits_in (Aliasing path) = digits_of_path path 0 0 top 2
 digits_in (Listing path) = digits_of_path path 0 0 top 1

@@ -20,7 +20,7 @@ use Rattle.iterate.specs.declared.answer.Answer.{Answer}
 use Rattle.iterate.specs.declared.limits.TheConstants.{MOST_DEPTH, MOST_SENDS, MOST_TARGETS}
 use Rattle.iterate.specs.declared.phase.Advance.{Advance}
 use Rattle.iterate.specs.declared.phase.Phase.{Phase}
-use Rattle.iterate.specs.declared.phase.Phase.TheVariants.{Fresh, First, Aliasing, Looking, Listing, Seeking, Sent, Admitting, Ended, Broken}
+use Rattle.iterate.specs.declared.phase.Phase.TheVariants.{Fresh, First, Aliasing, Looking, Following, Listing, Seeking, Sent, Admitting, Ended, Broken}
 use Rattle.iterate.specs.declared.phase.Stage.{Stage}
 use Rattle.iterate.specs.declared.phase.Stage.TheVariants.{Address, Alias, Servers}
 use Rattle.iterate.specs.declared.search.Search.{Search}
@@ -30,6 +30,7 @@ use Rattle.iterate.specs.declared.want.Step.{Step}
 use Rattle.iterate.specs.declared.want.Want.{Want}
 use Rattle.iterate.specs.declared.want.Want.TheVariants.{Book, Send, Finish}
 use Rattle.iterate.specs.Exchanges.{Exchange, exchange, Adds, last_behind, count_sends}
+use Rattle.iterate.specs.Following.{IsHarvestOf}
 use Rattle.iterate.specs.Known.{Known, Responds, WasUnknown}
 use Rattle.iterate.specs.Measure.{left_in}
 use Rattle.iterate.specs.Searching.{IsPath, IsAskable, IsSearch, IsNext, IsNextServer, hunt_of, question_of}
@@ -123,6 +124,8 @@ Remembers port question log want Fresh = ⊥
 Remembers port question log want First = (log ≡ []) × IsLook want (Asked question)
 Remembers port question log want (Aliasing path) = IsAskable port question log path × IsLook want (Asked (alias_question path.last.owner))
 Remembers port question log want (Looking path) = IsPath port question log path × (1 ≤ length path.sets.items) × IsLook want (Asked path.last)
+Remembers port question log want (Following path harvest) =
+    IsPath port question log path × (1 ≤ length path.sets.items) × IsHarvestOf port log harvest.value × IsLook want (Asked path.last)
 Remembers port question log want (Listing path) = IsAskable port question log path × IsLook want (ServersFor (served_name path.last))
 Remembers port question log want (Seeking search target stage) = IsSeeking port question log search.value target stage × IsLook want (ask_at stage target)
 Remembers port question log want (Sent search server id over) = IsWaiting port question log want search.value server id over

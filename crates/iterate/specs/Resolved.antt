@@ -62,12 +62,16 @@ is_local seen = false
 
 -- ---- the chain of aliases (RFC 1034, section 3.6.2)
 
--- From a name these sets, each a CNAME set of the name before, lead to a name.
-pub data Chain (port : ℕ) (log : List Exchange) : Labels → List AnswerSet → Labels → Type 0 where
-  start : {name : Labels} → Chain port log name [] name
-  alias : {name mid to : Labels} {front sets : List AnswerSet} {told : AnswerSet}
-      → Chain port log name front mid → Known port log (Had (alias_question mid) told) → IsTarget told to
-      → sets ≡ front ++ told ∷ [] → Chain port log name sets to
+-- the question of a name, of the type asked
+abbrev pub question_at : Question → Labels → Question
+question_at question name = record { owner = name; kind = question.kind }
+
+-- From the name of a question these sets, each a CNAME set of the name before, lead to a name. An alias is followed only where a look at its own name, with the type asked, found nothing.
+pub data Chain (port : ℕ) (log : List Exchange) (question : Question) : List AnswerSet → Labels → Type 0 where
+  start : Chain port log question [] question.owner
+  alias : {mid to : Labels} {front sets : List AnswerSet} {told : AnswerSet}
+      → Chain port log question front mid → WasUnknown log (question_at question mid) → Known port log (Had (alias_question mid) told) → IsTarget told to
+      → sets ≡ front ++ told ∷ [] → Chain port log question sets to
 
 -- ---- what a response denies (RFC 2308)
 
@@ -147,10 +151,6 @@ pub data Fails (port : ℕ) (log : List Exchange) (question : Question) (aliases
 
 -- ---- the answer
 
--- the question of a name, of the type asked
-abbrev pub question_at : Question → Labels → Question
-question_at question name = record { owner = name; kind = question.kind }
-
 -- A question is answered with this RCODE, whether with authority, these aliases, this last set and this SOA record. It is authoritative where local data or a local zone answered the first look.
 pub data ResolvedAs (port : ℕ) (question : Question) (log : List Exchange) : ℕ → Bool → List AnswerSet → Option AnswerSet → Option Soa → Type 0 where
   -- The first look ends it.
@@ -159,22 +159,22 @@ pub data ResolvedAs (port : ℕ) (question : Question) (log : List Exchange) : �
       → ResolvedAs port question log rcode (is_local seen) [] last authority
   -- A chain of aliases ends in what a look says.
   looked : {name : Labels} {front : List AnswerSet} {moment : ℕ} {seen : SeenValue} {rcode : ℕ} {last : Option AnswerSet} {authority : Option Soa}
-      → BeganUnanswered question log → Chain port log question.owner front name → length front ≤ MOST_ALIASES
+      → BeganUnanswered question log → Chain port log question front name → length front ≤ MOST_ALIASES
       → Happened log (exchange (Book (Look moment (Asked (question_at question name)))) (Reply (Seen seen))) → EndsQuestion (question_at question name) seen rcode last authority
       → ResolvedAs port question log rcode false front last authority
-  -- A chain ends in a set.
+  -- A chain ends in a set, and a look at the last name found nothing: a set that came with its alias is no answer where the operator blocks or sets its name.
   found : {name : Labels} {front : List AnswerSet} {told : AnswerSet}
-      → BeganUnanswered question log → Chain port log question.owner front name → length front ≤ MOST_ALIASES
-      → Known port log (Had (question_at question name) told) → ResolvedAs port question log 0 false front (Some told) None
+      → BeganUnanswered question log → Chain port log question front name → length front ≤ MOST_ALIASES
+      → WasUnknown log (question_at question name) → Known port log (Had (question_at question name) told) → ResolvedAs port question log 0 false front (Some told) None
   -- A chain ends where a response denies.
   denied : {name : Labels} {front : List AnswerSet} {rcode : ℕ} {authority : Option Soa}
-      → BeganUnanswered question log → Chain port log question.owner front name → length front ≤ MOST_ALIASES
+      → BeganUnanswered question log → Chain port log question front name → length front ≤ MOST_ALIASES
       → IsDenied port log (question_at question name) rcode authority → ResolvedAs port question log rcode false front None authority
   -- The first look was refused by a local zone.
   refused : Began question (Reply (Seen (LocalSeen local.Refuse))) log → ResolvedAs port question log 5 true [] None None
   -- A chain ends where nothing more can be had: SERVFAIL.
   failed : {name : Labels} {front : List AnswerSet}
-      → BeganUnanswered question log → Chain port log question.owner front name → Fails port log (question_at question name) (length front)
+      → BeganUnanswered question log → Chain port log question front name → Fails port log (question_at question name) (length front)
       → ResolvedAs port question log 2 false [] None None
 
 -- The answer resolves the question, by the exchanges so far.

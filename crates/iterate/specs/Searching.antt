@@ -18,7 +18,7 @@ use Rattle.iterate.specs.Resolved.{BeganUnanswered, Chain, ReachedFor, Struck, M
 -- The aliases so far, and the question to which they lead, after a first look that was no answer.
 pub record IsPath (port : ℕ) (question : Question) (log : List Exchange) (path : Path) : Type 0 where
   pub began : BeganUnanswered question log
-  pub chain : Chain port log question.owner path.sets.items path.last.owner
+  pub chain : Chain port log question path.sets.items path.last.owner
   pub kind : path.last.kind ≡ question.kind
   pub short : length path.sets.items ≤ MOST_ALIASES
   pub counted : path.sent ≡ count_sends log

@@ -52,7 +52,7 @@ MayGo log server question Tcp = WasTruncated log server question
 -- What servers may be asked for a question: the type asked, of its name or of one to which aliases lead, or the address of a server that has none.
 -- Of each list of servers that is so for the first of those without an address alone.
 pub data IsAskedFor (port : ℕ) (log : List Exchange) (question : Question) : Question → Type 0 where
-  of_name : {name : Labels} {front : List AnswerSet} → Chain port log question.owner front name → IsAskedFor port log question (question_at question name)
+  of_name : {name : Labels} {front : List AnswerSet} → Chain port log question front name → IsAskedFor port log question (question_at question name)
   of_server : {servers : Servers} {target : Labels} → Known port log (Listed servers) → Contains (take MOST_TARGETS servers.missing) target
       → IsAskedFor port log question (address_question target)
 

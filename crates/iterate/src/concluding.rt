@@ -75,7 +75,10 @@ fn conclude_last<R: Rng>(
 {
     let Heard { harvest, says } = heard;
     match says {
-        Says::Answers => follow_in(alloc, search.path, &harvest, moment),
+        Says::Answers => {
+            let harvest = Box::new(alloc, harvest)?;
+            follow_in(alloc, search.path, harvest, moment)
+        }
         Says::Denies { rcode, negative } => Ok(denied(search.path, rcode, negative)),
         Says::Refers(referral) => {
             let servers = servers_of(alloc, referral)?;

@@ -10,7 +10,7 @@ ghost use Rattle.iterate.specs.Known.{Known, Had};
 ghost use Rattle.iterate.specs.Measure.{left_in};
 ghost use Rattle.iterate.specs.Phase.{Advances, idle};
 ghost use Rattle.iterate.specs.Resolved.{IsBarred, IsDenied};
-ghost use Rattle.iterate.specs.Searching.{IsPath};
+ghost use Rattle.iterate.specs.Searching.{IsPath, IsAskable};
 ghost use Rattle.iterate.specs.Looked.{EndsSo};
 ghost use Rattle.iterate.specs.Shown.{IsShownFor, IsLocalFor};
 ghost use Rattle.iterate.specs.Told.{soa_whole};
@@ -89,7 +89,7 @@ pub(crate) fn refusal(alloc: Global) -> Answer
 /// Ends the path with a set.
 pub(crate) fn found(path: Path, told: AnswerSet) -> Advance
     ensures { (port moment : ℕ) (ids : Stream) (left : ℕ) (question : Question) (log : List Exchange)
-        → left_in Phase.Ended < left → IsPath port question log path → Known port log (Had path.last told)
+        → left_in Phase.Ended < left → IsAskable port question log path → Known port log (Had path.last told)
         → Advances port question log moment (idle ids) left result }
 {
     let Path { sets, .. } = path;

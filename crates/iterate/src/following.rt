@@ -1,25 +1,32 @@
 //! Aliases inside a response.
 
-ghost use Rattle.std.specs.Prelude.{◌≡◌, ◌≤◌, [], ℕ, List, IfOk};
+ghost use Rattle.std.specs.Prelude.{◌≡◌, ◌≤◌, ℕ, List, length, IfOk};
 ghost use Rattle.dns_query.specs.Query.{alias_question};
-ghost use Rattle.iterate.specs.Exchanges.{Exchange};
+ghost use Rattle.history.specs.declared.event.Ask.TheVariants.{Answer as Asked};
+ghost use Rattle.history.specs.declared.event.Event.TheVariants.{Look};
+ghost use Rattle.iterate.specs.declared.want.Input.{Input as InputValue};
+ghost use Rattle.iterate.specs.declared.want.Want.TheVariants.{Book};
+ghost use Rattle.iterate.specs.Exchanges.{Exchange, AddsLook};
 ghost use Rattle.iterate.specs.Following.{told_by, IsHarvestOf, IsHadIfSome, HarvestLeads};
-ghost use Rattle.iterate.specs.Known.{Known, Had, WasUnknown};
+ghost use Rattle.iterate.specs.Known.{Known, Had};
+ghost use Rattle.iterate.specs.Looked.{seen_of, IsReplied};
 ghost use Rattle.iterate.specs.Measure.{left_of_path};
-ghost use Rattle.iterate.specs.Phase.{Advances, idle};
-ghost use Rattle.iterate.specs.Searching.{IsPath};
+ghost use Rattle.iterate.specs.Phase.{Advances, Suits, idle};
+ghost use Rattle.iterate.specs.Searching.{IsPath, IsAskable};
 ghost use Rattle.rand_core.specs.Stream.{Stream};
 
 use crate::answer::AnswerSet;
 use crate::finishing::{failed, found};
-use crate::lookup_reply::first_target;
-use crate::path::{Path, follow, list, look_on};
-use crate::phase::Advance;
+use crate::lookup_reply::{Looked, first_target, replied};
+use crate::path::{Path, alias, follow, seen_on};
+use crate::phase::{Advance, Phase};
+use crate::want::{Input, Want};
 use dns_name::{Name, NoMemory};
 use dns_query::{Believed, believed};
 use dns_text::Question;
 use dns_text::types::CNAME;
 use harvest::Harvest;
+use history::{Ask, Event};
 use std::alloc::Global;
 
 /// The next hop from a question inside a harvest.
@@ -96,36 +103,79 @@ fn next_hop(harvest: &Harvest, last: &Question) -> Result<Hop, NoMemory>
     }
 }
 
-/// Continues where a harvest ends. Behind an alias the last name is looked up before any server is asked for it, so the
-/// operator's local zones and flushes apply to it.
-fn leave(alloc: Global, path: Path, moment: u64) -> Result<Advance, NoMemory>
-    ensures { (port : ℕ) (ids : Stream) (question : Question) (log : List Exchange) → IsPath port question log path
-        → (path.sets.items ≡ [] → WasUnknown log path.last)
-        → IfOk result (Advances port question log moment (idle ids) (left_of_path path 4)) }
+/// Looks up the question behind an alias of a response. What else the response has is kept until then.
+fn look_behind(path: Path, harvest: Box<Harvest>, moment: u64) -> Result<Advance, NoMemory>
+    ensures { (port : ℕ) (ids : Stream) (question : Question) (log : List Exchange) → IsHarvestOf port log harvest.value
+        → IsPath port question log path → 1 ≤ length path.sets.items
+        → IfOk result (Advances port question log moment (idle ids) (left_of_path path 5)) }
 {
-    if path.sets.is_empty() {
-        return list(alloc, path, moment);
-    }
-    look_on(path, moment)
+    let owner = path.last.owner.clone()?;
+    let kind = path.last.kind;
+    Ok(Advance {
+        phase: Phase::Following { path, harvest },
+        want: Want::Book(Event::Look {
+            moment,
+            ask: Ask::Answer(Question { owner, kind }),
+        }),
+    })
 }
 
-/// Follows a harvest as far as it leads: to the set of the last question, or along the aliases of its name.
+/// Follows a response from the last question, which a lookup did not find: to the set of the question, or along an alias of its
+/// name. The question behind the alias is looked up first, so the operator's local zones and the cache come before the response.
 pub(crate) fn follow_in(
     alloc: Global,
     path: Path,
-    harvest: &Harvest,
+    harvest: Box<Harvest>,
     moment: u64,
 ) -> Result<Advance, NoMemory>
     ensures { (port : ℕ) (ids : Stream) (left : ℕ) (question : Question) (log : List Exchange) → left_of_path path 4 ≤ left
-        → IsHarvestOf port log harvest.now → IsPath port question log path → (path.sets.items ≡ [] → WasUnknown log path.last)
+        → IsHarvestOf port log harvest.value → IsAskable port question log path
         → IfOk result (Advances port question log moment (idle ids) left) }
 {
-    match next_hop(harvest, &path.last)? {
+    match next_hop(&harvest, &path.last)? {
         Hop::Set(told) => Ok(found(path, told)),
         Hop::Alias(told, to) => match follow(path, told, to)? {
-            Some(next) => follow_in(alloc, next, harvest, moment),
+            Some(next) => look_behind(next, harvest, moment),
             None => Ok(failed(alloc)),
         },
-        Hop::Nowhere => leave(alloc, path, moment),
+        Hop::Nowhere => alias(alloc, path, moment),
+    }
+}
+
+/// Continues with what the lookup behind an alias of a response found. If it found nothing, the response is followed.
+fn seen_behind(
+    alloc: Global,
+    path: Path,
+    harvest: Box<Harvest>,
+    moment: u64,
+    what: Looked<'_>,
+) -> Result<Advance, NoMemory>
+    ensures { (port m : ℕ) (ids : Stream) (question : Question) (input : InputValue) (before log : List Exchange)
+        → IsPath port question before path → 1 ≤ length path.sets.items → IsHarvestOf port before harvest.value
+        → IsReplied path.last input (seen_of what.entry) → AddsLook before m (Asked path.last) input log
+        → IfOk result (Advances port question log moment (idle ids) (left_of_path path 4)) }
+{
+    match what {
+        Looked::Unknown => follow_in(alloc, path, harvest, moment),
+        _ => seen_on(alloc, path, moment, what),
+    }
+}
+
+/// Continues with the reply to the lookup behind an alias of a response.
+pub(crate) fn followed(
+    alloc: Global,
+    path: Path,
+    harvest: Box<Harvest>,
+    moment: u64,
+    input: &Input,
+) -> Result<Advance, NoMemory>
+    ensures { (port m : ℕ) (ids : Stream) (question : Question) (before log : List Exchange) → IsPath port question before path
+        → 1 ≤ length path.sets.items → IsHarvestOf port before harvest.value → AddsLook before m (Asked path.last) input.now log
+        → Suits (Book (Look m (Asked path.last))) input.now
+        → IfOk result (Advances port question log moment (idle ids) (left_of_path path 4)) }
+{
+    match replied(input, &path.last.owner, path.last.kind) {
+        Some(what) => seen_behind(alloc, path, harvest, moment, what),
+        None => Ok(failed(alloc)),
     }
 }

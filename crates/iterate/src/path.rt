@@ -128,7 +128,7 @@ fn go_behind(
     to: Name,
     moment: u64,
 ) -> Result<Advance, NoMemory>
-    ensures { (port : ℕ) (ids : Stream) (question : Question) (log : List Exchange) → IsPath port question log path
+    ensures { (port : ℕ) (ids : Stream) (question : Question) (log : List Exchange) → IsAskable port question log path
         → Known port log (Had (alias_question path.last.owner) told) → IsTarget told to
         → IfOk result (Advances port question log moment (idle ids) (left_of_path path 2)) }
 {
@@ -199,7 +199,12 @@ fn local_on(
 }
 
 /// Continues with what the lookup behind an alias found.
-fn seen_on(alloc: Global, path: Path, moment: u64, what: Looked<'_>) -> Result<Advance, NoMemory>
+pub(crate) fn seen_on(
+    alloc: Global,
+    path: Path,
+    moment: u64,
+    what: Looked<'_>,
+) -> Result<Advance, NoMemory>
     ensures { (port m : ℕ) (ids : Stream) (question : Question) (input : InputValue) (before log : List Exchange)
         → IsPath port question before path → 1 ≤ length path.sets.items → IsReplied path.last input (seen_of what.entry)
         → AddsLook before m (Asked path.last) input log

@@ -8,6 +8,7 @@ ghost use Rattle.iterate.specs.Phase.{Remembers, Advances, Suits, drawing};
 
 use crate::admitting::admitted;
 use crate::first_lookup::{begin, looked_first};
+use crate::following::followed;
 use crate::listing::listed;
 use crate::outcome::came;
 use crate::path::{Path, aliased, looked_on};
@@ -17,6 +18,7 @@ use crate::want::{Input, Want};
 use dns_name::{Name, NoMemory};
 use dns_query::{Heard, Over};
 use dns_text::{Addr, Question};
+use harvest::Harvest;
 use rand_core::Rng;
 use std::alloc::{AllocError, Global};
 
@@ -45,6 +47,11 @@ pub enum Phase {
     /// It looks up the question behind an alias.
     Looking {
         path: Path,
+    },
+    /// It looks up the question behind an alias that came in a response, and keeps what else the response has.
+    Following {
+        path: Path,
+        harvest: Box<Harvest>,
     },
     /// It looks up the servers that are asked about the last question.
     Listing {
@@ -103,6 +110,7 @@ pub(crate) fn step_on<R: Rng>(
         Phase::First => looked_first(alloc, question, moment, input),
         Phase::Aliasing { path } => aliased(alloc, path, moment, input),
         Phase::Looking { path } => looked_on(alloc, path, moment, input),
+        Phase::Following { path, harvest } => followed(alloc, path, harvest, moment, input),
         Phase::Listing { path } => listed(alloc, ids, path, moment, input),
         Phase::Seeking {
             search,

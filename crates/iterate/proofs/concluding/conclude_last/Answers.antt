@@ -1,11 +1,16 @@
+use Rattle.std.proofs.Common.{sym, subst}
 use Rattle.std.proofs.lemmas.Result.{IfOk-weaker}
+use Rattle.harvest.specs.declared.harvest_type.Harvest.{Harvest}
+use Rattle.iterate.specs.Following.{IsHarvestOf}
 use Rattle.iterate.proofs.Coming.{from_less}
 use Rattle.iterate.proofs.Hearing.{harvest_heard, following_less, denying_last, referring_last, ended_hearing}
 use Rattle.iterate.proofs.concluding.conclude_last.Goals as goal
 
-pub returns-in-Answers : goal.returns-in-Answers
-returns-in-Answers g c = λ port question log h.
-    c.follow_in.ensures port _ _ question log (following_less c.args.search.path) (harvest_heard h) h.is_search.path (λ none. h.is_search.base.unknown)
+pub returns-in_ok-harvest-in-Answers : goal.returns-in_ok-harvest-in-Answers
+returns-in_ok-harvest-in-Answers g c = λ port question log h.
+    c.follow_in.ensures port _ _ question log (following_less c.args.search.path)
+    (subst (λ (x : Harvest). IsHarvestOf port log x) (sym c.in_ok-harvest-in-Answers.ensures.ok) (harvest_heard h))
+    (record { is_path = h.is_search.path; unknown = h.is_search.base.unknown })
 
 pub returns-in-Denies : goal.returns-in-Denies
 returns-in-Denies g c = λ port question log h.

@@ -13,4 +13,4 @@ returns-in-Some c = λ port id question log p known target.
 pub returns-in-None : goal.returns-in-None
 returns-in-None c = λ port id question log p known target.
     let long = rw c.in-None.is at c.in_ok-next.ensures in
-    turned c.failed.ensures.phase c.failed.ensures.want (failing_long c.args.path c.args.told c.args.to (path_some 2 p) p known target long)
+    turned c.failed.ensures.phase c.failed.ensures.want (failing_long c.args.path c.args.told c.args.to (path_some 2 p.is_path) p known target long)

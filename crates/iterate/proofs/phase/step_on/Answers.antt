@@ -25,6 +25,12 @@ returns-in-Looking-clause-goes g c = rw c.in-Looking.is (λ before log want f su
     (subst (λ (w : Want). Adds before (exchange w c.args.input.now) log) f.2.wanted adds)
     (subst (λ (w : Want). Suits w c.args.input.now) f.2.wanted suits))
 
+pub returns-in-Following-clause-goes : goal.returns-in-Following-clause-goes
+returns-in-Following-clause-goes g c = rw c.in-Following.is (λ before log want f suits adds.
+    c.followed.ensures c.args.port f.3.moment _ c.args.question.now before log f.0 f.1 f.2
+    (subst (λ (w : Want). Adds before (exchange w c.args.input.now) log) f.3.wanted adds)
+    (subst (λ (w : Want). Suits w c.args.input.now) f.3.wanted suits))
+
 pub returns-in-Listing-clause-goes : goal.returns-in-Listing-clause-goes
 returns-in-Listing-clause-goes g c = rw c.in-Listing.is (λ before log want f suits adds.
     c.listed.ensures c.args.port f.1.moment c.args.question.now before log f.0
