@@ -106,7 +106,8 @@ fn again<R: Rng>(
     search: Search,
     server: Addr,
 ) -> Result<Advance, NoMemory>
-    ensures { (port moment left : ℕ) (question : Question) (log : List Exchange) (rest : List Addr)
+    ensures tcp { search.path.sent < MOST_SENDS → IfOk result (λ next. (bytes : List ℕ) × (next.want ≡ SendWant server Over.Tcp bytes)) }
+    ensures goes { (port moment left : ℕ) (question : Question) (log : List Exchange) (rest : List Addr)
         → IsSearch port question log search → IsNextServer search server rest → WasTruncated log server (question_of search)
         → (search.path.sent < MOST_SENDS → left_of_sending search.path < left) → left_in Phase.Ended < left
         → IfOk result (Advances port question log moment (drawing (R.stream ids.old) (R.stream ids.new)) left) }

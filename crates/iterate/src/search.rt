@@ -77,6 +77,7 @@ pub(crate) fn begin_hunt(alloc: Global, servers: Shared<Servers>) -> Result<Hunt
 /// The search for the last question of a path, among these servers.
 pub(crate) fn reach(alloc: Global, path: Path, servers: Shared<Servers>) -> Result<Search, NoMemory>
     ensures path { IfOk result (λ search. search.path ≡ path) }
+    ensures fresh { IfOk result (λ search. IsFresh servers search.base) }
     ensures reached { (port : ℕ) (question : Question) (log since : List Exchange) → IsAskable port question log path
         → IsReached port log path.last since servers → IfOk result (IsSmaller port question log (left_of_path path 1)) }
 {
@@ -94,7 +95,8 @@ pub(crate) fn refer_base(
     search: Search,
     servers: Shared<Servers>,
 ) -> Result<Search, NoMemory>
-    ensures { (port : ℕ) (question : Question) (log since : List Exchange) → IsSearch port question log search
+    ensures fresh { IfOk result (λ after. IsFresh servers after.base) }
+    ensures reached { (port : ℕ) (question : Question) (log since : List Exchange) → IsSearch port question log search
         → IsReached port log search.path.last since servers
         → IfOk result (IsSmaller port question log (left_of_hearing search.path 1)) }
 {

@@ -1,8 +1,9 @@
 //! Queries to send.
 
-ghost use Rattle.std.specs.Prelude.{◌<◌, ℕ, List, IfOk};
+ghost use Rattle.std.specs.Prelude.{◌≡◌, ◌<◌, ℕ, List, IfOk};
 ghost use Rattle.dns_text.specs.declared.addr.Addr.{Addr};
 ghost use Rattle.dns_text.specs.declared.record.Question.{Question};
+ghost use Rattle.iterate.specs.declared.want.Want.TheVariants.{Send as SendWant};
 ghost use Rattle.iterate.specs.Exchanges.{Exchange};
 ghost use Rattle.iterate.specs.Measure.{left_of_search, left_of_sending};
 ghost use Rattle.iterate.specs.Phase.{Advances, drawing};
@@ -28,7 +29,8 @@ pub(crate) fn send<R: Rng>(
     server: Addr,
     over: Over,
 ) -> Result<Advance, NoMemory>
-    ensures { (port moment left : ℕ) (question : Question) (log : List Exchange) (rest : List Addr)
+    ensures query { IfOk result (λ next. (bytes : List ℕ) × (next.want ≡ SendWant server over bytes)) }
+    ensures goes { (port moment left : ℕ) (question : Question) (log : List Exchange) (rest : List Addr)
         → IsSearch port question log search → search.path.sent < MOST_SENDS → IsNextServer search server rest
         → MayGo log server (question_of search) over → left_of_sending search.path < left
         → IfOk result (Advances port question log moment (drawing (R.stream ids.old) (R.stream ids.new)) left) }

@@ -32,7 +32,7 @@ returns-in-Cut g c = λ question before log want w suits adds.
     let judged = meant c.args.port c.args.over c.args.id c.args.input.now _ zone c.in_ok-question.ensures (rw c.in-Cut.is at (c.in_ok-judged.ensures c.args.server w.bytes here)) in
     let same : c.counted-in-Cut.result ≡ counted search_in = c.counted-in-Cut.ensures (omega (arith, w.some)) in
     let path = ap (λ (x : Search). x.path) same in
-    c.again.ensures c.args.port c.args.moment (left_of_sending search_in.path) question log w.rest (asked_once c.counted-in-Cut.result same w adds) (same_next c.counted-in-Cut.result same w)
+    c.again.ensures.goes c.args.port c.args.moment (left_of_sending search_in.path) question log w.rest (asked_once c.counted-in-Cut.result same w adds) (same_next c.counted-in-Cut.result same w)
     (was_truncated c.args.port (hunt_of search_in).servers.zone c.args.input.now c.counted-in-Cut.result same w adds judged) (λ few. again_less search_in.path c.counted-in-Cut.result.path path few) (ended_less search_in.path w.is_search.path)
 
 pub returns : goal.returns

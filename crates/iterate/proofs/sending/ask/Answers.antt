@@ -8,4 +8,4 @@ returns-then-search-ge-MOST_SENDS g c = λ port moment question log rest s next.
 
 pub returns : goal.returns
 returns g c = λ port moment question log rest s next.
-    c.send.ensures port moment _ question log rest s (omega arith) next tt (sending_less c.args.search 4 s (omega arith))
+    c.send.ensures.goes port moment _ question log rest s (omega arith) next tt (sending_less c.args.search 4 s (omega arith))
