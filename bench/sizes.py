@@ -1,4 +1,4 @@
-"""What `bench/cells` and `bench/tables` share: a script that is told a line at a time, the maps of Rust's std, and tables of results."""
+"""What `bench/cells` and `bench/tables` share: a script told a line at a time, calls alone, the maps of Rust's std, tables of results."""
 import os
 import re
 import shutil
@@ -8,6 +8,9 @@ import time
 
 HERE = os.path.dirname(os.path.abspath(__file__))
 RESOLVER = os.path.join(HERE, "..", "crates", "resolver_cli", "out", "resolver_cli")
+MEASURE = os.path.join(HERE, "..", "crates", "measure", "out", "measure")
+# How many calls alone a timed process makes.
+COUNT = 1_000_000
 # Lines that a script is told before its replies are read: fewer octets than a pipe takes.
 AT_ONCE = 1_000
 
@@ -38,6 +41,20 @@ def seconds(program, *words, **streams):
     if status:
         sys.exit(f"bench: {program} {words} ended with {status}")
     return used.ru_utime + used.ru_stime
+
+
+def alone(programs, size, rounds):
+    """Nanoseconds a call, for each program: the least of the rounds, in which the programs run in turn. A run of N calls is subtracted
+    from one of 2N, so that filling does not count."""
+    sums = {who: told(program, size, COUNT) for who, program in programs.items()}
+    if len(set(sums.values())) > 1:
+        print(f"the calls do not find the same: {sums}", file=sys.stderr)
+    once, twice = {who: [] for who in programs}, {who: [] for who in programs}
+    for _ in range(rounds):
+        for who, program in programs.items():
+            once[who].append(seconds(program, size, COUNT))
+            twice[who].append(seconds(program, size, 2 * COUNT))
+    return {who: (min(twice[who]) - min(once[who])) / COUNT * 1e9 for who in programs}
 
 
 class Script:
@@ -113,6 +130,8 @@ class Table:
         print()
 
 
-def check_program(resolver):
+def check_programs(resolver, measure):
     if not os.path.exists(resolver):
         sys.exit(f"bench: there is no {resolver}: ./build proves and builds it")
+    if not os.path.exists(measure):
+        sys.exit(f"bench: there is no {measure}: in crates/measure run `rt run`, which proves and builds it")

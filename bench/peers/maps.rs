@@ -22,6 +22,25 @@ fn wire(text: &str) -> Vec<u8> {
     octets
 }
 
+/// A name that is looked up. Its octets lie in it, as those of a short name of ours do, so that reading it is one place of memory.
+struct Asked {
+    length: usize,
+    octets: [u8; 32],
+}
+
+impl Asked {
+    fn new(name: &[u8]) -> Asked {
+        let mut octets = [0; 32];
+        octets[..name.len()].copy_from_slice(name);
+        Asked { length: name.len(), octets }
+    }
+
+    fn name(&self) -> &[u8] {
+        &self.octets[..self.length]
+    }
+}
+
+/// The next place, which is far from the last one.
 fn place_after(place: usize, places: usize) -> usize {
     if places == 0 { 0 } else { (place + 7_919) % places }
 }
@@ -59,11 +78,11 @@ fn cells(call: &str, size: u32, count: u32) -> u32 {
         "fill" => (0..count).fold(0, |sum: u32, _| sum.wrapping_add(cache_of(size).len() as u32 % 65_536)),
         "look" => {
             let cache = cache_of(size);
-            let names: Vec<Vec<u8>> = (0..size).map(|place| find_at(place).0).collect();
+            let names: Vec<Asked> = (0..size).map(|place| Asked::new(&find_at(place).0)).collect();
             let (mut sum, mut place) = (0u32, 0);
             for _ in 0..count {
                 place = place_after(place, names.len());
-                sum = sum.wrapping_add(look(&cache, &names[place], 0));
+                sum = sum.wrapping_add(look(&cache, names[place].name(), 0));
             }
             sum
         }
@@ -162,11 +181,11 @@ fn tables(call: &str, size: u32, count: u32) -> u32 {
         "fill" => (0..count).fold(0, |sum: u32, _| sum.wrapping_add(tables_of(size).records.list.len() as u32 % 65_536)),
         "answer" => {
             let tables = tables_of(size);
-            let names: Vec<Vec<u8>> = (0..size).map(|place| wire(&owner_at(place, size))).collect();
+            let names: Vec<Asked> = (0..size).map(|place| Asked::new(&wire(&owner_at(place, size)))).collect();
             let (mut sum, mut place) = (0u32, 0);
             for _ in 0..count {
                 place = place_after(place, names.len());
-                sum = sum.wrapping_add(answer(&tables, &names[place]));
+                sum = sum.wrapping_add(answer(&tables, names[place].name()));
             }
             sum
         }

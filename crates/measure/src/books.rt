@@ -5,11 +5,11 @@ ghost use Rattle.std.specs.Prelude.{◌≡◌, [], IfOk};
 use anyhow::anyhow;
 use dns_name::Name;
 use dns_text::{Items, Shared, read_record};
-use history::{Book, Command, Event, MakeFault, Settings};
+use history::{Book, Command, Event, MOST_CELLS, MakeFault, Settings};
 use local_zone::ZoneType;
 use ranked::{Find, Rank, SharedFind};
 use std::alloc::Global;
-use undo_book::PlainBook;
+use undo_book::{PlainBook, ShelfBook};
 
 /// A book that was given nothing.
 pub fn empty_book(alloc: Global) -> Result<PlainBook, MakeFault>
@@ -24,29 +24,46 @@ pub fn empty_book(alloc: Global) -> Result<PlainBook, MakeFault>
     PlainBook::new(alloc, settings)
 }
 
-/// One address of `www.example.to.`, of the highest rank.
-pub fn address(alloc: Global) -> anyhow::Result<SharedFind> {
-    let record = read_record(alloc, b"www.example.to A 192.0.2.1")?;
+/// The book of the program, which was given nothing. It can undo one command, and hold as many cells as there may be.
+pub fn empty_shelf(alloc: Global) -> Result<ShelfBook, MakeFault> {
+    let settings = Settings {
+        journal: 1,
+        cells: MOST_CELLS,
+        hints: Items::new(Vec::new(alloc)),
+        server_port: 53,
+    };
+    ShelfBook::new(alloc, settings)
+}
+
+/// A record's text as a find of the highest rank.
+pub fn find_in(alloc: Global, text: &[u8]) -> anyhow::Result<SharedFind> {
+    let record = read_record(alloc, text)?;
+    let ttl = record.ttl.seconds();
     let mut data = Vec::new(alloc);
     data.push(record.body)?;
     let rank = Rank::AuthoritativeAnswer;
-    let found = Find::new(record.owner, record.kind, rank, 60, Items::new(data));
+    let found = Find::new(record.owner, record.kind, rank, ttl, Items::new(data));
     Ok(SharedFind::new(alloc, found.ok_or(anyhow!("no find"))?)?)
 }
 
-/// An address of `www.example.net.`, as the operator sets it.
-fn local_data(alloc: Global) -> anyhow::Result<Command> {
-    let record = read_record(alloc, b"www.example.net 60 A 192.0.2.2")?;
+/// One address of `www.example.to.`, of the highest rank.
+pub fn address(alloc: Global) -> anyhow::Result<SharedFind> {
+    find_in(alloc, b"www.example.to 60 A 192.0.2.1")
+}
+
+/// A record's text as local data.
+pub fn local_data(alloc: Global, text: &[u8]) -> anyhow::Result<Command> {
+    let record = read_record(alloc, text)?;
     Ok(Command::AddRecord {
         record: Shared::new(alloc, record)?,
     })
 }
 
-/// `example.org.` is refused.
-fn refusal(alloc: Global) -> anyhow::Result<Command> {
+/// A local zone of this name and type.
+pub fn local_zone(alloc: Global, name: &[u8], kind: ZoneType) -> anyhow::Result<Command> {
     Ok(Command::SetZone {
-        name: Name::from_text(alloc, b"example.org")?,
-        kind: ZoneType::Refuse,
+        name: Name::from_text(alloc, name)?,
+        kind,
     })
 }
 
@@ -58,7 +75,7 @@ pub fn give<B: Book>(book: &mut B, event: Event) -> anyhow::Result<()> {
 }
 
 /// Gives a book a command of the operator.
-fn command<B: Book>(book: &mut B, command: Command) -> anyhow::Result<()> {
+pub fn command<B: Book>(book: &mut B, command: Command) -> anyhow::Result<()> {
     give(book, Event::Do { moment: 0, command })
 }
 
@@ -67,8 +84,14 @@ fn command<B: Book>(book: &mut B, command: Command) -> anyhow::Result<()> {
 fn filled<B: Book>(alloc: Global, mut book: B) -> anyhow::Result<B> {
     let find = address(alloc)?;
     give(&mut book, Event::Admit { moment: 0, find })?;
-    command(&mut book, local_data(alloc)?)?;
-    command(&mut book, refusal(alloc)?)?;
+    command(
+        &mut book,
+        local_data(alloc, b"www.example.net 60 A 192.0.2.2")?,
+    )?;
+    command(
+        &mut book,
+        local_zone(alloc, b"example.org", ZoneType::Refuse)?,
+    )?;
     Ok(book)
 }
 

@@ -10,6 +10,8 @@
 //! | | `held_look`, `local_look`, `refused_look` | the look of such a task alone |
 //! | `messages` | `decode_query`, .. | reads or writes a message or a name; bench/README.md has them all |
 //! | `book` | `alone`, `shared`, `recorded` | looks at a book of one caller, through the lock of a shared one, and with each look recorded |
+//! | `cells` | a number of names | looks names up in a cache of so many, each with one address |
+//! | `tables` | a number of records | asks for names of so many local records, in a sixteenth as many zones |
 #![tactic(auto)]
 
 mod calls; // calls by their names
@@ -18,18 +20,23 @@ mod messages; // calls on names and messages
 mod book; // looks at a book
 mod tasks; // tasks and looks
 mod front; // queries from octets to octets
+mod lookups; // lookups of many names
+mod cells; // lookups in a cache of many names
+mod tables; // answers from many local records
 
 use anyhow::anyhow;
 use book::measure_book;
+use cells::measure_cells;
 use front::measure_front;
 use messages::measure_messages;
 use std::alloc::Global;
 use std::env;
 use std::sync::Wait;
+use tables::measure_tables;
 use tasks::measure_tasks;
 
 /// Every word, in the order in which it is shown.
-const WORDS: [&str; 4] = ["front", "tasks", "messages", "book"];
+const WORDS: [&str; 6] = ["front", "tasks", "messages", "book", "cells", "tables"];
 
 /// Makes the calls of a word: the one that the next words name, or each.
 fn measure<R: Print + Wait>(
@@ -43,6 +50,8 @@ fn measure<R: Print + Wait>(
         "tasks" => measure_tasks(rt, alloc, words),
         "messages" => measure_messages(rt, alloc, words),
         "book" => measure_book(rt, alloc, words),
+        "cells" => measure_cells(rt, alloc, words),
+        "tables" => measure_tables(rt, alloc, words),
         _ => Err(anyhow!("there is no such word")),
     }
 }
