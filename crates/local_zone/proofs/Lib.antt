@@ -13,3 +13,4 @@ pub mod TagLaws
 pub mod CountLaws
 pub mod MaskLaws
 pub mod CountsBelowLaws
+pub mod ZonesBelowLaws

@@ -1,8 +1,9 @@
 //! The answer to a question from the table. Finding it takes no memory.
 
-ghost use Rattle.std.specs.Prelude.{◌≡◌, ◌&&◌};
+ghost use Rattle.std.specs.Prelude.{◌≡◌, ◌&&◌, true, Some};
 ghost use Rattle.dns_name.specs.Below.{is_at_or_below};
-ghost use Rattle.local_zone.specs.Closest.{lies_in};
+ghost use Rattle.local_zone.specs.Closest.{closest, lies_in};
+ghost use Rattle.local_zone.specs.CountsBelow.{is_below};
 ghost use Rattle.std.specs.List.{list_any};
 ghost use Rattle.std.specs.Option.{option_map};
 ghost use Rattle.local_zone.specs.Answer.{absent_in, absent_or_pass, answer_in, data_or, has_record, has_record_below};
@@ -15,12 +16,12 @@ use crate::record::LocalRecord;
 use crate::record_list::RecordList;
 use crate::sought::Sought;
 use crate::zone::Zone;
+use crate::zone_list::ZoneList;
 use crate::zone_type::ZoneType;
 use crate::zones::{closest, lies_in};
 use dns_name::Name;
 use dns_text::Question;
 use dns_text::types::{CNAME, SOA};
-use named_list::NamedList;
 
 /// Whether an owner has a record of this type.
 fn has_set(records: &[LocalRecord], owner: &Name, kind: u16) -> bool
@@ -44,12 +45,7 @@ fn has_record(records: &[LocalRecord], name: &Name) -> bool
 }
 
 /// Whether one of these records is at or below a name, and lies in the zone.
-fn is_any_below(
-    zones: &NamedList<Zone>,
-    records: &[LocalRecord],
-    zone: &Sought,
-    name: &Sought,
-) -> bool
+fn is_any_below(zones: &ZoneList, records: &[LocalRecord], zone: &Sought, name: &Sought) -> bool
     ensures { result ≡ list_any (λ r. is_at_or_below r.owner name.now && lies_in zones.now zone.now r.owner) records.now }
 {
     records
@@ -57,15 +53,30 @@ fn is_any_below(
         .any(|r| r.is_at_or_below(name) && lies_in(zones, zone, r))
 }
 
-/// Whether a name, or one below it, has a record that lies in the zone. Most names that exist have one of their own, which an index
-/// finds. Most of the others have none below them, and then no record is read.
-fn has_record_below(zones: &NamedList<Zone>, records: &RecordList, zone: &Zone, name: &Name) -> bool
+/// Whether a record at or below a name lies in the zone that covers it, if there are records strictly below it. All of those do,
+/// unless a zone lies below the name. Only then are records read.
+fn has_record_within(zones: &ZoneList, records: &RecordList, zone: &Zone, name: &Name) -> bool
+    requires covers { closest zones.now name.now ≡ Some zone.now }
+    requires some { list_any (λ r. is_below r.owner name.now) records.now ≡ true }
     ensures { result ≡ has_record_below name.now zone.now (record { zones = zones.now; records = records.now }) }
 {
-    let within = Sought::new(&zone.name);
-    let below = Sought::new(name);
-    is_any_below(zones, records.of(name), &within, &below)
-        || records.has_below(name) && is_any_below(zones, records.as_slice(), &within, &below)
+    if zones.has_below(name) {
+        let within = Sought::new(&zone.name);
+        let below = Sought::new(name);
+        is_any_below(zones, records.as_slice(), &within, &below)
+    } else {
+        true
+    }
+}
+
+/// Whether a name, or one below it, has a record that lies in the zone, which covers the name. A lookup tells whether the name has
+/// one itself, and another whether any is below it.
+fn has_record_below(zones: &ZoneList, records: &RecordList, zone: &Zone, name: &Name) -> bool
+    requires { closest zones.now name.now ≡ Some zone.now }
+    ensures { result ≡ has_record_below name.now zone.now (record { zones = zones.now; records = records.now }) }
+{
+    has_owner(records, name)
+        || records.has_below(name) && has_record_within(zones, records, zone, name)
 }
 
 /// The CNAME of an owner, else its set of the type, shown with the QNAME as owner. None if there is neither.
@@ -137,11 +148,12 @@ fn data_or<'a>(
 
 /// The negative answer of a static zone: no data of the type, or no such name.
 fn absent<'a>(
-    zones: &NamedList<Zone>,
+    zones: &ZoneList,
     records: &'a RecordList,
     zone: &Zone,
     name: &Name,
 ) -> Local<LocalSet<'a>, &'a LocalRecord>
+    requires { closest zones.now name.now ≡ Some zone.now }
     ensures { local_now result ≡ absent_in (record { zones = zones.now; records = records.now }) name.now zone.now }
 {
     let soa = soa_at(records, &zone.name);
@@ -169,11 +181,12 @@ fn absent_or_pass<'a>(
 
 /// The answer of a static zone.
 fn in_static<'a>(
-    zones: &NamedList<Zone>,
+    zones: &ZoneList,
     records: &'a RecordList,
     zone: &Zone,
     question: &'a Question,
 ) -> Local<LocalSet<'a>, &'a LocalRecord>
+    requires { closest zones.now question.now.owner ≡ Some zone.now }
     ensures { local_now result ≡ in_static (record { zones = zones.now; records = records.now }) question.now zone.now }
 {
     let name = &question.owner;
@@ -214,11 +227,12 @@ fn in_redirect<'a>(
 
 /// The answer of a zone, by its type.
 fn answer_in<'a>(
-    zones: &'a NamedList<Zone>,
+    zones: &'a ZoneList,
     records: &'a RecordList,
     zone: &'a Zone,
     question: &'a Question,
 ) -> Local<LocalSet<'a>, &'a LocalRecord>
+    requires { closest zones.now question.now.owner ≡ Some zone.now }
     ensures { local_now result ≡ answer_in (record { zones = zones.now; records = records.now }) question.now zone.now zone.now.kind }
 {
     let name = &question.owner;
@@ -239,7 +253,7 @@ fn answer_in<'a>(
 
 /// The answer of the table.
 pub(crate) fn answer<'a>(
-    zones: &'a NamedList<Zone>,
+    zones: &'a ZoneList,
     records: &'a RecordList,
     question: &'a Question,
 ) -> Local<LocalSet<'a>, &'a LocalRecord>

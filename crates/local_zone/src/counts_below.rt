@@ -1,4 +1,4 @@
-//! The number of records strictly below each name. Where there are none, it spares a pass over all records.
+//! The number of records, or of zones, strictly below each name. Where there are none, it spares a pass over all records.
 
 ghost use Rattle.std.specs.Prelude.{◌≡◌, ◌+◌, ◌-◌, ℕ, List, None, Some, OnErr, OnOk, MatchOption, IsTrue, false, nat_eq, if◌then◌else◌};
 ghost use Rattle.std.specs.Cmp.Lexicographic.{pointwise};
@@ -81,8 +81,8 @@ fn lower(counts: &mut IndexMap<Vec<u8>, u64>, octets: &[u8])
     }
 }
 
-/// For each name the number of records strictly below it. Contracts see these counts, each under the octets of its name. A name
-/// without records below it takes no memory.
+/// For each name the number of records, or of zones, strictly below it. Contracts see these counts, each under the octets of its
+/// name. A name with nothing below it takes no memory.
 #[derive(Drop)]
 pub(crate) struct CountsBelow {
     counts: IndexMap<Vec<u8>, u64>,
@@ -105,7 +105,7 @@ impl CountsBelow {
     ghost use Rattle.local_zone.specs.CountsBelow.{count_below, counted, is_below};
     ghost use Rattle.local_zone.specs.Gaps.{records_of};
 
-    /// No records. It takes no memory.
+    /// Nothing is counted. It takes no memory.
     pub(crate) fn new(alloc: Global) -> CountsBelow
         ensures { result ≡ [] }
     {
@@ -114,14 +114,14 @@ impl CountsBelow {
         }
     }
 
-    /// Whether a record lies strictly below a name. It is one lookup.
+    /// Whether a record or zone lies strictly below a name. It is one lookup.
     pub(crate) fn has(&self, name: &Name) -> bool
         ensures { result ≡ nat_lt 0 (counted name.now self.now) }
     {
         self.counts.contains_key(name.octets())
     }
 
-    /// Counts one more record below each name above this one, the nearest first. A name has 127 above it at most. If that fails, no
+    /// Counts one more below each name above this one, the nearest first. A name has 127 above it at most. If that fails, no
     /// count has changed.
     fn add_above(
         &mut self,
@@ -145,7 +145,7 @@ impl CountsBelow {
         added
     }
 
-    /// Counts one record less below each name above this one, the nearest first. It takes no memory.
+    /// Counts one less below each name above this one, the nearest first. It takes no memory.
     fn remove_above(&mut self, octets: &[u8], labels: &mut dns_name::Labels)
         requires { octets.now ≡ octets_of labels.old }
         ensures { (name : Labels) → counted name self.new ≡ counted name self.old - (if is_below labels.old name then 1 else 0) }
@@ -156,7 +156,8 @@ impl CountsBelow {
         }
     }
 
-    /// Counts a record of this owner. If memory is refused, or there are more records than can be counted, no count has changed.
+    /// Counts a record of this owner, or a zone of this name. If memory is refused, or there are more than can be counted, no count
+    /// has changed.
     pub(crate) fn add(&mut self, alloc: Global, owner: &Name) -> Result<(), NoMemory>
         ensures ok { OnOk result ((name : Labels) → counted name self.new
             ≡ counted name self.old + (if is_below owner.now name then 1 else 0)) }
@@ -165,7 +166,7 @@ impl CountsBelow {
         self.add_above(alloc, owner.octets(), &mut owner.labels())
     }
 
-    /// Counts a record of this owner no more. It takes no memory.
+    /// Counts a record of this owner, or a zone of this name, no more. It takes no memory.
     pub(crate) fn remove(&mut self, owner: &Name)
         ensures { (name : Labels) → counted name self.new ≡ counted name self.old - (if is_below owner.now name then 1 else 0) }
     {

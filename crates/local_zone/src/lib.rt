@@ -12,6 +12,8 @@ mod sought;
 mod tag;
 // A zone, with its name in the list of zones.
 mod zone;
+// The zones in order, with the number of them strictly below each name.
+mod zone_list;
 // The zone that covers a name.
 mod closest;
 mod zones;

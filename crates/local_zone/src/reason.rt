@@ -1,11 +1,12 @@
 //! Reasons to refuse a change. Finding one takes no memory.
 
-ghost use Rattle.std.specs.Prelude.{◌≡◌, ◌≤◌, ◌&&◌, length};
+ghost use Rattle.std.specs.Prelude.{◌≡◌, ◌≤◌, ◌&&◌, true, length};
 ghost use Rattle.std.specs.List.{list_any};
 ghost use Rattle.dns_name.specs.Below.{is_at_or_below};
 ghost use Rattle.local_zone.specs.Reason.{clashes, differ, has_data_below, reason_of_add, reason_of_set, redirects_below, would_lie_below};
 ghost use Rattle.local_zone.specs.ZoneType.{is_redirect};
 ghost use Rattle.local_zone.specs.Closest.{closest};
+ghost use Rattle.local_zone.specs.CountsBelow.{is_below};
 ghost use Rattle.local_zone.specs.Tables.{is_cname};
 ghost use Rattle.local_zone.specs.declared.table.TheConstants.{MOST_ZONES, MOST_RECORDS};
 
@@ -14,13 +15,13 @@ use crate::record::LocalRecord;
 use crate::record_list::RecordList;
 use crate::sought::Sought;
 use crate::zone::Zone;
+use crate::zone_list::ZoneList;
 use crate::zone_type::ZoneType;
 use crate::zones::{closest, has_no_room_for, would_lie_below};
 use crate::{records, zones};
 use dns_name::Name;
 use dns_text::Record;
 use dns_text::types::CNAME;
-use named_list::NamedList;
 
 fn is_cname(kind: u16) -> bool
     ensures { result ≡ is_cname kind }
@@ -42,29 +43,42 @@ fn differ(a: bool, b: bool) -> bool
 }
 
 /// Whether one of these records is at or below a name, and would lie in the new zone, strictly below its name.
-fn is_any_below(zones: &NamedList<Zone>, records: &[LocalRecord], new: &Zone, name: &Sought) -> bool
+fn is_any_below(zones: &ZoneList, records: &[LocalRecord], new: &Zone, name: &Sought) -> bool
     ensures { result ≡ list_any (λ r. is_at_or_below r.owner name.now && would_lie_below new.now zones.now r.owner) records.now }
 {
     records.iter().any(|r| r.is_at_or_below(name) && would_lie_below(zones, new, r.owner()))
 }
 
-/// Whether a record would lie in the new zone, strictly below its name.
-fn has_record_below(zones: &NamedList<Zone>, records: &RecordList, new: &Zone) -> bool
+/// Whether a record would lie in the new zone, strictly below its name, if there are records strictly below it. All of those would,
+/// unless a zone lies below the name. Only then are records read.
+fn has_record_within(zones: &ZoneList, records: &RecordList, new: &Zone) -> bool
+    requires { list_any (λ r. is_below r.owner new.now.name) records.now ≡ true }
     ensures { result ≡ list_any (λ r. would_lie_below new.now zones.now r.owner) records.now }
 {
-    let name = Sought::new(&new.name);
-    records.has_below(&new.name) && is_any_below(zones, records.as_slice(), new, &name)
+    if zones.has_below(&new.name) {
+        let name = Sought::new(&new.name);
+        is_any_below(zones, records.as_slice(), new, &name)
+    } else {
+        true
+    }
+}
+
+/// Whether a record would lie in the new zone, strictly below its name.
+fn has_record_below(zones: &ZoneList, records: &RecordList, new: &Zone) -> bool
+    ensures { result ≡ list_any (λ r. would_lie_below new.now zones.now r.owner) records.now }
+{
+    records.has_below(&new.name) && has_record_within(zones, records, new)
 }
 
 /// Whether a record would lie strictly below the name of the redirect zone.
-fn has_data_below(zones: &NamedList<Zone>, records: &RecordList, new: &Zone) -> bool
+fn has_data_below(zones: &ZoneList, records: &RecordList, new: &Zone) -> bool
     ensures { result ≡ has_data_below new.now (record { zones = zones.now; records = records.now }) }
 {
     is_redirect(new.kind) && has_record_below(zones, records, new)
 }
 
 /// Whether the owner lies strictly below the name of the redirect zone that it lies in.
-fn is_below_redirect(zones: &NamedList<Zone>, owner: &Name) -> bool
+fn is_below_redirect(zones: &ZoneList, owner: &Name) -> bool
     ensures { result ≡ redirects_below owner.now (closest zones.now owner.now) }
 {
     match closest(zones, owner) {
@@ -74,7 +88,7 @@ fn is_below_redirect(zones: &NamedList<Zone>, owner: &Name) -> bool
 }
 
 /// Whether a CNAME would not be alone at the owner.
-fn clashes(zones: &NamedList<Zone>, records: &[LocalRecord], new: &Record) -> bool
+fn clashes(zones: &ZoneList, records: &[LocalRecord], new: &Record) -> bool
     ensures { result ≡ clashes new.now (record { zones = zones.now; records = records.now }) }
 {
     // The types come first: they seldom differ, and are compared sooner than owners.
@@ -83,7 +97,7 @@ fn clashes(zones: &NamedList<Zone>, records: &[LocalRecord], new: &Record) -> bo
 }
 
 /// The same of all records.
-fn clashes_in(zones: &NamedList<Zone>, records: &RecordList, new: &Record) -> bool
+fn clashes_in(zones: &ZoneList, records: &RecordList, new: &Record) -> bool
     ensures { result ≡ clashes new.now (record { zones = zones.now; records = records.now }) }
 {
     clashes(zones, records.of(&new.owner), new)
@@ -91,7 +105,7 @@ fn clashes_in(zones: &NamedList<Zone>, records: &RecordList, new: &Record) -> bo
 
 /// The reason to refuse a zone, if there is one.
 pub(crate) fn reason_of_set(
-    zones: &NamedList<Zone>,
+    zones: &ZoneList,
     records: &RecordList,
     new: &Zone,
 ) -> Option<TableFault>
@@ -110,7 +124,7 @@ pub(crate) fn reason_of_set(
 
 /// The reason to refuse a record, if there is one.
 pub(crate) fn reason_of_add(
-    zones: &NamedList<Zone>,
+    zones: &ZoneList,
     records: &RecordList,
     new: &Record,
 ) -> Option<TableFault>

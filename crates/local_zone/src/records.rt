@@ -21,10 +21,10 @@ use crate::sought::Sought;
 use crate::table::MOST_RECORDS;
 use crate::tag::tag_of;
 use crate::zone::Zone;
+use crate::zone_list::ZoneList;
 use crate::zones::lies_in;
 use dns_name::{Name, NoMemory};
 use dns_text::{Record, Shared, Ttl};
-use named_list::NamedList;
 use std::alloc::Global;
 use std::mem;
 
@@ -228,7 +228,7 @@ pub(crate) fn turn_over(
 fn gaps_in(
     alloc: Global,
     records: &[LocalRecord],
-    zones: &NamedList<Zone>,
+    zones: &ZoneList,
     name: &Name,
 ) -> Result<Vec<usize>, NoMemory>
     ensures ok { IfOk result (λ gaps. gaps.items ≡ gaps_where (λ r. lies_in zones.now name.now r.owner) 0 records.now) }
@@ -292,7 +292,7 @@ fn take_gaps(
 pub(crate) fn take_in(
     alloc: Global,
     records: &mut RecordList,
-    zones: &NamedList<Zone>,
+    zones: &ZoneList,
     name: &Name,
 ) -> Result<RecordTurn, NoMemory>
     ensures ok { OnOk result (records.new ≡ filter (λ r. not (lies_in zones.now name.now r.owner)) records.old) }

@@ -15,11 +15,12 @@ use crate::record_list::RecordList;
 use crate::records::{put_record, take_back, take_in, take_of, turn_over};
 use crate::saved::SavedTables;
 use crate::zone::Zone;
+use crate::zone_list::ZoneList;
 use crate::zone_type::ZoneType;
 use crate::zones::put_implied;
 use dns_name::{Name, NoMemory};
 use dns_text::{Question, Record, Shared};
-use named_list::{NamedList, Turn};
+use named_list::Turn;
 use std::alloc::Global;
 use std::marker::Model;
 
@@ -32,7 +33,7 @@ pub const MOST_RECORDS: usize = 65536;
 /// Local zones and local data, each a list in the order of arrival.
 #[derive(Drop)]
 pub struct ZoneTable {
-    zones: NamedList<Zone>,
+    zones: ZoneList,
     records: RecordList,
     alloc: Global,
 }
@@ -59,7 +60,7 @@ impl ZoneTable {
         ensures { result ≡ record { zones = []; records = [] } }
     {
         ZoneTable {
-            zones: NamedList::new(alloc),
+            zones: ZoneList::new(alloc),
             records: RecordList::new(alloc),
             alloc,
         }
@@ -164,7 +165,7 @@ impl ZoneTable {
         ensures err { OnErr result ((self.new ≡ self.old) × (saved.new ≡ saved.old)) }
     {
         if saved.zones.puts_in() {
-            self.zones.put_in(&mut saved.zones)?;
+            self.zones.put_in(self.alloc, &mut saved.zones)?;
             match turn_over(self.alloc, &mut self.records, &mut saved.records) {
                 Ok(()) => Ok(()),
                 Err(e) => {

@@ -12,14 +12,15 @@ use crate::record::LocalRecord;
 use crate::sought::Sought;
 use crate::table::MOST_ZONES;
 use crate::zone::Zone;
+use crate::zone_list::ZoneList;
 use crate::zone_type::ZoneType;
 use dns_name::{Name, NoMemory};
 use dns_text::Shared;
-use named_list::{NamedList, Turn};
+use named_list::Turn;
 use std::alloc::Global;
 
 /// The longest zone at or above a name.
-pub(crate) fn closest<'a>(zones: &'a NamedList<Zone>, name: &Name) -> Option<&'a Zone>
+pub(crate) fn closest<'a>(zones: &'a ZoneList, name: &Name) -> Option<&'a Zone>
     ensures { option_map (λ z. z.now) result ≡ closest zones.now name.now }
 {
     match zones.closest(name) {
@@ -31,7 +32,7 @@ pub(crate) fn closest<'a>(zones: &'a NamedList<Zone>, name: &Name) -> Option<&'a
 /// If no zone covers the owner, puts a transparent one of its name last.
 pub(crate) fn put_implied(
     alloc: Global,
-    zones: &mut NamedList<Zone>,
+    zones: &mut ZoneList,
     owner: &Name,
 ) -> Result<Turn<Zone>, NoMemory>
     ensures ok { OnOk result (zones.new ≡ zones_for owner.now zones.old) }
@@ -50,7 +51,7 @@ pub(crate) fn put_implied(
 }
 
 /// Whether a record lies in the zone of that name.
-pub(crate) fn lies_in(zones: &NamedList<Zone>, name: &Sought, r: &LocalRecord) -> bool
+pub(crate) fn lies_in(zones: &ZoneList, name: &Sought, r: &LocalRecord) -> bool
     ensures { result ≡ lies_in zones.now name.now r.now.owner }
 {
     if r.is_at_or_below(name) {
@@ -74,7 +75,7 @@ fn gives_way(name: &Name, zone: Option<&Zone>) -> bool
 }
 
 /// Whether records of this owner would lie in the new zone.
-fn would_lie_in(zones: &NamedList<Zone>, new: &Zone, owner: &Name) -> bool
+fn would_lie_in(zones: &ZoneList, new: &Zone, owner: &Name) -> bool
     ensures { result ≡ lies_in (zones_with new.now zones.now) new.now.name owner.now }
 {
     if owner.at_or_below(&new.name) {
@@ -85,14 +86,14 @@ fn would_lie_in(zones: &NamedList<Zone>, new: &Zone, owner: &Name) -> bool
 }
 
 /// Whether records of this owner would lie in the new zone, strictly below its name.
-pub(crate) fn would_lie_below(zones: &NamedList<Zone>, new: &Zone, owner: &Name) -> bool
+pub(crate) fn would_lie_below(zones: &ZoneList, new: &Zone, owner: &Name) -> bool
     ensures { result ≡ would_lie_below new.now zones.now owner.now }
 {
     would_lie_in(zones, new, owner) && *owner != new.name
 }
 
 /// Whether there would be too many zones with the new one.
-pub(crate) fn has_no_room(zones: &NamedList<Zone>, new: &Zone) -> bool
+pub(crate) fn has_no_room(zones: &ZoneList, new: &Zone) -> bool
     requires { length zones.now ≤ MOST_ZONES }
     ensures { result ≡ nat_lt MOST_ZONES (length (zones_with new.now zones.now)) }
 {
@@ -100,7 +101,7 @@ pub(crate) fn has_no_room(zones: &NamedList<Zone>, new: &Zone) -> bool
 }
 
 /// Whether there would be too many zones with one for the owner.
-pub(crate) fn has_no_room_for(zones: &NamedList<Zone>, owner: &Name) -> bool
+pub(crate) fn has_no_room_for(zones: &ZoneList, owner: &Name) -> bool
     requires { length zones.now ≤ MOST_ZONES }
     ensures { result ≡ nat_lt MOST_ZONES (length (zones_for owner.now zones.now)) }
 {
