@@ -3,7 +3,7 @@
 ghost use Rattle.command_text.specs.Denial.{IsDenialOf};
 
 use dns_name::Name;
-use dns_text::Record;
+use dns_text::{Record, Shared};
 use ranked::{Find, Scope};
 use std::marker::Model;
 
@@ -13,7 +13,7 @@ pub struct Denial {
     pub(crate) owner: Name,
     pub(crate) scope: Scope,
     pub(crate) ttl: u32,
-    pub(crate) soa: Record,
+    pub(crate) soa: Shared<Record>,
 }
 
 impl Model for Denial {

@@ -11,7 +11,7 @@ use crate::admission_words::{read_datum, read_ttl};
 use crate::common_words::{read_kind, read_name, read_word};
 use crate::denial_find::Denial;
 use crate::fault::LineFault;
-use dns_text::{Record, Ttl, types};
+use dns_text::{Record, Shared, Ttl, types};
 use ranked::Scope;
 use std::alloc::Global;
 
@@ -79,7 +79,7 @@ pub(crate) fn no_name_words(text: &[u8]) -> Result<NoNameWords<'_>, LineFault>
 
 /// The SOA record, with the TTL of the negative answer.
 #[tactic(auto, unfolding(crate::specs::Deny::soa_of))]
-fn read_soa(alloc: Global, ttl: u32, words: SoaWords<'_>) -> Result<Record, LineFault>
+fn read_soa(alloc: Global, ttl: u32, words: SoaWords<'_>) -> Result<Shared<Record>, LineFault>
     requires { ttl < 2 ^ 31 }
     ensures value { Gives result (soa_of ttl (soa_now words.entry)) }
     ensures soa { IfOk result (λ r. IsSoa r) }
@@ -87,12 +87,13 @@ fn read_soa(alloc: Global, ttl: u32, words: SoaWords<'_>) -> Result<Record, Line
     let owner = read_name(alloc, words.owner)?;
     let body = read_datum(alloc, types::SOA, words.body)?;
     let ttl = Ttl::from_seconds(ttl).unwrap();
-    Ok(Record {
+    let record = Record {
         owner,
         kind: types::SOA,
         ttl,
         body,
-    })
+    };
+    Ok(Shared::new(alloc, record)?)
 }
 
 /// The negative answer that the words of `nodata` give.

@@ -30,8 +30,7 @@ pub fn push_scope(scope: Scope, out: &mut Vec<u8>) -> Result<(), NoMemory> {
 /// The SOA record of a negative answer.
 fn soa_of(find: &Find) -> Option<&Record> {
     match &find.body {
-        Body::NoData(soa) => Some(soa),
-        Body::NoName(soa) => Some(soa),
+        Body::NoData(soa) | Body::NoName(soa) => Some(soa.get()),
         Body::Set(_) => None,
     }
 }

@@ -77,12 +77,10 @@ fn soa_record(soa: &Soa) -> Option<LentRecord<'_>>
     match soa {
         Soa::Find { ttl, find } => match &find.find().body {
             Body::Set(_) => None,
-            Body::NoData(soa) | Body::NoName(soa) => Some(LentRecord::new(
-                &soa.owner,
-                soa.kind,
-                ttl_of(*ttl),
-                &soa.body,
-            )),
+            Body::NoData(soa) | Body::NoName(soa) => {
+                let soa = soa.get();
+                Some(LentRecord::new(&soa.owner, soa.kind, ttl_of(*ttl), &soa.body))
+            }
         },
         Soa::Local(record) => Some(LentRecord::new(
             record.owner(),

@@ -7,7 +7,7 @@ ghost use Rattle.neg_rule.specs.Negative.{denied_for, denied_in, denies, has_ans
 use crate::alias::{is_for, last_of};
 use dns_name::{Name, NoMemory};
 use dns_text::types::SOA;
-use dns_text::{Data, Question, Record};
+use dns_text::{Data, Question, Record, Shared};
 use dns_wire::{CLASS_IN, Classed, Message, Rcode};
 use ranked::Find;
 use std::alloc::Global;
@@ -82,6 +82,14 @@ fn denied_for(soa: &Record) -> u32
     }
 }
 
+/// The SOA record of a response, copied to a block of its own.
+fn shared_copy(alloc: Global, soa: &Record) -> Result<Shared<Record>, NoMemory>
+    ensures { IfOk result (λ copied. copied ≡ soa.now) }
+{
+    let copy = soa.copy(alloc)?;
+    Ok(Shared::new(alloc, copy)?)
+}
+
 /// The negative answer of a response from a server of `zone` to a question. It takes memory only if there is one.
 pub fn negative_of(
     alloc: Global,
@@ -100,7 +108,7 @@ pub fn negative_of(
         return Ok(None);
     }
     let owner = last.clone()?;
-    let record = soa.copy(alloc)?;
+    let record = shared_copy(alloc, soa)?;
     if message.head.rcode == Rcode::NAME_ERROR {
         return Ok(Find::no_name(owner, ttl, record));
     }

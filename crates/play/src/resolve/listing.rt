@@ -24,8 +24,10 @@ fn push_listed(
 pub fn push_find(alloc: Global, find: &Find, ttl: u32, out: &mut Vec<u8>) -> Result<(), NoMemory> {
     match &find.body {
         Body::Set(data) => push_set(alloc, &find.owner, ttl, find.scope, data.as_slice(), out),
-        Body::NoData(soa) => push_listed(alloc, &soa.owner, ttl, soa.kind, &soa.body, out),
-        Body::NoName(soa) => push_listed(alloc, &soa.owner, ttl, soa.kind, &soa.body, out),
+        Body::NoData(soa) | Body::NoName(soa) => {
+            let soa = soa.get();
+            push_listed(alloc, &soa.owner, ttl, soa.kind, &soa.body, out)
+        }
     }
 }
 
