@@ -25,6 +25,7 @@ AT_A_BOOK = [
     (b"admit\nadmit 9 a..b 0 NOPE\nadmit 4 a. 60 A 192.0.2.1\n", b"error unknown\n" * 3, END),
     (b"nodata\nnodata a. 60 A . . . 1 1 1 1 1\nnodata x..\n", b"error unknown\n" * 3, END),
     (b"noname\nnoname a. 60 . . . 1 1 1 1 1\nnoname x..\n", b"error unknown\n" * 3, END),
+    (b"forget\nforget a.\nforget a..b\nforget a. A\n", b"error unknown\n" * 4, END),
     # Every other line is known.
     (b"look a. A\nservers a.\nsweep\n", b"unknown\nservers . hints\nswept\n", END),
     (b"flush a.\nflush_type a. A\nflush_zone a.\n", b"ok 1\nok 2\nok 3\n", END),

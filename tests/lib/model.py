@@ -50,11 +50,11 @@ def marks(bound, history):
 
 
 def standing(bound, history):
-    """The admissions, and the accepted commands that are not struck."""
+    """The admissions and the forgets, and the accepted commands that are not struck."""
     struck = marks(bound, history)[2]
     return [
         entry for entry in history
-        if entry.event.verb == "admit" or (entry.ticket is not None and entry.ticket not in struck)
+        if entry.event.verb in ("admit", "forget") or (entry.ticket is not None and entry.ticket not in struck)
     ]
 
 
@@ -91,6 +91,9 @@ def cell_of(entries, question):
         what = entry.event.what
         if entry.event.verb == "do":
             if covers(what, question):
+                cell = None
+        elif entry.event.verb == "forget":
+            if what == question[0]:
                 cell = None
         elif touches(what, question) and not outranks(cell, what, entry.moment):
             cell = (what, entry.moment)
@@ -210,6 +213,8 @@ class Places:
             self.admit(event.what, moment)
         elif event.verb == "sweep":
             self.sweep(moment)
+        elif event.verb == "forget":
+            self.names.pop(event.what, None)
         elif ticket is not None:
             if event.what[0].startswith("flush"):
                 self.flush(ticket, event.what)
@@ -430,6 +435,8 @@ def reply_text(settings, history, event):
     moment = max(now(history), event.moment)
     if event.verb == "sweep":
         return ["swept"], None
+    if event.verb == "forget":
+        return ["forgotten"], None
     if event.verb in ("undo", "redo"):
         reached = marks(settings.journal, history)[event.verb == "redo"]
         return [f"{event.verb.replace('do', 'done')} {reached[-1]}" if reached else f"error nothing_to_{event.verb}"], None

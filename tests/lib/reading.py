@@ -122,7 +122,7 @@ class Find:
 
 @dataclass(frozen=True)
 class Event:
-    """An admission of a find, a lookup with its question, `sweep`, `do` with a command, `undo` or `redo`."""
+    """An admission of a find, a lookup with its question, `sweep`, `forget` with a name, `do` with a command, `undo` or `redo`."""
 
     verb: str
     moment: int
@@ -133,7 +133,7 @@ class Event:
 
 # The least number of words of each line.
 LEAST = {
-    "at": 1, "admit": 5, "nodata": 5, "noname": 4, "look": 2, "servers": 1, "sweep": 0, "undo": 0, "redo": 0,
+    "at": 1, "admit": 5, "nodata": 5, "noname": 4, "forget": 1, "look": 2, "servers": 1, "sweep": 0, "undo": 0, "redo": 0,
     "list_local_zones": 0, "list_local_data": 0, "list_stubs": 0, "list_commands": 0,
     "local_zone": 2, "local_zone_remove": 1, "local_data": 3, "local_data_remove": 1,
     "stub_add": 2, "stub_remove": 1, "flush": 1, "flush_type": 2, "flush_zone": 1,
@@ -202,6 +202,10 @@ def event_in(verb, words, moment):
     if verb in ("undo", "redo", "sweep"):
         none_left(words)
         return Event(verb, moment)
+    if verb == "forget":
+        owner = name_in(words[0])
+        none_left(words[1:])
+        return Event(verb, moment, owner)
     if verb == "look":
         question = name_in(words[0]), type_in(words[1])
         none_left(words[2:])

@@ -1,5 +1,7 @@
 -- The face of a world: its tables, and a cell for every question.
-use Rattle.std.specs.Prelude.{◌≡◌, ℕ, Bool, Option, Some, None, if◌then◌else◌}
+use Rattle.std.specs.Prelude.{◌≡◌, ◌&&◌, ℕ, Bool, Option, Some, None, if◌then◌else◌}
+use Rattle.dns_name.specs.Labels.{Labels}
+use Rattle.dns_name.specs.Order.{name_eq}
 use Rattle.dns_text.specs.declared.record.Question.{Question}
 use Rattle.ranked.specs.declared.cell.Admitted.{Admitted}
 use Rattle.ranked.specs.declared.cell.Fate.{Fate}
@@ -39,6 +41,13 @@ abbrev pub face_with : {T : Type 0} → Bool → Find → ℕ → Face T → Fac
 face_with has_cells find moment face = record {
   tables = face.tables;
   cell = λ q. if has_cells then cell_with find moment q (face.cell q) else face.cell q;
+}
+
+-- a face after a name is forgotten: the cells of that owner are empty; a world without cells keeps its faces
+abbrev pub face_without : {T : Type 0} → Bool → Labels → Face T → Face T
+face_without has_cells owner face = record {
+  tables = face.tables;
+  cell = λ q. if has_cells && name_eq owner q.owner then None else face.cell q;
 }
 
 -- The outcome of an admission. A find about one type is outranked if the content of its cell is alive then and of higher rank. Nothing outranks a find about every type.

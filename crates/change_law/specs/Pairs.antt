@@ -1,5 +1,5 @@
 -- The pairs that a world counts. A pair is the owner and the scope of a find.
-use Rattle.std.specs.Prelude.{◌≡◌, ◌&&◌, ◌||◌, ℕ, Bool, true, Option, Some, List}
+use Rattle.std.specs.Prelude.{◌≡◌, ◌&&◌, ◌||◌, ℕ, Bool, true, false, Option, Some, List}
 use Rattle.std.specs.Set.{distinct_count, is_member}
 use Rattle.dns_name.specs.Labels.{Labels}
 use Rattle.dns_name.specs.Order.{name_eq}
@@ -31,6 +31,10 @@ AddsPairs counts added before after = (pair : Labels × Scope) → counts after 
 -- Each pair that counts is one of these.
 abbrev pub CountsAmong : {W : Type 0} → (W → (Labels × Scope) → Bool) → List (Labels × Scope) → W → Type 0
 CountsAmong counts pairs world = (pair : Labels × Scope) → counts world pair ≡ true → is_member pair_eq pairs pair ≡ true
+
+-- No pair of this owner counts.
+abbrev pub CountsNoneOf : {W : Type 0} → (W → (Labels × Scope) → Bool) → Labels → W → Type 0
+CountsNoneOf counts owner world = (pair : Labels × Scope) → name_eq owner pair.0 ≡ true → counts world pair ≡ false
 
 -- By some choice of the kept changes, a cell has a find of this pair that is alive at a moment.
 pub record IsAliveIn {W S T : Type 0} (table : S → Option ℕ) (face : W → List (KeptChange S) → (ℕ → Bool) → Face T)

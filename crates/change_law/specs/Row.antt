@@ -57,6 +57,12 @@ where_chosen ticket effect chosen face = if chosen ticket then effect face else 
 abbrev pub IsSameRow : {W S T : Type 0} → (S → Option ℕ) → (W → List (KeptChange S) → Type 0) → (W → List (KeptChange S) → (ℕ → Bool) → Face T) → W → W → Type 0
 IsSameRow {S = S} table keeps face before after = (kept : List (KeptChange S)) → keeps before kept → IsRowAfter table keeps face same_face any before kept after kept
 
+-- The world keeps the same changes, whichever they are. Each face is a function of the face before.
+abbrev pub IsEachRow : {W S T : Type 0} → (S → Option ℕ) → (W → List (KeptChange S) → Type 0) → (W → List (KeptChange S) → (ℕ → Bool) → Face T) →
+    (Face T → Face T) → W → W → Type 0
+IsEachRow {S = S} table keeps face made before after =
+    (kept : List (KeptChange S)) → keeps before kept → IsRowAfter table keeps face (λ chosen. made) any before kept after kept
+
 -- An equal world has the same row: a lemma for implementors of the laws.
 pub same_row : {W S T : Type 0} (table : S → Option ℕ) (keeps : W → List (KeptChange S) → Type 0) (face : W → List (KeptChange S) → (ℕ → Bool) → Face T) (before after : W) →
     after ≡ before → IsSameRow table keeps face before after

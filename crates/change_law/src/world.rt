@@ -4,12 +4,13 @@ ghost use Rattle.std.specs.Prelude.{◌≡◌, ℕ, Bool, List, Option, IfOk, Is
 ghost use Rattle.dns_name.specs.Labels.{Labels};
 ghost use Rattle.ranked.specs.declared.find.Scope.{Scope};
 ghost use Rattle.change_law.specs.declared.kept.KeptChange.{KeptChange};
-ghost use Rattle.change_law.specs.Face.{Face, IsSame, face_with, fate_in};
+ghost use Rattle.change_law.specs.Face.{Face, IsSame, face_with, face_without, fate_in};
 ghost use Rattle.change_law.specs.Choice.{IsPresent, cleared};
-ghost use Rattle.change_law.specs.Row.{IsRowAfter, IsEachRowFrom, IsNoMore, IsOneMore, IsRefused, any, same_face};
-ghost use Rattle.change_law.specs.Pairs.{IsAliveIn, pair_of};
+ghost use Rattle.change_law.specs.Row.{IsRowAfter, IsEachRow, IsEachRowFrom, IsNoMore, IsOneMore, IsRefused, any, same_face};
+ghost use Rattle.change_law.specs.Pairs.{CountsNoneOf, IsAliveIn, pair_of};
 
 use crate::fault::WorldFault;
+use dns_name::Name;
 use ranked::{Fate, SharedFind};
 
 /// Tables and cells that changes are made to, with the data for their way back.
@@ -83,6 +84,13 @@ pub trait World: Drop {
     fn sweep_some(&mut self, moment: u64) -> bool
         ensures row { IsEachRowFrom table keeps face moment (λ f. f) self.old self.new }
         ensures counts { IsNoMore newest stored limit counts self.old self.new };
+
+    /// Forgets a name: empties its cells, in each face, whichever changes are chosen. Undoing a change does not bring them back.
+    /// It takes no memory.
+    fn forget(&mut self, owner: &Name)
+        ensures row { IsEachRow table keeps face (face_without has_cells owner.now) self.old self.new }
+        ensures counts { IsNoMore newest stored limit counts self.old self.new }
+        ensures gone { CountsNoneOf counts owner.now self.new };
 
     /// A law: the face that it shows is the face of the changes in effect.
     ghost shows: { (world : Self) (kept : List (KeptChange Self.Saved)) (chosen : ℕ → Bool) → keeps world kept → IsPresent kept chosen →

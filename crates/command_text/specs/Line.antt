@@ -8,11 +8,11 @@ use Rattle.history.specs.declared.event.Ask.TheVariants.{Answer, Servers as Serv
 use Rattle.history.specs.declared.event.Command.TheVariants.{Flush as FlushCommand, FlushType as FlushTypeCommand, FlushZone as FlushZoneCommand}
 use Rattle.command_text.specs.declared.line.Line.{Line}
 use Rattle.command_text.specs.declared.line.Line.TheVariants.{Silent, At as AtLine, Admit as AdmitLine, Deny as DenyLine, Request as RequestLine, Stop as StopLine}
-use Rattle.command_text.specs.declared.request.Request.TheVariants.{Look as LookRequest, Sweep as SweepRequest, Do as DoRequest, Undo as UndoRequest, Redo as RedoRequest}
+use Rattle.command_text.specs.declared.request.Request.TheVariants.{Look as LookRequest, Sweep as SweepRequest, Forget as ForgetRequest, Do as DoRequest, Undo as UndoRequest, Redo as RedoRequest}
 use Rattle.command_text.specs.declared.fault.LineFault.{LineFault}
 use Rattle.command_text.specs.declared.fault.LineFault.TheVariants.{Unknown, BadData, TooLong}
 use Rattle.command_text.specs.declared.words.Verb.{Verb}
-use Rattle.command_text.specs.declared.words.Verb.TheVariants.{At, Admit, NoData, NoName, Look, Servers, Sweep, Flush, FlushType, FlushZone, LocalZone, LocalZoneRemove, LocalData, LocalDataRemove, StubAdd, StubRemove, ListLocalZones, ListLocalData, ListStubs, ListCommands, Undo, Redo, Stop}
+use Rattle.command_text.specs.declared.words.Verb.TheVariants.{At, Admit, NoData, NoName, Forget, Look, Servers, Sweep, Flush, FlushType, FlushZone, LocalZone, LocalZoneRemove, LocalData, LocalDataRemove, StubAdd, StubRemove, ListLocalZones, ListLocalData, ListStubs, ListCommands, Undo, Redo, Stop}
 use Rattle.command_text.specs.declared.words.Channel.{Channel}
 use Rattle.command_text.specs.Words.{verb_in}
 use Rattle.command_text.specs.Parts.{word_in, ends, question_words, question_in, only_name}
@@ -60,6 +60,12 @@ no_name_in text = do
   words ← no_name_words text
   denied ← no_name_of words
   Ok (DenyLine denied)
+
+-- `forget NAME`: empties the cells of a name, whichever commands are in force.
+unfoldable pub forget_in : List ℕ → Result Line LineFault
+forget_in text = do
+  name ← only_name text
+  Ok (RequestLine (ForgetRequest name))
 
 -- `look NAME TYPE`: the lookup of a question.
 unfoldable pub look_in : List ℕ → Result Line LineFault
@@ -133,6 +139,7 @@ said_by At text = at_in text
 said_by Admit text = admit_in text
 said_by NoData text = no_data_in text
 said_by NoName text = no_name_in text
+said_by Forget text = forget_in text
 said_by Look text = look_in text
 said_by Servers text = servers_in text
 said_by Sweep text = alone (RequestLine SweepRequest) text
@@ -175,6 +182,7 @@ takes_by At text = false
 takes_by Admit text = is_ok (admit_words text)
 takes_by NoData text = is_ok (no_data_words text)
 takes_by NoName text = is_ok (no_name_words text)
+takes_by Forget text = is_ok (word_in text)
 takes_by Look text = is_ok (question_words text)
 takes_by Servers text = is_ok (word_in text)
 takes_by Sweep text = false

@@ -30,7 +30,7 @@ use Rattle.history.specs.declared.event.Reason.TheVariants.{BelowRedirect, DataB
 use Rattle.history.specs.declared.event.Seen.{Seen as Sight}
 use Rattle.history.specs.declared.event.Seen.TheVariants.{Unknown as NothingHeld, Held, Local as LocalSeen, Servers, Zones, Records, Stubs, Commands}
 use Rattle.history.specs.declared.event.Reply.{Reply}
-use Rattle.history.specs.declared.event.Reply.TheVariants.{Taken, Outranked, Swept, Seen, Done, Refused, Undone, Redone, NothingToUndo, NothingToRedo}
+use Rattle.history.specs.declared.event.Reply.TheVariants.{Taken, Outranked, Swept, Forgotten, Seen, Done, Refused, Undone, Redone, NothingToUndo, NothingToRedo}
 use Rattle.history.specs.declared.book.StepFault.{StepFault}
 use Rattle.history.specs.declared.book.StepFault.TheVariants.{BadMoment, CountEnded, Full, NoMemory as StepNoMemory}
 use Rattle.history.specs.declared.desk.DeskFault.{DeskFault}
@@ -159,6 +159,7 @@ abbrev pub reply_text : Reply → List ℕ
 reply_text Taken = with_end (codes "taken")
 reply_text Outranked = with_end (codes "outranked")
 reply_text Swept = with_end (codes "swept")
+reply_text Forgotten = with_end (codes "forgotten")
 reply_text (Seen seen) = with_end (seen_text seen)
 reply_text (Done ticket) = with_end (codes "ok " ++ decimal ticket)
 reply_text (Refused reason) = with_end (reason_text reason)

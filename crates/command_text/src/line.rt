@@ -3,7 +3,7 @@
 ghost use Rattle.std.specs.Prelude.{◌≡◌, IsTrue, IfErr, IsErrOf, is_ok};
 ghost use Rattle.command_text.specs.declared.fault.LineFault.TheVariants.{BadData, NoMemory};
 ghost use Rattle.command_text.specs.Fault.{Gives};
-ghost use Rattle.command_text.specs.Line.{is_silent, alone, at_in, admit_in, no_data_in, no_name_in, look_in, servers_in, flush_in, flush_type_in, flush_zone_in, local_zone_in, local_zone_remove_in, local_data_in, local_data_remove_in, stub_add_in, stub_remove_in, said_by, takes_by, read_of, takes_memory};
+ghost use Rattle.command_text.specs.Line.{is_silent, alone, at_in, admit_in, no_data_in, no_name_in, forget_in, look_in, servers_in, flush_in, flush_type_in, flush_zone_in, local_zone_in, local_zone_remove_in, local_data_in, local_data_remove_in, stub_add_in, stub_remove_in, said_by, takes_by, read_of, takes_memory};
 
 use crate::admission_find::Admission;
 use crate::admission_words::{admit_words, read_admission};
@@ -86,6 +86,15 @@ fn read_no_name_line(alloc: Global, text: &[u8]) -> Result<Line, LineFault>
     let words = no_name_words(text)?;
     let denial = read_no_name(alloc, words)?;
     Ok(Line::Deny(denial))
+}
+
+#[tactic(auto, unfolding(crate::specs::Line::forget_in))]
+fn read_forget(alloc: Global, text: &[u8]) -> Result<Line, LineFault>
+    ensures value { Gives result (forget_in text.now) }
+    ensures no_memory { IsErrOf result NoMemory → IsTrue (takes_by Verb.Forget text.now) }
+{
+    let owner = read_only_name(alloc, text)?;
+    Ok(Line::Request(Request::Forget { owner }))
 }
 
 #[tactic(auto, unfolding(crate::specs::Line::look_in))]
@@ -207,6 +216,7 @@ fn read_command(alloc: Global, verb: Verb, text: &[u8]) -> Result<Line, LineFaul
         Verb::Admit => read_admit(alloc, text),
         Verb::NoData => read_no_data_line(alloc, text),
         Verb::NoName => read_no_name_line(alloc, text),
+        Verb::Forget => read_forget(alloc, text),
         Verb::Look => read_look(alloc, text),
         Verb::Servers => read_servers(alloc, text),
         Verb::Sweep => read_alone(Line::Request(Request::Sweep), text),

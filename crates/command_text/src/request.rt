@@ -3,6 +3,7 @@
 ghost use Rattle.std.specs.Prelude.{◌≡◌};
 ghost use Rattle.command_text.specs.Request.{event_at};
 
+use dns_name::Name;
 use history::{Ask, Command, Event};
 
 /// A request: an event without its moment.
@@ -12,6 +13,8 @@ pub enum Request {
     Look(Ask),
     /// Frees what has expired.
     Sweep,
+    /// Empties the cells of a name, whichever commands are in force. Scripts only.
+    Forget { owner: Name },
     /// A command of the operator.
     Do(Command),
     /// Undoes the newest command.
@@ -27,6 +30,7 @@ pub(crate) fn event_at(moment: u64, request: Request) -> Event
     match request {
         Request::Look(ask) => Event::Look { moment, ask },
         Request::Sweep => Event::Sweep { moment },
+        Request::Forget { owner } => Event::Forget { moment, owner },
         Request::Do(command) => Event::Do { moment, command },
         Request::Undo => Event::Undo { moment },
         Request::Redo => Event::Redo { moment },

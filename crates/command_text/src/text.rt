@@ -138,6 +138,7 @@ pub fn reply_text(alloc: Global, reply: &Reply) -> Result<Text, NoMemory>
         Reply::Taken => Ok(Text::Fixed(b"taken\n")),
         Reply::Outranked => Ok(Text::Fixed(b"outranked\n")),
         Reply::Swept => Ok(Text::Fixed(b"swept\n")),
+        Reply::Forgotten => Ok(Text::Fixed(b"forgotten\n")),
         Reply::Seen(Seen::Unknown) => Ok(Text::Fixed(b"unknown\n")),
         Reply::Seen(Seen::Held(shown)) => held_line(alloc, shown),
         Reply::Seen(Seen::Local(answer)) => answer_line(alloc, answer),

@@ -13,6 +13,7 @@ pub(crate) enum Verb {
     Admit,
     NoData,
     NoName,
+    Forget,
     Look,
     Servers,
     Sweep,
@@ -54,7 +55,7 @@ struct Usage {
     in_control: bool,
 }
 
-static COMMANDS: [Usage; 23] = [
+static COMMANDS: [Usage; 24] = [
     Usage {
         verb: Verb::At,
         word: "at",
@@ -80,6 +81,13 @@ static COMMANDS: [Usage; 23] = [
         verb: Verb::NoName,
         word: "noname",
         form: "NAME TTL OWNER SOA-DATA",
+        in_script: true,
+        in_control: false,
+    },
+    Usage {
+        verb: Verb::Forget,
+        word: "forget",
+        form: "NAME",
         in_script: true,
         in_control: false,
     },

@@ -1,23 +1,26 @@
 -- The deeds of a world, and the face that a replay of them gives, for each choice of its changes.
 use Rattle.std.specs.Prelude.{◌≡◌, ◌≢◌, ℕ, ◌<◌, ◌≤◌, ◌==◌, Bool, true, false, not, Option, Some, None, List, [], ◌∷◌, fold, if◌then◌else◌}
 use Rattle.std.specs.List.{AllByRecursion}
+use Rattle.dns_name.specs.Labels.{Labels}
 use Rattle.dns_text.specs.declared.record.Question.{Question}
 use Rattle.ranked.specs.declared.find.Find.{Find}
 use Rattle.change_law.specs.declared.kept.KeptChange.{KeptChange}
 use Rattle.change_law.specs.Choice.{IsChoice}
 use Rattle.change_law.specs.Effect.{effect}
-use Rattle.change_law.specs.Face.{Face, IsSameAt, face_with}
+use Rattle.change_law.specs.Face.{Face, IsSameAt, face_with, face_without}
 use Rattle.change_law.specs.Row.{where_chosen}
 use Rattle.undo_journal.specs.Journal.{Changes, tickets_of, done_of, undone_of}
 
--- a deed: a find came at a moment, or a change was made under a ticket
+-- a deed: a find came at a moment, a name was forgotten, or a change was made under a ticket
 pub data Deed (T : Type 0) : Type 0 where
   Came : Find → ℕ → Deed T
+  Forgot : Labels → Deed T
   Made : ℕ → (T → T) → (Question → Bool) → Deed T
 
 -- a face after a deed; a change acts if it is chosen
 abbrev pub face_after : {T : Type 0} → Bool → (ℕ → Bool) → Face T → Deed T → Face T
 face_after has_cells chosen face (Came find moment) = face_with has_cells find moment face
+face_after has_cells chosen face (Forgot owner) = face_without has_cells owner face
 face_after has_cells chosen face (Made ticket after empties) = where_chosen ticket (effect after empties) chosen face
 
 -- the face by a replay of all deeds, with the chosen changes

@@ -4,6 +4,8 @@ use Rattle.std.specs.Prelude.{⊤, fold, nat_lt, ◌==◌, ◌&&◌, if◌then�
 use Rattle.std.specs.List.{AllByRecursion}
 use Rattle.std.proofs.lemmas.Bool.{false≢true, eqb-true}
 use Rattle.std.proofs.lemmas.List.{append-nil, take-append-drop}
+use Rattle.dns_name.specs.Labels.{Labels}
+use Rattle.dns_name.specs.Order.{name_eq}
 use Rattle.dns_name.specs.ListLaws.{all-append, all-take, all-drop, all_split, all_weaker}
 use Rattle.dns_text.specs.declared.record.Question.{Question}
 use Rattle.ranked.specs.declared.cell.Admitted.{Admitted}
@@ -16,10 +18,10 @@ use Rattle.change_law.specs.declared.kept.Standing.{Standing}
 use Rattle.change_law.specs.declared.kept.Standing.TheVariants.{Done, Undone, Cleared}
 use Rattle.change_law.specs.Choice.{IsChoice, IsPresent, AllowsAt, AreLeftOut, is_done}
 use Rattle.change_law.specs.Effect.{effect}
-use Rattle.change_law.specs.Face.{Face, IsSame, IsSameAt, alive_at, cell_with, face_with}
+use Rattle.change_law.specs.Face.{Face, IsSame, IsSameAt, alive_at, cell_with, face_with, face_without}
 use Rattle.change_law.specs.Row.{IsRowAfter, IsRowFrom, any, same_face, where_chosen}
 use Rattle.undo_journal.specs.Journal.{Changes, AreChanges, IsChange, IsUndo, IsRedo, tickets_of, done_of, undone_of, newest, settled_by}
-use Rattle.course.specs.Course.{Deed, Came, Made, face_after, face_by, AreAscending, IsFair, Stands, struck_with, struck_without}
+use Rattle.course.specs.Course.{Deed, Came, Forgot, Made, face_after, face_by, AreAscending, IsFair, Stands, struck_with, struck_without}
 
 -- ---- cells where they are alive
 
@@ -75,6 +77,13 @@ module _ {T : Type 0} where
   pub with_alive : (has_cells : Bool) (find : Find) (m : ℕ) (a b : Face T) → IsSameAt m a b → IsSameAt m (face_with has_cells find m a) (face_with has_cells find m b)
   with_alive true find m a b h = record { tables = h.tables; cell = λ q. cell_alive m find q (a.cell q) (b.cell q) (h.cell q) }
   with_alive false find m a b h = h
+
+  without_alive : (has_cells : Bool) (owner : Labels) (t : ℕ) (a b : Face T) → IsSameAt t a b → IsSameAt t (face_without has_cells owner a) (face_without has_cells owner b)
+  without_alive has_cells owner t a b h = record { tables = h.tables; cell = λ q. either (has_cells && name_eq owner q.owner) (a.cell q) (b.cell q) (h.cell q) }
+    where
+      either : (e : Bool) (x y : Option (Admitted Find)) → alive_at t x ≡ alive_at t y → alive_at t (if e then None else x) ≡ alive_at t (if e then None else y)
+      either true x y s = refl
+      either false x y s = s
 
   effect_alive : (t : ℕ) (after : T → T) (empties : Question → Bool) (a b : Face T) → IsSameAt t a b → IsSameAt t (effect after empties a) (effect after empties b)
   effect_alive t after empties a b h = record { tables = ap after h.tables; cell = λ q. either (empties q) (a.cell q) (b.cell q) (h.cell q) }
@@ -227,6 +236,23 @@ module _ {W S T : Type 0} (has_cells : Bool) (table : S → Option ℕ) (keeps :
     later = st.later;
     faces = λ chosen choice fair.
         same_at_then (row.faces chosen choice) (same_at_later now moment (face w changes.kept chosen) (face_by has_cells chosen start deeds) less (st.faces chosen choice fair));
+  }
+
+  pub stands_forgot : (w w' : W) (changes : Changes S) (now moment : ℕ) (deeds : List (Deed T)) (struck : ℕ → Bool) (owner : Labels) → now ≤ moment →
+      IsRowAfter table keeps face (λ chosen. face_without has_cells owner) any w changes.kept w' changes.kept →
+      Stands has_cells table keeps face start w changes now deeds struck → Stands has_cells table keeps face start w' changes moment (deeds ++ Forgot owner ∷ []) struck
+  stands_forgot w w' changes now moment deeds struck owner less row st = record {
+    kept = row.keeps_left;
+    ascending = st.ascending;
+    given = st.given;
+    done = st.done;
+    undone = st.undone;
+    later = st.later;
+    faces = λ chosen choice fair.
+        let old = same_at_later now moment (face w changes.kept chosen) (face_by has_cells chosen start deeds) less (st.faces chosen choice fair) in
+        let new = without_alive has_cells owner moment (face w changes.kept chosen) (face_by has_cells chosen start deeds) old in
+        subst (λ (f : Face T). IsSameAt moment (face w' changes.kept chosen) f) (sym (fold_push (face_after has_cells chosen) start deeds (Forgot owner)))
+        (same_at_then (same_at moment (face w' changes.kept chosen) (face_without has_cells owner (face w changes.kept chosen)) (row.faces chosen tt choice)) new);
   }
 
   pub stands_made : (w w' : W) (before after : Changes S) (now : ℕ) (deeds : List (Deed T)) (struck : ℕ → Bool) (ticket : ℕ) (tables : T → T) (empties : Question → Bool) →

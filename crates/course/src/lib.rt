@@ -3,10 +3,10 @@
 
 ghost use Rattle.std.specs.Prelude.{◌≡◌, ℕ, ◌≤◌, ◌<◌, ◌^◌, Bool, not, List, [], ◌∷◌, ◌++◌, IfOk, OnOk};
 ghost use Rattle.change_law.specs.Face.{Face, IsSameAt};
-ghost use Rattle.course.specs.Course.{Deed, Came, Made, Stands, face_by, struck_with, struck_without};
+ghost use Rattle.course.specs.Course.{Deed, Came, Forgot, Made, Stands, face_by, struck_with, struck_without};
 
 use change_law::{Change, ChangeFault, World, WorldFault};
-use dns_name::NoMemory;
+use dns_name::{Name, NoMemory};
 use ranked::{Fate, SharedFind};
 use undo_journal::Journal;
 
@@ -37,6 +37,17 @@ pub fn sweep<C: Change>(journal: &Journal<C>, world: &mut C::World, moment: u64)
 {
     let _ = journal;
     world.sweep(moment);
+}
+
+/// Forgets a name. The replay gains the forgetting.
+pub fn forget<C: Change>(journal: &Journal<C>, world: &mut C::World, owner: &Name)
+    ensures { (start : Face C.World.Tables) (now : ℕ) (deeds : List (Deed C.World.Tables)) (struck : ℕ → Bool) →
+        Stands C.World.has_cells C.World.table C.World.keeps C.World.face start world.old journal.now now deeds struck →
+        Stands C.World.has_cells C.World.table C.World.keeps C.World.face start world.new journal.now now
+        (deeds ++ Forgot owner.now ∷ []) struck }
+{
+    let _ = journal;
+    world.forget(owner);
 }
 
 /// Makes a change, under the journal's next ticket. The replay gains the change.

@@ -7,7 +7,7 @@ use Rattle.dns_text.specs.declared.record.Question.{Question}
 use Rattle.ranked.specs.declared.find.Find.{Find}
 use Rattle.ranked.specs.declared.cell.Admitted.{Admitted}
 use Rattle.history.specs.declared.event.Event.{Event}
-use Rattle.history.specs.declared.event.Event.TheVariants.{Admit, Look, Sweep, Do, Undo, Redo}
+use Rattle.history.specs.declared.event.Event.TheVariants.{Admit, Look, Sweep, Forget, Do, Undo, Redo}
 use Rattle.history.specs.declared.event.Entry.{Entry}
 use Rattle.history.specs.Event.{covers}
 use Rattle.history.specs.History.{stands_by, standing_with}
@@ -25,6 +25,7 @@ wider : (chosen other : ℕ → Bool) → ((t : ℕ) → other t ≡ true → ch
 wider chosen other more (Admit m f) ticket is = refl
 wider chosen other more (Look m a) ticket is = is
 wider chosen other more (Sweep m) ticket is = is
+wider chosen other more (Forget m n) ticket is = refl
 wider chosen other more (Do m c) None is = is
 wider chosen other more (Do m c) (Some t) is = more t is
 wider chosen other more (Undo m) ticket is = is
@@ -40,6 +41,7 @@ leaves : (question : Question) (chosen other : ℕ → Bool) (cell : Option (Adm
 leaves question chosen other cell moment (Admit m f) ticket stays out none = absurd (false≢true (sym out))
 leaves question chosen other cell moment (Look m a) ticket stays out none = refl
 leaves question chosen other cell moment (Sweep m) ticket stays out none = refl
+leaves question chosen other cell moment (Forget m n) ticket stays out none = absurd (false≢true (sym out))
 leaves question chosen other cell moment (Do m c) None stays out none = absurd (false≢true stays)
 leaves question chosen other cell moment (Do m c) (Some t) stays out none = no_cover (covers c question) t cell none
 leaves question chosen other cell moment (Undo m) ticket stays out none = refl
@@ -66,6 +68,7 @@ empties : (question : Question) (chosen : ℕ → Bool) (e : Event) (ticket : Op
 empties question chosen (Admit m f) ticket t stays is = absurd cc
 empties question chosen (Look m a) ticket t stays is = absurd cc
 empties question chosen (Sweep m) ticket t stays is = absurd cc
+empties question chosen (Forget m n) ticket t stays is = absurd cc
 empties question chosen (Do m c) None t stays is = absurd (false≢true stays)
 empties question chosen (Do m c) (Some s) t stays is =
     let it = covered_by chosen (covers c question) s t stays is in

@@ -10,7 +10,7 @@ use Rattle.std.proofs.lemmas.List.Elements.{filter_map-append}
 use Rattle.std.proofs.lemmas.Map.Views.{any-filter_same}
 use Rattle.dns_name.specs.ListLaws.{all_push, all_weaker}
 use Rattle.history.specs.declared.event.Event.{Event}
-use Rattle.history.specs.declared.event.Event.TheVariants.{Admit, Look, Sweep, Do, Undo, Redo}
+use Rattle.history.specs.declared.event.Event.TheVariants.{Admit, Look, Sweep, Forget, Do, Undo, Redo}
 use Rattle.history.specs.declared.event.Command.{Command}
 use Rattle.history.specs.declared.event.Entry.{Entry}
 use Rattle.history.specs.declared.event.Journalled.{Journalled}
@@ -104,6 +104,8 @@ one_done marks (Look m a) None js ts h is = is
 one_done marks (Look m a) (Some t) js ts h is = absurd h
 one_done marks (Sweep m) None js ts h is = is
 one_done marks (Sweep m) (Some t) js ts h is = absurd h
+one_done marks (Forget m n) None js ts h is = is
+one_done marks (Forget m n) (Some t) js ts h is = absurd h
 one_done marks (Undo m) None js ts h is = is
 one_done marks (Undo m) (Some t) js ts h is = absurd h
 one_done marks (Redo m) None js ts h is = is
@@ -132,6 +134,8 @@ one_held marks (Look m a) None js ts h is = is
 one_held marks (Look m a) (Some t) js ts h is = absurd h
 one_held marks (Sweep m) None js ts h is = is
 one_held marks (Sweep m) (Some t) js ts h is = absurd h
+one_held marks (Forget m n) None js ts h is = is
+one_held marks (Forget m n) (Some t) js ts h is = absurd h
 one_held marks (Undo m) None js ts h is = is
 one_held marks (Undo m) (Some t) js ts h is = absurd h
 one_held marks (Redo m) None js ts h is = is
@@ -226,6 +230,7 @@ next_is_orderly : (bound : ℕ) (past : Past) (e : Event) → IsOrderly past.mar
 next_is_orderly bound past (Admit m f) h = no_more past.marks past.marks past.log _ refl refl (λ t some. some) h
 next_is_orderly bound past (Look m a) h = no_more past.marks past.marks past.log _ refl refl (λ t some. some) h
 next_is_orderly bound past (Sweep m) h = no_more past.marks past.marks past.log _ refl refl (λ t some. some) h
+next_is_orderly bound past (Forget m n) h = no_more past.marks past.marks past.log _ refl refl (λ t some. some) h
 next_is_orderly bound past (Do m c) h = after_do bound past.marks past.log _ m c (reason_of past c) h
 next_is_orderly bound past (Undo m) h = after_undo_or_not past.marks past.log _ (last_of past.marks.done) refl refl h
 next_is_orderly bound past (Redo m) h = after_redo_or_not past.marks past.log _ (last_of past.marks.undone) refl refl h
@@ -269,6 +274,8 @@ one_undone marks (Look m a) None js ts h is = is
 one_undone marks (Look m a) (Some t) js ts h is = absurd h
 one_undone marks (Sweep m) None js ts h is = is
 one_undone marks (Sweep m) (Some t) js ts h is = absurd h
+one_undone marks (Forget m n) None js ts h is = is
+one_undone marks (Forget m n) (Some t) js ts h is = absurd h
 one_undone marks (Undo m) None js ts h is = is
 one_undone marks (Undo m) (Some t) js ts h is = absurd h
 one_undone marks (Redo m) None js ts h is = is

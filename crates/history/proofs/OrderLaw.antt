@@ -1,5 +1,5 @@
 -- Tickets are given out once, and are in one list at most: what can be undone is in their order and is not struck, what can be redone is struck.
-use Rattle.std.proofs.Common.{◌≡◌, ℕ, ◌+◌, ◌-◌, ◌<◌, ◌≤◌, true, false, Option, Some, None, List, zero, suc, [], ◌∷◌, ◌++◌, length, drop, refl, ap, subst, inl, inr, arith}
+use Rattle.std.proofs.Common.{◌≡◌, ℕ, ◌+◌, ◌-◌, ◌<◌, ◌≤◌, false, Option, Some, None, List, zero, suc, [], ◌∷◌, ◌++◌, length, drop, refl, ap, subst, inl, inr, arith}
 use Rattle.std.specs.Prelude.{fold, nat_lt, ◌==◌}
 use Rattle.std.specs.List.{AllByRecursion}
 use Rattle.std.specs.Option.{option_map_or}
@@ -7,7 +7,7 @@ use Rattle.std.proofs.lemmas.Bool.{cases_Bool, eq-eqb, eqb-true, ltb-true, lt-lt
 use Rattle.std.proofs.lemmas.Bool.Decides.{nat_tests}
 use Rattle.dns_name.specs.ListLaws.{all_push, all_weaker}
 use Rattle.history.specs.declared.event.Event.{Event}
-use Rattle.history.specs.declared.event.Event.TheVariants.{Admit, Look, Sweep, Do, Undo, Redo}
+use Rattle.history.specs.declared.event.Event.TheVariants.{Admit, Look, Sweep, Forget, Do, Undo, Redo}
 use Rattle.history.specs.declared.event.Command.{Command}
 use Rattle.history.specs.declared.event.Reason.{Reason}
 use Rattle.history.specs.Marks.{Marks, AreAscending, last_of, without, in_place, strike, restore}
@@ -150,6 +150,7 @@ next_ascends : (bound : ℕ) (past : Past) (e : Event) → AreOrderly past.marks
 next_ascends bound past (Admit m f) h = h.ascending
 next_ascends bound past (Look m a) h = h.ascending
 next_ascends bound past (Sweep m) h = h.ascending
+next_ascends bound past (Forget m n) h = h.ascending
 next_ascends bound past (Do m c) h = do_ascends bound past.marks m c (reason_of past c) h
 next_ascends bound past (Undo m) h = undo_ascends past.marks (last_of past.marks.done) h
 next_ascends bound past (Redo m) h = redo_ascends past.marks (last_of past.marks.undone) refl h

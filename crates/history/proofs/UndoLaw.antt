@@ -1,15 +1,14 @@
 -- A command that is undone at once leaves in force what was.
-use Rattle.std.proofs.Common.{◌≡◌, ℕ, ◌+◌, ◌-◌, ◌<◌, ◌≤◌, Bool, true, false, cond, Option, Some, None, List, [], ◌∷◌, ◌++◌, length, drop, refl, ◌∙◌, ap, arith, length-append}
-use Rattle.std.specs.Prelude.{fold, filter, max, not, ◌||◌, ◌==◌, slice_get}
+use Rattle.std.proofs.Common.{◌≡◌, ℕ, ◌+◌, ◌-◌, ◌<◌, ◌≤◌, false, cond, Option, Some, None, List, [], ◌∷◌, ◌++◌, length, drop, refl, ◌∙◌, ap, arith, length-append}
+use Rattle.std.specs.Prelude.{fold, filter, max, not, ◌==◌, slice_get}
 use Rattle.std.specs.List.{list_any}
 use Rattle.std.specs.Option.{option_map_or}
 use Rattle.std.proofs.lemmas.List.{drop-append-le, append-nil}
-use Rattle.std.proofs.lemmas.List.Folds.{list_any-append}
 use Rattle.std.proofs.lemmas.List.Elements.{filter-append}
 use Rattle.std.proofs.lemmas.List.Sums.{fold-append}
 use Rattle.std.proofs.lemmas.Bool.Decides.{nat_tests}
 use Rattle.history.specs.declared.event.Event.{Event}
-use Rattle.history.specs.declared.event.Event.TheVariants.{Admit, Look, Sweep, Do, Undo, Redo}
+use Rattle.history.specs.declared.event.Event.TheVariants.{Admit, Look, Sweep, Forget, Do, Undo, Redo}
 use Rattle.history.specs.declared.event.Command.{Command}
 use Rattle.history.specs.declared.event.Entry.{Entry}
 use Rattle.history.specs.declared.event.Reason.{Reason}
@@ -55,6 +54,7 @@ step_tickets : (bound : ℕ) (past : Past) (e : Event)
 step_tickets bound past (Admit m f) = (omega arith, tt)
 step_tickets bound past (Look m a) = (omega arith, tt)
 step_tickets bound past (Sweep m) = (omega arith, tt)
+step_tickets bound past (Forget m n) = (omega arith, tt)
 step_tickets bound past (Do m c) = do_tickets bound past.marks m c (reason_of past c)
 step_tickets bound past (Undo m) = (omega (arith, undo_tickets past.marks (last_of past.marks.done)), tt)
 step_tickets bound past (Redo m) = (omega (arith, redo_tickets past.marks (last_of past.marks.undone)), tt)
@@ -71,6 +71,7 @@ same_stands : (j k : Marks) (t n : ℕ) → k.struck ≡ j.struck ++ t ∷ [] �
 same_stands j k t n is lt (Admit m f) o h = refl
 same_stands j k t n is lt (Look m a) o h = refl
 same_stands j k t n is lt (Sweep m) o h = refl
+same_stands j k t n is lt (Forget m name) o h = refl
 same_stands j k t n is lt (Do m c) None h = refl
 same_stands j k t n is lt (Do m c) (Some ticket) h =
     let other : (t == ticket) ≡ false = grind (arith, nat_tests) in

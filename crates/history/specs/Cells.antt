@@ -1,5 +1,6 @@
 -- The cached data of each question: a replay, from nothing, of what is in force.
 use Rattle.std.specs.Prelude.{ℕ, max, Option, None, List, fold, if◌then◌else◌}
+use Rattle.dns_name.specs.Order.{name_eq}
 use Rattle.dns_text.specs.declared.record.Question.{Question}
 use Rattle.ranked.specs.declared.find.Find.{Find}
 use Rattle.ranked.specs.declared.cell.Admitted.{Admitted}
@@ -7,14 +8,15 @@ use Rattle.ranked.specs.declared.cell.Shown.{Shown}
 use Rattle.ranked.specs.Cell.{after_admission, shown_at}
 use Rattle.ranked.specs.Find.{touches, admission_of}
 use Rattle.history.specs.declared.event.Event.{Event}
-use Rattle.history.specs.declared.event.Event.TheVariants.{Admit, Do}
+use Rattle.history.specs.declared.event.Event.TheVariants.{Admit, Forget, Do}
 use Rattle.history.specs.declared.event.Entry.{Entry}
 use Rattle.history.specs.Event.{covers}
 use Rattle.history.specs.History.{Past, standing_of}
 
--- An admission that touches the question is held unless it is outranked; a command that covers it empties its cell; anything else leaves it.
+-- An admission that touches the question is held unless it is outranked; a forget of its owner empties its cell, and so does a command that covers it; anything else leaves it.
 abbrev pub effect : Question → Option (Admitted Find) → ℕ → Event → Option (Admitted Find)
 effect question cell moment (Admit given find) = if touches find question then after_admission cell (admission_of find find moment) else cell
+effect question cell moment (Forget given owner) = if name_eq owner question.owner then None else cell
 effect question cell moment (Do given command) = if covers command question then None else cell
 effect question cell moment event = cell
 

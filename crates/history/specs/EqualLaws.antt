@@ -32,14 +32,14 @@ use Rattle.history.specs.declared.event.Ask.TheVariants as ask
 use Rattle.history.specs.declared.event.Command.{Command}
 use Rattle.history.specs.declared.event.Command.TheVariants.{FlushType, Flush, FlushZone, SetZone, DropZone, AddRecord, DropName, SetStub, DropStub}
 use Rattle.history.specs.declared.event.Event.{Event}
-use Rattle.history.specs.declared.event.Event.TheVariants.{Admit, Look, Sweep, Do, Undo, Redo}
+use Rattle.history.specs.declared.event.Event.TheVariants.{Admit, Look, Sweep, Forget, Do, Undo, Redo}
 use Rattle.history.specs.declared.event.Journalled.{Journalled}
 use Rattle.history.specs.declared.event.Seen.{Seen as SeenValue}
 use Rattle.history.specs.declared.event.Seen.TheVariants as seen
 use Rattle.history.specs.declared.event.Reason.{Reason}
 use Rattle.history.specs.declared.event.Reason.TheVariants.{BelowRedirect, DataBelow, CnameClash, TooMany}
 use Rattle.history.specs.declared.event.Reply.{Reply}
-use Rattle.history.specs.declared.event.Reply.TheVariants.{Taken, Outranked, Seen, Swept, Done, Refused, Undone, Redone, NothingToUndo, NothingToRedo}
+use Rattle.history.specs.declared.event.Reply.TheVariants.{Taken, Outranked, Seen, Swept, Forgotten, Done, Refused, Undone, Redone, NothingToUndo, NothingToRedo}
 use Rattle.history.specs.Equal.{source_eq, servers_eq, ask_eq, command_eq, journalled_eq, event_eq, seen_eq, reason_eq, reply_eq}
 
 same : (n : ℕ) → eqb n n ≡ true
@@ -127,6 +127,14 @@ look_exact m a (Look n b) e =
     λ i. Look (same_moment i) (same_ask i)
 look_exact m a _ e = absurd (false≢true e)
 
+forget_exact : (m : ℕ) (name : Labels) (b : Event) → event_eq (Forget m name) b ≡ true → Forget m name ≡ b
+forget_exact m name (Forget n other) e =
+    let parts = and_parts _ _ e in
+    let same_moment : m ≡ n = eqb-true m n parts.0 in
+    let same_name : name ≡ other = name_eq_exact name other parts.1 in
+    λ i. Forget (same_moment i) (same_name i)
+forget_exact m name _ e = absurd (false≢true e)
+
 do_exact : (m : ℕ) (c : Command) (b : Event) → event_eq (Do m c) b ≡ true → Do m c ≡ b
 do_exact m c (Do n d) e =
     let parts = and_parts _ _ e in
@@ -139,6 +147,7 @@ pub event_eq_exact : (a b : Event) → event_eq a b ≡ true → a ≡ b
 event_eq_exact (Admit m f) b e = admit_exact m f b e
 event_eq_exact (Look m a) b e = look_exact m a b e
 event_eq_exact (Sweep m) (Sweep n) e = ap Sweep (eqb-true m n e)
+event_eq_exact (Forget m name) b e = forget_exact m name b e
 event_eq_exact (Do m c) b e = do_exact m c b e
 event_eq_exact (Undo m) (Undo n) e = ap Undo (eqb-true m n e)
 event_eq_exact (Redo m) (Redo n) e = ap Redo (eqb-true m n e)
@@ -148,6 +157,7 @@ pub event_eq_itself : (a : Event) → event_eq a a ≡ true
 event_eq_itself (Admit m f) = both_true (same m) (find_eq_itself f)
 event_eq_itself (Look m a) = both_true (same m) (ask_eq_itself a)
 event_eq_itself (Sweep m) = same m
+event_eq_itself (Forget m name) = both_true (same m) (name_eq_itself name)
 event_eq_itself (Do m c) = both_true (same m) (command_eq_itself c)
 event_eq_itself (Undo m) = same m
 event_eq_itself (Redo m) = same m
@@ -289,6 +299,7 @@ reply_eq_exact Taken Taken e = refl
 reply_eq_exact Outranked Outranked e = refl
 reply_eq_exact (Seen a) (Seen b) e = ap Seen (seen_eq_exact a b e)
 reply_eq_exact Swept Swept e = refl
+reply_eq_exact Forgotten Forgotten e = refl
 reply_eq_exact (Done t) (Done u) e = ap Done (eqb-true t u e)
 reply_eq_exact (Refused r) (Refused s) e = ap Refused (reason_eq_exact r s e)
 reply_eq_exact (Undone t) (Undone u) e = ap Undone (eqb-true t u e)
@@ -302,6 +313,7 @@ reply_eq_itself Taken = refl
 reply_eq_itself Outranked = refl
 reply_eq_itself (Seen a) = seen_eq_itself a
 reply_eq_itself Swept = refl
+reply_eq_itself Forgotten = refl
 reply_eq_itself (Done t) = same t
 reply_eq_itself (Refused r) = reason_eq_itself r
 reply_eq_itself (Undone t) = same t

@@ -1,11 +1,13 @@
 -- What the events say.
 use Rattle.std.specs.Prelude.{ℕ, ◌≤◌, Bool, true, false, length, Option, Some, None}
+use Rattle.dns_name.specs.Labels.{Labels}
+use Rattle.dns_name.specs.Order.{name_eq}
 use Rattle.dns_text.specs.declared.record.Question.{Question}
 use Rattle.ranked.specs.declared.flush.Flush.{Flush as CellFlush}
 use Rattle.ranked.specs.declared.flush.Reach.TheVariants as reach
 use Rattle.ranked.specs.Flush.{reaches}
 use Rattle.history.specs.declared.event.Event.{Event}
-use Rattle.history.specs.declared.event.Event.TheVariants.{Admit, Look, Sweep, Do, Undo, Redo}
+use Rattle.history.specs.declared.event.Event.TheVariants.{Admit, Look, Sweep, Forget, Do, Undo, Redo}
 use Rattle.history.specs.declared.event.Settings.{Settings}
 use Rattle.history.specs.declared.event.Command.{Command}
 use Rattle.history.specs.declared.event.Command.TheVariants.{FlushType, Flush, FlushZone}
@@ -16,6 +18,7 @@ abbrev pub moment_of : Event → ℕ
 moment_of (Admit moment find) = moment
 moment_of (Look moment ask) = moment
 moment_of (Sweep moment) = moment
+moment_of (Forget moment owner) = moment
 moment_of (Do moment command) = moment
 moment_of (Undo moment) = moment
 moment_of (Redo moment) = moment
@@ -24,6 +27,11 @@ moment_of (Redo moment) = moment
 abbrev pub is_admission : Event → Bool
 is_admission (Admit moment find) = true
 is_admission _ = false
+
+-- whether an event empties the cells of this name, whichever commands are in force
+abbrev pub forgets : Labels → Event → Bool
+forgets name (Forget moment owner) = name_eq owner name
+forgets name event = false
 
 -- the flush that a command gives, if it gives one
 abbrev pub flush_of : Command → Option CellFlush

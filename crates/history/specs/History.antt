@@ -1,7 +1,7 @@
 -- The replay of a list of events: its greatest moment, its marks, and the entries that are in force.
 use Rattle.std.specs.Prelude.{ℕ, ◌+◌, max, Bool, true, false, not, Option, Some, None, List, [], ◌∷◌, ◌++◌, fold, filter}
 use Rattle.history.specs.declared.event.Event.{Event}
-use Rattle.history.specs.declared.event.Event.TheVariants.{Admit, Do, Undo, Redo}
+use Rattle.history.specs.declared.event.Event.TheVariants.{Admit, Forget, Do, Undo, Redo}
 use Rattle.history.specs.declared.event.Command.{Command}
 use Rattle.history.specs.declared.event.Reason.{Reason}
 use Rattle.history.specs.declared.event.Entry.{Entry}
@@ -21,9 +21,10 @@ pub record Past : Type 0 where
 abbrev pub nothing : Past
 nothing = record { now = 0; marks = no_marks; log = [] }
 
--- Admissions are in force, and so are the accepted commands that are chosen, by their tickets.
+-- Admissions and forgets are in force, and so are the accepted commands that are chosen, by their tickets.
 abbrev pub stands_by : (ℕ → Bool) → Event → Option ℕ → Bool
 stands_by chosen (Admit moment find) ticket = true
+stands_by chosen (Forget moment owner) ticket = true
 stands_by chosen (Do moment command) (Some ticket) = chosen ticket
 stands_by chosen event ticket = false
 

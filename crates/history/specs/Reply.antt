@@ -12,7 +12,7 @@ use Rattle.local_zone.specs.declared.local_answer.Local.{Local}
 use Rattle.local_zone.specs.declared.local_answer.Local.TheVariants as local
 use Rattle.local_zone.specs.Answer.{local_of, local_now}
 use Rattle.history.specs.declared.event.Event.{Event}
-use Rattle.history.specs.declared.event.Event.TheVariants.{Admit, Look as LookEvent, Sweep, Do, Undo, Redo}
+use Rattle.history.specs.declared.event.Event.TheVariants.{Admit, Look as LookEvent, Sweep, Forget, Do, Undo, Redo}
 use Rattle.history.specs.declared.event.Reason.{Reason}
 use Rattle.history.specs.declared.event.Settings.{Settings}
 use Rattle.history.specs.declared.event.Ask.{Ask}
@@ -22,7 +22,7 @@ use Rattle.history.specs.declared.event.Seen.TheVariants.{Unknown, Held, Local a
 use Rattle.history.specs.declared.event.Look.{Look}
 use Rattle.history.specs.declared.event.Look.TheVariants.{Unknown as NothingLent, Held as HeldLent, Local as LocalLent}
 use Rattle.history.specs.declared.event.Reply.{Reply}
-use Rattle.history.specs.declared.event.Reply.TheVariants.{Taken, Outranked, Seen, Swept, Done, Refused, Undone, Redone, NothingToUndo, NothingToRedo}
+use Rattle.history.specs.declared.event.Reply.TheVariants.{Taken, Outranked, Seen, Swept, Forgotten, Done, Refused, Undone, Redone, NothingToUndo, NothingToRedo}
 use Rattle.history.specs.Marks.{Marks, last_of}
 use Rattle.history.specs.History.{Past, past_of, tables_of, stubs_of, reason_of}
 use Rattle.history.specs.Cells.{cell_of, shows}
@@ -84,6 +84,7 @@ abbrev pub reply_of : Settings → Past → Event → Reply
 reply_of settings past (Admit moment find) = reply_to_admission past find moment find.scope
 reply_of settings past (LookEvent moment ask) = Seen (seen_of settings past ask moment)
 reply_of settings past (Sweep moment) = Swept
+reply_of settings past (Forget moment owner) = Forgotten
 reply_of settings past (Do moment command) = reply_to_command past.marks (reason_of past command)
 reply_of settings past (Undo moment) = reply_to_undo (last_of past.marks.done)
 reply_of settings past (Redo moment) = reply_to_redo (last_of past.marks.undone)

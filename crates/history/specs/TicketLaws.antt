@@ -9,7 +9,7 @@ use Rattle.std.proofs.lemmas.List.{take_all, take_more, take-append-drop}
 use Rattle.std.proofs.lemmas.List.Folds.{list_any-append}
 use Rattle.std.proofs.lemmas.Option.{slice_get_within, get_or_from_slice_get}
 use Rattle.history.specs.declared.event.Event.{Event}
-use Rattle.history.specs.declared.event.Event.TheVariants.{Admit, Look, Sweep, Do, Undo, Redo}
+use Rattle.history.specs.declared.event.Event.TheVariants.{Admit, Look, Sweep, Forget, Do, Undo, Redo}
 use Rattle.history.specs.declared.event.Command.{Command}
 use Rattle.history.specs.declared.event.Reason.{Reason}
 use Rattle.history.specs.Marks.{Marks, last_of, newest, without, in_place, after_command, strike, restore}
@@ -150,6 +150,7 @@ pub next_in_one : (bound : ℕ) (past : Past) (e : Event) → EachInOne past.mar
 next_in_one bound past (Admit m f) h = h
 next_in_one bound past (Look m a) h = h
 next_in_one bound past (Sweep m) h = h
+next_in_one bound past (Forget m n) h = h
 next_in_one bound past (Do m c) h = do_in_one bound past.marks m c (reason_of past c) h
 next_in_one bound past (Undo m) h = undo_in_one past.marks (last_of past.marks.done) refl h
 next_in_one bound past (Redo m) h = redo_in_one past.marks (last_of past.marks.undone) refl h

@@ -98,6 +98,8 @@ pub enum Event {
     Look { moment: u64, ask: Ask },
     /// The book may drop what it can never show again. Nothing but the clock changes.
     Sweep { moment: u64 },
+    /// The cells of a name are emptied, whichever commands are in force. It makes room, and no undo takes it back.
+    Forget { moment: u64, owner: Name },
     /// The operator gives a command.
     Do { moment: u64, command: Command },
     /// The operator undoes the newest command that can be undone.
@@ -117,6 +119,7 @@ impl Event {
             Event::Admit { moment, .. } => *moment,
             Event::Look { moment, .. } => *moment,
             Event::Sweep { moment } => *moment,
+            Event::Forget { moment, .. } => *moment,
             Event::Do { moment, .. } => *moment,
             Event::Undo { moment } => *moment,
             Event::Redo { moment } => *moment,
@@ -241,6 +244,8 @@ pub enum Reply {
     Seen(Seen),
     /// The book may have dropped what it can never show again.
     Swept,
+    /// The cells of the name are empty.
+    Forgotten,
     /// The command is accepted, and took this ticket.
     Done { ticket: u64 },
     /// The command is refused, and nothing changes.

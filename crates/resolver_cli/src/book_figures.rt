@@ -94,7 +94,7 @@ impl BookFigures {
     fn note<B: Book>(&self, book: &B, replied: &Result<Reply, StepFault>) {
         match replied {
             Ok(Reply::Seen(_)) => {}
-            Ok(Reply::Taken) | Ok(Reply::Outranked) | Ok(Reply::Swept) => {
+            Ok(Reply::Taken) | Ok(Reply::Outranked) | Ok(Reply::Swept) | Ok(Reply::Forgotten) => {
                 set(&self.cells, book.stored() as u64);
             }
             Ok(reply) => {

@@ -5,7 +5,7 @@ use Rattle.ranked.specs.declared.find.Find.{Find}
 use Rattle.ranked.specs.declared.find.Scope.{Scope}
 use Rattle.ranked.specs.declared.find.Scope.TheVariants.{One, Whole}
 use Rattle.history.specs.declared.event.Event.{Event}
-use Rattle.history.specs.declared.event.Event.TheVariants.{Admit, Look, Sweep, Do, Undo, Redo}
+use Rattle.history.specs.declared.event.Event.TheVariants.{Admit, Look, Sweep, Forget, Do, Undo, Redo}
 use Rattle.history.specs.declared.event.Reason.{Reason}
 use Rattle.history.specs.declared.event.Reply.TheVariants.{Taken, Outranked}
 use Rattle.history.specs.declared.event.Settings.{Settings}
@@ -38,6 +38,7 @@ pub echoes : (settings : Settings) (past : Past) (event : Event) → IsEcho (rep
 echoes settings past (Admit moment find) = of_admission past find moment find.scope
 echoes settings past (Look moment ask) = refl
 echoes settings past (Sweep moment) = tt
+echoes settings past (Forget moment owner) = tt
 echoes settings past (Do moment command) = of_command past.marks (reason_of past command)
 echoes settings past (Undo moment) = of_undo (last_of past.marks.done)
 echoes settings past (Redo moment) = of_redo (last_of past.marks.undone)

@@ -56,6 +56,7 @@ fn told_alike(reply: &Reply) -> Reply
         Reply::Taken => Reply::Taken,
         Reply::Outranked => Reply::Outranked,
         Reply::Swept => Reply::Swept,
+        Reply::Forgotten => Reply::Forgotten,
         Reply::Done { ticket } => Reply::Done { ticket: *ticket },
         Reply::Refused(reason) => Reply::Refused(*reason),
         Reply::Undone { ticket } => Reply::Undone { ticket: *ticket },

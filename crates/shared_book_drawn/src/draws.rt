@@ -98,7 +98,7 @@ fn denial(rng: &mut Pcg32, alloc: Global) -> Result<SharedFind, AllocError> {
         drop(soa);
         return Err(AllocError);
     }
-    match Find::no_name(owner, ttl, soa) {
+    match Find::no_name(owner, ttl, Shared::new(alloc, soa)?) {
         Some(find) => SharedFind::new(alloc, find),
         None => Err(AllocError),
     }
@@ -215,13 +215,18 @@ pub fn shared_event(
     Ok(Shared::new(alloc, event)?)
 }
 
-/// An event of any kind, within 100 seconds from a moment on. It is more often an admission, and at times that of a denial.
+/// An event of any kind, within 100 seconds from a moment on. It is more often an admission, at times that of a denial, and at times a
+/// forget.
 pub fn event_or_denial(rng: &mut Pcg32, alloc: Global, from: u64) -> Result<Event, AllocError> {
     let moment = from.saturating_add(u64::from(below(rng, 100)));
     match below(rng, 12) {
         0 => Ok(Event::Admit {
             moment,
             find: denial(rng, alloc)?,
+        }),
+        3 => Ok(Event::Forget {
+            moment,
+            owner: name(rng, alloc)?,
         }),
         1 | 2 => Ok(Event::Admit {
             moment,

@@ -44,6 +44,11 @@ fn push_servers(name: &Name, out: &mut Vec<u8>) -> Result<(), NoMemory> {
     name.push_text(out)
 }
 
+fn push_forget(name: &Name, out: &mut Vec<u8>) -> Result<(), NoMemory> {
+    out.extend_from_slice(b"forget ")?;
+    name.push_text(out)
+}
+
 /// Writes what a look asks, in the words of its line.
 fn push_ask(ask: &Ask, out: &mut Vec<u8>) -> Result<(), NoMemory> {
     match ask {
@@ -67,6 +72,7 @@ fn push_event(alloc: Global, event: &Event, out: &mut Vec<u8>) -> Result<(), NoM
         }
         Event::Look { ask, .. } => push_ask(ask, out),
         Event::Sweep { .. } => out.extend_from_slice(b"sweep"),
+        Event::Forget { owner, .. } => push_forget(owner, out),
         Event::Do { command, .. } => push_command(command, out),
         Event::Undo { .. } => out.extend_from_slice(b"undo"),
         Event::Redo { .. } => out.extend_from_slice(b"redo"),

@@ -4,7 +4,7 @@ ghost use Rattle.std.specs.Prelude.{◌≡◌, ◌<◌, ◌≤◌, ◌+◌, ◌-
 ghost use Rattle.std.specs.Prelude.{IfErr, IfSome, IsOk, OnOk, OnErr, if◌then◌else◌};
 ghost use Rattle.std.specs.List.{AllByRecursion};
 ghost use Rattle.std.specs.Map.{keys_of};
-ghost use Rattle.indexmap.specs.IndexMap.{hasher_of};
+ghost use Rattle.indexmap.specs.IndexMap.{get, hasher_of};
 ghost use Rattle.dns_name.specs.Labels.{Labels};
 ghost use Rattle.dns_name.specs.Order.{name_eq};
 ghost use Rattle.dns_text.specs.declared.record.Question.{Question};
@@ -356,6 +356,7 @@ impl Shelf {
         ensures flushes { KeepsFlushes self.old self.new }
         ensures stored { self.new.stored ≤ self.old.stored }
         ensures pairs { KeepPairs self.old.owners self.new.owners }
+        ensures gone { get name_eq self.new.owners owner.now ≡ None }
     {
         drop_end(&self.owners, &mut self.ends, owner);
         forget(&mut self.owners, &mut self.stored, owner);

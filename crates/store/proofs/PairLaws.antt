@@ -1,20 +1,23 @@
 -- The pairs that count: what the cache says of them, in the words of a world.
-use Rattle.std.proofs.Common.{◌≡◌, ℕ, ◌≤◌, Bool, true, false, None, List, [], ◌∷◌, map, refl, sym, ap, subst, ◌∙◌}
+use Rattle.std.proofs.Common.{◌≡◌, ℕ, ◌≤◌, Bool, true, false, Option, None, List, [], ◌∷◌, map, refl, sym, ap, subst, ◌∙◌}
 use Rattle.std.specs.Prelude.{◌&&◌, ◌||◌}
 use Rattle.std.specs.List.{AllByRecursion}
+use Rattle.std.specs.Map.{lookup}
+use Rattle.std.specs.Option.{option_map_or}
 use Rattle.std.specs.Set.{distinct_count, is_member}
 use Rattle.std.proofs.Math.Path.{fun_ext}
 use Rattle.std.proofs.lemmas.Cmp.{nat_eq_equiv}
 use Rattle.dns_name.specs.Labels.{Labels}
 use Rattle.dns_name.specs.ListLaws.{all_weaker}
-use Rattle.dns_name.specs.Order.{name_eq, name_equiv}
+use Rattle.dns_name.specs.Order.{name_eq, name_eq_exact, name_equiv}
 use Rattle.ranked.specs.Equal.{scope_eq}
 use Rattle.ranked.specs.declared.find.Find.{Find}
 use Rattle.ranked.specs.declared.find.Scope.{Scope}
 use Rattle.ranked.specs.declared.find.Scope.TheVariants.{One, Whole}
 use Rattle.change_law.specs.declared.kept.KeptChange.{KeptChange}
-use Rattle.change_law.specs.Pairs.{AddsPairs, CountsAmong, IsAliveIn, count_pairs, pair_eq, pair_of}
-use Rattle.cell_store.specs.Count.{AddPair, KeepPairs, has_pair}
+use Rattle.change_law.specs.Pairs.{AddsPairs, CountsAmong, CountsNoneOf, IsAliveIn, count_pairs, pair_eq, pair_of}
+use Rattle.cell_store.specs.declared.owner.OwnerCells.{OwnerCells}
+use Rattle.cell_store.specs.Count.{AddPair, KeepPairs, has_pair, has_place}
 use Rattle.cell_store.specs.Count as stored
 use Rattle.shelf.specs.declared.shelf.Shelf.{Shelf}
 use Rattle.shelf.specs.Stored.{HasAdmittedEach, IsAliveInFace, pairs_in}
@@ -102,3 +105,9 @@ adds_none find before after keeps = λ pair has. or_right (is_member pair_eq (pa
 
 pub same_owners : (before after : Shelf) → after.owners ≡ before.owners → AddsPairs counts_in [] (shelved before) (shelved after)
 same_owners before after same = λ pair has. ap (λ m. has_pair m pair) (sym same) ∙ has
+
+-- The places of a name that the cache has no entry for do not count.
+pub none_of : (owner : Labels) (new : Shelf) → lookup (name_eq owner) new.owners.entries ≡ None → CountsNoneOf counts_in owner (shelved new)
+none_of owner new gone pair same =
+    let own : lookup (name_eq pair.0) new.owners.entries ≡ None = subst (λ (n : Labels). lookup (name_eq n) new.owners.entries ≡ None) (name_eq_exact owner pair.0 same) gone in
+    ap (λ (cells : Option OwnerCells). option_map_or (λ cells. has_place cells pair.1) cells false) own

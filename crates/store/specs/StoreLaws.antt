@@ -12,9 +12,9 @@ use Rattle.change_law.specs.declared.kept.KeptChange.{KeptChange}
 use Rattle.change_law.specs.declared.kept.Standing.TheVariants.{Done, Undone, Cleared}
 use Rattle.change_law.specs.Choice.{IsPresent, cleared}
 use Rattle.change_law.specs.Effect.{effect}
-use Rattle.change_law.specs.Face.{Face, IsSame, face_with, fate_in}
+use Rattle.change_law.specs.Face.{Face, IsSame, face_with, face_without, fate_in}
 use Rattle.change_law.specs.Pairs.{IsAliveIn}
-use Rattle.change_law.specs.Row.{IsRowAfter, IsEachRowFrom, IsSameRow, IsMade, CanGoBack, CanGoAgain, GoesBack, GoesAgain, any, same_face, where_chosen, kept_as}
+use Rattle.change_law.specs.Row.{IsRowAfter, IsEachRow, IsEachRowFrom, IsSameRow, IsMade, CanGoBack, CanGoAgain, GoesBack, GoesAgain, any, same_face, where_chosen, kept_as}
 use Rattle.history.specs.declared.event.Command.{Command}
 use Rattle.history.specs.declared.tables.Tables.{Tables}
 use Rattle.table_changes.specs.Part.{part}
@@ -24,7 +24,7 @@ use Rattle.table_changes.specs.Both as tables
 use Rattle.table_changes.specs.BothLaws.{clears_both, shows_both}
 use Rattle.table_changes.specs.declared.tables.SavedTable.{SavedTable}
 use Rattle.table_changes.specs.declared.tables.SavedTable.TheVariants as saved_by
-use Rattle.store.specs.SumLaws.{choice_part, sum_same, sum_clears, sum_shows, sum_admitted, sum_swept, first_made, second_made, first_moved, second_moved, first_gone, second_gone, next_part, last_part, first_part, row_still}
+use Rattle.store.specs.SumLaws.{choice_part, sum_same, sum_clears, sum_shows, sum_admitted, sum_swept, sum_forgot, first_made, second_made, first_moved, second_moved, first_gone, second_gone, next_part, last_part, first_part, row_still}
 use Rattle.store.specs.World.{Shelved, KeepsFlushes, shown_face}
 use Rattle.store.specs.World as cells
 use Rattle.store.specs.WorldLaws.{shows_present, clears_by_word}
@@ -102,7 +102,7 @@ cells_same_row x x' stays same = λ kept h.
     (row_still saved_table KeepsBoth tables.face_by x.tables x'.tables (part of_tables kept) (part of_tables kept) stays refl h.0)
     (same (part of_cells kept) h.1)
 
--- ---- admissions and sweeps
+-- ---- admissions, sweeps and forgets
 
 same_fate : (face : Face (Unit {0})) (t : Tables) (find : Find) (moment : ℕ) (scope : Scope) → fate_in face find moment scope ≡ fate_in (record { tables = t; cell = face.cell }) find moment scope
 same_fate face t find moment (One kind) = refl
@@ -119,6 +119,10 @@ store_admitted x x' find moment stays row = λ kept h. sum_admitted tables_in ce
 pub store_swept : (x x' : Store) (moment : ℕ) → x'.tables ≡ x.tables →
     IsEachRowFrom no_table KeepsFlushes cells.face_by moment (λ f. f) x.cells x'.cells → IsEachRowFrom store_table KeepsStore store_face moment (λ f. f) x x'
 store_swept x x' moment stays row = λ kept h. sum_swept tables_in cells_in of_tables of_cells store_table saved_table no_table tables_agree cells_agree KeepsBoth KeepsFlushes tables.face_by cells.face_by moment x x' kept stays h (row (part of_cells kept) h.1)
+
+pub store_forgot : (x x' : Store) (owner : Labels) → x'.tables ≡ x.tables →
+    IsEachRow no_table KeepsFlushes cells.face_by (face_without true owner) x.cells x'.cells → IsEachRow store_table KeepsStore store_face (face_without true owner) x x'
+store_forgot x x' owner stays row = λ kept h. sum_forgot tables_in cells_in of_tables of_cells store_table saved_table no_table tables_agree cells_agree KeepsBoth KeepsFlushes tables.face_by cells.face_by owner x x' kept stays h (row (part of_cells kept) h.1)
 
 -- ---- a change more
 

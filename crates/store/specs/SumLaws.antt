@@ -3,6 +3,7 @@ use Rattle.std.proofs.Common.{◌≡◌, ◌≢◌, ◌<◌, ℕ, Bool, true, fa
 use Rattle.std.specs.Prelude.{if◌then◌else◌}
 use Rattle.std.specs.List.{AllByRecursion}
 use Rattle.std.proofs.lemmas.List.{append-nil}
+use Rattle.dns_name.specs.Labels.{Labels}
 use Rattle.dns_text.specs.declared.record.Question.{Question}
 use Rattle.ranked.specs.declared.find.Find.{Find}
 use Rattle.change_law.specs.declared.kept.KeptChange.{KeptChange}
@@ -10,7 +11,7 @@ use Rattle.change_law.specs.declared.kept.Standing.{Standing}
 use Rattle.change_law.specs.declared.kept.Standing.TheVariants.{Done, Undone, Cleared}
 use Rattle.change_law.specs.Choice.{IsOneTable, AllowsAt, IsChoice, IsPresent, IsUncovered, IsFounded, cleared}
 use Rattle.change_law.specs.Effect.{effect}
-use Rattle.change_law.specs.Face.{Face, IsSame, IsSameAt, face_with}
+use Rattle.change_law.specs.Face.{Face, IsSame, IsSameAt, face_with, face_without}
 use Rattle.change_law.specs.Row.{IsRowAfter, IsRowFrom, IsNext, IsLast, IsFirst, any, same_face, where_chosen, kept_as, with_change}
 use Rattle.table_changes.specs.Part.{with_part, part}
 use Rattle.table_changes.specs.PartLaws.{part_append, part_cleared, part_at, part_past, part_all, part_present}
@@ -254,7 +255,7 @@ module _ {X W V S A B T U : Type 0} (first : X → W) (second : X → V) (mine :
       (part theirs earlier ++ part theirs later) (part theirs (earlier ++ later))
       (part_at theirs earlier standing ticket saved later b e) (part_append theirs earlier later) row)
 
-  -- ---- admissions and sweeps, which are the second part's
+  -- ---- admissions, sweeps and forgets, which are the second part's
 
   pub sum_from : (made : Face T → Face T) (there : Face U → Face U) (moment : ℕ) →
       ((f f' : Face T) (g g' : Face U) → f'.tables ≡ f.tables → IsSameAt moment g' (there g) → IsSameAt moment (joined f' g') (made (joined f g))) →
@@ -279,6 +280,14 @@ module _ {X W V S A B T U : Type 0} (first : X → W) (second : X → V) (mine :
       IsRowFrom other others faces moment (λ f. f) (second x) (part theirs kept) (second x') →
       IsRowFrom table Keeps face_both moment (λ f. f) x kept x'
   sum_swept moment = sum_from (λ f. f) (λ f. f) moment (λ f f' g g' same there. record { tables = same; cell = there.cell })
+
+  pub sum_forgot : (owner : Labels) (x x' : X) (kept : List (KeptChange S)) → first x' ≡ first x → Keeps x kept →
+      IsRowAfter other others faces (λ chosen. face_without true owner) any (second x) (part theirs kept) (second x') (part theirs kept) →
+      IsRowAfter table Keeps face_both (λ chosen. face_without true owner) any x kept x' kept
+  sum_forgot owner x x' kept stays h row =
+      sum_row (λ chosen. face_without true owner) same_face (λ chosen. face_without true owner) any any any (λ chosen p. tt) (λ chosen p. tt)
+      (λ chosen f f' g g' here there. record { tables = here.tables; cell = there.cell })
+      x x' kept kept (row_still own keeps face (first x) (first x') (part mine kept) (part mine kept) stays refl h.0) row
 
   -- ---- what is shown
 

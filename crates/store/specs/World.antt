@@ -1,5 +1,5 @@
 -- The flushes that a shelf keeps, and its faces.
-use Rattle.std.specs.Prelude.{◌≡◌, ℕ, Bool, false, Option, None, List, map, if◌then◌else◌}
+use Rattle.std.specs.Prelude.{◌≡◌, ℕ, Bool, false, Option, None, List, map}
 use Rattle.std.specs.List.{AllByRecursion}
 use Rattle.dns_text.specs.declared.record.Question.{Question}
 use Rattle.change_law.specs.declared.kept.KeptChange.{KeptChange}
@@ -77,12 +77,3 @@ shown_face shelf = record { tables = tt; cell = λ q. cell_at shelf q (shown_ver
 -- a face with no cell
 abbrev pub empty_cells : Face (Unit {0})
 empty_cells = record { tables = tt; cell = λ q. None }
-
--- The same flushes are kept, and in each face the cells of a name are empty.
-pub record IsForgottenIn (owner : Labels) (before : Shelved) (kept : List (KeptChange SavedFlush)) (after : Shelved) : Type 0 where
-  pub keeps_still : KeepsFlushes after kept
-  pub faces : (chosen : ℕ → Bool) (q : Question) → (face_by after kept chosen).cell q ≡ (if name_eq owner q.owner then None else (face_by before kept chosen).cell q)
-
--- Whichever flushes the shelf keeps, it keeps them still, and holds nothing of a name by any choice of them.
-abbrev pub HoldsNothingOf : Labels → Shelved → Shelved → Type 0
-HoldsNothingOf owner before after = (kept : List (KeptChange SavedFlush)) → KeepsFlushes before kept → IsForgottenIn owner before kept after

@@ -2,6 +2,8 @@
 use Rattle.std.proofs.Common.{◌≡◌, ◌≢◌, ◌<◌, ◌∙◌, ◌++◌, ◌∷◌, [], ℕ, Bool, true, false, Option, Some, None, List, map, fold, refl, sym, ap, subst, arith}
 use Rattle.std.specs.Prelude.{◌==◌, ◌&&◌, if◌then◌else◌}
 use Rattle.std.specs.List.{AllByRecursion}
+use Rattle.dns_name.specs.Labels.{Labels}
+use Rattle.dns_name.specs.Order.{name_eq}
 use Rattle.dns_text.specs.declared.record.Question.{Question}
 use Rattle.ranked.specs.declared.find.Find.{Find}
 use Rattle.ranked.specs.declared.cell.Admitted.{Admitted}
@@ -11,7 +13,7 @@ use Rattle.change_law.specs.declared.kept.Standing.TheVariants.{Done, Undone, Cl
 use Rattle.change_law.specs.Choice.{is_done, clear, cleared, IsPresent}
 use Rattle.change_law.specs.Effect.{effect}
 use Rattle.change_law.specs.declared.fault.WorldFault.TheVariants as world
-use Rattle.change_law.specs.Face.{Face, IsSame, alive_at, face_with, fate_in}
+use Rattle.change_law.specs.Face.{Face, IsSame, alive_at, face_with, face_without, fate_in}
 use Rattle.change_law.specs.Row.{kept_as, with_change, IsRowAfter, IsRowFrom, IsSameRow, where_chosen, same_face, any}
 use Rattle.ranked.specs.Find.{touches, admission_of}
 use Rattle.ranked.specs.Cell.{after_admission}
@@ -336,6 +338,14 @@ row_swept before after kept moment h items faces = record {
     tables = refl;
     cell = λ q. same_alive moment (cell_by after chosen q) ∙ (faces chosen q ∙ sym (same_alive moment (cell_by before chosen q)));
   };
+}
+
+pub row_forgot : (before after : Shelved) (kept : List (KeptChange SavedFlush)) (owner : Labels) → KeepsFlushes before kept → after.flushes ≡ before.flushes →
+    ((chosen : ℕ → Bool) (q : Question) → cell_by after chosen q ≡ (if name_eq owner q.owner then None else cell_by before chosen q)) →
+    IsRowAfter (λ saved. None) KeepsFlushes face_by (λ chosen. face_without true owner) any before kept after kept
+row_forgot before after kept owner h items faces = record {
+  keeps_left = keeps_same before after kept items h;
+  faces = λ chosen p choice. record { tables = refl; cell = λ q. faces chosen q };
 }
 
 -- A flush more.

@@ -3,7 +3,7 @@
 use crate::world::{FlushChange, SavedFlush, ShelfWorld};
 use cell_store::NameSeed;
 use change_law::{Change, ChangeFault, World, WorldFault};
-use dns_name::NoMemory;
+use dns_name::{Name, NoMemory};
 use history::{Command, Tables};
 use ranked::{Fate, SharedFind};
 use std::alloc::Global;
@@ -110,6 +110,10 @@ impl World for Store {
 
     fn sweep_some(&mut self, moment: u64) -> bool {
         self.cells.sweep_some(moment)
+    }
+
+    fn forget(&mut self, owner: &Name) {
+        self.cells.forget(owner);
     }
 
     ghost clears = { λ world kept h. clears_store world kept h };

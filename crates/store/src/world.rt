@@ -67,7 +67,7 @@ impl ShelfWorld {
     ghost use Rattle.change_law.specs.Pairs.{CountsAmong, IsAliveIn, count_pairs, pair_of};
     ghost use Rattle.store.specs.declared.world.SavedFlush.{SavedFlush};
     ghost use Rattle.cell_store.specs.Owner.{held_now};
-    ghost use Rattle.store.specs.World.{empty_cells, HoldsNothingOf};
+    ghost use Rattle.store.specs.World.{empty_cells};
     ghost use Rattle.world_book.specs.Book.{IsUntouched};
 
     /// An empty cache that may store so many cells. It keeps no flushes, and its index hashes with the fixed seed.
@@ -109,15 +109,6 @@ impl ShelfWorld {
             count_pairs pairs ≤ ⟦<ShelfWorld as World>⟧.stored self.now }
     {
         self.shelf.stored()
-    }
-
-    /// Forgets a name: then nothing of it is cached, whatever choice of the kept flushes is in force. It takes no memory.
-    pub fn forget(&mut self, owner: &Name)
-        ensures row { HoldsNothingOf owner.now self.old self.new }
-        ensures newest { ⟦<ShelfWorld as World>⟧.newest self.new ≤ ⟦<ShelfWorld as World>⟧.newest self.old }
-        ensures stored { ⟦<ShelfWorld as World>⟧.stored self.new ≤ ⟦<ShelfWorld as World>⟧.stored self.old }
-    {
-        self.shelf.forget(owner);
     }
 }
 
@@ -172,6 +163,10 @@ impl World for ShelfWorld {
 
     fn sweep_some(&mut self, moment: u64) -> bool {
         self.shelf.sweep_some(moment)
+    }
+
+    fn forget(&mut self, owner: &Name) {
+        self.shelf.forget(owner);
     }
 }
 

@@ -5,7 +5,7 @@ ghost use Rattle.std.specs.Prelude.{◌≡◌, IfOk};
 use crate::stubs::{StubChange, make_stub_change};
 use crate::zones::{ZoneChange, make_zone_change};
 use change_law::{Change, ChangeFault, World, WorldFault};
-use dns_name::NoMemory;
+use dns_name::{Name, NoMemory};
 use history::{Command, Tables};
 use local_zone::SavedTables;
 use ranked::{Fate, SharedFind};
@@ -133,6 +133,8 @@ impl World for TableWorld {
     fn sweep_some(&mut self, _moment: u64) -> bool {
         false
     }
+
+    fn forget(&mut self, _owner: &Name) {}
 
     ghost clears = { λ world kept h. clears_both world kept h };
 }

@@ -7,13 +7,14 @@ use Rattle.std.proofs.lemmas.Bool.Decides.{nat_tests}
 use Rattle.std.proofs.lemmas.Option.{slice_get-get_or}
 use Rattle.std.proofs.lemmas.List.{append_assoc}
 use Rattle.std.proofs.Math.Seq.{get_or-append_seam}
+use Rattle.dns_name.specs.Labels.{Labels}
 use Rattle.dns_name.specs.Order.{name_eq, name_eq_exact}
 use Rattle.dns_text.specs.declared.record.Question.{Question}
 use Rattle.ranked.specs.declared.find.Find.{Find}
 use Rattle.ranked.specs.declared.cell.Admitted.{Admitted}
 use Rattle.ranked.specs.Find.{touches}
 use Rattle.history.specs.declared.event.Event.{Event}
-use Rattle.history.specs.declared.event.Event.TheVariants.{Admit, Look, Sweep, Do, Undo, Redo}
+use Rattle.history.specs.declared.event.Event.TheVariants.{Admit, Look, Sweep, Forget, Do, Undo, Redo}
 use Rattle.history.specs.declared.event.Reply.{Reply}
 use Rattle.history.specs.declared.event.Reply.TheVariants.{Undone, Redone}
 use Rattle.undo_book.specs.declared.index.Indexed.{Indexed}
@@ -24,12 +25,15 @@ use Rattle.undo_book.specs.Plain.{cell_after_logged, with_flag, flags_by}
 -- ---- a replay by the index
 
 -- What is under another tag is about other names.
-untouched : (find : Find) (question : Question) → (tag_of find.owner == tag_of question.owner) ≡ false → touches find question ≡ false
-untouched find question apart =
-    elim (cases_Bool (name_eq find.owner question.owner)) [
-      | inl same ↦ let tags : tag_of find.owner ≡ tag_of question.owner = ap tag_of (name_eq_exact find.owner question.owner same) in absurd (grind (arith, nat_tests))
-      | inr other ↦ rw other refl
+other_name : (owner name : Labels) → (tag_of owner == tag_of name) ≡ false → name_eq owner name ≡ false
+other_name owner name apart =
+    elim (cases_Bool (name_eq owner name)) [
+      | inl same ↦ let tags : tag_of owner ≡ tag_of name = ap tag_of (name_eq_exact owner name same) in absurd (grind (arith, nat_tests))
+      | inr other ↦ other
     ]
+
+untouched : (find : Find) (question : Question) → (tag_of find.owner == tag_of question.owner) ≡ false → touches find question ≡ false
+untouched find question apart = rw (other_name find.owner question.owner apart) refl
 
 by_event : (question : Question) (log : List Logged) (at : ℕ) (event : Event) (moment : ℕ) (ticket : Option ℕ) (struck : Bool) (rest : List Indexed) (cell : Option (Admitted Find))
     → (let logged : Logged = record { entry = record { event = event; moment = moment; ticket = ticket }; struck = struck } in slice_get log at ≡ Some logged
@@ -42,6 +46,11 @@ by_event question log at (Admit m find) moment ticket struck rest cell found =
 by_event question log at (Do m command) moment ticket struck rest cell found = rw found refl
 by_event question log at (Look m ask) moment ticket struck rest cell found = refl
 by_event question log at (Sweep m) moment ticket struck rest cell found = refl
+by_event question log at (Forget m owner) moment ticket struck rest cell found =
+    elim (cases_Bool (tag_of owner == tag_of question.owner)) [
+      | inl same ↦ rw (same, found) refl
+      | inr apart ↦ rw (apart, other_name owner question.owner apart) refl
+    ]
 by_event question log at (Undo m) moment ticket struck rest cell found = refl
 by_event question log at (Redo m) moment ticket struck rest cell found = refl
 

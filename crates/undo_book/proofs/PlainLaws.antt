@@ -15,7 +15,7 @@ use Rattle.ranked.specs.Cell.{turns_away}
 use Rattle.ranked.specs.Find.{admission_of}
 use Rattle.dns_name.specs.ListLaws.{all_push}
 use Rattle.history.specs.declared.event.Event.{Event}
-use Rattle.history.specs.declared.event.Event.TheVariants.{Admit, Look, Sweep, Do, Undo, Redo}
+use Rattle.history.specs.declared.event.Event.TheVariants.{Admit, Look, Sweep, Forget, Do, Undo, Redo}
 use Rattle.history.specs.declared.event.Command.{Command}
 use Rattle.history.specs.declared.event.Entry.{Entry}
 use Rattle.history.specs.declared.event.Reason.{Reason}
@@ -37,6 +37,7 @@ pub flag_tells : (marks : Marks) (event : Event) (ticket : Option ℕ) (flag : B
 flag_tells marks (Admit m f) ticket flag is = refl
 flag_tells marks (Look m a) ticket flag is = refl
 flag_tells marks (Sweep m) ticket flag is = refl
+flag_tells marks (Forget m n) ticket flag is = refl
 flag_tells marks (Do m c) None flag is = refl
 flag_tells marks (Do m c) (Some ticket) flag is = ap not is
 flag_tells marks (Undo m) ticket flag is = refl
@@ -79,6 +80,7 @@ pub marks_by_reply : (settings : Settings) (past : Past) (event : Event) → mar
 marks_by_reply settings past (Admit m f) = by_admission settings.journal past f m f.scope
 marks_by_reply settings past (Look m a) = refl
 marks_by_reply settings past (Sweep m) = refl
+marks_by_reply settings past (Forget m n) = refl
 marks_by_reply settings past (Do m c) = sym (by_command settings.journal past.marks m c (reason_of past c))
 marks_by_reply settings past (Undo m) = sym (by_undo settings.journal past.marks (last_of past.marks.done))
 marks_by_reply settings past (Redo m) = sym (by_redo settings.journal past.marks (last_of past.marks.undone))
@@ -110,6 +112,7 @@ pub ticket_by_reply : (settings : Settings) (past : Past) (event : Event) → ti
 ticket_by_reply settings past (Admit m f) = ticket_by_admission past f m f.scope
 ticket_by_reply settings past (Look m a) = refl
 ticket_by_reply settings past (Sweep m) = refl
+ticket_by_reply settings past (Forget m n) = refl
 ticket_by_reply settings past (Do m c) = ticket_by_command past.marks (reason_of past c)
 ticket_by_reply settings past (Undo m) = ticket_by_undo (last_of past.marks.done)
 ticket_by_reply settings past (Redo m) = ticket_by_redo (last_of past.marks.undone)
@@ -194,6 +197,7 @@ new_ticket : (past : Past) (event : Event) → ((t : ℕ) → InOne past.marks t
 new_ticket past (Admit m f) h = refl
 new_ticket past (Look m a) h = refl
 new_ticket past (Sweep m) h = refl
+new_ticket past (Forget m n) h = refl
 new_ticket past (Do m c) h = new_by_reason past.marks (reason_of past c) h
 new_ticket past (Undo m) h = refl
 new_ticket past (Redo m) h = refl

@@ -9,7 +9,7 @@ use Rattle.dns_text.specs.declared.record.Question.{Question}
 use Rattle.ranked.specs.declared.find.Find.{Find}
 use Rattle.ranked.specs.declared.cell.Admitted.{Admitted}
 use Rattle.history.specs.declared.event.Event.{Event}
-use Rattle.history.specs.declared.event.Event.TheVariants.{Admit, Do}
+use Rattle.history.specs.declared.event.Event.TheVariants.{Admit, Forget, Do}
 use Rattle.undo_book.specs.declared.index.Indexed.{Indexed}
 use Rattle.undo_book.specs.declared.log.Logged.{Logged}
 use Rattle.undo_book.specs.Plain.{cell_after_logged}
@@ -18,9 +18,10 @@ use Rattle.undo_book.specs.Plain.{cell_after_logged}
 abbrev pub tag_of : Labels → ℕ
 tag_of name = folding.finish (fold folding.write folding.initial (name_hash_input name))
 
--- what the index of an entry holds: an admission is under its owner's tag, a command under none
+-- what the index of an entry holds: an admission or a forget is under its owner's tag, a command under none
 abbrev pub index_of_entry : ℕ → Event → Option Indexed
 index_of_entry at (Admit moment find) = Some (record { at = at; tag = Some (tag_of find.owner) })
+index_of_entry at (Forget moment owner) = Some (record { at = at; tag = Some (tag_of owner) })
 index_of_entry at (Do moment command) = Some (record { at = at; tag = None })
 index_of_entry at event = None
 

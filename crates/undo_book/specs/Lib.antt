@@ -18,6 +18,7 @@ pub use Rattle.history.specs.Redo
 pub use Rattle.history.specs.Counts
 pub mod Plain
 pub mod Index
+pub mod Stored
 pub mod Replayed
 pub mod PlainPast
 pub mod PlainBook

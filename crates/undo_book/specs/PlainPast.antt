@@ -23,9 +23,9 @@ pub record IsReady (past : PlainPast) : Type 0 where
 -- The reply of the replay, or a fault for its reason.
 abbrev pub AnswersAfter : PlainPast → Event → Result Reply StepFault → Type 0
 AnswersAfter past event answer =
-    AnswersBy past.settings (length past.log.items) past.admissions (reply_of past.settings (past_in past) event) event answer
+    AnswersBy past.settings (length past.log.items) past.stored (reply_of past.settings (past_in past) event) event answer
 
 -- A timely admission is `Full` where as many are stored as there may be cells.
 abbrev pub IsFullAtTheLimit : PlainPast → Event → Result Reply StepFault → Type 0
 IsFullAtTheLimit past event answer =
-    IsTimely (length past.log.items) event → IsTrue (is_admission event) → past.admissions ≡ past.settings.cells → IsErrOf answer (Full past.settings.cells)
+    IsTimely (length past.log.items) event → IsTrue (is_admission event) → past.stored ≡ past.settings.cells → IsErrOf answer (Full past.settings.cells)

@@ -21,7 +21,7 @@ pub(crate) fn tag(name: &Name) -> u64
     hasher.finish()
 }
 
-/// The place of an entry that can change a cell: an admission, with the tag of its owner, or a command.
+/// The place of an entry that can change a cell: an admission or a forget, with the tag of its owner, or a command.
 #[derive(Clone, Copy, Drop)]
 pub struct Indexed {
     pub at: usize,
@@ -37,6 +37,10 @@ impl Indexed {
             Event::Admit { find, .. } => Some(Indexed {
                 at,
                 tag: Some(tag(&find.find().owner)),
+            }),
+            Event::Forget { owner, .. } => Some(Indexed {
+                at,
+                tag: Some(tag(owner)),
             }),
             Event::Do { .. } => Some(Indexed { at, tag: None }),
             _ => None,

@@ -9,6 +9,8 @@ mod log;
 mod replay;
 // The index of the entries that can change a cell.
 mod index;
+// How many cells a plain book stores.
+mod stored;
 // The history of a plain book: its log and its marks.
 mod plain_history;
 // Local zones, records and stubs, by a replay of a log.

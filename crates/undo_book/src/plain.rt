@@ -54,8 +54,8 @@ impl PlainBook {
         ensures taken { OnOk result (past_in self.new.past ≡ followed_by self.old.past.settings.journal (past_in self.old.past) event) }
         ensures unchanged { OnErr result (past_in self.new.past ≡ past_in self.old.past) }
         ensures settings { self.new.past.settings ≡ self.old.past.settings }
-        ensures full { (n : ℕ) → IsErrOf result (StepFault.Full n) → self.old.past.admissions ≡ n }
-        ensures same_store { OnErr result (self.new.past.admissions ≡ self.old.past.admissions) }
+        ensures full { (n : ℕ) → IsErrOf result (StepFault.Full n) → self.old.past.stored ≡ n }
+        ensures same_store { OnErr result (self.new.past.stored ≡ self.old.past.stored) }
         ensures full_at_the_limit { IsFullAtTheLimit self.old.past event result }
     {
         if event.moment() >= MOMENT_END {
@@ -64,9 +64,9 @@ impl PlainBook {
         if self.past.log.len() >= MOST_EVENTS {
             return Err(StepFault::CountEnded);
         }
-        if event.is_admission() && self.past.admissions == self.past.settings.cells {
+        if event.is_admission() && self.past.stored == self.past.settings.cells {
             return Err(StepFault::Full {
-                stored: self.past.admissions,
+                stored: self.past.stored,
             });
         }
         self.past.make_room()?;
@@ -80,7 +80,7 @@ impl Book for PlainBook {
     ghost use Rattle.std.specs.Prelude.{◌≡◌, ◌↔◌, ℕ, List, length, count_by, IsTrue, OnErr, IsErrOf};
     ghost use Rattle.history.specs.declared.event.Event.{Event};
     ghost use Rattle.history.specs.Event.{is_admission};
-    ghost use Rattle.history.specs.Counts.{stores_admissions, same_count};
+    ghost use Rattle.history.specs.Counts.{counted_of, stores_counted, same_count};
     ghost use Rattle.history.specs.Answers.{IsTimely, Answers, history_after};
     ghost use Rattle.undo_book.specs.PlainBook.{settings_in, stored_in, StandsFor};
 
@@ -93,7 +93,7 @@ impl Book for PlainBook {
     ghost has_journal = { λ book history is. book.past.in_range.some_commands };
 
     ghost stores_few = { λ book history is.
-        stores_admissions (settings_in book).journal (past_in book.past) history (stored_in book) book.past.counted is };
+        stores_counted (settings_in book).journal (past_in book.past) history (stored_in book) book.past.counted is };
 
     ghost one_count = { λ book h k is also. same_count (settings_in book).journal (past_in book.past) h k is also };
 
@@ -103,9 +103,9 @@ impl Book for PlainBook {
         ensures full { (n : ℕ) → IsErrOf result (StepFault.Full n) → stored_in self.old ≡ n }
         ensures same_store { OnErr result (stored_in self.new ≡ stored_in self.old) }
         ensures settings { settings_in self.new ≡ settings_in self.old }
-        // Every admission is stored, so it is full exactly where as many were admitted as there may be cells.
+        // It stores each admission until its owner is forgotten, so it is full exactly where there are as many of these as there may be cells.
         ensures full_at_the_limit { (h : List Event) → StandsFor self.old h → IsTimely (length h) event → IsTrue (is_admission event)
-            → (IsErrOf result (StepFault.Full (settings_in self.old).cells) ↔ (count_by is_admission h ≡ (settings_in self.old).cells)) }
+            → (IsErrOf result (StepFault.Full (settings_in self.old).cells) ↔ (counted_of h ≡ (settings_in self.old).cells)) }
     {
         self.take_event(event)
     }
@@ -143,8 +143,8 @@ impl Book for PlainBook {
 
     fn stored(&self) -> usize
         ensures stored { result ≡ stored_in self.now }
-        ensures admitted { (h : List Event) → StandsFor self.now h → result ≡ count_by is_admission h }
+        ensures counted { (h : List Event) → StandsFor self.now h → result ≡ counted_of h }
     {
-        self.past.admissions
+        self.past.stored
     }
 }

@@ -1,8 +1,8 @@
 //! The history of a plain book: its log and its marks.
 
-ghost use Rattle.std.specs.Prelude.{◌≡◌, ℕ, ◌+◌, ◌<◌, ◌≤◌, ◌^◌, [], length, OnOk, if◌then◌else◌};
-ghost use Rattle.history.specs.Counts.{admissions_in};
-ghost use Rattle.history.specs.Event.{is_admission, AreSettings};
+ghost use Rattle.std.specs.Prelude.{◌≡◌, ℕ, ◌+◌, ◌<◌, ◌≤◌, ◌^◌, [], length, OnOk};
+ghost use Rattle.history.specs.Counts.{counted_in};
+ghost use Rattle.history.specs.Event.{AreSettings};
 ghost use Rattle.history.specs.Tickets.{InOne};
 ghost use Rattle.undo_book.specs.Index.{index_from};
 ghost use Rattle.undo_book.specs.Plain.{marks_in, marks_by, entries_in, AreFlagged, AreFlagged-prop, HasRoom, content_of, question_of};
@@ -10,12 +10,13 @@ ghost use Rattle.undo_book.specs.Plain.{marks_in, marks_by, entries_in, AreFlagg
 use crate::index::{Indexed, add_to_index, tag};
 use crate::log::{Logged, set_flags};
 use crate::marks::PlainMarks;
+use crate::stored::stored_after;
 use dns_name::{Name, NoMemory};
 use history::{CellSource, Entry, Event, Reply, Settings};
 use ranked::{Cell, Fate, Held, Scope, SharedFind};
 use std::alloc::Global;
 
-/// The events so far. Every admission counts as a cell, an outranked one too. The index has a replay read what can change a
+/// The events so far. Every admission counts as a cell until its owner is forgotten, an outranked one too. The index has a replay read what can change a
 /// cell, and pass over the looks and the owners that are not asked about.
 #[derive(Drop)]
 pub struct PlainPast {
@@ -24,10 +25,10 @@ pub struct PlainPast {
     pub marks: PlainMarks,
     pub log: Vec<Logged>,
     pub index: Vec<Indexed>,
-    pub admissions: usize,
+    pub stored: usize,
     pub ghost in_range: { AreSettings settings },
     pub ghost few_tickets: { marks.tickets ≤ length log.items },
-    pub ghost counted: { admissions ≡ admissions_in (entries_in log.items) },
+    pub ghost counted: { stored ≡ counted_in (entries_in log.items) },
     pub ghost indexed: { index.items ≡ index_from 0 log.items },
     pub ghost in_one: { (ticket : ℕ) → InOne (marks_in marks) ticket },
     pub ghost flagged: { AreFlagged marks.struck.items log.items } by { AreFlagged-prop marks.struck.items log.items },
@@ -51,7 +52,7 @@ impl PlainPast {
             marks: PlainMarks::new(alloc),
             log: Vec::new(alloc),
             index: Vec::new(alloc),
-            admissions: 0,
+            stored: 0,
         }
     }
 
@@ -59,7 +60,7 @@ impl PlainPast {
     pub fn make_room(&mut self) -> Result<(), NoMemory>
         ensures past { past_in self.new ≡ past_in self.old }
         ensures log { self.new.log.items ≡ self.old.log.items }
-        ensures admissions { self.new.admissions ≡ self.old.admissions }
+        ensures stored { self.new.stored ≡ self.old.stored }
         ensures settings { self.new.settings ≡ self.old.settings }
         ensures ready { OnOk result (IsReady self.new) }
     {
@@ -109,7 +110,7 @@ impl PlainPast {
         let ticket = reply.ticket_taken();
         mark(&mut self.marks, self.settings.journal, reply);
         self.moment = moment;
-        self.admissions = count_admission(self.admissions, &event);
+        self.stored = stored_after(self.stored, &self.log, &event);
         add_to_index(&mut self.index, self.log.len(), &event);
         self.log.push_reserved(Logged {
             entry: Entry {
@@ -131,18 +132,6 @@ impl CellSource for PlainPast {
 
     fn shows<'a>(&'a self, owner: &Name, kind: u16, moment: u64) -> Option<Held<'a>> {
         self.cell(owner, kind).at(self.moment.max(moment))
-    }
-}
-
-/// How many admissions there are with an event more.
-fn count_admission(admissions: usize, event: &Event) -> usize
-    requires few { admissions + 1 < 2 ^ 64 }
-    ensures { result ≡ admissions + (if is_admission event.now then 1 else 0) }
-{
-    if event.is_admission() {
-        admissions + 1
-    } else {
-        admissions
     }
 }
 

@@ -36,6 +36,7 @@ pub(crate) fn reply(
             Ok(Reply::Seen(seen))
         }
         Event::Sweep { .. } => Ok(Reply::Swept),
+        Event::Forget { .. } => Ok(Reply::Forgotten),
         Event::Do { command, .. } => reply_to_command(past, tables, command),
         Event::Undo { .. } => reply_to_undo(alloc, past, tables),
         Event::Redo { .. } => reply_to_redo(alloc, past, tables),

@@ -57,7 +57,7 @@ impl Book for ShelfBook {
     ghost use Rattle.history.specs.declared.event.Event.{Event};
     ghost use Rattle.history.specs.Answers.{Answers, history_after};
     ghost use Rattle.history.specs.History.{past_of};
-    ghost use Rattle.world_book.specs.Versions.{count_pairs, pairs_admitted, AreAliveAfter, IsFreeIn};
+    ghost use Rattle.world_book.specs.Versions.{count_pairs, pairs_left, AreAliveAfter, IsFreeIn};
 
     ghost stands_for = { λ book history. ⟦<WorldBook<StoreChange> as Book>⟧.stands_for book.book history };
 
@@ -82,12 +82,13 @@ impl Book for ShelfBook {
         ensures settings { ⟦<WorldBook<StoreChange> as Book>⟧.settings self.new.book
             ≡ ⟦<WorldBook<StoreChange> as Book>⟧.settings self.old.book }
 
-        // It is full only once as many different pairs of owner and scope were admitted as there may be cells.
+        // It is full only if of the finds that were admitted, and whose owner was not forgotten since, as many differ in owner or scope
+        // as there may be cells.
         ensures many { (h : List Event) → ⟦<WorldBook<StoreChange> as Book>⟧.stands_for self.old.book h →
             (n : ℕ) → IsErrOf result (StepFault.Full n) →
-            (⟦<WorldBook<StoreChange> as Book>⟧.settings self.old.book).cells ≤ count_pairs (pairs_admitted h) }
+            (⟦<WorldBook<StoreChange> as Book>⟧.settings self.old.book).cells ≤ count_pairs (pairs_left h) }
 
-        // A sweep, an undo or a redo that reaches a flush, and an admission whose pair is alive in some version need no memory.
+        // A sweep, a forget, an undo or a redo that reaches a flush, and an admission whose pair is alive in some version need no memory.
         ensures free { (h : List Event) → ⟦<WorldBook<StoreChange> as Book>⟧.stands_for self.old.book h →
             IsFreeIn (past_of (⟦<WorldBook<StoreChange> as Book>⟧.settings self.old.book).journal h) event →
             IfErr result (λ fault. (fault ≡ StepFault.BadMoment) ⊎ (fault ≡ StepFault.CountEnded)) }
@@ -129,9 +130,9 @@ impl Book for ShelfBook {
         ensures within { (h : List Event) → ⟦<WorldBook<StoreChange> as Book>⟧.stands_for self.now.book h →
             result ≤ (⟦<WorldBook<StoreChange> as Book>⟧.settings self.now.book).cells }
 
-        // No more than the different pairs of owner and scope that were admitted.
+        // No more than the different pairs of owner and scope that were admitted, and whose owner was not forgotten since.
         ensures most { (h : List Event) → ⟦<WorldBook<StoreChange> as Book>⟧.stands_for self.now.book h →
-            result ≤ count_pairs (pairs_admitted h) }
+            result ≤ count_pairs (pairs_left h) }
 
         // No fewer than the different pairs of the finds that are alive now in some version.
         ensures least { (h : List Event) → ⟦<WorldBook<StoreChange> as Book>⟧.stands_for self.now.book h →

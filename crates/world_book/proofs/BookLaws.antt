@@ -1,21 +1,25 @@
 -- A book goes on standing for its history, with the event or without it.
-use Rattle.std.proofs.Common.{◌≡◌, ℕ, ◌+◌, ◌<◌, ◌≤◌, Bool, true, false, cond, List, [], ◌∷◌, ◌++◌, map, max, refl, sym, ap, subst, ◌∙◌, arith, length-append}
-use Rattle.std.specs.Prelude.{count_by, ◌||◌, Ok, Err}
+use Rattle.std.proofs.Common.{◌≡◌, ℕ, ◌+◌, ◌<◌, ◌≤◌, Bool, true, false, cond, List, [], ◌∷◌, ◌++◌, map, max, refl, sym, ap, subst, ◌∙◌, arith, inl, inr, length-append}
+use Rattle.std.specs.Prelude.{count_by, not, ◌&&◌, ◌||◌, filter, Ok, Err}
 use Rattle.std.specs.Set.{is_member}
 use Rattle.std.proofs.lemmas.List.{map-append}
-use Rattle.std.proofs.lemmas.List.Elements.{filter_map-append}
 use Rattle.std.proofs.lemmas.List.Folds.{list_any-append}
 use Rattle.std.proofs.lemmas.List.Sums.{fold-append, sum_by-append}
+use Rattle.std.proofs.lemmas.Bool.{cases_Bool, false≢true}
 use Rattle.dns_name.specs.Labels.{Labels}
+use Rattle.dns_name.specs.Order.{name_eq, name_eq_exact, name_equiv}
+use Rattle.ranked.specs.Equal.{scope_eq}
+use Rattle.ranked.specs.declared.find.Find.{Find}
 use Rattle.ranked.specs.declared.find.Scope.{Scope}
 use Rattle.change_law.specs.declared.world.World.{Ghosts}
-use Rattle.change_law.specs.Pairs.{AddsPairs, CountsAmong, pair_eq, pair_of}
+use Rattle.change_law.specs.Pairs.{AddsPairs, CountsAmong, CountsNoneOf, pair_eq, pair_of}
 use Rattle.undo_journal.specs.Journal.{Changes}
 use Rattle.course.specs.CourseLaws.{same_at}
 use Rattle.history.specs.declared.book.StepFault.{StepFault}
 use Rattle.history.specs.declared.book.StepFault.TheVariants.{BadMoment, CountEnded, Full, NoMemory}
 use Rattle.history.specs.declared.event.Command.{Command}
 use Rattle.history.specs.declared.event.Event.{Event}
+use Rattle.history.specs.declared.event.Event.TheVariants.{Admit, Look, Sweep, Forget, Do, Undo, Redo}
 use Rattle.history.specs.declared.event.Reply.{Reply}
 use Rattle.history.specs.declared.event.Settings.{Settings}
 use Rattle.history.specs.declared.limits.TheConstants.{MOMENT_END, MOST_EVENTS}
@@ -25,8 +29,8 @@ use Rattle.history.specs.Event.{moment_of, is_admission}
 use Rattle.history.specs.History.{Past, past_of, nothing, followed_by}
 use Rattle.world_book.specs.Book.{BookState, IsBookOf, IsUntouched}
 use Rattle.world_book.specs.Deeds.{empty_face}
-use Rattle.world_book.specs.Step.{IsFaultOf}
-use Rattle.world_book.specs.Versions.{find_admitted, finds_admitted, pairs_admitted}
+use Rattle.world_book.specs.Step.{ForgetsPairs, IsFaultOf}
+use Rattle.world_book.specs.Versions.{finds_after, finds_left, pairs_left}
 use Rattle.world_book.specs.Tied.{IsTied, IsHistoryReply, StaysTied, TakesIn, TakesNothingIn}
 
 pub past_more : (bound : ℕ) (h : List Event) (event : Event) → past_of bound (h ++ event ∷ []) ≡ followed_by bound (past_of bound h) event
@@ -37,9 +41,8 @@ admissions_more h event = sum_by-append (λ (e : Event). cond (is_admission e) 1
 
 -- ---- the pairs that count
 
-pairs_more : (h : List Event) (event : Event) → pairs_admitted (h ++ event ∷ []) ≡ pairs_admitted h ++ pairs_admitted (event ∷ [])
-pairs_more h event =
-    ap (map pair_of) (filter_map-append find_admitted h (event ∷ [])) ∙ map-append pair_of (finds_admitted h) (finds_admitted (event ∷ []))
+pairs_more : (h : List Event) (event : Event) → pairs_left (h ++ event ∷ []) ≡ map pair_of (finds_after (finds_left h) event)
+pairs_more h event = ap (map pair_of) (fold-append finds_after [] h (event ∷ []))
 
 either : (a b c : Bool) → (a || b) ≡ true → (b ≡ true → c ≡ true) → (c || a) ≡ true
 either true b true is then = refl
@@ -51,15 +54,66 @@ among_more : {W : Type 0} (counts : W → (Labels × Scope) → Bool) (pairs add
 among_more counts pairs added w w' among adds pair has =
     list_any-append (pair_eq pair) pairs added ∙ either (is_member pair_eq added pair) (counts w pair) (is_member pair_eq pairs pair) (adds pair has) (among pair)
 
+weaker : (a b c : Bool) → (a || b) ≡ true → (b ≡ true → c ≡ true) → (a || c) ≡ true
+weaker true b c is then = refl
+weaker false b c is then = then is
+
+-- the tail of a list has what its head is not
+behind : (a b : Bool) → (a || b) ≡ true → a ≡ false → b ≡ true
+behind true b is apart = absurd (false≢true (sym apart))
+behind false b is apart = is
+
+-- the pair of a find whose owner is forgotten, and the pair of another owner
+pairs_differ : (owner : Labels) (pair : Labels × Scope) (find : Find) → name_eq owner pair.0 ≡ false → name_eq owner find.owner ≡ true → pair_eq pair (pair_of find) ≡ false
+pairs_differ owner pair find apart same =
+    let turned : name_eq pair.0 find.owner ≡ false =
+    name_equiv.symm pair.0 find.owner ∙ ap (λ (n : Labels). name_eq n pair.0) (sym (name_eq_exact owner find.owner same)) ∙ apart in
+    ap (λ (b : Bool). b && scope_eq pair.1 find.scope) turned
+
+-- A find of another owner stays when a name is forgotten.
+still_among : (owner : Labels) (pair : Labels × Scope) (finds : List Find) → name_eq owner pair.0 ≡ false → is_member pair_eq (map pair_of finds) pair ≡ true →
+    is_member pair_eq (map pair_of (filter (λ find. not (name_eq owner find.owner)) finds)) pair ≡ true
+still_among owner pair [] apart is = is
+still_among owner pair (find ∷ finds) apart is =
+    elim (cases_Bool (name_eq owner find.owner)) [
+      | inl same ↦ rw same (still_among owner pair finds apart
+          (behind (pair_eq pair (pair_of find)) (is_member pair_eq (map pair_of finds) pair) is (pairs_differ owner pair find apart same)))
+      | inr other ↦ rw other (weaker (pair_eq pair (pair_of find)) (is_member pair_eq (map pair_of finds) pair)
+          (is_member pair_eq (map pair_of (filter (λ find. not (name_eq owner find.owner)) finds)) pair) is (still_among owner pair finds apart))
+    ]
+
+-- After a forget, what counts is of the finds that are left.
+among_left : {W : Type 0} (counts : W → (Labels × Scope) → Bool) (finds : List Find) (owner : Labels) (w w' : W) →
+    CountsAmong counts (map pair_of finds) w → AddsPairs counts [] w w' → CountsNoneOf counts owner w' →
+    CountsAmong counts (map pair_of (filter (λ find. not (name_eq owner find.owner)) finds)) w'
+among_left counts finds owner w w' among adds gone pair has =
+    elim (cases_Bool (name_eq owner pair.0)) [
+      | inl same ↦ absurd (false≢true (sym (gone pair same) ∙ has))
+      | inr other ↦ still_among owner pair finds other (among pair (adds pair has))
+    ]
+
 module _ {W S : Type 0} (by : Ghosts W Tables S Command) where
   abbrev BookOf : BookState W S → List Event → Type 0
   BookOf book h = IsBookOf by book h
 
+  -- what counts after an event is of the finds that are left
+  among_after : (finds : List Find) (event : Event) (w w' : W) → CountsAmong by.counts (map pair_of finds) w → AddsPairs by.counts (pairs_left (event ∷ [])) w w' →
+      ForgetsPairs by event w' → CountsAmong by.counts (map pair_of (finds_after finds event)) w'
+  among_after finds (Admit m find) w w' among adds gone =
+      subst (λ (pairs : List (Labels × Scope)). CountsAmong by.counts pairs w') (sym (map-append pair_of finds (find ∷ [])))
+      (among_more by.counts (map pair_of finds) (pair_of find ∷ []) w w' among adds)
+  among_after finds (Look m ask) w w' among adds gone = λ pair has. among pair (adds pair has)
+  among_after finds (Sweep m) w w' among adds gone = λ pair has. among pair (adds pair has)
+  among_after finds (Forget m owner) w w' among adds gone = among_left by.counts finds owner w w' among adds gone
+  among_after finds (Do m command) w w' among adds gone = λ pair has. among pair (adds pair has)
+  among_after finds (Undo m) w w' among adds gone = λ pair has. among pair (adds pair has)
+  among_after finds (Redo m) w w' among adds gone = λ pair has. among pair (adds pair has)
+
   -- with the event
   pub goes_on : (book : BookState W S) (w' : W) (changes' : Changes S) (clock : ℕ) (event : Event) → clock ≡ max book.moment (moment_of event) →
       TakesIn by clock event book.world book.changes w' changes' → by.stored w' ≤ by.stored book.world + cond (is_admission event) 1 0 → by.limit w' ≡ by.limit book.world →
-      AddsPairs by.counts (pairs_admitted (event ∷ [])) book.world w' → (h : List Event) → BookOf book h → BookOf (record { world = w'; changes = changes'; settings = book.settings; moment = clock; count = book.count + 1 }) (h ++ event ∷ [])
-  goes_on book w' changes' clock event is takes fewer same adds h so =
+      AddsPairs by.counts (pairs_left (event ∷ [])) book.world w' → ForgetsPairs by event w' → (h : List Event) → BookOf book h → BookOf (record { world = w'; changes = changes'; settings = book.settings; moment = clock; count = book.count + 1 }) (h ++ event ∷ [])
+  goes_on book w' changes' clock event is takes fewer same adds gone h so =
       let bound = book.settings.journal in
       let past = past_of bound h in
       let more : past_of bound (h ++ event ∷ []) ≡ followed_by bound past event = past_more bound h event in
@@ -69,7 +123,7 @@ module _ {W S : Type 0} (by : Ghosts W Tables S Command) where
         moment = at ∙ sym (ap (λ (p : Past). p.now) more);
         count = omega (arith, so.count, length-append h (event ∷ []));
         few = omega (arith, fewer, so.few, admissions_more h event);
-        pairs = subst (λ (pairs : List (Labels × Scope)). CountsAmong by.counts pairs w') (sym (pairs_more h event)) (among_more by.counts (pairs_admitted h) (pairs_admitted (event ∷ [])) book.world w' so.pairs adds);
+        pairs = subst (λ (pairs : List (Labels × Scope)). CountsAmong by.counts pairs w') (sym (pairs_more h event)) (among_after (finds_left h) event book.world w' so.pairs adds gone);
         most = same ∙ so.most;
         some_commands = so.some_commands;
       }

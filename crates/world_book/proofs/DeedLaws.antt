@@ -3,10 +3,10 @@ use Rattle.std.proofs.Common.{ℕ, Bool, true, Option, Some, None, List, [], ◌
 use Rattle.std.specs.Prelude.{fold}
 use Rattle.std.proofs.lemmas.Bool.{cases_Bool}
 use Rattle.change_law.specs.Effect.{effect}
-use Rattle.change_law.specs.Face.{Face, IsSame, face_with}
+use Rattle.change_law.specs.Face.{Face, IsSame, face_with, face_without}
 use Rattle.course.specs.Course.{face_by}
 use Rattle.history.specs.declared.event.Event.{Event}
-use Rattle.history.specs.declared.event.Event.TheVariants.{Admit, Look, Sweep, Do, Undo, Redo}
+use Rattle.history.specs.declared.event.Event.TheVariants.{Admit, Look, Sweep, Forget, Do, Undo, Redo}
 use Rattle.history.specs.declared.event.Entry.{Entry}
 use Rattle.history.specs.declared.tables.Tables.{Tables}
 use Rattle.history.specs.Event.{covers}
@@ -26,6 +26,7 @@ AreShown chosen log = (f : Face Tables) → IsSame (face_by true chosen f (deeds
 one_more : (chosen : ℕ → Bool) (event : Event) (moment : ℕ) (ticket : Option ℕ) (log : List Entry) → AreShown chosen log →
     AreShown chosen (record { event = event; moment = moment; ticket = ticket } ∷ log)
 one_more chosen (Admit m find) moment ticket log more = λ f. more (face_with true find moment f)
+one_more chosen (Forget m owner) moment ticket log more = λ f. more (face_without true owner f)
 one_more chosen (Do m c) moment (Some t) log more = λ f.
     elim (cases_Bool (chosen t)) [
       | inl is ↦ rw is (more (effect (after_command_on c) (covers c) f))

@@ -18,7 +18,7 @@ use Rattle.course.specs.CourseLaws.{take_map, drop_map}
 use Rattle.history.specs.declared.event.Command.{Command}
 use Rattle.history.specs.declared.event.Entry.{Entry}
 use Rattle.history.specs.declared.event.Event.{Event}
-use Rattle.history.specs.declared.event.Event.TheVariants.{Admit, Look, Sweep, Do, Undo, Redo}
+use Rattle.history.specs.declared.event.Event.TheVariants.{Admit, Look, Sweep, Forget, Do, Undo, Redo}
 use Rattle.history.specs.declared.event.Journalled.{Journalled}
 use Rattle.history.specs.Journal.{is_among, held_as, held_with, journalled_of, commands_of}
 use Rattle.history.specs.Marks.{Marks}
@@ -40,6 +40,7 @@ one_entry marks (Do m c) None js log is = is
 one_entry marks (Admit m f) ticket js log is = is
 one_entry marks (Look m a) ticket js log is = is
 one_entry marks (Sweep m) ticket js log is = is
+one_entry marks (Forget m owner) ticket js log is = is
 one_entry marks (Undo m) ticket js log is = is
 one_entry marks (Redo m) ticket js log is = is
 

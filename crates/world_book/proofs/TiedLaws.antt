@@ -7,20 +7,21 @@ use Rattle.std.proofs.Math.Path.{fun_ext}
 use Rattle.std.proofs.lemmas.List.{append-nil, map-append, reverse-reverse, take-append-drop}
 use Rattle.std.proofs.lemmas.List.Elements.{filter_map-append, Contains-append_left, Contains-append_right}
 use Rattle.dns_name.specs.ListLaws.{all-append, all-take, all-drop, all_weaker}
+use Rattle.dns_name.specs.Labels.{Labels}
 use Rattle.dns_text.specs.declared.record.Question.{Question}
 use Rattle.ranked.specs.declared.find.Find.{Find}
 use Rattle.change_law.specs.declared.kept.KeptChange.{KeptChange}
 use Rattle.change_law.specs.declared.world.World.{Ghosts}
 use Rattle.change_law.specs.Choice.{IsChoice, IsPresent}
 use Rattle.change_law.specs.Effect.{effect}
-use Rattle.change_law.specs.Face.{IsSame, IsSameAt, face_with}
+use Rattle.change_law.specs.Face.{IsSame, IsSameAt, face_with, face_without}
 use Rattle.change_law.specs.Row.{IsRowAfter, IsRowFrom, IsSameRow, any, same_face, where_chosen}
 use Rattle.undo_journal.specs.Journal.{Changes, AreChanges, IsChange, IsUndo, IsRedo, tickets_of, done_of, undone_of, told_of, newest, settled_by}
-use Rattle.course.specs.Course.{Deed, Came, Made, AreAscending, Stands, face_by}
-use Rattle.course.specs.CourseLaws.{drop_map, map_length, take_map, asc_front, asc_push, asc_cross, same_at, same_at_later, same_at_then, stands_admitted, stands_swept, stands_made, stands_undo, stands_redo, stands_still, stands_shown}
+use Rattle.course.specs.Course.{Deed, Came, Forgot, Made, AreAscending, Stands, face_by}
+use Rattle.course.specs.CourseLaws.{drop_map, map_length, take_map, asc_front, asc_push, asc_cross, same_at, same_at_later, same_at_then, stands_admitted, stands_swept, stands_forgot, stands_made, stands_undo, stands_redo, stands_still, stands_shown}
 use Rattle.history.specs.declared.event.Ask.{Ask}
 use Rattle.history.specs.declared.event.Command.{Command}
-use Rattle.history.specs.declared.event.Event.TheVariants.{Admit, Look, Sweep, Do, Undo, Redo}
+use Rattle.history.specs.declared.event.Event.TheVariants.{Admit, Look, Sweep, Forget, Do, Undo, Redo}
 use Rattle.history.specs.declared.event.Entry.{Entry}
 use Rattle.history.specs.declared.event.Reason.{Reason}
 use Rattle.history.specs.declared.tables.Tables.{Tables}
@@ -291,6 +292,24 @@ module _ {W S : Type 0} (by : Ghosts W Tables S Command) where
         cells = tied.cells;
         stands = subst (λ (deeds : List (Deed Tables)). StandsAt w' changes now deeds (is_struck past.marks)) (sym (deeds_more past.log e (Some (Came find now)) refl))
             (stands_admitted by.has_cells by.table by.keeps by.face empty_face w w' changes past.now now (deeds_of past.log) (is_struck past.marks) find (omega arith) row tied.stands);
+        done = tied.done;
+        undone = tied.undone;
+        tickets = tied.tickets;
+        limit = tied.limit;
+        given = still_given by.told changes changes past now past.marks e refl refl refl tied.given;
+        tables = tied.tables;
+      }
+
+  pub tied_forgot : (w w' : W) (changes : Changes S) (bound moment : ℕ) (owner : Labels) (past : Past) →
+      IsRowAfter by.table by.keeps by.face (λ chosen. face_without by.has_cells owner) any w changes.kept w' changes.kept →
+      Tied w changes bound past → Tied w' changes bound (followed_by bound past (Forget moment owner))
+  tied_forgot w w' changes bound moment owner past row tied =
+      let now = max past.now moment in
+      let e : Entry = record { event = Forget moment owner; moment = now; ticket = None } in
+      record {
+        cells = tied.cells;
+        stands = subst (λ (deeds : List (Deed Tables)). StandsAt w' changes now deeds (is_struck past.marks)) (sym (deeds_more past.log e (Some (Forgot owner)) refl))
+            (stands_forgot by.has_cells by.table by.keeps by.face empty_face w w' changes past.now now (deeds_of past.log) (is_struck past.marks) owner (omega arith) row tied.stands);
         done = tied.done;
         undone = tied.undone;
         tickets = tied.tickets;

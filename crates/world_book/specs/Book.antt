@@ -14,7 +14,7 @@ use Rattle.history.specs.Event.{is_admission}
 use Rattle.history.specs.History.{past_of}
 use Rattle.world_book.specs.Step.{IsSound}
 use Rattle.world_book.specs.Tied.{IsTied}
-use Rattle.world_book.specs.Versions.{pairs_admitted}
+use Rattle.world_book.specs.Versions.{pairs_left}
 
 -- a world, the changes of its journal, the settings, the greatest moment and the count of events
 pub record BookState (W S : Type 0) : Type 0 where
@@ -43,7 +43,7 @@ pub record IsBookOf {W S : Type 0} (by : Ghosts W Tables S Command) (book : Book
   pub moment : book.moment ≡ (past_of book.settings.journal history).now
   pub count : book.count ≡ length history
   pub few : by.stored book.world ≤ count_by is_admission history
-  pub pairs : CountsAmong by.counts (pairs_admitted history) book.world
+  pub pairs : CountsAmong by.counts (pairs_left history) book.world
   pub most : by.limit book.world ≡ book.settings.cells
   pub some_commands : 1 ≤ book.settings.journal
 

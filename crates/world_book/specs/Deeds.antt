@@ -1,10 +1,10 @@
--- The deeds of a log: what came, and what was made. And what a log shows by a choice of its commands.
+-- The deeds of a log: what came, what was forgotten, and what was made. And what a log shows by a choice of its commands.
 use Rattle.std.specs.Prelude.{ℕ, Bool, Option, Some, None, List, map, filter_map}
 use Rattle.change_law.specs.Face.{Face}
-use Rattle.course.specs.Course.{Deed, Came, Made}
+use Rattle.course.specs.Course.{Deed, Came, Forgot, Made}
 use Rattle.history.specs.declared.event.Command.{Command}
 use Rattle.history.specs.declared.event.Event.{Event}
-use Rattle.history.specs.declared.event.Event.TheVariants.{Admit, Do}
+use Rattle.history.specs.declared.event.Event.TheVariants.{Admit, Forget, Do}
 use Rattle.history.specs.declared.event.Entry.{Entry}
 use Rattle.history.specs.declared.tables.Tables.{Tables}
 use Rattle.history.specs.Event.{covers}
@@ -12,9 +12,10 @@ use Rattle.history.specs.Changes.{no_tables, tables_by, after_command_on}
 use Rattle.history.specs.Cells.{cell_by}
 use Rattle.history.specs.History.{standing_with}
 
--- A find came; a command that took a ticket was made; nothing else does anything.
+-- A find came; a name was forgotten; a command that took a ticket was made; nothing else does anything.
 abbrev pub deed_of : Event → ℕ → Option ℕ → Option (Deed Tables)
 deed_of (Admit given find) moment ticket = Some (Came find moment)
+deed_of (Forget given owner) moment ticket = Some (Forgot owner)
 deed_of (Do given command) moment (Some ticket) = Some (Made ticket (after_command_on command) (covers command))
 deed_of event moment ticket = None
 

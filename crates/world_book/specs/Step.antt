@@ -2,7 +2,7 @@
 use Rattle.std.specs.Prelude.{◌≡◌, ◌≤◌, ◌+◌, ◌-◌, ℕ, Bool, false, List, IfSome, IsTrue, slice_get}
 use Rattle.dns_name.specs.Labels.{Labels}
 use Rattle.change_law.specs.declared.world.World.{Ghosts}
-use Rattle.change_law.specs.Pairs.{AddsPairs}
+use Rattle.change_law.specs.Pairs.{AddsPairs, CountsNoneOf}
 use Rattle.ranked.specs.declared.cell.Fate.{Fate}
 use Rattle.ranked.specs.declared.cell.Fate.TheVariants as fate
 use Rattle.ranked.specs.declared.find.Scope.{Scope}
@@ -10,7 +10,7 @@ use Rattle.undo_journal.specs.Journal.{Changes}
 use Rattle.history.specs.declared.book.StepFault.{StepFault}
 use Rattle.history.specs.declared.book.StepFault.TheVariants.{Full, NoMemory}
 use Rattle.history.specs.declared.event.Event.{Event}
-use Rattle.history.specs.declared.event.Event.TheVariants.{Sweep, Undo, Redo}
+use Rattle.history.specs.declared.event.Event.TheVariants.{Sweep, Forget, Undo, Redo}
 use Rattle.history.specs.declared.event.Reason.{Reason}
 use Rattle.history.specs.declared.event.Reason.TheVariants.{BelowRedirect, DataBelow, CnameClash, TooMany}
 use Rattle.history.specs.declared.event.Reply.{Reply}
@@ -31,6 +31,11 @@ pub record IsSoundAfter {W T S D : Type 0} (by : Ghosts W T S D) (more : ℕ) (a
   pub limit : by.limit world' ≡ by.limit world
   pub pairs : AddsPairs by.counts added world world'
 
+-- After a forget, no pair of its owner counts.
+abbrev pub ForgetsPairs : {W T S D : Type 0} → Ghosts W T S D → Event → W → Type 0
+ForgetsPairs by (Forget moment owner) world = CountsNoneOf by.counts owner world
+ForgetsPairs by event world = Unit {0}
+
 -- the numbers by which changes tell the reasons
 abbrev pub code_of : Reason → ℕ
 code_of BelowRedirect = 1
@@ -48,9 +53,10 @@ IsFaultOf by world event NoMemory = Unit {0}
 IsFaultOf by world event (Full n) = IsTrue (is_admission event) × (by.stored world ≡ n) × (by.limit world ≡ n)
 IsFaultOf by world event _ = ⊥
 
--- An event that wants no memory: a sweep, and an undo or a redo whose change wants none.
+-- An event that wants no memory: a sweep, a forget, and an undo or a redo whose change wants none.
 abbrev pub IsFree : {S : Type 0} → (S → Bool) → Changes S → Event → Type 0
 IsFree needs changes (Sweep moment) = Unit {0}
+IsFree needs changes (Forget moment owner) = Unit {0}
 IsFree needs changes (Undo moment) = IfSome (slice_get changes.kept (changes.done - 1)) (λ last. needs last.saved ≡ false)
 IsFree needs changes (Redo moment) = IfSome (slice_get changes.kept changes.done) (λ next. needs next.saved ≡ false)
 IsFree needs changes event = ⊥

@@ -1,7 +1,8 @@
 -- The versions of a history: the cells that it would give, if only some of the commands of its journal were in force. And the events that need no memory.
-use Rattle.std.specs.Prelude.{◌≡◌, ◌≢◌, ℕ, max, Bool, false, Option, Some, None, List, [], ◌∷◌, filter_map, map}
+use Rattle.std.specs.Prelude.{◌≡◌, ◌≢◌, ℕ, max, Bool, false, not, Option, Some, None, List, [], ◌∷◌, ◌++◌, filter, fold, map}
 use Rattle.std.specs.List.{AllByRecursion}
 use Rattle.dns_name.specs.Labels.{Labels}
+use Rattle.dns_name.specs.Order.{name_eq}
 use Rattle.dns_text.specs.declared.record.Question.{Question}
 use Rattle.ranked.specs.declared.cell.Admitted.{Admitted}
 use Rattle.ranked.specs.declared.find.Find.{Find}
@@ -13,25 +14,26 @@ use Rattle.change_law.specs.Pairs.{pair_of}
 use Rattle.history.specs.declared.event.Command.{Command}
 use Rattle.history.specs.declared.event.Command.TheVariants.{SetZone, DropZone, AddRecord, DropName, SetStub, DropStub}
 use Rattle.history.specs.declared.event.Event.{Event}
-use Rattle.history.specs.declared.event.Event.TheVariants.{Admit, Sweep, Undo, Redo}
+use Rattle.history.specs.declared.event.Event.TheVariants.{Admit, Sweep, Forget, Undo, Redo}
 use Rattle.history.specs.declared.event.Journalled.{Journalled}
 use Rattle.history.specs.History.{Past, is_unstruck, past_of}
 use Rattle.history.specs.Journal.{commands_of}
 use Rattle.history.specs.Marks.{last_of}
 use Rattle.world_book.specs.Deeds.{face_of}
 
--- the find that an event admits
-abbrev pub find_admitted : Event → Option Find
-find_admitted (Admit moment find) = Some find
-find_admitted event = None
+-- the finds that were admitted and not forgotten, after one event more
+abbrev pub finds_after : List Find → Event → List Find
+finds_after finds (Admit moment find) = finds ++ find ∷ []
+finds_after finds (Forget moment owner) = filter (λ find. not (name_eq owner find.owner)) finds
+finds_after finds event = finds
 
--- the finds of the admissions of a history
-abbrev pub finds_admitted : List Event → List Find
-finds_admitted history = filter_map find_admitted history
+-- the finds of the admissions of a history that no later forget of their owner follows
+abbrev pub finds_left : List Event → List Find
+finds_left history = fold finds_after [] history
 
--- the pairs of the admissions of a history: of each find its owner and its scope
-abbrev pub pairs_admitted : List Event → List (Labels × Scope)
-pairs_admitted history = map pair_of (finds_admitted history)
+-- the pairs of these finds: of each its owner and its scope
+abbrev pub pairs_left : List Event → List (Labels × Scope)
+pairs_left history = map pair_of (finds_left history)
 
 -- the number of the table that a command changes: 1 is that of local zones and records, 2 that of stubs; a flush changes none
 abbrev pub table_of : Command → Option ℕ
@@ -71,9 +73,10 @@ AreAliveAfter bound history pairs = AllByRecursion (IsAliveInVersion (past_of bo
 abbrev pub IsFlush : Past → ℕ → Type 0
 IsFlush past ticket = AllByRecursion (λ held. held.ticket ≡ ticket → table_of held.command ≡ None) (commands_of past)
 
--- An event that needs no memory: a sweep, an undo or a redo that reaches a flush, and an admission whose pair is alive in some version. (A look and a command may need memory.)
+-- An event that needs no memory: a sweep, a forget, an undo or a redo that reaches a flush, and an admission whose pair is alive in some version. (A look and a command may need memory.)
 abbrev pub IsFreeIn : Past → Event → Type 0
 IsFreeIn past (Sweep moment) = Unit {0}
+IsFreeIn past (Forget moment owner) = Unit {0}
 IsFreeIn past (Undo moment) = (ticket : ℕ) × (last_of past.marks.done ≡ Some ticket) × IsFlush past ticket
 IsFreeIn past (Redo moment) = (ticket : ℕ) × (last_of past.marks.undone ≡ Some ticket) × IsFlush past ticket
 IsFreeIn past (Admit moment find) = IsAliveInVersion past (max past.now moment) (pair_of find)

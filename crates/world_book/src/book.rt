@@ -73,7 +73,7 @@ impl<C: BookChange> Book for WorldBook<C> {
     ghost use Rattle.history.specs.Answers.{Answers, history_after};
     ghost use Rattle.history.specs.History.{past_of};
     ghost use Rattle.world_book.specs.Book.{IsBookOf};
-    ghost use Rattle.world_book.specs.Versions.{pairs_admitted, AreAliveAfter, IsFreeIn};
+    ghost use Rattle.world_book.specs.Versions.{pairs_left, AreAliveAfter, IsFreeIn};
 
     ghost stands_for = { IsBookOf C.World.World };
 
@@ -95,9 +95,10 @@ impl<C: BookChange> Book for WorldBook<C> {
         ensures same_store { OnErr result (C.World.stored self.new.world ≡ C.World.stored self.old.world) }
         ensures settings { self.new.settings ≡ self.old.settings }
 
-        // It is full only once as many different pairs of owner and scope were admitted as there may be cells.
+        // It is full only if of the finds that were admitted, and whose owner was not forgotten since, as many differ in owner or scope
+        // as there may be cells.
         ensures many { (h : List Event) → IsBookOf C.World.World self.old h → (n : ℕ) → IsErrOf result (StepFault.Full n) →
-            self.old.settings.cells ≤ count_pairs (pairs_admitted h) }
+            self.old.settings.cells ≤ count_pairs (pairs_left h) }
 
         // An event that needs no memory is refused only by the clock and the count of events.
         ensures free { (h : List Event) → IsBookOf C.World.World self.old h → IsFreeIn (past_of self.old.settings.journal h) event →
@@ -181,8 +182,8 @@ impl<C: BookChange> Book for WorldBook<C> {
         ensures stored { result ≡ C.World.stored self.now.world }
         ensures within { (h : List Event) → IsBookOf C.World.World self.now h → result ≤ self.now.settings.cells }
 
-        // No more than the different pairs of owner and scope that were admitted.
-        ensures most { (h : List Event) → IsBookOf C.World.World self.now h → result ≤ count_pairs (pairs_admitted h) }
+        // No more than the different pairs of owner and scope that were admitted, and whose owner was not forgotten since.
+        ensures most { (h : List Event) → IsBookOf C.World.World self.now h → result ≤ count_pairs (pairs_left h) }
 
         // No fewer than the different pairs of the finds that are alive now in some version.
         ensures least { (h : List Event) → IsBookOf C.World.World self.now h → (pairs : List (Labels × Scope)) →

@@ -1,14 +1,15 @@
-//! Admissions and sweeps of a world under its journal.
+//! Admissions, sweeps and forgets of a world under its journal.
 
 ghost use Rattle.std.specs.Prelude.{◌≡◌, ◌∷◌, [], ℕ, IfOk, IfErr, IsOk, OnOk, OnErr};
-ghost use Rattle.change_law.specs.Pairs.{IsAliveIn, pair_of};
-ghost use Rattle.history.specs.declared.event.Event.TheVariants.{Admit, Sweep};
+ghost use Rattle.change_law.specs.Pairs.{CountsNoneOf, IsAliveIn, pair_of};
+ghost use Rattle.history.specs.declared.event.Event.TheVariants.{Admit, Sweep, Forget};
 ghost use Rattle.history.specs.declared.event.Settings.{Settings};
 ghost use Rattle.world_book.specs.Step.{IsSound, IsSoundAfter, IsFaultOf, reply_of_fate};
 ghost use Rattle.world_book.specs.Tied.{IsHistoryReply, StaysTied, TakesIn, TakesNothingIn};
 
 use crate::world::BookChange;
 use change_law::{World, WorldFault};
+use dns_name::Name;
 use history::{Reply, StepFault};
 use ranked::{Fate, SharedFind};
 use undo_journal::Journal;
@@ -69,4 +70,16 @@ pub(crate) fn sweep<C: BookChange>(journal: &Journal<C>, world: &mut C::World, c
 {
     let _ = journal;
     world.sweep(clock);
+}
+
+/// Lets the world forget a name.
+pub(crate) fn forget<C: BookChange>(journal: &Journal<C>, world: &mut C::World, owner: &Name)
+    requires { IsSound C.World.World world.old journal.now }
+    ensures tied { (clock moment : ℕ) →
+        TakesIn C.World.World clock (Forget moment owner.now) world.old journal.now world.new journal.now }
+    ensures gone { CountsNoneOf C.World.counts owner.now world.new }
+    ensures sound { IsSoundAfter C.World.World 0 [] world.old journal.now world.new journal.now }
+{
+    let _ = journal;
+    world.forget(owner);
 }

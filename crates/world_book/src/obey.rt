@@ -2,11 +2,11 @@
 
 ghost use Rattle.std.specs.Prelude.{◌<◌, ◌^◌, ◌∷◌, [], IfOk, IfErr, OnOk, OnErr, if◌then◌else◌};
 ghost use Rattle.history.specs.Event.{is_admission};
-ghost use Rattle.world_book.specs.Step.{IsSound, IsSoundAfter, IsFaultOf};
+ghost use Rattle.world_book.specs.Step.{ForgetsPairs, IsSound, IsSoundAfter, IsFaultOf};
 ghost use Rattle.world_book.specs.Tied.{IsHistoryReply, IsTakenIfFree, TakesIn, TakesNothingIn};
-ghost use Rattle.world_book.specs.Versions.{pairs_admitted};
+ghost use Rattle.world_book.specs.Versions.{pairs_left};
 
-use crate::finds::{admit, sweep};
+use crate::finds::{admit, forget, sweep};
 use crate::given::give;
 use crate::moves::{redo, undo};
 use crate::seen::seen;
@@ -24,15 +24,15 @@ pub(crate) fn obey<C: BookChange>(
     event: Event,
     clock: u64,
 ) -> Result<Reply, StepFault>
-    requires sound { IsSound C.World.World world.old journal.old }
-    requires few { journal.old.tickets < 2 ^ 62 }
+    requires { IsSound C.World.World world.old journal.old × (journal.old.tickets < 2 ^ 62) }
     ensures told { IfOk result (λ reply. IsHistoryReply C.World.World settings.now clock event world.old journal.old reply) }
     ensures tied { OnOk result (TakesIn C.World.World clock event world.old journal.old world.new journal.new) }
     ensures same { OnErr result (TakesNothingIn C.World.World world.old journal.old world.new journal.new) }
     ensures faults { IfErr result (λ fault. IsFaultOf C.World.World world.old event fault) }
     ensures free { IsTakenIfFree C.World.World clock event world.old journal.old result }
-    ensures sound { IsSoundAfter C.World.World (if is_admission event then 1 else 0) (pairs_admitted (event ∷ []))
+    ensures sound { IsSoundAfter C.World.World (if is_admission event then 1 else 0) (pairs_left (event ∷ []))
         world.old journal.old world.new journal.new }
+    ensures forgotten { OnOk result (ForgetsPairs C.World.World event world.new) }
 {
     let _undone = journal.undone();
     match event {
@@ -46,6 +46,10 @@ pub(crate) fn obey<C: BookChange>(
         Event::Sweep { .. } => {
             sweep(journal, world, clock);
             Ok(Reply::Swept)
+        }
+        Event::Forget { owner, .. } => {
+            forget(journal, world, &owner);
+            Ok(Reply::Forgotten)
         }
         Event::Do { command, .. } => Ok(give(journal, world, command)?),
         Event::Undo { .. } => Ok(undo(journal, world)?),

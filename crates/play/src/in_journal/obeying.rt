@@ -94,7 +94,7 @@ fn reply(
         Request::Undo => undo(tables),
         Request::Redo => redo(tables),
         Request::Look(ask) => Ok(Reply::Seen(seen(alloc, tables.world().tables(), ask)?)),
-        Request::Sweep => Err(Stop::Device),
+        Request::Sweep | Request::Forget { .. } => Err(Stop::Device),
     }
 }
 

@@ -34,6 +34,10 @@ pub returns-in-Sweep-clause-tied : goal.returns-in-Sweep-clause-tied
 returns-in-Sweep-clause-tied g c =
     subst (λ (e : Event). TakesIn g.C.World.World c.args.clock e c.args.world.now c.args.journal.now c.sweep.new.world c.args.journal.now) (sym c.in-Sweep.is) (c.sweep.ensures.tied c.in-Sweep.moment)
 
+pub returns-in-Forget-clause-tied : goal.returns-in-Forget-clause-tied
+returns-in-Forget-clause-tied g c =
+    subst (λ (e : Event). TakesIn g.C.World.World c.args.clock e c.args.world.now c.args.journal.now c.forget.new.world c.args.journal.now) (sym c.in-Forget.is) (c.forget.ensures.tied c.args.clock c.in-Forget.moment)
+
 pub returns-in_ok-give-in-Do-clause-told : goal.returns-in_ok-give-in-Do-clause-told
 returns-in_ok-give-in-Do-clause-told g c =
     subst (λ (e : Event). IsHistoryReply g.C.World.World c.args.settings.now c.args.clock e c.args.world.now c.args.journal.now c.in_ok-give-in-Do.field-0) (sym c.in-Do.is)

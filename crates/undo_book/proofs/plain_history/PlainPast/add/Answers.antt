@@ -1,11 +1,11 @@
 -- The book with an event more: each field is what the definitions say.
 use Rattle.std.specs.List.{cons_option}
-use Rattle.std.proofs.Common.{◌≡◌, ℕ, ◌+◌, cond, max, List, [], ◌∷◌, ◌++◌, false, refl, sym, ◌∙◌, ap, subst, arith, length}
+use Rattle.std.proofs.Common.{◌≡◌, ℕ, ◌+◌, max, List, [], ◌∷◌, ◌++◌, false, refl, sym, ◌∙◌, ap, subst, arith, length}
 use Rattle.history.specs.declared.event.Entry.{Entry}
 use Rattle.history.specs.declared.event.Reply.{Reply}
 use Rattle.undo_book.specs.declared.log.Logged.{Logged}
-use Rattle.history.specs.Event.{moment_of, is_admission}
-use Rattle.history.specs.Counts.{admissions_in}
+use Rattle.history.specs.Event.{moment_of}
+use Rattle.history.specs.Counts.{counted_in}
 use Rattle.history.specs.Marks.{Marks}
 use Rattle.history.specs.Tickets.{InOne}
 use Rattle.history.specs.History.{Past}
@@ -14,8 +14,8 @@ use Rattle.undo_book.specs.Plain.{marks_in, marks_by, entries_in, AreFlagged}
 use Rattle.undo_book.specs.PlainPast.{past_in}
 use Rattle.undo_book.specs.declared.index.Indexed.{Indexed}
 use Rattle.undo_book.specs.Index.{index_from, index_of_entry}
-use Rattle.history.specs.Counts.{count_push}
 use Rattle.undo_book.proofs.AddedLaws.{added_by}
+use Rattle.undo_book.proofs.StoredLaws.{counted_after}
 use Rattle.undo_book.proofs.IndexLaws.{index_after}
 use Rattle.history.specs.TicketLaws.{next_in_one}
 use Rattle.undo_book.proofs.PlainLaws.{marks_by_reply, entries_after, length_after, flags_after, past_by_parts, entry_by_parts}
@@ -38,10 +38,8 @@ invariant_of-self c =
       in_range = book.in_range;
       few_tickets = omega (arith, c.mark.ensures.few);
       counted =
-          c.count_admission-self.ensures
-          ∙ ap (λ (n : ℕ). n + cond (is_admission event) 1 0) book.counted
-          ∙ sym (count_push past.log logged.entry)
-          ∙ sym (ap admissions_in (ap entries_in added.log ∙ entries_after reply book.log.items logged));
+          c.stored_after-self.ensures
+          ∙ sym (ap counted_in (ap entries_in added.log ∙ entries_after reply book.log.items logged) ∙ counted_after book.log.items logged.entry);
       indexed =
           c.add_to_index.ensures
           ∙ ap (λ (l : List Indexed). l ++ cons_option (index_of_entry c.len.result event) []) book.indexed

@@ -1,0 +1,20 @@
+use Rattle.std.proofs.Common.{arith}
+use Rattle.store.specs.World.{shelved}
+use Rattle.store.specs.WorldLaws.{row_forgot}
+use Rattle.store.proofs.PairLaws.{none_of}
+use Rattle.store.proofs.world.ShelfWorldWorld.forget.Goals as goal
+
+pub returns-clause-row : goal.returns-clause-row
+returns-clause-row c = rw (← c.self.view_is) (λ kept h.
+    row_forgot (shelved c.self.inside.shelf) (shelved c.forget.new.self) kept c.args.owner.now h c.forget.ensures.flushes.0 c.forget.ensures.faces)
+
+pub returns-clause-counts : goal.returns-clause-counts
+returns-clause-counts c = rw (← c.self.view_is) ((
+  omega (arith, c.forget.ensures.flushes.1),
+  c.forget.ensures.stored,
+  c.forget.ensures.flushes.2,
+  λ pair has. c.forget.ensures.pairs pair has,
+))
+
+pub returns-clause-gone : goal.returns-clause-gone
+returns-clause-gone c = none_of c.args.owner.now c.forget.new.self c.forget.ensures.gone
