@@ -18,3 +18,4 @@ pub mod EndLaws
 pub mod Same
 pub mod Mixed
 pub mod Entry
+pub mod Life

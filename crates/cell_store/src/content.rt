@@ -1,6 +1,7 @@
 //! The content of a cell in a version, whether it is alive or not.
 
 ghost use Rattle.std.specs.Prelude.{◌≡◌};
+ghost use Rattle.cell_store.specs.Life.{life_end};
 ghost use Rattle.cell_store.specs.Owner.{cell_in, whole_cell, whole_held};
 ghost use Rattle.cell_store.specs.Same.{cell_now, same_cell};
 
@@ -53,6 +54,16 @@ fn same_cell(cell: &Option<Admitted<&SharedFind>>, other: &Option<Admitted<&Shar
     }
 }
 
+// The second in which the life of a cell's find ends. It is 0 if there is none, or if it is never alive.
+fn life_end(cell: &Option<Admitted<&SharedFind>>) -> u128
+    ensures { result ≡ life_end (cell_now cell.now) }
+{
+    match cell {
+        Some(held) if held.ttl > 0 => u128::from(held.since) + u128::from(held.ttl),
+        _ => 0,
+    }
+}
+
 impl OwnerCells {
     // The find of a type in a version, with the moment of its admission.
     fn cell(&self, kind: u16, version: u64) -> Option<Admitted<&SharedFind>>
@@ -76,5 +87,19 @@ impl OwnerCells {
         ensures { result ≡ same_cell (cell_in self.now kind version) (cell_in self.now kind other) }
     {
         same_cell(&self.cell(kind, version), &self.cell(kind, other))
+    }
+
+    /// The second in which the life of the find of a type in a version ends. It is 0 if there is none, or if it is never alive.
+    pub fn life_end(&self, kind: u16, version: u64) -> u128
+        ensures { result ≡ life_end (cell_in self.now kind version) }
+    {
+        life_end(&self.cell(kind, version))
+    }
+
+    /// The same of the find of the whole name.
+    pub fn whole_life_end(&self) -> u128
+        ensures { result ≡ life_end (whole_cell self.now.whole) }
+    {
+        life_end(&whole_cell(&self.whole))
     }
 }

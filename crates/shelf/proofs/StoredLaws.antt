@@ -203,7 +203,7 @@ has_all_pair (e ∷ es) q has = list_any-append (pair_eq q) (entry_pairs e) (all
 
 -- ---- each of them is a place that counts
 
-no_column : (kinds : List KindColumn) (kind : ℕ) → AllByRecursion (λ n. nat_eq kind n ≡ false) (map (λ (own : KindColumn). own.kind) kinds) → column_of kinds kind ≡ None
+pub no_column : (kinds : List KindColumn) (kind : ℕ) → AllByRecursion (λ n. nat_eq kind n ≡ false) (map (λ (own : KindColumn). own.kind) kinds) → column_of kinds kind ≡ None
 no_column [] kind apart = refl
 no_column (x ∷ kinds) kind apart =
     ap (λ b. cond b (Some x.column) (column_of kinds kind)) (nat_eq_equiv.symm x.kind kind ∙ apart.0) ∙ no_column kinds kind apart.1
@@ -340,7 +340,7 @@ all_once [] names once = distinct_none pair_eq pair_equiv
 all_once (e ∷ es) names once =
     entry_once e (all_pairs es) once.0 (λ s. other_entry e.0 s es (IsDistinct-head name_eq e.0 (keys_of es) names)) (all_once es (IsDistinct-tail name_eq e.0 (keys_of es) names) once.1)
 
-each_once : (top : ℕ) (es : List (Labels × OwnerCells)) → IsDistinct name_eq (keys_of es) → ((name : Labels) → IfSome (lookup (name_eq name) es) (IsUpTo top)) → AllByRecursion (λ e. IsDistinct nat_eq (map (λ (own : KindColumn). own.kind) e.1.kinds.items)) es
+pub each_once : (top : ℕ) (es : List (Labels × OwnerCells)) → IsDistinct name_eq (keys_of es) → ((name : Labels) → IfSome (lookup (name_eq name) es) (IsUpTo top)) → AllByRecursion (λ e. IsDistinct nat_eq (map (λ (own : KindColumn). own.kind) e.1.kinds.items)) es
 each_once top [] names upto = tt
 each_once top (e ∷ es) names upto =
     let first : IsUpTo top e.1 = subst (λ b. IfSome (cond b (Some e.1) (lookup (name_eq e.0) es)) (IsUpTo top)) (name_equiv.refl e.0) (upto e.0) in

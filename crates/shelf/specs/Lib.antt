@@ -6,3 +6,5 @@ pub mod Room
 pub mod Sweep
 pub mod Stored
 pub mod KeptCells
+pub mod First
+pub mod Oldest

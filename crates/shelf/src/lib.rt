@@ -17,6 +17,8 @@ mod shelf;
 mod laws;
 // The sweep of dead finds and unused versions.
 mod sweep;
+// The name to forget first.
+mod oldest;
 // The cells that are kept for a question.
 mod kept;
 

@@ -2,7 +2,7 @@
 use Rattle.std.proofs.Common.{◌≡◌, ℕ, zero, suc, ◌+◌, ◌*◌, ◌/◌, ◌++◌, ◌<◌, ◌≤◌, List, [], ◌∷◌, length, take, refl, sym, ap, ◌∙◌, subst, arith, ◌⊎◌, inl, inr}
 use Rattle.std.proofs.lemmas.List.{get_or_append_left, get_or_past, get_or-take, length-take-le}
 use Rattle.std.proofs.Math.ListN.{length-append}
-use Rattle.winner_tree.specs.Tree.{moment_at, never, IsNode, IsTree, AreLater}
+use Rattle.winner_tree.specs.Tree.{moment_at, never, up, IsBound, IsNode, IsTree, AreLater}
 
 -- ---- the root
 
@@ -24,6 +24,28 @@ root_later ends least moment tree later i there =
     let up : moment_at least 0 ≤ moment_at least i = root_at ends least tree (suc i) i (omega arith) there in
     let here : IsNode ends least i = tree.nodes i there in
     omega arith
+
+-- ---- any node
+
+up_zero : (k : ℕ) → up k 0 ≡ 0
+up_zero zero = refl
+up_zero (suc k) = up_zero k
+
+node_at : (ends least : List ℕ) (node : ℕ) → IsTree ends least → (k i : ℕ) → up k (i + 1) ≡ node + 1 → i < length ends → moment_at least node ≤ moment_at least i
+node_at ends least node tree zero i at there = let same : node ≡ i = omega (arith, at) in omega (arith, ap (moment_at least) same)
+node_at ends least node tree (suc k) zero at there = absurd (omega (arith, at, up_zero k))
+node_at ends least node tree (suc k) (suc i) at there =
+    let parent : (suc i ≡ 2 * (i / 2) + 1) ⊎ (suc i ≡ 2 * (i / 2) + 2) = grind arith in
+    let half : (suc i + 1) / 2 ≡ i / 2 + 1 = omega arith in
+    let here : moment_at least (i / 2) ≤ moment_at least (suc i) = le_child ends least (i / 2) (suc i) (tree.nodes (i / 2) (omega arith)) parent in
+    let above : moment_at least node ≤ moment_at least (i / 2) = node_at ends least node tree k (i / 2) (sym (ap (up k) half) ∙ at) (omega arith) in
+    omega (arith, here, above)
+
+pub node_bound : (ends least : List ℕ) (node : ℕ) → IsTree ends least → IsBound ends node (moment_at least node)
+node_bound ends least node tree i below there =
+    let above : moment_at least node ≤ moment_at least i = node_at ends least node tree below.0 i below.1 there in
+    let here : IsNode ends least i = tree.nodes i there in
+    omega (arith, above, here)
 
 -- ---- one position more
 

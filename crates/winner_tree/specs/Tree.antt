@@ -1,5 +1,5 @@
 -- The tree of winners over positions: the children of position i are 2 i + 1 and 2 i + 2.
-use Rattle.std.specs.Prelude.{◌≡◌, ◌≢◌, ℕ, ◌+◌, ◌*◌, ◌<◌, ◌≤◌, min, List, length, slice_index_or}
+use Rattle.std.specs.Prelude.{◌≡◌, ◌≢◌, ℕ, zero, suc, ◌+◌, ◌*◌, ◌/◌, ◌<◌, ◌≤◌, min, List, length, slice_index_or}
 
 -- the latest moment; a position that is not there ends then
 abbrev pub never : ℕ
@@ -29,3 +29,16 @@ HasEnded ends moment i = (i < length ends) × (moment_at ends i ≤ moment)
 -- Every position ends after a moment.
 abbrev pub AreLater : List ℕ → ℕ → Type 0
 AreLater ends moment = (i : ℕ) → i < length ends → moment < moment_at ends i
+
+-- a node so many steps up, in numbers from 1: the parent of node n is n / 2
+abbrev pub up : ℕ → ℕ → ℕ
+up zero n = n
+up (suc k) n = up k (n / 2)
+
+-- A position is at or below a node.
+abbrev pub IsBelow : ℕ → ℕ → Type 0
+IsBelow node i = (k : ℕ) × (up k (i + 1) ≡ node + 1)
+
+-- No position at or below a node ends before a moment.
+abbrev pub IsBound : List ℕ → ℕ → ℕ → Type 0
+IsBound ends node moment = (i : ℕ) → IsBelow node i → i < length ends → moment ≤ moment_at ends i

@@ -52,7 +52,7 @@ fn least_of(ends: &[u64], least: &[u64], place: usize) -> u64
 }
 
 impl WinnerTree {
-    ghost use Rattle.winner_tree.specs.Tree.{AreLater, HasEnded};
+    ghost use Rattle.winner_tree.specs.Tree.{AreLater, HasEnded, IsBound};
 
     /// No positions.
     pub fn new(alloc: Global) -> WinnerTree
@@ -92,6 +92,14 @@ impl WinnerTree {
             };
         }
         Some(place)
+    }
+
+    /// A moment before which no position at or below a node ends: the least of theirs, or the latest moment if there is none.
+    /// The nodes are the positions. The children of position i are 2 i + 1 and 2 i + 2.
+    pub fn least(&self, node: usize) -> u64
+        ensures { IsBound self.now node result }
+    {
+        moment_at(&self.least, node)
     }
 
     /// The moment at which a position ends.
@@ -187,6 +195,9 @@ mod tests {
             tree.push(end)?;
         }
         assert_eq!(rt; tree.len(), 5);
+        assert_eq!(rt; tree.least(0), 20);
+        assert_eq!(rt; tree.least(2), 70);
+        assert_eq!(rt; tree.least(9), u64::MAX);
         assert_eq!(rt; tree.first_ended(19), None);
         assert_eq!(rt; tree.first_ended(20), Some(1));
         tree.set(1, 80);

@@ -1,0 +1,85 @@
+-- The order of names by the ends of their last finds, and the places at or below a node.
+use Rattle.std.proofs.Common.{◌≡◌, ℕ, zero, suc, ◌+◌, ◌*◌, ◌/◌, ◌<◌, ◌≤◌, false, refl, sym, ap, ◌∙◌, subst, arith, ◌⊎◌, inl, inr}
+use Rattle.std.specs.Prelude.{IsTrue}
+use Rattle.std.specs.Ordering.{is_le, ordering_reverse}
+use Rattle.std.specs.declared.cmp.Ordering.{Ordering}
+use Rattle.std.specs.declared.cmp.Ordering.TheVariants.{Less, Equal, Greater}
+use Rattle.std.proofs.lemmas.Cmp.{tied_itself}
+use Rattle.dns_name.specs.Labels.{Labels}
+use Rattle.dns_name.specs.Order.{name_cmp, name_cmp_exact, name_total, IsNotAfter}
+use Rattle.winner_tree.specs.Tree.{up, IsBelow}
+use Rattle.shelf.specs.First.{IsSooner}
+
+-- ---- names
+
+then_by : (a b c : Labels) (x y : Ordering) → name_cmp a b ≡ x → name_cmp b c ≡ y → IsTrue (is_le x) → IsTrue (is_le y) → IsTrue (is_le (name_cmp a c))
+then_by a b c Less Less p q low high = subst (λ o. IsTrue (is_le o)) (sym (name_total.trans a b c p q)) refl
+then_by a b c Less Equal p q low high = subst (λ (n : Labels). IsTrue (is_le (name_cmp a n))) (name_cmp_exact b c q) (subst (λ o. IsTrue (is_le o)) (sym p) low)
+then_by a b c Less Greater p q low high = absurd cc
+then_by a b c Equal y p q low high = subst (λ (n : Labels). IsTrue (is_le (name_cmp n c))) (sym (name_cmp_exact a b p)) (subst (λ o. IsTrue (is_le o)) (sym q) high)
+then_by a b c Greater y p q low high = absurd cc
+
+not_after_then : (a b c : Labels) → IsNotAfter a b → IsNotAfter b c → IsNotAfter a c
+not_after_then a b c low high = then_by a b c (name_cmp a b) (name_cmp b c) refl refl low high
+
+not_after_itself : (a : Labels) → IsNotAfter a a
+not_after_itself a = subst (λ o. IsTrue (is_le o)) (sym (tied_itself name_total a)) refl
+
+back_by : (x y : Ordering) → x ≡ ordering_reverse y → (is_le x ≡ false) → IsTrue (is_le y)
+back_by Less y is past = absurd cc
+back_by Equal y is past = absurd cc
+back_by Greater Less is past = refl
+back_by Greater Equal is past = refl
+back_by Greater Greater is past = absurd cc
+
+pub not_after_back : (a b : Labels) → is_le (name_cmp a b) ≡ false → IsNotAfter b a
+not_after_back a b past = back_by (name_cmp a b) (name_cmp b a) (name_total.antisymm a b) past
+
+-- ---- seconds and names
+
+pub sooner_then : (a b c : ℕ) (k m n : Labels) → IsSooner a k b m → IsSooner b m c n → IsSooner a k c n
+sooner_then a b c k m n (inl p) (inl q) = inl (omega arith)
+sooner_then a b c k m n (inl p) (inr q) = inl (omega (arith, q.0))
+sooner_then a b c k m n (inr p) (inl q) = inl (omega (arith, p.0))
+sooner_then a b c k m n (inr p) (inr q) = inr (p.0 ∙ q.0, not_after_then k m n p.1 q.1)
+
+pub sooner_itself : (a : ℕ) (n : Labels) → IsSooner a n a n
+sooner_itself a n = inr (refl, not_after_itself n)
+
+pub sooner_same : (a b c d : ℕ) (k m n o : Labels) → a ≡ b → k ≡ m → c ≡ d → n ≡ o → IsSooner a k c n → IsSooner b m d o
+sooner_same a b c d k m n o p q r s is =
+    subst (λ x. IsSooner x m d o) p (subst (λ (x : Labels). IsSooner a x d o) q (subst (λ x. IsSooner a k x o) r (subst (λ (x : Labels). IsSooner a k c x) s is)))
+
+-- ---- the places at or below a node
+
+up_last : (k n : ℕ) → up (suc k) n ≡ up k n / 2
+up_last zero n = refl
+up_last (suc k) n = up_last k (n / 2)
+
+up_low : (k n : ℕ) → up k n ≤ n
+up_low zero n = omega arith
+up_low (suc k) n = omega (arith, up_low k (n / 2))
+
+halves : (x n : ℕ) → x / 2 ≡ n + 1 → (x ≡ (2 * n + 1) + 1) ⊎ (x ≡ (2 * n + 2) + 1)
+halves x n is = grind arith
+
+pub below_split : (node i : ℕ) → IsBelow node i → (i ≡ node) ⊎ (IsBelow (2 * node + 1) i ⊎ IsBelow (2 * node + 2) i)
+below_split node i (zero, at) = inl (omega (arith, at))
+below_split node i (suc k, at) = inr (elim (halves (up k (i + 1)) node (sym (up_last k (i + 1)) ∙ at)) [
+  | inl left ↦ inl (k, left)
+  | inr right ↦ inr (k, right)
+])
+
+pub below_low : (node i : ℕ) → IsBelow node i → node ≤ i
+below_low node i (k, at) = omega (arith, at, up_low k (i + 1))
+
+root_of : (fuel n : ℕ) → n < fuel → (k : ℕ) × (up k (n + 1) ≡ 1)
+root_of zero n low = absurd (omega arith)
+root_of (suc fuel) zero low = (0, refl)
+root_of (suc fuel) (suc n) low =
+    let next = root_of fuel (n / 2) (omega arith) in
+    let half : (suc n + 1) / 2 ≡ n / 2 + 1 = omega arith in
+    (suc next.0, ap (up next.0) half ∙ next.1)
+
+pub below_root : (i : ℕ) → IsBelow 0 i
+below_root i = root_of (suc i) i (omega arith)

@@ -1,0 +1,358 @@
+//! The name to forget first when the cache is full.
+
+ghost use Rattle.std.specs.Prelude.{◌≡◌, ◌⊎◌, ◌<◌, ◌≤◌, ◌+◌, ◌-◌, ◌*◌, ◌^◌, true, false, IfSome, IfNone};
+ghost use Rattle.cell_store.specs.Life.{life_end};
+ghost use Rattle.cell_store.specs.Owner.{whole_held};
+ghost use Rattle.winner_tree.specs.Tree.{IsBelow};
+ghost use Rattle.shelf.specs.First.{cell_at_name, kind_life, life_at, name_life, AreBounds, IsAhead, IsCandidate, IsEnough, IsFirst, IsSooner, IsSoonerOf};
+ghost use Rattle.shelf.specs.Told.{IsShelf};
+
+use crate::settling::{Settling, settled_version};
+use crate::shelf::{KeptFlush, Shelf};
+use cell_store::{OwnerCells, Owners};
+use dns_name::Name;
+use winner_tree::WinnerTree;
+
+/// A name that has a find alive at a moment.
+#[derive(Clone, Copy)]
+pub(crate) struct Candidate<'a> {
+    /// Its place in the index.
+    pub place: usize,
+    /// The second in which its last find ends.
+    pub end: u128,
+    pub name: &'a Name,
+}
+
+// The second in which the last find of a type ends, over its versions: version 0, and those of the kept flushes that cover it.
+fn kind_life(
+    name: &Name,
+    cells: &OwnerCells,
+    kind: u16,
+    settling: &Option<Settling>,
+    kept: &[KeptFlush],
+) -> u128
+    ensures { result ≡
+        kind_life kept.now (cell_at_name settling.now name.now cells.now kind) (record { owner = name.now; kind = kind }) }
+{
+    let mut end = cells.life_end(kind, settled_version(settling, name, 0));
+    for own in kept {
+        if own.flush.covers(name, kind) {
+            let version = settled_version(settling, name, own.number);
+            end = end.max(cells.life_end(kind, version));
+        }
+    }
+    end
+}
+
+// The second in which the find of the whole name ends, if a version has it.
+fn whole_life(cells: &OwnerCells, version: u64) -> u128
+    ensures { result ≡ life_end (whole_held cells.now.whole version) }
+{
+    match &cells.whole {
+        Some(whole) => {
+            if whole.upto < version {
+                0
+            } else {
+                cells.whole_life_end()
+            }
+        }
+        None => 0,
+    }
+}
+
+// The second in which the last find of a name ends.
+fn name_life(
+    name: &Name,
+    cells: &OwnerCells,
+    settling: &Option<Settling>,
+    kept: &[KeptFlush],
+) -> u128
+    ensures { result ≡ name_life settling.now kept.now name.now cells.now }
+{
+    let mut end = whole_life(cells, settled_version(settling, name, 0));
+    for own in &cells.kinds {
+        end = end.max(kind_life(name, cells, own.kind, settling, kept));
+    }
+    end
+}
+
+// The name at a place, if a find of it is alive at a moment.
+fn name_if_alive<'a>(
+    owners: &'a Owners,
+    settling: &Option<Settling>,
+    kept: &[KeptFlush],
+    moment: u64,
+    place: usize,
+) -> Option<Candidate<'a>>
+    ensures some { IfSome result (λ own. (own.place ≡ place) × IsCandidate settling.now kept.now owners.now.entries moment own) }
+    ensures none { IfNone result (life_at settling.now kept.now owners.now.entries place ≤ moment) }
+{
+    let (name, cells) = match owners.get_index(place) {
+        Some(entry) => entry,
+        None => return None,
+    };
+    let end = name_life(name, cells, settling, kept);
+    if end > u128::from(moment) {
+        Some(Candidate { place, end, name })
+    } else {
+        None
+    }
+}
+
+impl Candidate<'_> {
+    // Whether it is not after another.
+    fn is_sooner(&self, other: &Candidate<'_>) -> bool
+        ensures yes { result ≡ true → IsSooner self.now.end self.now.name.now other.now.end other.now.name.now }
+        ensures no { result ≡ false → IsSooner other.now.end other.now.name.now self.now.end self.now.name.now }
+    {
+        if self.end == other.end {
+            self.name.cmp(other.name).is_le()
+        } else {
+            self.end < other.end
+        }
+    }
+}
+
+// One of two candidates, which is not after the other.
+fn sooner<'a>(a: Option<Candidate<'a>>, b: Option<Candidate<'a>>) -> Option<Candidate<'a>>
+    ensures { IsSoonerOf a.entry b.entry result }
+{
+    match a {
+        None => b,
+        Some(x) => match b {
+            None => a,
+            Some(y) => { if x.is_sooner(&y) { a } else { b } }
+        },
+    }
+}
+
+// Whether each name at or below a node ends later than a candidate, by the moments before which a sweep finds nothing to remove.
+// While a permanent flush has names to reach, these moments say nothing.
+fn is_ahead(
+    settling: &Option<Settling>,
+    ends: &WinnerTree,
+    node: usize,
+    best: &Option<Candidate<'_>>,
+) -> bool
+    ensures { result ≡ true → IsAhead settling.now ends.now node best.now }
+{
+    match best {
+        Some(own) => settling.is_none() && own.end < u128::from(ends.least(node)),
+        None => false,
+    }
+}
+
+// The children of a node, first the one that ends first.
+fn children(ends: &WinnerTree, node: usize) -> (usize, usize)
+    requires { node < 2 ^ 63 - 1 }
+    ensures { ((result.0 ≡ 2 * node + 1) × (result.1 ≡ 2 * node + 2)) ⊎ ((result.0 ≡ 2 * node + 2) × (result.1 ≡ 2 * node + 1)) }
+{
+    let left = 2 * node + 1;
+    let right = 2 * node + 2;
+    if ends.least(left) <= ends.least(right) {
+        (left, right)
+    } else {
+        (right, left)
+    }
+}
+
+// Whether a candidate is not after the name at a place, by the moment before which a sweep finds nothing to remove of that name.
+fn is_enough(
+    owners: &Owners,
+    settling: &Option<Settling>,
+    ends: &WinnerTree,
+    place: usize,
+    best: &Option<Candidate<'_>>,
+) -> bool
+    ensures { result ≡ true → IsEnough settling.now owners.now.entries ends.now place best.now }
+{
+    let own = match best {
+        Some(own) => own,
+        None => return false,
+    };
+    if settling.is_some() || place >= ends.len() {
+        return false;
+    }
+    let end = u128::from(ends.end(place));
+    if own.end != end {
+        return own.end < end;
+    }
+    match owners.get_index(place) {
+        Some((name, _)) => own.name.cmp(name).is_le(),
+        None => false,
+    }
+}
+
+// The first of a candidate and the name at a place, if that has a find alive at a moment. It reads the cells only if the name may be the first.
+#[tactic(auto, using(crate::proofs::FirstLaws::enough))]
+fn first_at<'a>(
+    owners: &'a Owners,
+    settling: &Option<Settling>,
+    kept: &[KeptFlush],
+    ends: &WinnerTree,
+    moment: u64,
+    place: usize,
+    best: Option<Candidate<'a>>,
+) -> Option<Candidate<'a>>
+    requires bounds { AreBounds settling.now kept.now owners.now.entries ends.now }
+    requires best { IfSome best (IsCandidate settling.now kept.now owners.now.entries moment) }
+    ensures { IsFirst settling.now kept.now owners.now.entries moment (λ i. i ≡ place) best.entry result }
+{
+    if is_enough(owners, settling, ends, place, &best) {
+        return best;
+    }
+    let own = name_if_alive(owners, settling, kept, moment, place);
+    sooner(best, own)
+}
+
+// The same, if no name below the place as a node ends before it. Else the candidate.
+#[tactic(auto, using(crate::proofs::FirstLaws::nothing, crate::proofs::FirstLaws::fewer))]
+fn first_of_least<'a>(
+    owners: &'a Owners,
+    settling: &Option<Settling>,
+    kept: &[KeptFlush],
+    ends: &WinnerTree,
+    moment: u64,
+    place: usize,
+    best: Option<Candidate<'a>>,
+) -> Option<Candidate<'a>>
+    requires bounds { AreBounds settling.now kept.now owners.now.entries ends.now }
+    requires best { IfSome best (IsCandidate settling.now kept.now owners.now.entries moment) }
+    ensures { IsFirst settling.now kept.now owners.now.entries moment (λ _. ⊥) best.entry result }
+{
+    if place < ends.len() && ends.end(place) == ends.least(place) {
+        return first_at(owners, settling, kept, ends, moment, place, best);
+    }
+    best
+}
+
+// The first of a candidate and the names at or below a node that have a find alive at a moment.
+fn first_below<'a>(
+    owners: &'a Owners,
+    settling: &Option<Settling>,
+    kept: &[KeptFlush],
+    ends: &WinnerTree,
+    moment: u64,
+    node: usize,
+    best: Option<Candidate<'a>>,
+) -> Option<Candidate<'a>>
+    requires bounds { AreBounds settling.now kept.now owners.now.entries ends.now }
+    requires best { IfSome best (IsCandidate settling.now kept.now owners.now.entries moment) }
+    ensures { IsFirst settling.now kept.now owners.now.entries moment (IsBelow node) best.entry result }
+{
+    if node >= owners.len() || is_ahead(settling, ends, node, &best) {
+        return best;
+    }
+    let first = first_of_least(owners, settling, kept, ends, moment, node, best);
+    let (near, far) = children(ends, node);
+    let second = first_below(owners, settling, kept, ends, moment, near, first);
+    let third = first_below(owners, settling, kept, ends, moment, far, second);
+    first_at(owners, settling, kept, ends, moment, node, third)
+}
+
+impl Shelf {
+    ghost use Rattle.shelf.specs.Oldest.{IsNoneAlive, IsOldest};
+
+    /// The name to forget first when the cache is full: the one whose last find ends first, of the names that have a find alive at the moment,
+    /// whatever choice of the kept flushes is in force. Of names whose last finds end in the same second it is the first in the order of names.
+    /// It takes no memory.
+    pub fn oldest(&self, moment: u64) -> Option<&Name>
+        requires whole { IsShelf self.now }
+        ensures some { IfSome result (λ name. IsOldest self.now moment name.now) }
+        ensures none { IfNone result (IsNoneAlive self.now moment) }
+    {
+        // `len` is called for its clause that the names differ, which the proof cites.
+        let _ = self.owners.len();
+        let ends = &self.ends.moments;
+        let first = first_below(
+            &self.owners,
+            &self.settling,
+            &self.kept,
+            ends,
+            moment,
+            0,
+            None,
+        );
+        match first {
+            Some(own) => Some(own.name),
+            None => None,
+        }
+    }
+}
+
+#[cfg(test)]
+mod tests {
+    use super::*;
+    use dns_text::{Items, read_record, types};
+    use ranked::{Find, Flush, Rank, Reach, SharedFind};
+    use std::alloc::Global;
+    use std::process::Abort;
+    use std::test::Fail;
+
+    /// The address of a name, which lives for some seconds.
+    fn address(alloc: Global, owner: &[u8], ttl: u32) -> Result<SharedFind, Fail> {
+        let record = read_record(alloc, b"a.test A 192.0.2.1")?;
+        let data = Items::new(vec![in alloc; record.body]?);
+        let owner = Name::from_text(alloc, owner)?;
+        let find = Find::new(owner, record.kind, Rank::Answer, ttl, data).ok_or("a find")?;
+        Ok(SharedFind::new(alloc, find)?)
+    }
+
+    fn is_oldest(shelf: &Shelf, moment: u64, owner: &Name) -> bool
+        requires { IsShelf shelf.now }
+    {
+        match shelf.oldest(moment) {
+            Some(name) => *name == *owner,
+            None => false,
+        }
+    }
+
+    fn alive_without_a_flush<R: Abort>(rt: &R, alloc: Global, shelf: &mut Shelf) -> Result<(), Fail>
+        requires whole { IsShelf shelf.old }
+        requires newest { shelf.old.top < 1 }
+    {
+        let owner = Name::from_text(alloc, b"a")?;
+        shelf.admit(address(alloc, b"a", 60)?, 0)?;
+        let flush = Flush {
+            name: owner.clone()?,
+            reach: Reach::OneType(types::A),
+        };
+        shelf.open_flush(flush, 1)?;
+        assert!(rt; shelf.show(&owner, types::A, 0).is_none());
+        assert!(rt; is_oldest(shelf, 0, &owner));
+        assert!(rt; shelf.oldest(60).is_none());
+        Ok(())
+    }
+
+    /// A name that only an undo would bring back is there to be forgotten.
+    #[test]
+    fn a_name_that_is_alive_without_a_flush(rt: HostRuntime) -> Result<(), Fail> {
+        alive_without_a_flush(&rt, rt.alloc(), &mut Shelf::new(rt.alloc(), 1))
+    }
+
+    fn in_order<R: Abort>(rt: &R, alloc: Global, shelf: &mut Shelf) -> Result<(), Fail>
+        requires { IsShelf shelf.old }
+    {
+        let first = Name::from_text(alloc, b"b.test")?;
+        let second = Name::from_text(alloc, b"c.test")?;
+        let last = Name::from_text(alloc, b"a.test")?;
+        assert!(rt; shelf.oldest(0).is_none());
+        shelf.admit(address(alloc, b"c.test", 60)?, 0)?;
+        shelf.admit(address(alloc, b"a.test", 90)?, 0)?;
+        shelf.admit(address(alloc, b"b.test", 60)?, 0)?;
+        assert!(rt; is_oldest(shelf, 0, &first));
+        shelf.sweep(0);
+        assert!(rt; is_oldest(shelf, 59, &first));
+        shelf.forget(&first);
+        assert!(rt; is_oldest(shelf, 59, &second));
+        assert!(rt; is_oldest(shelf, 60, &last));
+        assert!(rt; shelf.oldest(90).is_none());
+        Ok(())
+    }
+
+    /// Of names that end in the same second the first in their order comes first, whenever they came.
+    #[test]
+    fn names_in_the_order_of_their_ends(rt: HostRuntime) -> Result<(), Fail> {
+        in_order(&rt, rt.alloc(), &mut Shelf::new(rt.alloc(), 3))
+    }
+}
