@@ -24,15 +24,16 @@ use Rattle.iterate.specs.declared.search.Search.{Search}
 use Rattle.iterate.specs.declared.want.Want.{Want}
 use Rattle.iterate.specs.declared.want.Want.TheVariants.{Book, Send, Finish}
 use Rattle.iterate.specs.Exchanges.{Exchange}
-use Rattle.iterate.specs.Hunting.{IsSmaller}
+use Rattle.iterate.specs.Hunting.{AsksOver, IsSmaller}
 use Rattle.iterate.specs.Known.{Known, Serves, WasUnknown}
 use Rattle.iterate.specs.Measure.{hunts_left, left_in, left_of_search, left_of_seek, left_of_sending}
 use Rattle.iterate.specs.Phase.{Goes, IsSeeking, IsWaiting, ask_at, Drawing, idle}
 use Rattle.iterate.specs.Resolved.{ResolvedAs, Fails, Exhausted}
-use Rattle.iterate.specs.Searching.{IsPath, IsHunt, IsBase, AreFrames, IsSearch, hunt_behind, hunt_of, question_behind, question_of}
+use Rattle.iterate.specs.Searching.{IsPath, IsHunt, IsBase, AreFrames, IsSearch, IsOrderly, Turn, turn_of, hunt_behind, hunt_of, question_behind, question_of}
 use Rattle.iterate.specs.Wanted.{IsAskedFor, MayCall, MayGo, id_drawn}
 use Rattle.iterate.proofs.Falling.{few_is, less_than, less_twice, begun_falls, sending_falls, coming_falls, looks_fall, ended_falls, path_digits}
-use Rattle.iterate.proofs.Growing.{last_asked, unknown_since}
+use Rattle.iterate.proofs.Growing.{last_asked, unknown_since, sought_as}
+use Rattle.iterate.proofs.Once.{first_asked}
 use Rattle.iterate.proofs.Hunts.{search_digits}
 
 -- A turn is what its phase and its want are.
@@ -96,7 +97,8 @@ exhausted {port} {question} {log} search s none asked sought =
       since = s.since;
       reached = s.base.reached;
       vain = λ server is. s.base.vain server (subst (λ (xs : List Addr). Contains xs server) (sym (take_all search.base.asked search.base.addrs.items all_asked)) (s.base.all server is));
-      sought = λ target may. s.base.sought target (subst (λ (xs : List Labels). Contains xs target) (sym (take_all search.base.sought search.base.servers.missing all_sought)) may.among) may;
+      sought = λ target may. sought_as (λ addr is. s.base.vain addr (subst (λ (xs : List Addr). Contains xs addr) (sym (take_all search.base.asked search.base.addrs.items all_asked)) is))
+          (s.base.sought target (subst (λ (xs : List Labels). Contains xs target) (sym (take_all search.base.sought search.base.servers.missing all_sought)) may.among) may);
     }
 
 pub giving_up : (port : ℕ) (question : Question) (log : List Exchange) (moment : ℕ) (id : Stream) (looks : ℕ) (search : Search) → IsSearch port question log search → search.frames.items ≡ []
@@ -154,9 +156,9 @@ unknown_innermost {port} {question} {log} search s = unknown_behind port log s.s
 
 pub sending : (port : ℕ) (question : Question) (log : List Exchange) (moment : ℕ) (id : Drawing) (left : ℕ) (search : Search) (server : Addr) (over : Over) (bytes : List ℕ) (rest : List Addr)
     → IsSearch port question log search → search.path.sent < 64 → drop (hunt_of search).asked (hunt_of search).addrs.items ≡ server ∷ rest → MayGo log server (question_of search) over → left_of_sending search.path < left
-    → (drawn : ℕ) → id_drawn id.before ≡ drawn → id.after ≡ (next_u32 id.before).1 → IsQuery bytes drawn (question_of search)
+    → IsOrderly port log search (turn_of over) → (drawn : ℕ) → id_drawn id.before ≡ drawn → id.after ≡ (next_u32 id.before).1 → IsQuery bytes drawn (question_of search)
     → (kept : Box Search) → kept.value ≡ search → Goes port question log moment id left (Sent kept server drawn over) (Send server over bytes)
-sending port question log moment id left search server over bytes rest s few next goes less drawn same behind query kept is =
+sending port question log moment id left search server over bytes rest s few next goes less orderly drawn same behind query kept is =
     let hunt = innermost_hunt search s in
     let P : Addr → Type 0 = λ addr. Known port log (Serves (hunt_of search).servers.zone addr) in
     let all = All-drop P (hunt_of search).asked (hunt_of search).addrs.items (All-from_recursion P (hunt_of search).addrs.items hunt.serve) in
@@ -170,10 +172,11 @@ sending port question log moment id left search server over bytes rest s few nex
         serves = All-head P server rest (All-same P (server ∷ rest) (drop (hunt_of search).asked (hunt_of search).addrs.items) (sym next) all);
         within = hunt.zone;
         goes = goes;
+        once = first_asked search.base search.path.last search.frames.items server rest over next orderly;
       };
       drawn = behind;
       fits = subst (λ (x : Search). IsWaiting port question log (Send server over bytes) x server drawn over) (sym is)
-          (record { is_search = s; some = few; rest = rest; next = next; bytes = bytes; wanted = refl; query = query });
+          (record { is_search = s; some = few; rest = rest; next = next; bytes = bytes; wanted = refl; query = query; orderly = orderly });
       falls = subst (λ (x : Search). left_of_sending x.path < left) (sym is) less;
     }
 
@@ -217,8 +220,8 @@ pub address_less : {port : ℕ} {question : Question} {log : List Exchange} (sea
 address_less search more s h = less_than (looks_less search 3 4 (omega arith) (omega arith) s) h
 
 pub smaller_stays : {port : ℕ} {question : Question} {log : List Exchange} (before after : Search) (more : ℕ) → IsSearch port question log before → IsSmaller port question log (left_of_search before 0) after
-    → left_of_search before 4 ≤ more → IsSearch port question log after × (left_of_search after 4 ≤ more)
-smaller_stays before after more s k h = (k.is_search, few_is (less_than (less_than k.falls (few_is (looks_less before 0 4 (omega arith) (omega arith) s))) h))
+    → left_of_search before 4 ≤ more → IsSearch port question log after × (left_of_search after 4 ≤ more) × IsOrderly port log after Turn.unasked
+smaller_stays before after more s k h = (k.is_search, few_is (less_than (less_than k.falls (few_is (looks_less before 0 4 (omega arith) (omega arith) s))) h), k.orderly)
 
 pub smaller_goes : {port : ℕ} {question : Question} {log : List Exchange} (before after : Search) (looks : ℕ) → 0 < looks → IsSearch port question log before → IsSmaller port question log (left_of_search before 0) after
     → left_of_search after 4 ≤ left_of_search before looks
@@ -244,3 +247,12 @@ alias_goes before after s k = less_twice k.falls (coming_falls before.path befor
 
 pub goes_on : {port : ℕ} {question : Question} {log : List Exchange} (after : Search) (more : ℕ) → IsSmaller port question log more after → left_of_search after 4 ≤ more
 goes_on after more k = few_is k.falls
+
+-- ---- the server that is asked
+
+pub same_first : {server other : Addr} {rest others : List Addr} → server ∷ rest ≡ other ∷ others → server ≡ other
+same_first {server} e = ap (λ (xs : List Addr). get_or xs 0 server) e
+
+-- The server that is asked is this one.
+pub asks_same : {E : Type 0} {server other : Addr} (over : Over) (r : Result Advance E) → server ≡ other → IfOk r (λ t. AsksOver server over t.want) → IfOk r (λ t. AsksOver other over t.want)
+asks_same over r same h = subst (λ (a : Addr). IfOk r (λ t. AsksOver a over t.want)) same h

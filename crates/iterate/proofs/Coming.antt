@@ -30,13 +30,16 @@ use Rattle.iterate.specs.Known.{Known, Serves}
 use Rattle.iterate.specs.Measure.{top, hunts_left, left_in, left_of_search, left_of_sending, left_of_hearing}
 use Rattle.iterate.specs.Phase.{Goes, IsWaiting, IsHearing, Drawing}
 use Rattle.iterate.specs.Resolved.{CameUseless, Struck}
-use Rattle.iterate.specs.Searching.{IsPath, IsHunt, IsBase, AreFrames, IsSearch, hunt_behind, hunt_of, question_behind, question_of}
+use Rattle.iterate.specs.Searching.{IsPath, IsHunt, IsBase, AreFrames, IsSearch, IsOrderly, AllAskOnce, Turn, WasAsked, turn_of, hunt_behind, hunt_of, question_behind, question_of}
 use Rattle.iterate.specs.Wanted.{WasTruncated}
 use Rattle.iterate.proofs.Falling.{coming_falls, sending_falls, ended_falls, path_digits}
 use Rattle.iterate.proofs.Hunts.{search_digits}
 use Rattle.iterate.proofs.Asking.{innermost_hunt, unknown_innermost}
 use Rattle.iterate.proofs.PathTurns.{less_left}
 use Rattle.iterate.proofs.Growing.{path_sent, base_more, frames_more, happened_last, search_sent}
+use Rattle.iterate.proofs.Once.{nothing_sent, all_sent, struck_first}
+use Rattle.dns_wire.specs.Read.Decoding.{SpelledOnce}
+use Rattle.dns_query.specs.declared.over.Over.TheVariants.{Udp}
 
 -- what is less is no more
 pub below : (a b : ℕ) → a < b → a ≤ b
@@ -59,6 +62,33 @@ here_sent {before = before} {log = log} {input = input} w adds = subst (λ (v : 
 pub asked_once : {port : ℕ} {question : Question} {before log : List Exchange} {want : Want} {searching : Search} {server : Addr} {id : ℕ} {over : Over} {input : Input}
     → (after : Search) → after ≡ counted searching → IsWaiting port question before want searching server id over → Adds before (exchange want input) log → IsSearch port question log after
 asked_once {port} {question} {log = log} after same w adds = subst (λ (s : Search). IsSearch port question log s) (sym same) (search_sent w.is_search (here_sent w adds) refl w.some)
+
+-- The next server was asked, over this transport too.
+pub orderly_once : {port : ℕ} {question : Question} {before log : List Exchange} {want : Want} {searching : Search} {server : Addr} {id : ℕ} {over : Over} {input : Input}
+    → SpelledOnce → (next : Turn) → ((o : Over) → WasAsked (turn_of over) o → WasAsked next o) → WasAsked next over
+    → (after : Search) → after ≡ counted searching → IsWaiting port question before want searching server id over → Adds before (exchange want input) log → IsOrderly port log after next
+orderly_once {port} {log = log} {searching = searching} {server} {id} {over} {input} once next grows was after same w adds =
+    subst (λ (s : Search). IsOrderly port log s next) (sym same)
+    (all_sent once port server over w.bytes id input w.rest (turn_of over) next searching.base searching.path.last searching.frames.items (here_sent w adds) w.query w.next grows was w.orderly)
+
+-- It is done with.
+pub orderly_heard : {port : ℕ} {question : Question} {before log : List Exchange} {want : Want} {searching : Search} {server : Addr} {id : ℕ} {over : Over} {input : Input}
+    → SpelledOnce → (after : Search) → after ≡ counted searching → IsWaiting port question before want searching server id over → Adds before (exchange want input) log → IsOrderly port log after Turn.heard
+orderly_heard once after same w adds = orderly_once once Turn.heard (λ o was. tt) tt after same w adds
+
+-- Its response over UDP was truncated.
+pub orderly_cut : {port : ℕ} {question : Question} {before log : List Exchange} {want : Want} {searching : Search} {server : Addr} {id : ℕ} {over : Over} {input : Input}
+    → SpelledOnce → over ≡ Udp → (after : Search) → after ≡ counted searching → IsWaiting port question before want searching server id over → Adds before (exchange want input) log → IsOrderly port log after Turn.cut
+orderly_cut {over = over} once udp after same w adds =
+    orderly_once once Turn.cut (λ o was. absurd (subst (λ (t : Over). WasAsked (turn_of t) o) udp was)) (subst (λ (t : Over). WasAsked Turn.cut t) (sym udp) tt) after same w adds
+
+-- only over UDP
+pub cut_udp : (port : ℕ) (over : Over) (zone : Labels) (id : ℕ) (question : Question) (input : Input) → IsJudged port over zone id question input Cut → over ≡ Udp
+cut_udp port over zone id question (Came octets) t = t.cut.udp
+cut_udp port over zone id question Failed t = let e : ⊥ = cc in absurd e
+cut_udp port over zone id question Begin t = absurd t
+cut_udp port over zone id question (Reply reply) t = absurd t
+cut_udp port over zone id question (Refused fault) t = absurd t
 
 pub same_next : {port : ℕ} {question : Question} {before : List Exchange} {want : Want} {searching : Search} {server : Addr} {id : ℕ} {over : Over}
     → (after : Search) → after ≡ counted searching → (w : IsWaiting port question before want searching server id over) → drop (hunt_of after).asked (hunt_of after).addrs.items ≡ server ∷ w.rest
@@ -238,6 +268,28 @@ struck_inner {port} {question} {log} {server} {rest} searching after removed hun
     back ∙ ap (λ (h : Hunt). record { target = removed.target; hunt = h } ∷ i.rest) same ∙ ap (λ (f : Nested). struck_frame_of f ∷ i.rest) first in
     struck_frame searching after i.first i.rest i.are frames path base s next
 
+-- So each question still asks each of its servers once.
+pub orderly_inner : (port : ℕ) (log : List Exchange) {server : Addr} {rest : List Addr} (searching after : Search) (removed : Nested) (hunt : Hunt) → 0 < length searching.frames.items
+    → removed ≡ slice_index_or searching.frames.items 0 removed → after.frames.items ≡ insert (remove searching.frames.items 0) 0 (record { target = removed.target; hunt = hunt })
+    → (removed.hunt.asked < length removed.hunt.addrs.items → hunt ≡ struck_hunt removed.hunt) → after.path ≡ searching.path → after.base ≡ searching.base
+    → drop (hunt_of searching).asked (hunt_of searching).addrs.items ≡ server ∷ rest → IsOrderly port log searching Turn.heard → IsOrderly port log after Turn.unasked
+orderly_inner port log {server} {rest} searching after removed hunt some is are becomes path base next orderly =
+    let i = inner searching.frames.items some in
+    let first : removed ≡ i.first = subst (λ (fs : List Nested). removed ≡ slice_index_or fs 0 removed) i.are is in
+    let there : drop i.first.hunt.asked i.first.hunt.addrs.items ≡ server ∷ rest =
+    subst (λ (fs : List Nested). drop (hunt_behind fs searching.base).asked (hunt_behind fs searching.base).addrs.items ≡ server ∷ rest) i.are next in
+    let at : drop removed.hunt.asked removed.hunt.addrs.items ≡ server ∷ rest = subst (λ (f : Nested). drop f.hunt.asked f.hunt.addrs.items ≡ server ∷ rest) (sym first) there in
+    let same : hunt ≡ struck_hunt removed.hunt = becomes (some_asked removed.hunt server rest at) in
+    let back : after.frames.items ≡ record { target = removed.target; hunt = hunt } ∷ i.rest =
+    subst (λ (fs : List Nested). after.frames.items ≡ insert (remove fs 0) 0 (record { target = removed.target; hunt = hunt })) i.are are in
+    let frames : after.frames.items ≡ struck_frame_of i.first ∷ i.rest =
+    back ∙ ap (λ (h : Hunt). record { target = removed.target; hunt = h } ∷ i.rest) same ∙ ap (λ (f : Nested). struck_frame_of f ∷ i.rest) first in
+    let all : AllAskOnce port log searching.base searching.path.last Turn.heard (i.first ∷ i.rest) =
+    subst (λ (fs : List Nested). AllAskOnce port log searching.base searching.path.last Turn.heard fs) i.are orderly in
+    subst (λ (p : Path). AllAskOnce port log after.base p.last Turn.unasked after.frames.items) (sym path)
+    (subst (λ (b : Hunt). AllAskOnce port log b searching.path.last Turn.unasked after.frames.items) (sym base)
+    (subst (λ (fs : List Nested). AllAskOnce port log searching.base searching.path.last Turn.unasked fs) (sym frames) (struck_first port log searching.path.last searching.base i.first i.rest there all)))
+
 -- ---- less is left
 
 pub going_less : {port : ℕ} {question : Question} {log : List Exchange} (path : Path) (after : Search) → after.path ≡ record path { sent = path.sent + 1 } → IsSearch port question log after
@@ -276,8 +328,8 @@ tells (Refers referral) said = inr (inr (referral, said))
 
 pub hearing : (port : ℕ) (question : Question) (before log : List Exchange) (want : Want) (searching : Search) (server : Addr) (id : ℕ) (over : Over) (input : Input) (after : Search) (heard : Heard)
     → after ≡ counted searching → IsWaiting port question before want searching server id over → Adds before (exchange want input) log
-    → IsJudged port over (hunt_of searching).servers.zone id (question_of searching) input (HeardVerdict heard) → IsHearing port question log after heard
-hearing port question before log want searching server id over (Came octets) after heard same w adds h =
+    → IsJudged port over (hunt_of searching).servers.zone id (question_of searching) input (HeardVerdict heard) → SpelledOnce → IsHearing port question log after heard
+hearing port question before log want searching server id over (Came octets) after heard same w adds h once =
     let here = here_sent w adds in
     subst (λ (a : Search). IsHearing port question log a heard) (sym same) (record {
       is_search = search_sent w.is_search here refl w.some;
@@ -295,8 +347,10 @@ hearing port question before log want searching server id over (Came octets) aft
       finds = h.finds;
       passing = h.passing;
       says = h.says;
+      orderly = all_sent once port server over w.bytes id (Came octets) w.rest (turn_of over) Turn.heard searching.base searching.path.last searching.frames.items here w.query w.next (λ o was. tt) tt w.orderly;
+      quiet = nothing_sent;
     })
-hearing port question before log want searching server id over Failed after heard same w adds h = let e : ⊥ = cc in absurd e
-hearing port question before log want searching server id over Begin after heard same w adds h = absurd h
-hearing port question before log want searching server id over (Reply reply) after heard same w adds h = absurd h
-hearing port question before log want searching server id over (Refused fault) after heard same w adds h = absurd h
+hearing port question before log want searching server id over Failed after heard same w adds h once = let e : ⊥ = cc in absurd e
+hearing port question before log want searching server id over Begin after heard same w adds h once = absurd h
+hearing port question before log want searching server id over (Reply reply) after heard same w adds h once = absurd h
+hearing port question before log want searching server id over (Refused fault) after heard same w adds h once = absurd h

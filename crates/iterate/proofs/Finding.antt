@@ -1,5 +1,5 @@
 -- Servers without an address are looked for, and servers are named.
-use Rattle.std.proofs.Common.{◌≡◌, ℕ, ◌<◌, List, [], ◌∷◌, ◌++◌, take, drop, true, false, None, ◌==◌, if◌then◌else◌, unwrap_or, sym, ap, subst, refl, arith}
+use Rattle.std.proofs.Common.{◌≡◌, ◌∙◌, ℕ, ◌<◌, List, [], ◌∷◌, ◌++◌, take, drop, true, false, Option, Some, None, ◌==◌, if◌then◌else◌, unwrap_or, sym, ap, subst, refl, arith}
 use Rattle.std.specs.List.{AllByRecursion, Contains}
 use Rattle.std.proofs.lemmas.List.{take-append-drop}
 use Rattle.std.proofs.lemmas.List.Elements.{Contains-append_right}
@@ -11,6 +11,7 @@ use Rattle.local_zone.specs.declared.local_answer.Local.TheVariants as local
 use Rattle.rand_core.specs.Stream.{Stream}
 use Rattle.history.specs.declared.event.Ask.{Ask}
 use Rattle.history.specs.declared.event.Ask.TheVariants.{Answer as Asked, Servers as ServersFor}
+use Rattle.history.specs.declared.event.Event.{Event}
 use Rattle.history.specs.declared.event.Event.TheVariants.{Look}
 use Rattle.history.specs.declared.event.Reply.TheVariants.{Seen}
 use Rattle.history.specs.declared.event.Seen.{Seen as SeenValue}
@@ -27,19 +28,21 @@ use Rattle.iterate.specs.declared.want.Input.{Input}
 use Rattle.iterate.specs.declared.want.Input.TheVariants.{Reply}
 use Rattle.iterate.specs.declared.want.Want.TheVariants.{Book, Finish}
 use Rattle.iterate.specs.Exchanges.{Exchange, exchange, Adds, Happened}
-use Rattle.iterate.specs.Hunting.{AllServe, IsTried, IsAddressSeen}
+use Rattle.iterate.specs.Hunting.{AllServe, IsReached, IsTried, IsAddressSeen}
 use Rattle.iterate.specs.Known.{Known, Had, Listed, WasUnknown}
 use Rattle.iterate.specs.Looked.{IsSetSeen}
 use Rattle.iterate.specs.Measure.{top, left_of_path, left_of_seek}
-use Rattle.iterate.specs.Phase.{Goes, IsSeeking, IsUnknownAt, ask_at, idle}
-use Rattle.iterate.specs.Resolved.{Fails, ReachedFor, Sought}
+use Rattle.iterate.specs.Phase.{Goes, IsSeeking, Suits, ask_at, idle}
+use Rattle.iterate.specs.Resolved.{Fails, IsOneOf, IsShown, ReachedFor, Sought}
 use Rattle.iterate.specs.Served.{served_name}
 use Rattle.iterate.specs.declared.served.TheConstants.{DS}
-use Rattle.iterate.specs.Searching.{IsPath, IsAskable, IsSearch, hunt_of}
-use Rattle.iterate.specs.Shown.{IsLookReply, IsMisanswered}
+use Rattle.iterate.specs.Searching.{IsPath, IsAskable, IsSearch, Turn, hunt_of}
+use Rattle.iterate.specs.Shown.{IsLookReply, IsMisanswered, EndsQuestion}
+use Rattle.iterate.specs.declared.answer.Soa.{Soa}
 use Rattle.iterate.proofs.Growing.{happened_last, path_more, askable_more, base_more, frames_more, search_looked, since_more, sought_more, unknown_more}
 use Rattle.iterate.proofs.Falling.{ended_falls}
 use Rattle.iterate.proofs.Asking.{failing, ended_seek, innermost_hunt}
+use Rattle.iterate.proofs.Once.{all_looked, nothing_sent}
 
 -- ---- servers are named
 
@@ -61,6 +64,16 @@ below_served question zone below = elim (question.kind == DS) as (λ b. IsAtOrBe
   | true ↦ below_above question.owner zone
   | false ↦ λ at. at
 ] below
+
+-- These servers were reached for a question.
+pub named_reached : (port : ℕ) (before log : List Exchange) (m : ℕ) (question : Question) (list : Servers) → IsAtOrBelow (served_name question) list.zone
+    → Adds before (exchange (Book (Look m (ServersFor (served_name question)))) (Reply (Seen (SeenServers list)))) log → IsReached port log question [] list
+named_reached port before log m question list below a = record {
+  listed = Known.named a;
+  reached = reached_named port before log m question list a;
+  above = below_served question list.zone below;
+  quiet = nothing_sent;
+}
 
 pub listed_named : (port : ℕ) (before log : List Exchange) (m : ℕ) (name : Labels) (list : Servers)
     → Adds before (exchange (Book (Look m (ServersFor name))) (Reply (Seen (SeenServers list)))) log → Known port log (Listed list)
@@ -92,24 +105,69 @@ after_look {port} m ask input search s a = record {
   deep = s.deep;
 }
 
+-- What ends a question was seen.
+ends_seen : {question : Question} {seen : SeenValue} {rcode : ℕ} {last : Option AnswerSet} {authority : Option Soa} → EndsQuestion question seen rcode last authority → seen ≡ Unknown → ⊥
+ends_seen (EndsQuestion.held is) none = let e : ⊥ = cc in absurd e
+ends_seen (EndsQuestion.held_no_data is body) none = let e : ⊥ = cc in absurd e
+ends_seen (EndsQuestion.held_no_name is body) none = let e : ⊥ = cc in absurd e
+ends_seen (EndsQuestion.local_set is) none = let e : ⊥ = cc in absurd e
+ends_seen (EndsQuestion.local_no_data formed) none = let e : ⊥ = cc in absurd e
+ends_seen (EndsQuestion.local_no_name formed) none = let e : ⊥ = cc in absurd e
+
+-- what was seen, if anything was
+abbrev seen_in : Input → SeenValue
+seen_in (Reply (Seen seen)) = seen
+seen_in input = Unknown
+
+-- Replies to a look are the same where what was seen is.
+pub seen_same : {seen other : SeenValue} → Reply (Seen seen) ≡ Reply (Seen other) → seen ≡ other
+seen_same e = ap seen_in e
+
+-- A reply may come of a call of the book.
+pub suited : (event : Event) {input : Input} {seen : SeenValue} → input ≡ Reply (Seen seen) → Suits (Book event) input
+suited event same = subst (λ (i : Input). Suits (Book event) i) (sym same) tt
+
+-- A look that found nothing saw no address.
+pub none_shown : {port : ℕ} {target : Labels} {input : Input} {addr : Addr} → IsShown port target input addr → input ≡ Reply (Seen Unknown) → ⊥
+none_shown s none = ends_seen s.ends (sym (ap seen_in s.replied) ∙ ap seen_in none)
+
+-- The set by which a look ends a question is what it saw.
+ends_set : {question : Question} {seen : SeenValue} {rcode : ℕ} {last : Option AnswerSet} {authority : Option Soa} {told : AnswerSet} → EndsQuestion question seen rcode last authority → last ≡ Some told → IsSetSeen seen told
+ends_set {told = told} (EndsQuestion.held is) some = (is.has_data, let e : told ≡ _ = cc in e)
+ends_set (EndsQuestion.held_no_data is body) some = let e : ⊥ = cc in absurd e
+ends_set (EndsQuestion.held_no_name is body) some = let e : ⊥ = cc in absurd e
+ends_set {told = told} (EndsQuestion.local_set is) some = let e : told ≡ _ = cc in e
+ends_set (EndsQuestion.local_no_data formed) some = let e : ⊥ = cc in absurd e
+ends_set (EndsQuestion.local_no_name formed) some = let e : ⊥ = cc in absurd e
+
+-- An address that a look shows was seen.
+pub shown_seen : {port : ℕ} {target : Labels} {addr : Addr} (seen : SeenValue) → IsShown port target (Reply (Seen seen)) addr → IsAddressSeen port seen addr
+shown_seen {port} {target} {addr} seen s =
+    let same : seen ≡ s.seen = ap seen_in s.replied in
+    subst (λ (v : SeenValue). IsAddressSeen port v addr) (sym same) record { told = s.told; is_set = ends_set s.ends refl; among = s.among }
+
 -- what a look did not find was looked for
-pub was_sought : {log : List Exchange} {target : Labels} → WasUnknown log (address_question target) → Sought log target
-was_sought u = record { moment = u.moment; input = Reply (Seen Unknown); looked = u.looked }
+pub was_sought : {port : ℕ} {log : List Exchange} {target : Labels} {P : Addr → Type 0} → WasUnknown log (address_question target) → Sought port log target P
+was_sought u = record { moment = u.moment; input = Reply (Seen Unknown); looked = u.looked; became = λ addr shown. absurd (none_shown shown refl) }
 
--- what was looked for since the servers were reached
-sought_then : (m : ℕ) (since : List Exchange) (target : Labels) (stage : Stage) (input : Input) → IsUnknownAt stage since target
-    → Sought (since ++ exchange (Book (Look m (ask_at stage target))) input ∷ []) target
-sought_then m since target stage.Address input k = record { moment = m; input = input; looked = happened_last (since_more since _) }
-sought_then m since target stage.Alias input k = sought_more (was_sought k) (since_more since _)
-sought_then m since target stage.Servers input k = sought_more (was_sought k) (since_more since _)
+-- The server was looked for just now, and each address that was seen is among these.
+pub tried_address : (port m : ℕ) (question : Question) (before log : List Exchange) (search : Search) (target : Labels) (input : Input) (found : List Addr) → IsSeeking port question before search target stage.Address
+    → Adds before (exchange (Book (Look m (Asked (address_question target)))) input) log → ((addr : Addr) → IsShown port target input addr → Contains found addr) → IsTried port question log search target found
+tried_address port m question before log search target input found k a shown = record {
+  is_search = after_look m (Asked (address_question target)) input search k.is_search a;
+  next = k.next;
+  orderly = all_looked port search.base search.path.last Turn.unasked search.frames.items a refl k.orderly;
+  tried = λ none may. record { moment = m; input = input; looked = happened_last (since_more k.is_search.since _); became = shown };
+}
 
--- The server was looked for.
-pub tried_more : (port m : ℕ) (question : Question) (before log : List Exchange) (search : Search) (target : Labels) (stage : Stage) (input : Input) → IsSeeking port question before search target stage
-    → Adds before (exchange (Book (Look m (ask_at stage target))) input) log → IsTried port question log search target
-tried_more port m question before log search target stage input k a = record {
+-- The server was looked for before, and nothing was seen.
+pub tried_more : (port m : ℕ) (question : Question) (before log : List Exchange) (search : Search) (target : Labels) (stage : Stage) (input : Input) (k : IsSeeking port question before search target stage)
+    → WasUnknown k.is_search.since (address_question target) → Adds before (exchange (Book (Look m (ask_at stage target))) input) log → IsTried port question log search target []
+tried_more port m question before log search target stage input k u a = record {
   is_search = after_look m (ask_at stage target) input search k.is_search a;
   next = k.next;
-  tried = λ none may. sought_then m k.is_search.since target stage input k.unknown;
+  orderly = all_looked port search.base search.path.last Turn.unasked search.frames.items a refl k.orderly;
+  tried = λ none may. sought_more (was_sought u) (since_more k.is_search.since _);
 }
 
 -- Its address was not found: it is looked for further, if it is among the first of its list.
@@ -125,6 +183,8 @@ seeking_unknown port m question before log search target seen none k a early = r
         (happened_last (since_more k.is_search.since _));
   };
   early = early;
+  orderly = all_looked port search.base search.path.last Turn.unasked search.frames.items a refl k.orderly;
+  other = k.other;
 }
 
 -- It is looked for further still.
@@ -136,6 +196,8 @@ seeking_more port m question before log search target first input k u early a = 
   next = k.next;
   unknown = unknown_more u (since_more k.is_search.since _);
   early = early;
+  orderly = all_looked port search.base search.path.last Turn.unasked search.frames.items a refl k.orderly;
+  other = k.other;
 }
 
 -- One question more is begun.
@@ -148,7 +210,7 @@ begun_search search n s = record { path = begun_path search.path n s.path; since
 
 pub begun_seeking : (port : ℕ) (question : Question) (log : List Exchange) (search : Search) (target : Labels) (stage : Stage) (n : ℕ) → IsSeeking port question log search target stage
     → IsSeeking port question log (record search { path = record search.path { begun = n } }) target stage
-begun_seeking port question log search target stage n k = record { is_search = begun_search search n k.is_search; shallow = k.shallow; next = k.next; unknown = k.unknown; early = k.early }
+begun_seeking port question log search target stage n k = record { is_search = begun_search search n k.is_search; shallow = k.shallow; next = k.next; unknown = k.unknown; early = k.early; orderly = k.orderly; other = k.other }
 
 -- ---- its addresses
 
@@ -175,15 +237,15 @@ had_seen port m before log question (SeenServers servers) told a lawful is = abs
 
 each_serves : (port m : ℕ) (before log : List Exchange) (servers : Servers) (target : Labels) (seen : SeenValue) (found : List Addr) → Adds before (exchange (Book (Look m (Asked (address_question target)))) (Reply (Seen seen))) log
     → IsLookReply (Asked (address_question target)) (Seen seen) → Known port log (Listed servers) → Contains servers.missing target → AllByRecursion (IsAddressSeen port seen) found
-    → AllServe port log servers.zone found
+    → AllServe port log servers found
 each_serves port m before log servers target seen [] a lawful known among all = tt
 each_serves port m before log servers target seen (addr ∷ found) a lawful known among all =
-    (Known.found known among (had_seen port m before log (address_question target) seen all.0.told a lawful all.0.is_set) all.0.among, each_serves port m before log servers target seen found a lawful known among all.1)
+    (IsOneOf.found among (had_seen port m before log (address_question target) seen all.0.told a lawful all.0.is_set) all.0.among, each_serves port m before log servers target seen found a lawful known among all.1)
 
 -- The addresses that a look saw are those of a server of the zone.
 pub serving : (port m : ℕ) (question : Question) (before log : List Exchange) (search : Search) (target : Labels) (seen : SeenValue) (found : List Addr) → IsSeeking port question before search target stage.Address
     → Adds before (exchange (Book (Look m (Asked (address_question target)))) (Reply (Seen seen))) log → IsLookReply (Asked (address_question target)) (Seen seen) → AllByRecursion (IsAddressSeen port seen) found
-    → AllServe port log (hunt_of search).servers.zone found
+    → AllServe port log (hunt_of search).servers found
 serving port m question before log search target seen found k a lawful all =
     let hunt = innermost_hunt search (search_looked k.is_search a refl) in
     each_serves port m before log (hunt_of search).servers target seen found a lawful hunt.listed (contains_next (hunt_of search).sought (hunt_of search).servers.missing target k.next.rest k.next.next) all

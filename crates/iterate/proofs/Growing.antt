@@ -93,8 +93,12 @@ path_sent p a is less = record {
 pub struck_more : {port : ℕ} {log after : List Exchange} {y : Exchange} {zone : Labels} {question : Question} {server : Addr} → Struck port log zone question server → Adds log y after → Struck port after zone question server
 struck_more s a = record { over = s.over; bytes = s.bytes; id = s.id; input = s.input; asked = happened_more s.asked a; query = s.query; useless = s.useless }
 
-pub sought_more : {log after : List Exchange} {y : Exchange} {target : Labels} → Sought log target → Adds log y after → Sought after target
-sought_more s a = record { moment = s.moment; input = s.input; looked = happened_more s.looked a }
+pub sought_more : {port : ℕ} {log after : List Exchange} {y : Exchange} {target : Labels} {P : Addr → Type 0} → Sought port log target P → Adds log y after → Sought port after target P
+sought_more s a = record { moment = s.moment; input = s.input; looked = happened_more s.looked a; became = s.became }
+
+-- What became of each address that was seen is more than this.
+pub sought_as : {port : ℕ} {log : List Exchange} {target : Labels} {P Q : Addr → Type 0} → ((addr : Addr) → P addr → Q addr) → Sought port log target P → Sought port log target Q
+sought_as f s = record { moment = s.moment; input = s.input; looked = s.looked; became = λ addr shown. f addr (s.became addr shown) }
 
 -- the exchanges since a list was reached, with one more
 pub since_more : (since : List Exchange) (y : Exchange) → Adds since y (since ++ y ∷ [])

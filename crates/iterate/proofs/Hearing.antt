@@ -4,7 +4,7 @@ use Rattle.std.specs.Global.{Box}
 use Rattle.std.specs.List.{AllByRecursion, Contains}
 use Rattle.std.specs.Option.{option_map}
 use Rattle.std.proofs.lemmas.List.{append-nil, length-map, get_or-map, length-drop, get_or-drop}
-use Rattle.dns_name.specs.Labels.{Labels, IsAtOrBelow}
+use Rattle.dns_name.specs.Labels.{Labels}
 use Rattle.dns_name.specs.ListLaws.{all_weaker}
 use Rattle.dns_text.specs.declared.addr.Addr.{Addr}
 use Rattle.dns_text.specs.declared.record.Question.{Question}
@@ -14,7 +14,7 @@ use Rattle.dns_query.specs.Verdict.{IsSaid}
 use Rattle.dns_query.specs.declared.verdict.Heard.{Heard}
 use Rattle.dns_query.specs.declared.verdict.Referral.{Referral}
 use Rattle.dns_query.specs.declared.verdict.Says.{Says}
-use Rattle.dns_query.specs.declared.verdict.Says.TheVariants.{Denies, Refers}
+use Rattle.dns_query.specs.declared.verdict.Says.TheVariants.{Answers, Denies, Refers}
 use Rattle.neg_rule.specs.Negative.{Said, said_by}
 use Rattle.rand_core.specs.Stream.{Stream}
 use Rattle.ranked.specs.declared.find.Find.{Find}
@@ -31,13 +31,13 @@ use Rattle.iterate.specs.declared.want.Want.TheVariants.{Book, Finish}
 use Rattle.iterate.specs.Exchanges.{Exchange, exchange, Adds, is_send}
 use Rattle.iterate.specs.Judged.{IsAddressOf}
 use Rattle.iterate.specs.Following.{IsHarvestOf}
-use Rattle.iterate.specs.Hunting.{IsReached, IsSmaller}
+use Rattle.iterate.specs.Hunting.{AllServe, IsReached, IsSmaller}
 use Rattle.iterate.specs.declared.answer.AnswerSet.{AnswerSet}
-use Rattle.iterate.specs.Known.{Fact, Known, Had, Listed, Serves, Responds, servers_referred}
+use Rattle.iterate.specs.Known.{Fact, Known, Had, Responds, servers_referred}
 use Rattle.iterate.specs.Measure.{top, hunts_left, left_in, left_of_search, left_of_hearing, left_of_path}
 use Rattle.iterate.specs.Phase.{Goes, IsHearing, idle}
-use Rattle.iterate.specs.Resolved.{IsDenied, Fails, ReachedFor}
-use Rattle.iterate.specs.Searching.{IsPath, IsNext, IsHunt, AreFrames, IsSearch, hunt_behind, hunt_of, question_behind, question_of}
+use Rattle.iterate.specs.Resolved.{IsDenied, IsOneOf, Fails, ReachedFor}
+use Rattle.iterate.specs.Searching.{IsPath, IsNext, AreFrames, IsSearch, Turn, hunt_behind, hunt_of, question_behind, question_of}
 use Rattle.iterate.specs.Shown.{IsMisanswered}
 use Rattle.iterate.specs.Told.{soa_whole, IsAddressIn}
 use Rattle.iterate.specs.Wanted.{IsHarvested}
@@ -46,6 +46,7 @@ use Rattle.iterate.proofs.Coming.{inner, below}
 use Rattle.iterate.proofs.Falling.{few_is, less_than, coming_falls, looks_fall, ended_falls, path_digits}
 use Rattle.iterate.proofs.Hunts.{search_digits}
 use Rattle.iterate.proofs.Growing.{path_more, search_looked, happened_last}
+use Rattle.iterate.proofs.Once.{all_looked, quiet_more}
 
 -- ---- what is known
 
@@ -63,7 +64,7 @@ responding {log = log} h =
 -- With an exchange more that is no query, the response is still heard.
 pub hearing_more : {port : ℕ} {question : Question} {log after : List Exchange} {y : Exchange} {searching : Search} {heard : Heard} → IsHearing port question log searching heard → Adds log y after → is_send y ≡ false
     → IsHearing port question after searching heard
-hearing_more {y = y} h a is = record {
+hearing_more {port} {y = y} {searching = searching} h a is = record {
   is_search = search_looked h.is_search a is;
   message = h.message;
   before = h.before;
@@ -79,6 +80,8 @@ hearing_more {y = y} h a is = record {
   finds = h.finds;
   passing = h.passing;
   says = h.says;
+  orderly = all_looked port searching.base searching.path.last Turn.heard searching.frames.items a is h.orderly;
+  quiet = quiet_more h.since y h.quiet is;
 }
 
 mapped : (finds : List Find) (find : Find) → Contains finds find → Contains (map said_by finds) (said_by find)
@@ -141,7 +144,7 @@ less_heard search s = coming_falls search.path search.path 0 0 0 1 (hunts_left s
 -- So it is where the innermost question is closed.
 pub closed_heard : {port : ℕ} {question : Question} {log : List Exchange} (search after : Search) → IsSearch port question log search → IsSmaller port question log (left_of_search search 0) after
     → IsSmaller port question log (left_of_hearing search.path 1) after
-closed_heard search after s k = record { is_search = k.is_search; falls = less_than k.falls (few_is (less_heard search s)) }
+closed_heard search after s k = record { is_search = k.is_search; orderly = k.orderly; falls = less_than k.falls (few_is (less_heard search s)) }
 
 -- ---- a response to the last question itself
 
@@ -177,6 +180,7 @@ referring {port} {question} {log} {searching} {heard} referral servers h is same
       reached = ReachedFor.by_referral h.before h.upto h.server h.over h.bytes h.octets h.split h.came h.responds r refl;
       listed = Known.referred (responding h) r;
       above = r.above;
+      quiet = h.quiet;
     })
 
 pub referring_last : {port : ℕ} {question : Question} {log : List Exchange} {searching : Search} {heard : Heard} (referral : Referral) (servers : Servers) → (h : IsHearing port question log searching heard)
@@ -193,29 +197,24 @@ next_among hunt target n =
     let zero_more : hunt.sought + 0 ≡ hunt.sought = omega arith in
     (hunt.sought, some, sym (ap (λ (k : ℕ). get_or missing k target) zero_more) ∙ sym (get_or-drop hunt.sought missing 0 target) ∙ ap (λ (xs : List Labels). get_or xs 0 target) n.next)
 
-behind_known : (port : ℕ) (log since : List Exchange) (fs : List Nested) (base : Hunt) (name : Labels) → IsHunt port log name base → AreFrames port log since base fs → Known port log (Listed (hunt_behind fs base).servers)
-behind_known port log since [] base name h all = h.listed
-behind_known port log since (f ∷ fs) base name h all = all.0.hunt.listed
-
-serves_all : (port : ℕ) (log : List Exchange) (hunt : Hunt) (target : Labels) → Known port log (Listed hunt.servers) → Contains hunt.servers.missing target → (addrs : List Addr)
-    → AllByRecursion (IsAddressOf port log target) addrs → AllByRecursion (λ addr. Known port log (Serves hunt.servers.zone addr)) addrs
-serves_all port log hunt target listed among [] all = tt
-serves_all port log hunt target listed among (addr ∷ addrs) all =
-    (Known.found listed among all.0.had all.0.among, serves_all port log hunt target listed among addrs all.1)
+serves_all : (port : ℕ) (log : List Exchange) (hunt : Hunt) (target : Labels) → Contains hunt.servers.missing target → (addrs : List Addr)
+    → AllByRecursion (IsAddressOf port log target) addrs → AllServe port log hunt.servers addrs
+serves_all port log hunt target among [] all = tt
+serves_all port log hunt target among (addr ∷ addrs) all =
+    (IsOneOf.found among all.0.had all.0.among, serves_all port log hunt target among addrs all.1)
 
 -- The addresses of the server for which the innermost question asks serve the zone after it.
 pub addresses_serve : {port : ℕ} {question : Question} {log : List Exchange} (searching : Search) (frame : Nested) → 0 < length searching.frames.items → frame ≡ slice_index_or searching.frames.items 0 frame
     → IsSearch port question log searching → (addrs : List Addr) → AllByRecursion (IsAddressOf port log frame.target) addrs
-    → AllByRecursion (λ addr. Known port log (Serves (hunt_behind (drop 1 searching.frames.items) searching.base).servers.zone addr)) addrs
+    → AllServe port log (hunt_behind (drop 1 searching.frames.items) searching.base).servers addrs
 addresses_serve {port} {question} {log} searching frame some is s addrs all =
     let i = inner searching.frames.items some in
     let first : frame ≡ i.first = subst (λ (fs : List Nested). frame ≡ slice_index_or fs 0 frame) i.are is in
     let known : AreFrames port log s.since searching.base (i.first ∷ i.rest) = subst (λ (fs : List Nested). AreFrames port log s.since searching.base fs) i.are s.frames in
     let behind = hunt_behind i.rest searching.base in
-    let listed = behind_known port log s.since i.rest searching.base searching.path.last.owner s.base.is_hunt known.1 in
     let here : AllByRecursion (IsAddressOf port log i.first.target) addrs = subst (λ (f : Nested). AllByRecursion (IsAddressOf port log f.target) addrs) first all in
-    subst (λ (fs : List Nested). AllByRecursion (λ addr. Known port log (Serves (hunt_behind (drop 1 fs) searching.base).servers.zone addr)) addrs) (sym i.are)
-    (serves_all port log behind i.first.target listed (next_among behind i.first.target known.0.next) addrs here)
+    subst (λ (fs : List Nested). AllServe port log (hunt_behind (drop 1 fs) searching.base).servers addrs) (sym i.are)
+    (serves_all port log behind i.first.target (next_among behind i.first.target known.0.next) addrs here)
 
 pub harvest_heard : {port : ℕ} {question : Question} {log : List Exchange} {searching : Search} {heard : Heard} → IsHearing port question log searching heard → IsHarvestOf port log heard.harvest
 harvest_heard {searching = searching} h = record {
@@ -238,3 +237,18 @@ addresses_known port log question told target had same addrs all =
 pub following_less : (path : Path) → left_of_path path 4 ≤ left_of_hearing path 1
 following_less path =
     below _ _ (coming_falls path path 0 0 0 1 top 0 4 1 refl refl refl (omega arith) (path_digits path 0 0 top 4 (omega arith) (omega arith) (omega arith)))
+
+-- The innermost question is for the address of the first server that is asked for.
+pub first_asked_for : (frames : List Nested) (last : Question) (frame : Nested) → 0 < length frames → frame ≡ slice_index_or frames 0 frame → address_question frame.target ≡ question_behind frames last
+first_asked_for frames last frame some is =
+    let i = inner frames some in
+    let first : frame ≡ i.first = subst (λ (fs : List Nested). frame ≡ slice_index_or fs 0 frame) i.are is in
+    subst (λ (fs : List Nested). address_question frame.target ≡ question_behind fs last) (sym i.are) (ap (λ (f : Nested). address_question f.target) first)
+
+abbrev referral_in : Referral → Says → Referral
+referral_in other (Refers referral) = referral
+referral_in other Answers = other
+referral_in other (Denies rcode negative) = other
+
+pub refers_same : {referral other : Referral} → Refers referral ≡ Refers other → referral ≡ other
+refers_same {referral} e = ap (referral_in referral) e

@@ -11,11 +11,11 @@ use Rattle.rand_core.specs.Stream.{Stream}
 use Rattle.history.specs.declared.event.Ask.{Ask}
 use Rattle.history.specs.declared.event.Ask.TheVariants.{Answer as Asked, Servers as ServersFor}
 use Rattle.history.specs.declared.event.Event.TheVariants.{Look}
-use Rattle.history.specs.declared.event.Reply.TheVariants.{Taken, Outranked, Seen, Swept, Done, Refused as RefusedCommand, Undone, Redone, NothingToUndo, NothingToRedo}
+use Rattle.history.specs.declared.event.Reply.TheVariants.{Taken, Outranked, Seen, Swept, Forgotten, Done, Refused as RefusedCommand, Undone, Redone, NothingToUndo, NothingToRedo}
 use Rattle.history.specs.declared.event.Seen.{Seen as SeenValue}
 use Rattle.history.specs.declared.event.Seen.TheVariants.{Unknown, Held, Local as LocalSeen, Zones, Records, Stubs, Commands, Servers}
 use Rattle.iterate.specs.declared.answer.Answer.{Answer}
-use Rattle.iterate.specs.declared.answer.Answer.TheVariants.{Reply as Replies, Silent}
+use Rattle.iterate.specs.declared.answer.Answer.TheVariants.{Reply as Replies}
 use Rattle.iterate.specs.declared.answer.Soa.{Soa}
 use Rattle.iterate.specs.declared.answer.AnswerSet.{AnswerSet}
 use Rattle.iterate.specs.declared.path.Path.{Path}
@@ -226,6 +226,7 @@ no_answer m question (Reply (Seen (Servers servers))) bad = tt
 no_answer m question (Reply Taken) bad = tt
 no_answer m question (Reply Outranked) bad = tt
 no_answer m question (Reply Swept) bad = tt
+no_answer m question (Reply Forgotten) bad = tt
 no_answer m question (Reply (Done ticket)) bad = tt
 no_answer m question (Reply (RefusedCommand reason)) bad = tt
 no_answer m question (Reply (Undone ticket)) bad = tt

@@ -1,9 +1,8 @@
 -- Servers are reached, and servers without an address are done with.
-use Rattle.std.proofs.Common.{suc, ◌≡◌, ℕ, ◌+◌, ◌-◌, ◌^◌, ◌<◌, ◌≤◌, ◌⊎◌, List, [], ◌∷◌, ◌++◌, length, take, drop, get_or, sym, ap, ◌∙◌, subst, refl, inl, inr, arith}
-use Rattle.std.specs.List.{AllByRecursion, Contains}
-use Rattle.std.proofs.lemmas.List.{length-drop, length-take, take-append-drop, take-append-le}
-use Rattle.std.proofs.lemmas.List.Elements.{All-from_recursion, All-contains, Contains-append_left, Contains-append_right, Contains-push, Contains-push_cases}
-use Rattle.std.proofs.Math.Seq.{take-append-add}
+use Rattle.std.proofs.Common.{◌≡◌, ℕ, ◌+◌, ◌-◌, ◌^◌, ◌<◌, ◌≤◌, ◌⊎◌, List, [], ◌∷◌, ◌++◌, length, take, drop, get_or, sym, ap, ◌∙◌, subst, refl, inl, inr, arith}
+use Rattle.std.specs.List.{Contains}
+use Rattle.std.proofs.lemmas.List.{length-take}
+use Rattle.std.proofs.lemmas.List.Elements.{Contains-append_left, Contains-push, Contains-push_cases}
 use Rattle.dns_name.specs.Labels.{Labels, IsAtOrBelow}
 use Rattle.dns_text.specs.declared.addr.Addr.{Addr}
 use Rattle.dns_text.specs.declared.record.Question.{Question}
@@ -16,56 +15,17 @@ use Rattle.iterate.specs.declared.search.Nested.{Nested}
 use Rattle.iterate.specs.declared.search.Hunt.{Hunt}
 use Rattle.iterate.specs.declared.search.Search.{Search}
 use Rattle.iterate.specs.Exchanges.{Exchange}
-use Rattle.iterate.specs.Hunting.{AllServe, IsReached, IsFresh, IsSupplied, AreSupplied, IsTried, IsSmaller}
+use Rattle.iterate.specs.Hunting.{AllServe, AreReferred, IsReached, IsFresh, IsSupplied, AreSupplied, IsTried, IsSmaller}
 use Rattle.iterate.specs.Known.{Known, Listed, Serves, WasUnknown}
 use Rattle.iterate.specs.Measure.{top, missing_left, frames_left, hunts_left, left_of_path, left_of_search, left_of_seek, left_of_hearing}
-use Rattle.iterate.specs.Resolved.{ReachedFor, Struck, MaySeek, Sought}
-use Rattle.iterate.specs.Searching.{IsPath, IsAskable, IsHunt, IsNext, IsBase, IsFrame, AreFrames, IsSearch, hunt_behind, hunt_of, question_behind, question_of}
+use Rattle.iterate.specs.Resolved.{IsOneOf, ReachedFor, Struck, MaySeek, Sought}
+use Rattle.iterate.specs.Searching.{IsPath, IsAskable, IsHunt, IsNext, IsBase, IsFrame, AreFrames, IsSearch, IsOrderly, IsOther, Turn, AsksOnce, AllAskOnce, hunt_behind, hunt_of, question_behind, question_of}
 use Rattle.iterate.proofs.Falling.{coming_falls, servers_fall}
 use Rattle.iterate.proofs.Finding.{was_sought}
+use Rattle.iterate.proofs.Growing.{sought_as}
 use Rattle.iterate.proofs.Hunts.{hunts_few, search_digits}
-
--- ---- lists
-
-all_of : {X : Type 0} (P : X → Type 0) (xs : List X) → ((x : X) → Contains xs x → P x) → AllByRecursion P xs
-all_of P [] h = tt
-all_of P (x ∷ xs) h = (h x (0, omega arith, refl), all_of P xs (λ y is. h y (Contains-append_right (x ∷ []) xs y is)))
-
-of_all : {X : Type 0} (P : X → Type 0) (xs : List X) (x : X) → AllByRecursion P xs → Contains xs x → P x
-of_all P xs x all is = All-contains P xs x (All-from_recursion P xs all) is
-
--- what is before a place
-take_first : {X : Type 0} (n m : ℕ) (xs ys : List X) → take m xs ≡ ys → n ≤ m → n ≤ length ys → take n xs ≡ take n ys
-take_first n m xs ys first few short =
-    ap (λ (zs : List _). take n zs) (sym (take-append-drop m xs)) ∙ ap (λ (zs : List _). take n (zs ++ drop m xs)) first ∙ take-append-le n ys (drop m xs) short
-
-contains_first : {X : Type 0} (m : ℕ) (xs ys : List X) (x : X) → take m xs ≡ ys → Contains ys x → Contains xs x
-contains_first m xs ys x first is =
-    subst (λ (zs : List _). Contains zs x) (ap (λ (zs : List _). zs ++ drop m xs) (sym first) ∙ take-append-drop m xs) (Contains-append_left ys (drop m xs) x is)
-
--- the next one is within the list
-pub next_within : {X : Type 0} (n : ℕ) (xs : List X) (x : X) (rest : List X) → drop n xs ≡ x ∷ rest → n < length xs
-next_within n xs x rest next =
-    let e : length xs - n ≡ suc (length rest) = sym (length-drop n xs) ∙ ap (λ (zs : List _). length zs) next in
-    omega (arith, e)
-
--- one more is taken
-take_next : {X : Type 0} (n : ℕ) (xs : List X) (x : X) (rest : List X) → drop n xs ≡ x ∷ rest → take (n + 1) xs ≡ take n xs ++ x ∷ []
-take_next n xs x rest next =
-    let within = next_within n xs x rest next in
-    let long : length (take n xs) ≡ n = length-take n xs ∙ omega (arith, within) in
-    let split : xs ≡ take n xs ++ x ∷ rest = sym (take-append-drop n xs) ∙ ap (λ (zs : List _). take n xs ++ zs) next in
-    ap (λ (zs : List _). take (n + 1) zs) split ∙ ap (λ (k : ℕ). take (k + 1) (take n xs ++ x ∷ rest)) (sym long) ∙ take-append-add (take n xs) (x ∷ rest) 1
-
-none_taken : {X : Type 0} (n : ℕ) (xs : List X) (x : X) → n ≡ 0 → Contains (take n xs) x → ⊥
-none_taken n xs x none is =
-    let first : Contains (take 0 xs) x = subst (λ (k : ℕ). Contains (take k xs) x) none is in
-    absurd (omega (arith, first.1))
-
-pub none_within : {X : Type 0} (xs : List X) (x : X) → xs ≡ [] → Contains xs x → ⊥
-none_within xs x none is =
-    let first : Contains [] x = subst (λ (zs : List _). Contains zs x) none is in
-    absurd (omega (arith, first.1))
+use Rattle.iterate.proofs.Lists.{all_of, of_all, take_first, take_next, contains_first, next_within, none_taken}
+use Rattle.iterate.proofs.Once.{once_fresh, all_supplied}
 
 pub address_is : (question : Question) (target : Labels) → question.owner ≡ target → question.kind ≡ number.A → address_question target ≡ question
 address_is question target owner kind =
@@ -143,8 +103,11 @@ pub reaching : (port : ℕ) (question : Question) (log since : List Exchange) (p
     → IsAskable port question log path → IsReached port log path.last since list → IsSmaller port question log (left_of_path path 1) after
 reaching port question log since path list after same none f p r =
     let s = reached_search port question log since path list after same none f p r in
+    let once : AsksOnce port log after.path.last after.base Turn.unasked =
+    subst (λ (q : Path). AsksOnce port log q.last after.base Turn.unasked) (sym same) (once_fresh after.base r f) in
     record {
       is_search = s;
+      orderly = subst (λ (fs : List Nested). AllAskOnce port log after.base after.path.last Turn.unasked fs) (sym none) once;
       falls = servers_fall after.path path 0 0 0 (hunts_left after) top 4 1 (ap (λ (q : Path). q.begun) same) (ap (λ (q : Path). 64 - (q.sent + 0)) same) (ap (λ (q : Path). length q.sets.items) same) (hunts_few after s)
           (search_digits after 4 (omega arith) s);
     }
@@ -154,6 +117,14 @@ pub below_hearing : {port : ℕ} {question : Question} {log : List Exchange} (pa
 below_hearing path after same s =
     coming_falls after.path path 0 0 0 1 (hunts_left after) 0 4 1 (ap (λ (q : Path). q.begun) same) (ap (λ (q : Path). 64 - (q.sent + 0)) same) (ap (λ (q : Path). length q.sets.items) same) (omega arith)
     (search_digits after 4 (omega arith) s)
+
+-- Each question asks each of its servers once, in a search that has these parts.
+orderly_as : (port : ℕ) (log : List Exchange) (turn : Turn) {frames : List Nested} (search after : Search) → after.path ≡ search.path → after.base ≡ search.base → after.frames.items ≡ frames
+    → AllAskOnce port log search.base search.path.last turn frames → IsOrderly port log after turn
+orderly_as port log turn {frames} search after path base are all =
+    subst (λ (q : Path). AllAskOnce port log after.base q.last turn after.frames.items) (sym path)
+    (subst (λ (h : Hunt). AllAskOnce port log h search.path.last turn after.frames.items) (sym base)
+    (subst (λ (fs : List Nested). AllAskOnce port log search.base search.path.last turn fs) (sym are) all))
 
 -- the innermost question is asked of other servers
 referred_frames : (port : ℕ) (log since : List Exchange) (base : Hunt) (fs : List Nested) (last : Question) (list : Servers) (target : Labels) (hunt : Hunt) (g : Nested) (gs : List Nested)
@@ -171,19 +142,36 @@ referred_frames port log since base fs last list target hunt g gs are same all k
       inner.1,
     )
 
+-- The innermost question goes on with these servers.
+pub referred_first : (fs gs : List Nested) (g : Nested) (rest : List Nested) (target : Labels) (hunt : Hunt) (list : Servers) → fs ≡ g ∷ rest → target ≡ g.target
+    → gs ≡ record { target = target; hunt = hunt } ∷ rest → IsFresh list hunt → AreReferred fs list gs
+referred_first fs gs g rest target hunt list are same back f =
+    subst (λ (xs : List Nested). AreReferred xs list gs) (sym are) (subst (λ (xs : List Nested). AreReferred (g ∷ rest) list xs) (sym back) (same, f, refl))
+
 pub referring : (port : ℕ) (question : Question) (log : List Exchange) (search after : Search) (list : Servers) (target : Labels) (hunt : Hunt) (g : Nested) (gs : List Nested) → after.path ≡ search.path → after.base ≡ search.base
-    → search.frames.items ≡ g ∷ gs → target ≡ g.target → after.frames.items ≡ record { target = target; hunt = hunt } ∷ gs → IsFresh list hunt → IsSearch port question log search → Known port log (Listed list)
-    → IsAtOrBelow (question_of search).owner list.zone → IsSmaller port question log (left_of_hearing search.path 1) after
-referring port question log search after list target hunt g gs path base are same frames f s known zone =
+    → search.frames.items ≡ g ∷ gs → target ≡ g.target → after.frames.items ≡ record { target = target; hunt = hunt } ∷ gs → IsFresh list hunt → IsSearch port question log search
+    → (since : List Exchange) (turn : Turn) → IsOrderly port log search turn → IsReached port log (question_of search) since list → IsSmaller port question log (left_of_hearing search.path 1) after
+referring port question log search after list target hunt g gs path base are same frames f s since turn orderly r =
+    let known = r.listed in
+    let zone = r.above in
+    let all_once : AllAskOnce port log search.base search.path.last turn (g ∷ gs) = subst (λ (xs : List Nested). AllAskOnce port log search.base search.path.last turn xs) are orderly in
+    let reached : IsReached port log (address_question g.target) since list = subst (λ (xs : List Nested). IsReached port log (question_behind xs search.path.last) since list) are r in
+    let once : AllAskOnce port log search.base search.path.last Turn.unasked (record { target = g.target; hunt = hunt } ∷ gs) = (once_fresh hunt reached f, all_once.1, all_once.2) in
+    let once_here : AllAskOnce port log search.base search.path.last Turn.unasked (record { target = target; hunt = hunt } ∷ gs) =
+    subst (λ (n : Labels). AllAskOnce port log search.base search.path.last Turn.unasked (record { target = n; hunt = hunt } ∷ gs)) (sym same) once in
     let all = referred_frames port log s.since search.base search.frames.items search.path.last list target hunt g gs are same s.frames known zone f in
     let deep : length (g ∷ gs) ≤ 8 = subst (λ (xs : List Nested). length xs ≤ 8) are s.deep in
     let t = rebuilt port question log s.since after (subst (λ (q : Path). IsPath port question log q) (sym path) s.path)
     (subst (λ (q : Path). IsBase port log q.last s.since after.base) (sym path) (subst (λ (h : Hunt). IsBase port log search.path.last s.since h) (sym base) s.base))
     (subst (λ (xs : List Nested). AreFrames port log s.since after.base xs) (sym frames) (subst (λ (h : Hunt). AreFrames port log s.since h (record { target = target; hunt = hunt } ∷ gs)) (sym base) all))
     (subst (λ (xs : List Nested). length xs ≤ 8) (sym frames) deep) in
-    record { is_search = t; falls = below_hearing search.path after path t }
+    record { is_search = t; orderly = orderly_as port log Turn.unasked search after path base frames once_here; falls = below_hearing search.path after path t }
 
 -- ---- a server without an address is done with
+
+-- No server is next where each was asked.
+pub asked_not : (hunt : Hunt) (server : Addr) (rest : List Addr) → drop hunt.asked hunt.addrs.items ≡ server ∷ rest → length hunt.addrs.items ≤ hunt.asked → ⊥
+asked_not hunt server rest next all = let within = next_within hunt.asked hunt.addrs.items server rest next in absurd (omega (arith, within, all))
 
 next_less : (hunt : Hunt) (target : Labels) → IsNext hunt target → hunt.sought < length hunt.servers.missing
 next_less hunt target n = next_within hunt.sought hunt.servers.missing target n.rest n.next
@@ -195,8 +183,13 @@ supplied_less before found after within i =
     let same : length after.servers.missing ≡ length before.servers.missing = ap (λ (s : Servers). length s.missing) i.servers in
     omega (arith, one, same, within)
 
+-- One of the servers serves their zone.
+one_serves : {port : ℕ} {log : List Exchange} {servers : Servers} {addr : Addr} → Known port log (Listed servers) → IsOneOf port log servers addr → Known port log (Serves servers.zone addr)
+one_serves listed (IsOneOf.given is) = Known.addressed listed is
+one_serves listed (IsOneOf.found among had told) = Known.found listed among had told
+
 supplied_hunt : (port : ℕ) (log : List Exchange) (name target : Labels) (before : Hunt) (found : List Addr) (after : Hunt) → IsHunt port log name before → IsNext before target
-    → AllServe port log before.servers.zone found → IsSupplied before found after → IsHunt port log name after
+    → AllServe port log before.servers found → IsSupplied before found after → IsHunt port log name after
 supplied_hunt port log name target before found after h n serve i =
     let same = sym i.servers in
     let within = next_less before target n in
@@ -209,7 +202,7 @@ supplied_hunt port log name target before found after h n serve i =
       serve = all_of (λ (addr : Addr). Known port log (Serves after.servers.zone addr)) after.addrs.items (λ addr is.
           subst (λ (s : Servers). Known port log (Serves s.zone addr)) same (elim (i.only addr is) [
             | inl old ↦ of_all (λ (a : Addr). Known port log (Serves before.servers.zone a)) before.addrs.items addr h.serve old
-            | inr new ↦ of_all (λ (a : Addr). Known port log (Serves before.servers.zone a)) found addr serve new
+            | inr new ↦ one_serves h.listed (of_all (IsOneOf port log before.servers) found addr serve new)
           ]));
       asked = omega (arith, h.asked, i.asked, long);
       sought = omega (arith, one, many, within);
@@ -217,7 +210,7 @@ supplied_hunt port log name target before found after h n serve i =
     }
 
 supplied_base : (port : ℕ) (log since : List Exchange) (last : Question) (target : Labels) (before : Hunt) (found : List Addr) (after : Hunt) → IsBase port log last since before → IsNext before target
-    → (MaySeek last before.servers target → Sought since target) → AllServe port log before.servers.zone found → IsSupplied before found after → IsBase port log last since after
+    → (MaySeek last before.servers target → Sought port since target (Contains found)) → AllServe port log before.servers found → IsSupplied before found after → IsBase port log last since after
 supplied_base port log since last target before found after b n tried serve i =
     let same = sym i.servers in
     let one = i.sought (next_less before target n) in
@@ -234,8 +227,8 @@ supplied_base port log since last target before found after b n tried serve i =
       sought = λ name is may.
           let may_before : MaySeek last before.servers name = subst (λ (s : Servers). MaySeek last s name) i.servers may in
           elim (Contains-push_cases (take before.sought before.servers.missing) target name (subst (λ (xs : List Labels). Contains xs name) sought_taken is)) [
-            | inl earlier ↦ b.sought name earlier may_before
-            | inr this ↦ subst (λ (m : Labels). Sought since m) this (tried (subst (λ (m : Labels). MaySeek last before.servers m) (sym this) may_before))
+            | inl earlier ↦ sought_as (λ addr old. contains_first (length before.addrs.items) after.addrs.items before.addrs.items addr i.first old) (b.sought name earlier may_before)
+            | inr this ↦ subst (λ (m : Labels). Sought port since m (Contains after.addrs.items)) this (sought_as i.all (tried (subst (λ (m : Labels). MaySeek last before.servers m) (sym this) may_before)))
           ];
     }
 
@@ -246,7 +239,7 @@ record IsStack (port : ℕ) (log since : List Exchange) (last : Question) (base 
   deep : length fs ≤ 8
 
 supplied_stack : (port : ℕ) (log since : List Exchange) (last : Question) (target : Labels) (fs gs : List Nested) (base next : Hunt) (found : List Addr) → IsBase port log last since base → AreFrames port log since base fs
-    → length fs ≤ 8 → IsNext (hunt_behind fs base) target → (fs ≡ [] → MaySeek last base.servers target → Sought since target) → AllServe port log (hunt_behind fs base).servers.zone found
+    → length fs ≤ 8 → IsNext (hunt_behind fs base) target → (fs ≡ [] → MaySeek last base.servers target → Sought port since target (Contains found)) → AllServe port log (hunt_behind fs base).servers found
     → AreSupplied fs base found gs next → IsStack port log since last next gs
 supplied_stack port log since last target [] [] base next found b all deep n tried serve i =
     record { base_known = supplied_base port log since last target base found next b n (tried refl) serve i; frames_known = tt; deep = omega arith }
@@ -262,6 +255,19 @@ supplied_stack port log since last target (f ∷ fs) (g ∷ gs) base next found 
     } in
     subst (λ (h : Hunt). IsStack port log since last h (g ∷ gs)) (sym i.3)
     (subst (λ (xs : List Nested). IsStack port log since last base (g ∷ xs)) (sym i.2) record { base_known = b; frames_known = (frame, all.1); deep = deep })
+
+-- as many were asked as there are at most
+asked_behind : (port : ℕ) (log since : List Exchange) (last : Question) (fs : List Nested) (base : Hunt) → IsBase port log last since base → AreFrames port log since base fs
+    → (hunt_behind fs base).asked ≤ length (hunt_behind fs base).addrs.items
+asked_behind port log since last [] base b all = b.is_hunt.asked
+asked_behind port log since last (f ∷ fs) base b all = all.0.hunt.asked
+
+-- Each address that was found is among those to ask.
+pub supplied_all : (fs gs : List Nested) (base next : Hunt) (found : List Addr) → AreSupplied fs base found gs next → (addr : Addr) → Contains found addr → Contains (hunt_behind gs next).addrs.items addr
+supplied_all [] [] base next found i addr is = i.all addr is
+supplied_all [] (g ∷ gs) base next found i addr is = absurd i
+supplied_all (f ∷ fs) [] base next found i addr is = absurd i
+supplied_all (f ∷ fs) (g ∷ gs) base next found i addr is = i.1.all addr is
 
 -- ---- how many are left, whatever is known
 
@@ -301,47 +307,60 @@ hunts_close (f ∷ fs) gs base next found some i = let less = hunts_stay fs gs b
 
 -- Less servers are left of it.
 smaller : (port : ℕ) (question : Question) (log since : List Exchange) (search after : Search) → after.path ≡ search.path → IsPath port question log search.path
-    → IsStack port log since search.path.last after.base after.frames.items → hunts_left after < hunts_left search
+    → IsStack port log since search.path.last after.base after.frames.items → AllAskOnce port log after.base search.path.last Turn.unasked after.frames.items → hunts_left after < hunts_left search
     → IsSmaller port question log (left_of_search search 0) after
-smaller port question log since search after same p k less =
+smaller port question log since search after same p k once less =
     let s = rebuilt port question log since after (subst (λ (q : Path). IsPath port question log q) (sym same) p)
     (subst (λ (q : Path). IsBase port log q.last since after.base) (sym same) k.base_known) k.frames_known k.deep in
     record {
       is_search = s;
+      orderly = subst (λ (q : Path). AllAskOnce port log after.base q.last Turn.unasked after.frames.items) (sym same) once;
       falls = servers_fall after.path search.path 0 0 0 (hunts_left after) (hunts_left search) 4 0 (ap (λ (q : Path). q.begun) same) (ap (λ (q : Path). 64 - (q.sent + 0)) same) (ap (λ (q : Path). length q.sets.items) same) less (search_digits after 4 (omega arith) s);
     }
 
 -- The next server without an address is done with.
 pub supplying : (port : ℕ) (question : Question) (log : List Exchange) (target : Labels) (search after : Search) (found : List Addr) → after.path ≡ search.path
-    → AreSupplied search.frames.items search.base found after.frames.items after.base → IsTried port question log search target → AllServe port log (hunt_of search).servers.zone found
+    → AreSupplied search.frames.items search.base found after.frames.items after.base → IsTried port question log search target found → AllServe port log (hunt_of search).servers found
     → IsSmaller port question log (left_of_search search 0) after
 supplying port question log target search after found same i t serve =
     let s = t.is_search in
     smaller port question log s.since search after same s.path
     (supplied_stack port log s.since search.path.last target search.frames.items after.frames.items search.base after.base found s.base s.frames s.deep t.next t.tried serve i)
+    (all_supplied port log search.path.last search.frames.items after.frames.items search.base after.base found (asked_behind port log s.since search.path.last search.frames.items search.base s.base s.frames) serve i t.orderly)
     (hunts_fall search.frames.items after.frames.items search.base after.base found (next_less (hunt_of search) target t.next) i)
 
 closed_stack : (port : ℕ) (log since : List Exchange) (last : Question) (xs gs : List Nested) (base next : Hunt) (found : List Addr) → 0 < length xs → IsBase port log last since base → AreFrames port log since base xs → length xs ≤ 8
-    → AllServe port log (hunt_behind (drop 1 xs) base).servers.zone found → AreSupplied (drop 1 xs) base found gs next
+    → AllServe port log (hunt_behind (drop 1 xs) base).servers found → AreSupplied (drop 1 xs) base found gs next
     → IsStack port log since last next gs
 closed_stack port log since last [] gs base next found some b all deep serve i = absurd (omega (arith, some))
 closed_stack port log since last (f ∷ fs) gs base next found some b all deep serve i =
     supplied_stack port log since last f.target fs gs base next found b all.1 (omega (arith, deep)) all.0.next (λ none may. was_sought all.0.unknown) serve i
 
+closed_once : (port : ℕ) (log since : List Exchange) (last : Question) (xs gs : List Nested) (base next : Hunt) (found : List Addr) (turn : Turn) → 0 < length xs → IsBase port log last since base → AreFrames port log since base xs
+    → AllAskOnce port log base last turn xs → AllServe port log (hunt_behind (drop 1 xs) base).servers found → AreSupplied (drop 1 xs) base found gs next → AllAskOnce port log next last Turn.unasked gs
+closed_once port log since last [] gs base next found turn some b all once serve i = absurd (omega (arith, some))
+closed_once port log since last (f ∷ fs) gs base next found turn some b all once serve i =
+    all_supplied port log last fs gs base next found (asked_behind port log since last fs base b all.1) serve i once.2
+
 -- The innermost question is closed.
 pub closing : (port : ℕ) (question : Question) (log : List Exchange) (search after : Search) (found : List Addr) → 0 < length search.frames.items → after.path ≡ search.path
-    → AreSupplied (drop 1 search.frames.items) search.base found after.frames.items after.base → IsSearch port question log search
-    → AllServe port log (hunt_behind (drop 1 search.frames.items) search.base).servers.zone found → IsSmaller port question log (left_of_search search 0) after
-closing port question log search after found some same i s serve =
+    → AreSupplied (drop 1 search.frames.items) search.base found after.frames.items after.base → IsSearch port question log search → (turn : Turn) → IsOrderly port log search turn
+    → AllServe port log (hunt_behind (drop 1 search.frames.items) search.base).servers found → IsSmaller port question log (left_of_search search 0) after
+closing port question log search after found some same i s turn orderly serve =
     let k = closed_stack port log s.since search.path.last search.frames.items after.frames.items search.base after.base found some s.base s.frames s.deep serve i in
-    smaller port question log s.since search after same s.path k (hunts_close search.frames.items after.frames.items search.base after.base found some i)
+    let once = closed_once port log s.since search.path.last search.frames.items after.frames.items search.base after.base found turn some s.base s.frames orderly serve i in
+    smaller port question log s.since search after same s.path k once (hunts_close search.frames.items after.frames.items search.base after.base found some i)
 
 -- ---- a question is opened
 
 pub opening : (port : ℕ) (question : Question) (log : List Exchange) (search after : Search) (list : Servers) (target : Labels) (hunt : Hunt) → after.path ≡ search.path → after.base ≡ search.base
     → after.frames.items ≡ record { target = target; hunt = hunt } ∷ search.frames.items → IsFresh list hunt → (s : IsSearch port question log search) → length search.frames.items < 8
-    → IsNext (hunt_of search) target → (hunt_of search).sought < 5 → WasUnknown s.since (address_question target) → Known port log (Listed list) → IsAtOrBelow target list.zone → IsSmaller port question log (left_of_seek search stage.Servers) after
-opening port question log search after list target hunt path base frames f s shallow n early unknown known zone =
+    → IsNext (hunt_of search) target → (hunt_of search).sought < 5 → WasUnknown s.since (address_question target) → IsOrderly port log search Turn.unasked → IsOther (address_question target) search.frames.items search.path.last
+    → (since : List Exchange) → IsReached port log (address_question target) since list → IsSmaller port question log (left_of_seek search stage.Servers) after
+opening port question log search after list target hunt path base frames f s shallow n early unknown orderly other since r =
+    let known = r.listed in
+    let zone = r.above in
+    let once : AllAskOnce port log search.base search.path.last Turn.unasked (record { target = target; hunt = hunt } ∷ search.frames.items) = (once_fresh hunt r f, other, orderly) in
     let h = fresh_hunt port log target list hunt known zone f in
     let stack : IsStack port log s.since search.path.last search.base (record { target = target; hunt = hunt } ∷ search.frames.items) = record {
       base_known = s.base;
@@ -354,6 +373,7 @@ opening port question log search after list target hunt path base frames f s sha
     (subst (λ (xs : List Nested). length xs ≤ 8) (sym frames) stack.deep) in
     record {
       is_search = t;
+      orderly = orderly_as port log Turn.unasked search after path base frames once;
       falls = coming_falls after.path search.path 0 0 0 1 (hunts_left after) 0 4 0 (ap (λ (q : Path). q.begun) path) (ap (λ (q : Path). 64 - (q.sent + 0)) path) (ap (λ (q : Path). length q.sets.items) path) (omega arith)
           (search_digits after 4 (omega arith) t);
     }

@@ -1,10 +1,11 @@
 -- How far a response leads.
-use Rattle.std.specs.Prelude.{◌≡◌, ℕ, List, Option, IfSome, map}
+use Rattle.std.specs.Prelude.{◌≡◌, ℕ, List, Option, IfSome, MatchOption, map}
 use Rattle.dns_name.specs.Labels.{Labels}
 use Rattle.dns_text.specs.declared.record.Question.{Question}
 use Rattle.dns_wire.specs.declared.message.Message.{Message}
 use Rattle.dns_query.specs.declared.sets.Believed.{Believed}
 use Rattle.dns_query.specs.declared.sets.Believed.TheVariants.{Find, Passing}
+use Rattle.dns_query.specs.Believed.{IsBelieved, HarvestHasSet}
 use Rattle.dns_query.specs.Query.{alias_question}
 use Rattle.harvest.specs.declared.harvest_type.Harvest.{Harvest}
 use Rattle.harvest.specs.Harvest.{finds_in, passing_in}
@@ -35,6 +36,16 @@ told_by (Passing set) = PassingTold set.now
 -- The set, if any, answers the question.
 abbrev pub IsHadIfSome : ℕ → List Exchange → Question → Option AnswerSet → Type 0
 IsHadIfSome port log question found = IfSome found (λ told. Known port log (Had question told))
+
+-- This set of a harvest may answer the question, and is the one that is believed.
+pub record IsToldBy (harvest : Harvest) (question : Question) (told : AnswerSet) : Type 0 where
+  pub set : Believed
+  pub believed : IsBelieved (map said_by harvest.finds) (map set_of harvest.passing) question set
+  pub is : told ≡ told_by set
+
+-- The set of a harvest that answers the question is found, if it has one.
+abbrev pub HasTold : Harvest → Question → Option AnswerSet → Type 0
+HasTold harvest question found = MatchOption found (¬ (HarvestHasSet harvest question)) (IsToldBy harvest question)
 
 -- A harvest leads there from a question.
 abbrev pub HarvestLeads : ℕ → List Exchange → Question → Hop → Type 0

@@ -13,12 +13,15 @@ use Rattle.iterate.specs.declared.search.Hunt.{Hunt}
 use Rattle.iterate.specs.declared.search.Move.{Move}
 use Rattle.iterate.specs.declared.search.Move.TheVariants.{Ask, Seek, Pass, Close}
 use Rattle.iterate.specs.declared.search.Search.{Search}
-use Rattle.iterate.specs.Exchanges.{Exchange}
-use Rattle.iterate.specs.Known.{Known, Listed, Serves}
+use Rattle.iterate.specs.Exchanges.{Exchange, Happened, is_send}
+use Rattle.iterate.specs.Known.{Known, Listed}
 use Rattle.iterate.specs.Measure.{left_of_search}
-use Rattle.iterate.specs.Resolved.{MaySeek, ReachedFor, Sought}
-use Rattle.iterate.specs.Searching.{IsSearch, IsNext, hunt_of}
+use Rattle.iterate.specs.Resolved.{IsOneOf, MaySeek, ReachedFor, Sought}
+use Rattle.iterate.specs.Searching.{IsSearch, IsNext, Turn, IsOrderly, IsOther, AreDistinct, hunt_of}
 use Rattle.dns_name.specs.Labels.{IsAtOrBelow}
+use Rattle.dns_query.specs.Believed.{HarvestHasSet}
+use Rattle.harvest.specs.declared.harvest_type.Harvest.{Harvest}
+use Rattle.iterate.specs.Following.{IsToldBy}
 use Rattle.local_zone.specs.declared.local_answer.Local.TheVariants.{Data as LocalData}
 use Rattle.ranked.specs.declared.find.Body.{Body}
 use Rattle.ranked.specs.declared.find.Body.TheVariants.{Set}
@@ -29,7 +32,10 @@ use Rattle.history.specs.declared.event.Seen.{Seen as SeenValue}
 use Rattle.history.specs.declared.event.Seen.TheVariants.{Held, Local as LocalSeen, Servers as SeenServers}
 use Rattle.iterate.specs.declared.want.Input.{Input}
 use Rattle.iterate.specs.declared.want.Input.TheVariants.{Reply}
-use Rattle.iterate.specs.declared.want.Want.TheVariants.{Book}
+use Rattle.iterate.specs.declared.want.Want.{Want}
+use Rattle.iterate.specs.declared.want.Want.TheVariants.{Book, Send}
+use Rattle.dns_query.specs.declared.over.Over.{Over}
+use Rattle.dns_query.specs.Query.{address_question}
 use Rattle.iterate.specs.Phase.{Suits}
 use Rattle.iterate.specs.Shown.{IsMisanswered}
 use Rattle.iterate.specs.Looked.{IsSetSeen}
@@ -54,15 +60,16 @@ v4_told port (FindTold ttl find) = v4_in port (data_of find.body)
 v4_told port (LocalTold records) = flat_map (λ r. v4_of port r.body) records
 v4_told port (PassingTold set) = v4_in port set.data
 
--- These addresses serve the zone.
-abbrev pub AllServe : ℕ → List Exchange → Labels → List Addr → Type 0
-AllServe port log zone addrs = AllByRecursion (λ addr. Known port log (Serves zone addr)) addrs
+-- These addresses are of these servers.
+abbrev pub AllServe : ℕ → List Exchange → Servers → List Addr → Type 0
+AllServe port log servers addrs = AllByRecursion (IsOneOf port log servers) addrs
 
--- These servers were reached for a question, with these exchanges since, and their zone is at or above its name.
+-- These servers were reached for a question, with these exchanges since, and their zone is at or above its name. No query was sent since.
 pub record IsReached (port : ℕ) (log : List Exchange) (question : Question) (since : List Exchange) (servers : Servers) : Type 0 where
   pub listed : Known port log (Listed servers)
   pub reached : ReachedFor port log question servers since
   pub above : IsAtOrBelow question.owner servers.zone
+  pub quiet : (x : Exchange) → Happened since x → is_send x ≡ false
 
 -- Of these servers none was asked.
 pub record IsFresh (list : Servers) (hunt : Hunt) : Type 0 where
@@ -71,6 +78,7 @@ pub record IsFresh (list : Servers) (hunt : Hunt) : Type 0 where
   pub sought : hunt.sought ≡ 0
   pub all : (addr : Addr) → Contains list.addrs addr → Contains hunt.addrs.items addr
   pub only : (addr : Addr) → Contains hunt.addrs.items addr → Contains list.addrs addr
+  pub distinct : AreDistinct hunt.addrs.items
   pub countable : length list.missing < 2 ^ 64
 
 -- The next server without an address is done with, and these addresses were found.
@@ -80,7 +88,14 @@ pub record IsSupplied (before : Hunt) (found : List Addr) (after : Hunt) : Type 
   pub sought : before.sought < length before.servers.missing → after.sought ≡ before.sought + 1
   pub forward : before.sought ≤ after.sought
   pub first : take (length before.addrs.items) after.addrs.items ≡ before.addrs.items
+  pub all : (addr : Addr) → Contains found addr → Contains after.addrs.items addr
   pub only : (addr : Addr) → Contains after.addrs.items addr → Contains before.addrs.items addr ⊎ Contains found addr
+  pub distinct : AreDistinct before.addrs.items → AreDistinct after.addrs.items
+
+-- The innermost question, which is nested, goes on with these servers, of which none was asked. All else stays.
+abbrev pub AreReferred : List Nested → Servers → List Nested → Type 0
+AreReferred (frame ∷ frames) list (f ∷ fs) = (f.target ≡ frame.target) × IsFresh list f.hunt × (fs ≡ frames)
+AreReferred frames list fs = ⊥
 
 -- So it is with the innermost question.
 abbrev pub AreSupplied : List Nested → Hunt → List Addr → List Nested → Hunt → Type 0
@@ -88,27 +103,44 @@ AreSupplied [] base found [] next = IsSupplied base found next
 AreSupplied (frame ∷ frames) base found (f ∷ fs) next = (f.target ≡ frame.target) × IsSupplied frame.hunt found f.hunt × (fs ≡ frames) × (next ≡ base)
 AreSupplied frames base found fs next = ⊥
 
--- The next server that the innermost question lacks was looked for, or may not be.
-pub record IsTried (port : ℕ) (question : Question) (log : List Exchange) (search : Search) (target : Labels) : Type 0 where
+-- The next server that the innermost question lacks was looked for, and these addresses were seen, or it may not be looked for.
+pub record IsTried (port : ℕ) (question : Question) (log : List Exchange) (search : Search) (target : Labels) (found : List Addr) : Type 0 where
   pub is_search : IsSearch port question log search
   pub next : IsNext (hunt_of search) target
-  pub tried : search.frames.items ≡ [] → MaySeek search.path.last search.base.servers target → Sought is_search.since target
+  pub orderly : IsOrderly port log search Turn.unasked
+  pub tried : search.frames.items ≡ [] → MaySeek search.path.last search.base.servers target → Sought port is_search.since target (Contains found)
 
 -- A search of which less than this is left.
 pub record IsSmaller (port : ℕ) (question : Question) (log : List Exchange) (left : ℕ) (search : Search) : Type 0 where
   pub is_search : IsSearch port question log search
+  pub orderly : IsOrderly port log search Turn.unasked
   pub falls : left_of_search search 4 < left
+
+-- The addresses are among these of the set by which a harvest answers the question, if it has one.
+abbrev pub Supplies : ℕ → Harvest → Question → List Addr → Type 0
+Supplies port harvest question addrs =
+    HarvestHasSet harvest question → (told : AnswerSet) × IsToldBy harvest question told × ((addr : Addr) → IsAddressIn port told addr → Contains addrs addr)
 
 -- An item is at a place.
 abbrev pub IsAt : {X : Type 0} → List X → ℕ → X → Type 0
 IsAt {X} xs place x = (rest : List X) × (drop place xs ≡ x ∷ rest)
 
+-- The server is asked over this transport.
+abbrev pub AsksOver : Addr → Over → Want → Type 0
+AsksOver server over want = (bytes : List ℕ) × (want ≡ Send server over bytes)
+
+-- Each address was asked.
+abbrev pub AreAllAsked : Hunt → Type 0
+AreAllAsked hunt = length hunt.addrs.items ≤ hunt.asked
+
 -- What comes next for the innermost question.
 abbrev pub IsNextStep : Search → Move → Type 0
 IsNextStep search (Ask server) = (rest : List Addr) × (drop (hunt_of search).asked (hunt_of search).addrs.items ≡ server ∷ rest)
-IsNextStep search (Seek target) = IsNext (hunt_of search) target × (length search.frames.items < MOST_DEPTH)
-IsNextStep search Pass = (target : Labels) × IsNext (hunt_of search) target × (search.frames.items ≡ [] → ¬ (MaySeek search.path.last search.base.servers target))
-IsNextStep search Close = (length (hunt_of search).addrs.items ≤ (hunt_of search).asked) × (length (hunt_of search).servers.missing ≤ (hunt_of search).sought)
+IsNextStep search (Seek target) =
+    IsNext (hunt_of search) target × (length search.frames.items < MOST_DEPTH) × IsOther (address_question target) search.frames.items search.path.last × AreAllAsked (hunt_of search)
+IsNextStep search Pass =
+    (target : Labels) × IsNext (hunt_of search) target × (search.frames.items ≡ [] → ¬ (MaySeek search.path.last search.base.servers target)) × AreAllAsked (hunt_of search)
+IsNextStep search Close = AreAllAsked (hunt_of search) × (length (hunt_of search).servers.missing ≤ (hunt_of search).sought)
 
 -- ---- what a book said of servers
 

@@ -1,5 +1,5 @@
 -- A set of addresses beside a list of them. (Of the code.)
-use Rattle.std.specs.Prelude.{◌≡◌, ℕ, Bool, true, List}
+use Rattle.std.specs.Prelude.{◌≡◌, ◌↔◌, ℕ, Bool, true, List}
 use Rattle.std.specs.BTreeSet.{contains}
 use Rattle.std.specs.Cmp.Lexicographic.{slice_cmp}
 use Rattle.std.specs.List.{Contains}
@@ -23,6 +23,6 @@ has_ip seen port (V6 octets) = contains port_cmp seen.v6 (port, octets)
 abbrev pub has_addr : AddrSet → Addr → Bool
 has_addr seen addr = has_ip seen addr.port addr.ip
 
--- Each address that the set has is one of these.
+-- The set has just these addresses.
 abbrev pub AreAmong : AddrSet → List Addr → Type 0
-AreAmong seen addrs = (addr : Addr) → has_addr seen addr ≡ true → Contains addrs addr
+AreAmong seen addrs = (addr : Addr) → (has_addr seen addr ≡ true) ↔ Contains addrs addr

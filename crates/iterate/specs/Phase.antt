@@ -1,5 +1,5 @@
 -- Where a task is: what is remembered in each phase, and what a step has to bring.
-use Rattle.std.specs.Prelude.{◌≡◌, ℕ, ◌<◌, ◌≤◌, List, [], ◌∷◌, ◌++◌, length, map}
+use Rattle.std.specs.Prelude.{◌≡◌, ℕ, ◌<◌, ◌≤◌, false, List, [], ◌∷◌, ◌++◌, length, map}
 use Rattle.dns_name.specs.Labels.{Labels}
 use Rattle.dns_text.specs.declared.addr.Addr.{Addr}
 use Rattle.dns_text.specs.declared.record.Question.{Question}
@@ -29,11 +29,11 @@ use Rattle.iterate.specs.declared.want.Input.TheVariants.{Begin, Reply, Refused,
 use Rattle.iterate.specs.declared.want.Step.{Step}
 use Rattle.iterate.specs.declared.want.Want.{Want}
 use Rattle.iterate.specs.declared.want.Want.TheVariants.{Book, Send, Finish}
-use Rattle.iterate.specs.Exchanges.{Exchange, exchange, Adds, last_behind, count_sends}
+use Rattle.iterate.specs.Exchanges.{Exchange, exchange, Adds, Happened, last_behind, count_sends, is_send}
 use Rattle.iterate.specs.Following.{IsHarvestOf}
 use Rattle.iterate.specs.Known.{Known, Responds, WasUnknown}
 use Rattle.iterate.specs.Measure.{left_in}
-use Rattle.iterate.specs.Searching.{IsPath, IsAskable, IsSearch, IsNext, IsNextServer, hunt_of, question_of}
+use Rattle.iterate.specs.Searching.{IsPath, IsAskable, IsSearch, IsNext, IsNextServer, Turn, IsOrderly, IsOther, hunt_of, question_of, turn_of}
 use Rattle.iterate.specs.Served.{served_name}
 use Rattle.iterate.specs.Wanted.{MayWant, id_drawn, stream_behind}
 
@@ -89,6 +89,8 @@ pub record IsSeeking (port : ℕ) (question : Question) (log : List Exchange) (s
   pub next : IsNext (hunt_of search) target
   pub unknown : IsUnknownAt stage is_search.since target
   pub early : IsEarlyAt stage (hunt_of search).sought
+  pub orderly : IsOrderly port log search Turn.unasked
+  pub other : IsOther (address_question target) search.frames.items search.path.last
 
 -- The next server is being asked.
 pub record IsWaiting (port : ℕ) (question : Question) (log : List Exchange) (want : Want) (search : Search) (server : Addr) (id : ℕ) (over : Over) : Type 0 where
@@ -99,6 +101,7 @@ pub record IsWaiting (port : ℕ) (question : Question) (log : List Exchange) (w
   pub bytes : List ℕ
   pub wanted : want ≡ Send server over bytes
   pub query : IsQuery bytes id (question_of search)
+  pub orderly : IsOrderly port log search (turn_of over)
 
 -- A response was heard: it came of a query of the innermost question, and this is what it says.
 pub record IsHearing (port : ℕ) (question : Question) (log : List Exchange) (search : Search) (heard : Heard) : Type 0 where
@@ -117,6 +120,8 @@ pub record IsHearing (port : ℕ) (question : Question) (log : List Exchange) (s
   pub finds : map said_by heard.harvest.finds ≡ finds_in message (question_of search) (hunt_of search).servers.zone
   pub passing : map set_of heard.harvest.passing ≡ passing_in message (question_of search) (hunt_of search).servers.zone
   pub says : IsSaid port (hunt_of search).servers.zone (question_of search) message heard.says
+  pub orderly : IsOrderly port log search Turn.heard
+  pub quiet : (x : Exchange) → Happened since x → is_send x ≡ false
 
 -- what is remembered where this is open
 abbrev pub Remembers : ℕ → Question → List Exchange → Want → Phase → Type 0

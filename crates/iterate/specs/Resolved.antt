@@ -33,7 +33,7 @@ use Rattle.iterate.specs.Exchanges.{Exchange, exchange, Adds, Happened, count_se
 use Rattle.iterate.specs.Known.{WasUnknown, Known, Had, Responds, servers_referred}
 use Rattle.iterate.specs.Served.{served_name}
 use Rattle.iterate.specs.Shown.{IsShownFor, IsLocalFor, IsMisanswered, EndsQuestion}
-use Rattle.iterate.specs.Told.{IsTarget, soa_whole}
+use Rattle.iterate.specs.Told.{IsTarget, IsAddressIn, soa_whole}
 
 -- ---- the first look
 
@@ -121,20 +121,36 @@ pub record MaySeek (question : Question) (servers : Servers) (target : Labels) :
   pub outside : ¬ (IsAtOrBelow target servers.zone)
   pub other : ¬ (address_question target ≡ question)
 
--- Its address was looked for.
-pub record Sought (log : List Exchange) (target : Labels) : Type 0 where
+-- A server is one of these: its address came with them, or a set that is known has it.
+pub data IsOneOf (port : ℕ) (log : List Exchange) (servers : Servers) (addr : Addr) : Type 0 where
+  given : Contains servers.addrs addr → IsOneOf port log servers addr
+  found : {target : Labels} {told : AnswerSet} → Contains servers.missing target → Known port log (Had (address_question target) told) → IsAddressIn port told addr
+      → IsOneOf port log servers addr
+
+-- The look for the address of a server saw this one.
+pub record IsShown (port : ℕ) (target : Labels) (input : Input) (addr : Addr) : Type 0 where
+  pub seen : SeenValue
+  pub rcode : ℕ
+  pub told : AnswerSet
+  pub replied : input ≡ Reply (Seen seen)
+  pub ends : EndsQuestion (address_question target) seen rcode (Some told) None
+  pub among : IsAddressIn port told addr
+
+-- Its address was looked for, and this became of each one that the look saw.
+pub record Sought (port : ℕ) (log : List Exchange) (target : Labels) (Became : Addr → Type 0) : Type 0 where
   pub moment : ℕ
   pub input : Input
   pub looked : Happened log (exchange (Book (Look moment (Asked (address_question target)))) input)
+  pub became : (addr : Addr) → IsShown port target input addr → Became addr
 
--- A look at the question found nothing, and a list of servers was reached for it. Since then each address was asked in vain, and each server without one was looked for.
+-- A look at the question found nothing, and a list of servers was reached for it. Since then each address was asked in vain. Each server without one was looked for, and each address that was seen was asked in vain.
 pub record Exhausted (port : ℕ) (log : List Exchange) (question : Question) : Type 0 where
   pub unknown : WasUnknown log question
   pub servers : Servers
   pub since : List Exchange
   pub reached : ReachedFor port log question servers since
   pub vain : (server : Addr) → Contains servers.addrs server → Struck port since servers.zone question server
-  pub sought : (target : Labels) → MaySeek question servers target → Sought since target
+  pub sought : (target : Labels) → MaySeek question servers target → Sought port since target (Struck port since servers.zone question)
 
 -- the look got what ends a question behind an alias, and answers nothing
 pub data IsBarred : SeenValue → Type 0 where

@@ -1,5 +1,6 @@
 -- What a task may want.
 use Rattle.std.specs.Prelude.{◌≡◌, ℕ, ◌%◌, ◌^◌, List, take}
+use Rattle.iterate.specs.declared.want.Input.{Input}
 use Rattle.std.specs.List.{Contains}
 use Rattle.dns_name.specs.Labels.{Labels, IsAtOrBelow}
 use Rattle.dns_text.specs.declared.addr.Addr.{Addr}
@@ -24,7 +25,7 @@ use Rattle.iterate.specs.declared.want.Want.{Want}
 use Rattle.iterate.specs.declared.want.Want.TheVariants.{Book, Send, Finish}
 use Rattle.iterate.specs.Exchanges.{Exchange, exchange, Happened}
 use Rattle.iterate.specs.Known.{Known, Listed, Serves, Responds, WasUnknown}
-use Rattle.iterate.specs.Resolved.{IsResolved, Chain, question_at}
+use Rattle.iterate.specs.Resolved.{IsResolved, Chain, IsOneOf, ReachedFor, question_at}
 use Rattle.iterate.specs.Served.{served_name}
 
 -- A find is in the harvest of a response.
@@ -56,8 +57,17 @@ pub data IsAskedFor (port : ℕ) (log : List Exchange) (question : Question) : Q
   of_server : {servers : Servers} {target : Labels} → Known port log (Listed servers) → Contains (take MOST_TARGETS servers.missing) target
       → IsAskedFor port log question (address_question target)
 
+-- The server is one of those that were reached for the question. Since then it was not asked this over this transport.
+pub record IsFirstAsk (port : ℕ) (log : List Exchange) (question : Question) (server : Addr) (over : Over) : Type 0 where
+  pub servers : Servers
+  pub since : List Exchange
+  pub reached : ReachedFor port log question servers since
+  pub among : IsOneOf port log servers server
+  pub first : (bytes : List ℕ) (id : ℕ) (input : Input) → Happened since (exchange (Send server over bytes) input) → ¬ (IsQuery bytes id question)
+
 -- A query with this identifier asks a server of a zone in which its name lies. An earlier look at its question found nothing:
 -- what is cached, blocked or set by the operator is never asked for, neither as the question itself nor behind an alias.
+-- No two queries are alike since a list of servers was reached.
 pub record AsksZone (port : ℕ) (whole : Question) (log : List Exchange) (id : ℕ) (server : Addr) (over : Over) (bytes : List ℕ) : Type 0 where
   pub question : Question
   pub asked : IsAskedFor port log whole question
@@ -67,6 +77,7 @@ pub record AsksZone (port : ℕ) (whole : Question) (log : List Exchange) (id : 
   pub serves : Known port log (Serves zone server)
   pub within : IsAtOrBelow question.owner zone
   pub goes : MayGo log server question over
+  pub once : IsFirstAsk port log question server over
 
 -- ---- the numbers that are drawn
 

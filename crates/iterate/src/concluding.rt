@@ -3,13 +3,16 @@
 ghost use Rattle.std.specs.Prelude.{◌≡◌, ◌<◌, [], ℕ, List, IfOk, length};
 ghost use Rattle.std.specs.List.{AllByRecursion};
 ghost use Rattle.dns_text.specs.declared.record.Question.{Question};
+ghost use Rattle.dns_query.specs.declared.verdict.Referral.{Referral as ReferralValue};
+ghost use Rattle.dns_query.specs.Query.{address_question};
 ghost use Rattle.iterate.specs.Exchanges.{Exchange};
 ghost use Rattle.iterate.specs.Following.{IsHarvestOf};
-ghost use Rattle.iterate.specs.Hunting.{IsSmaller};
+ghost use Rattle.iterate.specs.Hunting.{AreReferred, IsSmaller, Supplies};
 ghost use Rattle.iterate.specs.Judged.{IsAddressOf};
 ghost use Rattle.iterate.specs.Known.{servers_referred};
 ghost use Rattle.iterate.specs.Measure.{left_of_hearing};
 ghost use Rattle.iterate.specs.Phase.{Advances, IsHearing, drawing};
+ghost use Rattle.iterate.specs.Searching.{hunt_of, question_of};
 
 use crate::addresses::addresses;
 use crate::finishing::denied;
@@ -52,8 +55,9 @@ fn addresses_harvested(
     target: &Name,
     harvest: &Harvest,
 ) -> Result<Vec<Addr>, NoMemory>
-    ensures { (log : List Exchange) → IsHarvestOf port log harvest.now
+    ensures each { (log : List Exchange) → IsHarvestOf port log harvest.now
         → IfOk result (λ addrs. AllByRecursion (IsAddressOf port log target.now) addrs.items) }
+    ensures all { IfOk result (λ addrs. Supplies port harvest.now (address_question target.now) addrs.items) }
 {
     match harvested(harvest, &address_question(target)?)? {
         Some(told) => addresses(alloc, port, &told),
@@ -91,7 +95,11 @@ fn conclude_last<R: Rng>(
 /// referral names the next servers to ask.
 fn search_behind(alloc: Global, port: u16, search: Search, heard: Heard) -> Result<Search, NoMemory>
     requires { 0 < length search.frames.items }
-    ensures { (question : Question) (log : List Exchange) → IsHearing port question log search heard
+    ensures answers { heard.says ≡ Says.Answers
+        → IfOk result (λ after. Supplies port heard.harvest (question_of search) (hunt_of after).addrs.items) }
+    ensures refers { (referral : ReferralValue) → heard.says ≡ Says.Refers referral
+        → IfOk result (λ after. AreReferred search.frames.items (servers_referred referral) after.frames.items) }
+    ensures smaller { (question : Question) (log : List Exchange) → IsHearing port question log search heard
         → IfOk result (IsSmaller port question log (left_of_hearing search.path 1)) }
 {
     let Heard { harvest, says } = heard;

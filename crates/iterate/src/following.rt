@@ -7,7 +7,7 @@ ghost use Rattle.history.specs.declared.event.Event.TheVariants.{Look};
 ghost use Rattle.iterate.specs.declared.want.Input.{Input as InputValue};
 ghost use Rattle.iterate.specs.declared.want.Want.TheVariants.{Book};
 ghost use Rattle.iterate.specs.Exchanges.{Exchange, AddsLook};
-ghost use Rattle.iterate.specs.Following.{told_by, IsHarvestOf, IsHadIfSome, HarvestLeads};
+ghost use Rattle.iterate.specs.Following.{told_by, IsHarvestOf, IsHadIfSome, HasTold, HarvestLeads};
 ghost use Rattle.iterate.specs.Known.{Known, Had};
 ghost use Rattle.iterate.specs.Looked.{seen_of, IsReplied};
 ghost use Rattle.iterate.specs.Measure.{left_of_path};
@@ -57,7 +57,8 @@ pub(crate) fn harvested(
     harvest: &Harvest,
     question: &Question,
 ) -> Result<Option<AnswerSet>, NoMemory>
-    ensures { (port : ℕ) (log : List Exchange) → IsHarvestOf port log harvest.now → IfOk result (IsHadIfSome port log question.now) }
+    ensures had { (port : ℕ) (log : List Exchange) → IsHarvestOf port log harvest.now → IfOk result (IsHadIfSome port log question.now) }
+    ensures exact { IfOk result (HasTold harvest.now question.now) }
 {
     match believed(harvest, question) {
         Some(set) => Ok(Some(tell(set)?)),

@@ -1,9 +1,10 @@
 //! Lists of addresses joined, each address once.
 
-ghost use Rattle.std.specs.Prelude.{◌≡◌, ◌⊎◌, true, not, IsTrue, IfOk, OnOk, length, take};
+ghost use Rattle.std.specs.Prelude.{◌≡◌, ◌⊎◌, ◌↔◌, true, not, IsTrue, IfOk, OnOk, length, take};
 ghost use Rattle.std.specs.List.{Contains};
 ghost use Rattle.dns_text.specs.declared.addr.Addr.{Addr};
 ghost use Rattle.iterate.specs.Joining.{has_addr, AreAmong};
+ghost use Rattle.iterate.specs.Searching.{AreDistinct};
 
 use dns_name::NoMemory;
 use dns_text::{Addr, Ip};
@@ -16,13 +17,13 @@ const MOST_COMPARED: usize = 32;
 // ---- a few
 
 fn is_same(addr: &Addr, other: &Addr) -> bool
-    ensures { IsTrue result → addr.now ≡ other.now }
+    ensures { IsTrue result ↔ (addr.now ≡ other.now) }
 {
     addr == other
 }
 
 fn is_listed(addrs: &[Addr], addr: &Addr) -> bool
-    ensures { IsTrue result → Contains addrs.now addr.now }
+    ensures { IsTrue result ↔ Contains addrs.now addr.now }
 {
     for known in addrs {
         if is_same(known, addr) {
@@ -37,6 +38,7 @@ fn with_addr(addrs: Vec<Addr>, addr: &Addr) -> Result<Vec<Addr>, NoMemory>
     ensures first { IfOk result (λ v. take (length addrs.items) v.items ≡ addrs.items) }
     ensures has { IfOk result (λ v. Contains v.items addr.now) }
     ensures only { IfOk result (λ v. (other : Addr) → Contains v.items other → Contains addrs.items other ⊎ (addr.now ≡ other)) }
+    ensures distinct { AreDistinct addrs.items → IfOk result (λ v. AreDistinct v.items) }
 {
     let mut addrs = addrs;
     if is_listed(&addrs, addr) {
@@ -51,6 +53,7 @@ fn join_few(known: Vec<Addr>, others: &[Addr]) -> Result<Vec<Addr>, NoMemory>
     ensures first { IfOk result (λ v. take (length known.items) v.items ≡ known.items) }
     ensures all { IfOk result (λ v. (addr : Addr) → Contains others.now addr → Contains v.items addr) }
     ensures only { IfOk result (λ v. (addr : Addr) → Contains v.items addr → Contains known.items addr ⊎ Contains others.now addr) }
+    ensures distinct { AreDistinct known.items → IfOk result (λ v. AreDistinct v.items) }
 {
     let mut addrs = known;
     for addr in others {
@@ -71,7 +74,7 @@ struct AddrSet {
 /// Adds an address, and returns whether it is new.
 fn note(seen: &mut AddrSet, addr: &Addr) -> Result<bool, NoMemory>
     ensures told { IfOk result (λ added. added ≡ not (has_addr seen.old addr.now)) }
-    ensures adds { OnOk result ((other : Addr) → has_addr seen.new other ≡ true → (has_addr seen.old other ≡ true) ⊎ (addr.now ≡ other)) }
+    ensures adds { OnOk result ((other : Addr) → (has_addr seen.new other ≡ true) ↔ ((has_addr seen.old other ≡ true) ⊎ (addr.now ≡ other))) }
 {
     match addr.ip {
         Ip::V4(octets) => Ok(seen.v4.insert((addr.port, octets))?),
@@ -99,6 +102,7 @@ fn with_noted(addrs: Vec<Addr>, seen: &mut AddrSet, addr: &Addr) -> Result<Vec<A
     ensures first { IfOk result (λ v. take (length addrs.items) v.items ≡ addrs.items) }
     ensures has { IfOk result (λ v. Contains v.items addr.now) }
     ensures only { IfOk result (λ v. (other : Addr) → Contains v.items other → Contains addrs.items other ⊎ (addr.now ≡ other)) }
+    ensures distinct { AreDistinct addrs.items → IfOk result (λ v. AreDistinct v.items) }
     ensures seen { IfOk result (λ v. AreAmong seen.new v.items) }
 {
     let mut addrs = addrs;
@@ -115,6 +119,7 @@ fn join_many(alloc: Global, known: Vec<Addr>, others: &[Addr]) -> Result<Vec<Add
     ensures first { IfOk result (λ v. take (length known.items) v.items ≡ known.items) }
     ensures all { IfOk result (λ v. (addr : Addr) → Contains others.now addr → Contains v.items addr) }
     ensures only { IfOk result (λ v. (addr : Addr) → Contains v.items addr → Contains known.items addr ⊎ Contains others.now addr) }
+    ensures distinct { AreDistinct known.items → IfOk result (λ v. AreDistinct v.items) }
 {
     let mut seen = set_of(alloc, &known)?;
     let mut addrs = known;
@@ -133,6 +138,7 @@ pub(crate) fn join_addrs(
     ensures first { IfOk result (λ v. take (length known.items) v.items ≡ known.items) }
     ensures all { IfOk result (λ v. (addr : Addr) → Contains others.now addr → Contains v.items addr) }
     ensures only { IfOk result (λ v. (addr : Addr) → Contains v.items addr → Contains known.items addr ⊎ Contains others.now addr) }
+    ensures distinct { AreDistinct known.items → IfOk result (λ v. AreDistinct v.items) }
 {
     if others.len() <= MOST_COMPARED {
         join_few(known, others)

@@ -6,11 +6,12 @@ ghost use Rattle.dns_text.specs.declared.record.Question.{Question};
 ghost use Rattle.iterate.specs.declared.want.Want.{Want};
 ghost use Rattle.iterate.specs.declared.want.Want.TheVariants.{Send as SendWant};
 ghost use Rattle.iterate.specs.Exchanges.{Exchange, exchange, Adds};
+ghost use Rattle.iterate.specs.Hunting.{AsksOver};
 ghost use Rattle.iterate.specs.Judged.{IsJudged};
 ghost use Rattle.iterate.specs.Measure.{left_in, left_of_sending};
 ghost use Rattle.iterate.specs.Phase.{Advances, IsWaiting, Suits, drawing};
 ghost use Rattle.iterate.specs.Resolved.{Struck};
-ghost use Rattle.iterate.specs.Searching.{IsSearch, hunt_of, question_of, IsNextServer};
+ghost use Rattle.iterate.specs.Searching.{IsSearch, IsNextServer, IsOrderly, Turn, hunt_of, question_of};
 ghost use Rattle.iterate.specs.Wanted.{WasTruncated};
 
 use crate::admitting::admit;
@@ -23,6 +24,7 @@ use crate::want::Input;
 use dns_name::{Name, NoMemory};
 use dns_query::{Over, Verdict, judge};
 use dns_text::{Addr, Question};
+use dns_wire::one_meaning;
 use rand_core::Rng;
 use std::alloc::Global;
 
@@ -75,6 +77,8 @@ fn strike(search: Search) -> Result<Search, NoMemory>
         → (s : IsSearch port question log search) → IsNextServer search server rest
         → Struck port s.since (hunt_of search).servers.zone (question_of search) server
         → IfOk result (IsSearch port question log) }
+    ensures orderly { (port : ℕ) (log : List Exchange) (server : Addr) (rest : List Addr) → IsNextServer search server rest
+        → IsOrderly port log search Turn.heard → IfOk result (λ after. IsOrderly port log after Turn.unasked) }
 {
     let Search {
         path,
@@ -106,9 +110,10 @@ fn again<R: Rng>(
     search: Search,
     server: Addr,
 ) -> Result<Advance, NoMemory>
-    ensures tcp { search.path.sent < MOST_SENDS → IfOk result (λ next. (bytes : List ℕ) × (next.want ≡ SendWant server Over.Tcp bytes)) }
+    ensures tcp { search.path.sent < MOST_SENDS → IfOk result (λ next. AsksOver server Over.Tcp next.want) }
     ensures goes { (port moment left : ℕ) (question : Question) (log : List Exchange) (rest : List Addr)
-        → IsSearch port question log search → IsNextServer search server rest → WasTruncated log server (question_of search)
+        → IsSearch port question log search → IsNextServer search server rest → IsOrderly port log search Turn.cut
+        → WasTruncated log server (question_of search)
         → (search.path.sent < MOST_SENDS → left_of_sending search.path < left) → left_in Phase.Ended < left
         → IfOk result (Advances port question log moment (drawing (R.stream ids.old) (R.stream ids.new)) left) }
 {
@@ -135,6 +140,7 @@ pub(crate) fn came<R: Rng>(
         → Adds before (exchange want input.now) log
         → IfOk result (Advances port question log moment (drawing (R.stream ids.old) (R.stream ids.new)) (left_of_sending search.path)) }
 {
+    one_meaning();
     let question = search.question()?;
     let zone = &search.hunt().servers.get().zone;
     match judged(alloc, port, over, zone, id, &question, input)? {

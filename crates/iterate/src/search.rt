@@ -1,16 +1,18 @@
 //! The servers that are asked in turn, and nested questions for their addresses.
 
-ghost use Rattle.std.specs.Prelude.{◌≡◌, ◌<◌, ◌≤◌, [], ℕ, List, IsTrue, MatchOption, IfOk, false, length, drop};
-ghost use Rattle.dns_name.specs.Labels.{Labels, IsAtOrBelow};
+ghost use Rattle.std.specs.Prelude.{◌≡◌, ◌<◌, ◌≤◌, [], ℕ, List, IsTrue, MatchOption, IfOk, false, length, drop, ◌↔◌};
+ghost use Rattle.dns_name.specs.Labels.{Labels};
+ghost use Rattle.dns_text.specs.declared.addr.Addr.{Addr as AddrValue};
 ghost use Rattle.dns_text.specs.declared.record.Question.{Question};
+ghost use Rattle.dns_query.specs.declared.over.Over.TheVariants.{Udp};
 ghost use Rattle.dns_query.specs.Query.{address_question};
+ghost use Rattle.iterate.specs.declared.limits.TheConstants.{MOST_SENDS};
 ghost use Rattle.iterate.specs.Exchanges.{Exchange};
-ghost use Rattle.iterate.specs.Hunting.{AllServe, IsReached, IsFresh, IsSupplied, AreSupplied, IsTried, IsSmaller, IsAt, IsNextStep};
-ghost use Rattle.iterate.specs.Known.{Known, Listed};
+ghost use Rattle.iterate.specs.Hunting.{AllServe, IsReached, IsFresh, AreReferred, IsSupplied, AreSupplied, IsTried, IsSmaller, IsAt, IsNextStep, AsksOver};
 ghost use Rattle.iterate.specs.Measure.{hunts_left, left_of_path, left_of_search, left_of_seek, left_of_hearing};
 ghost use Rattle.iterate.specs.Phase.{Advances, IsSeeking, drawing};
 ghost use Rattle.iterate.specs.Resolved.{MaySeek};
-ghost use Rattle.iterate.specs.Searching.{IsAskable, IsSearch, hunt_of, hunt_behind, question_of};
+ghost use Rattle.iterate.specs.Searching.{IsAskable, IsSearch, IsNextServer, IsOrderly, IsOther, Turn, hunt_of, hunt_behind, question_of};
 
 use crate::finishing::failed;
 use crate::joining::join_addrs;
@@ -77,6 +79,7 @@ pub(crate) fn begin_hunt(alloc: Global, servers: Shared<Servers>) -> Result<Hunt
 /// The search for the last question of a path, among these servers.
 pub(crate) fn reach(alloc: Global, path: Path, servers: Shared<Servers>) -> Result<Search, NoMemory>
     ensures path { IfOk result (λ search. search.path ≡ path) }
+    ensures frames { IfOk result (λ search. search.frames.items ≡ []) }
     ensures fresh { IfOk result (λ search. IsFresh servers search.base) }
     ensures reached { (port : ℕ) (question : Question) (log since : List Exchange) → IsAskable port question log path
         → IsReached port log path.last since servers → IfOk result (IsSmaller port question log (left_of_path path 1)) }
@@ -95,6 +98,8 @@ pub(crate) fn refer_base(
     search: Search,
     servers: Shared<Servers>,
 ) -> Result<Search, NoMemory>
+    ensures path { IfOk result (λ after. after.path ≡ search.path) }
+    ensures frames { IfOk result (λ after. after.frames.items ≡ []) }
     ensures fresh { IfOk result (λ after. IsFresh servers after.base) }
     ensures reached { (port : ℕ) (question : Question) (log since : List Exchange) → IsSearch port question log search
         → IsReached port log search.path.last since servers
@@ -112,8 +117,12 @@ pub(crate) fn refer_frame(
     servers: Shared<Servers>,
 ) -> Result<Search, NoMemory>
     requires { 0 < length search.frames.items }
-    ensures { (port : ℕ) (question : Question) (log : List Exchange) → IsSearch port question log search → Known port log (Listed servers)
-        → IsAtOrBelow (question_of search).owner servers.zone → IfOk result (IsSmaller port question log (left_of_hearing search.path 1)) }
+    ensures fresh { IfOk result (λ after. AreReferred search.frames.items servers after.frames.items) }
+    ensures path { IfOk result (λ after. after.path ≡ search.path) }
+    ensures base { IfOk result (λ after. after.base ≡ search.base) }
+    ensures reached { (port : ℕ) (question : Question) (log since : List Exchange) (turn : Turn) → IsSearch port question log search
+        → IsOrderly port log search turn → IsReached port log (question_of search) since servers
+        → IfOk result (IsSmaller port question log (left_of_hearing search.path 1)) }
 {
     let hunt = begin_hunt(alloc, servers)?;
     let Search {
@@ -133,9 +142,9 @@ pub(crate) fn open(
     target: Name,
     servers: Shared<Servers>,
 ) -> Result<Search, NoMemory>
-    ensures { (port : ℕ) (question : Question) (log : List Exchange)
-        → IsSeeking port question log search target Stage.Servers → Known port log (Listed servers)
-        → IsAtOrBelow target servers.zone → IfOk result (IsSmaller port question log (left_of_seek search Stage.Servers)) }
+    ensures { (port : ℕ) (question : Question) (log since : List Exchange)
+        → IsSeeking port question log search target Stage.Servers → IsReached port log (address_question target) since servers
+        → IfOk result (IsSmaller port question log (left_of_seek search Stage.Servers)) }
 {
     let hunt = begin_hunt(alloc, servers)?;
     let Search {
@@ -192,8 +201,9 @@ fn supply_innermost(alloc: Global, search: Search, found: &[Addr]) -> Result<Sea
 pub(crate) fn supply(alloc: Global, search: Search, found: &[Addr]) -> Result<Search, NoMemory>
     ensures path { IfOk result (λ after. after.path ≡ search.path) }
     ensures supplied { IfOk result (λ after. AreSupplied search.frames.items search.base found.now after.frames.items after.base) }
-    ensures further { (port : ℕ) (question : Question) (log : List Exchange) (target : Labels) → IsTried port question log search target
-        → AllServe port log (hunt_of search).servers.zone found.now → IfOk result (IsSmaller port question log (left_of_search search 0)) }
+    ensures further { (port : ℕ) (question : Question) (log : List Exchange) (target : Labels)
+        → IsTried port question log search target found.now
+        → AllServe port log (hunt_of search).servers found.now → IfOk result (IsSmaller port question log (left_of_search search 0)) }
 {
     let after = supply_innermost(alloc, search, found)?;
     Ok(after)
@@ -203,9 +213,10 @@ pub(crate) fn supply(alloc: Global, search: Search, found: &[Addr]) -> Result<Se
 pub(crate) fn close(alloc: Global, search: Search, found: &[Addr]) -> Result<Search, NoMemory>
     requires { 0 < length search.frames.items }
     ensures path { IfOk result (λ after. after.path ≡ search.path) }
+    ensures supplied { IfOk result (λ after. AreSupplied (drop 1 search.frames.items) search.base found.now after.frames.items after.base) }
     ensures fewer { IfOk result (λ after. hunts_left after < hunts_left search) }
-    ensures further { (port : ℕ) (question : Question) (log : List Exchange) → IsSearch port question log search
-        → AllServe port log (hunt_behind (drop 1 search.frames.items) search.base).servers.zone found.now
+    ensures further { (port : ℕ) (question : Question) (log : List Exchange) (turn : Turn) → IsSearch port question log search
+        → IsOrderly port log search turn → AllServe port log (hunt_behind (drop 1 search.frames.items) search.base).servers found.now
         → IfOk result (IsSmaller port question log (left_of_search search 0)) }
 {
     let Search {
@@ -234,16 +245,31 @@ pub(crate) enum Move {
 
 /// Whether a question is for the address of this server.
 fn asks_address(question: &Question, target: &Name) -> bool
-    ensures { IsTrue result → address_question target.now ≡ question.now }
+    ensures { IsTrue result ↔ (address_question target.now ≡ question.now) }
 {
     question.kind == A && is_name(&question.owner, target)
 }
 
+/// Whether one of these questions is for the address of this server.
+fn is_open(frames: &[Nested], target: &Name) -> bool
+    ensures none { IsTrue result → 0 < length frames.now }
+    ensures other { result ≡ false → (last : Question) → ¬ (address_question target.now ≡ last)
+        → IsOther (address_question target.now) frames.now last }
+{
+    for frame in frames {
+        if is_name(&frame.target, target) {
+            return true;
+        }
+    }
+    false
+}
+
 /// Whether the address of a server is asked for already.
 fn is_sought(search: &Search, target: &Name) -> bool
-    ensures { IsTrue result → search.now.frames.items ≡ [] → address_question target.now ≡ search.now.path.last }
+    ensures last { IsTrue result → search.now.frames.items ≡ [] → address_question target.now ≡ search.now.path.last }
+    ensures other { result ≡ false → IsOther (address_question target.now) search.now.frames.items search.now.path.last }
 {
-    if search.frames.iter().any(|frame| frame.target == *target) {
+    if is_open(search.frames.as_slice(), target) {
         return true;
     }
     asks_address(&search.path.last, target)
@@ -252,6 +278,7 @@ fn is_sought(search: &Search, target: &Name) -> bool
 /// Whether a server without an address may be looked up: it does not lie in the zone, and is not asked for already.
 fn may_seek(search: &Search, target: &Name) -> bool
     ensures shallow { IsTrue result → length search.now.frames.items < MOST_DEPTH }
+    ensures other { IsTrue result → IsOther (address_question target.now) search.now.frames.items search.now.path.last }
     ensures passes { search.now.frames.items ≡ [] → MaySeek search.now.path.last search.now.base.servers target.now → IsTrue result }
 {
     let zone = &search.hunt().servers.get().zone;
@@ -323,7 +350,10 @@ pub(crate) fn go_on<R: Rng>(
     moment: u64,
     search: Search,
 ) -> Result<Advance, NoMemory>
-    ensures { (port : ℕ) (question : Question) (log : List Exchange) → IsSearch port question log search
+    ensures asks { (server : AddrValue) (rest : List AddrValue) → IsNextServer search server rest → search.path.sent < MOST_SENDS
+        → IfOk result (λ next. AsksOver server Udp next.want) }
+    ensures goes { (port : ℕ) (question : Question) (log : List Exchange) → IsSearch port question log search
+        → IsOrderly port log search Turn.unasked
         → IfOk result (Advances port question log moment (drawing (R.stream ids.old) (R.stream ids.new)) (left_of_search search 4)) }
 {
     let mut current = search;

@@ -1,10 +1,12 @@
 //! Lookups for servers without an address.
 
-ghost use Rattle.std.specs.Prelude.{◌≡◌, ◌<◌, ◌↔◌, ℕ, List, IfOk, IsTrue};
-ghost use Rattle.std.specs.List.{AllByRecursion};
+ghost use Rattle.std.specs.Prelude.{◌≡◌, ◌<◌, ◌↔◌, [], false, ℕ, List, IfOk, IsTrue};
+ghost use Rattle.std.specs.List.{AllByRecursion, Contains};
+ghost use Rattle.dns_text.specs.declared.addr.Addr.{Addr as AddrValue};
 ghost use Rattle.dns_text.specs.declared.record.Question.{Question};
-ghost use Rattle.dns_query.specs.Query.{address_question};
-ghost use Rattle.history.specs.declared.event.Ask.TheVariants.{Answer as Asked};
+ghost use Rattle.dns_query.specs.Query.{address_question, alias_question};
+ghost use Rattle.history.specs.declared.event.Ask.TheVariants.{Answer as Asked, Servers as ServersFor};
+ghost use Rattle.history.specs.declared.event.Seen.{Seen as SeenValue};
 ghost use Rattle.history.specs.declared.event.Event.TheVariants.{Look};
 ghost use Rattle.history.specs.declared.event.Reply.TheVariants.{Seen as SeenReply};
 ghost use Rattle.iterate.specs.declared.want.Input.TheVariants.{Reply as Replied};
@@ -55,7 +57,8 @@ pub(crate) fn seek(
     target: Name,
     stage: Stage,
 ) -> Result<Advance, NoMemory>
-    ensures { (port : ℕ) (ids : Stream) (left : ℕ) (question : Question) (log : List Exchange)
+    ensures want { IfOk result (λ next. next.want ≡ Book (Look moment (ask_at stage target))) }
+    ensures goes { (port : ℕ) (ids : Stream) (left : ℕ) (question : Question) (log : List Exchange)
         → IsSeeking port question log search target stage → left_of_seek search stage < left
         → IfOk result (Advances port question log moment (idle ids) left) }
 {
@@ -72,7 +75,8 @@ pub(crate) fn seek(
 
 /// The IPv4 addresses that a lookup found.
 fn addresses_seen(alloc: Global, port: u16, what: Looked<'_>) -> Result<Vec<Addr>, NoMemory>
-    ensures { IfOk result (λ v. AllByRecursion (IsAddressSeen port (seen_of what.entry)) v.items) }
+    ensures each { IfOk result (λ v. AllByRecursion (IsAddressSeen port (seen_of what.entry)) v.items) }
+    ensures all { IfOk result (λ v. (addr : AddrValue) → IsAddressSeen port (seen_of what.entry) addr → Contains v.items addr) }
 {
     match set_in(alloc, what)? {
         Some(told) => addresses(alloc, port, &told),
@@ -96,7 +100,9 @@ fn seek_on<R: Rng>(
     search: Search,
     target: Name,
 ) -> Result<Advance, NoMemory>
-    ensures { (port : ℕ) (question : Question) (log : List Exchange) → IsTried port question log search target
+    ensures begins { search.path.begun < MOST_BEGUN → (hunt_of search).sought < MOST_TARGETS
+        → IfOk result (λ next. next.want ≡ Book (Look moment (Asked (alias_question target)))) }
+    ensures goes { (port : ℕ) (question : Question) (log : List Exchange) → IsTried port question log search target []
         → ((hunt_of search).sought < MOST_TARGETS → IsSeeking port question log search target Stage.Alias)
         → IfOk result (Advances port question log moment (drawing (R.stream ids.old) (R.stream ids.new)) (left_of_search search 3)) }
 {
@@ -172,7 +178,10 @@ fn alias_came<R: Rng>(
     target: Name,
     input: &Input,
 ) -> Result<Advance, NoMemory>
-    ensures { (port m : ℕ) (question : Question) (before log : List Exchange) → IsSeeking port question before search target Stage.Alias
+    ensures asks { (seen : SeenValue) → input.now ≡ Replied (SeenReply seen)
+        → IsLookReply (Asked (alias_question target)) (SeenReply seen) → is_set_seen seen ≡ false
+        → IfOk result (λ next. next.want ≡ Book (Look moment (ServersFor target))) }
+    ensures goes { (port m : ℕ) (question : Question) (before log : List Exchange) → IsSeeking port question before search target Stage.Alias
         → AddsLook before m (ask_at Stage.Alias target) input.now log → Suits (Book (Look m (ask_at Stage.Alias target))) input.now
         → IfOk result (Advances port question log moment (drawing (R.stream ids.old) (R.stream ids.new)) (left_of_seek search Stage.Alias)) }
 {

@@ -1,13 +1,13 @@
 //! Queries to send.
 
-ghost use Rattle.std.specs.Prelude.{◌≡◌, ◌<◌, ℕ, List, IfOk};
+ghost use Rattle.std.specs.Prelude.{◌<◌, ℕ, List, IfOk};
 ghost use Rattle.dns_text.specs.declared.addr.Addr.{Addr};
 ghost use Rattle.dns_text.specs.declared.record.Question.{Question};
-ghost use Rattle.iterate.specs.declared.want.Want.TheVariants.{Send as SendWant};
 ghost use Rattle.iterate.specs.Exchanges.{Exchange};
+ghost use Rattle.iterate.specs.Hunting.{AsksOver};
 ghost use Rattle.iterate.specs.Measure.{left_of_search, left_of_sending};
 ghost use Rattle.iterate.specs.Phase.{Advances, drawing};
-ghost use Rattle.iterate.specs.Searching.{IsSearch, question_of, IsNextServer};
+ghost use Rattle.iterate.specs.Searching.{IsSearch, IsNextServer, IsOrderly, Turn, question_of, turn_of};
 ghost use Rattle.iterate.specs.Wanted.{MayGo};
 
 use crate::finishing::failed;
@@ -29,10 +29,10 @@ pub(crate) fn send<R: Rng>(
     server: Addr,
     over: Over,
 ) -> Result<Advance, NoMemory>
-    ensures query { IfOk result (λ next. (bytes : List ℕ) × (next.want ≡ SendWant server over bytes)) }
+    ensures query { IfOk result (λ next. AsksOver server over next.want) }
     ensures goes { (port moment left : ℕ) (question : Question) (log : List Exchange) (rest : List Addr)
         → IsSearch port question log search → search.path.sent < MOST_SENDS → IsNextServer search server rest
-        → MayGo log server (question_of search) over → left_of_sending search.path < left
+        → IsOrderly port log search (turn_of over) → MayGo log server (question_of search) over → left_of_sending search.path < left
         → IfOk result (Advances port question log moment (drawing (R.stream ids.old) (R.stream ids.new)) left) }
 {
     let id = (ids.next_u32() % 65536) as u16;
@@ -59,8 +59,9 @@ pub(crate) fn ask<R: Rng>(
     search: Search,
     server: Addr,
 ) -> Result<Advance, NoMemory>
-    ensures { (port moment : ℕ) (question : Question) (log : List Exchange) (rest : List Addr) → IsSearch port question log search
-        → IsNextServer search server rest
+    ensures query { search.path.sent < MOST_SENDS → IfOk result (λ next. AsksOver server Over.Udp next.want) }
+    ensures goes { (port moment : ℕ) (question : Question) (log : List Exchange) (rest : List Addr) → IsSearch port question log search
+        → IsNextServer search server rest → IsOrderly port log search Turn.unasked
         → IfOk result (Advances port question log moment (drawing (R.stream ids.old) (R.stream ids.new)) (left_of_search search 4)) }
 {
     if search.path.sent >= MOST_SENDS {

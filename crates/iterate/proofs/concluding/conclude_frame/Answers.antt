@@ -4,5 +4,5 @@ use Rattle.iterate.proofs.concluding.conclude_frame.Goals as goal
 
 pub returns : goal.returns
 returns g c = λ question log h.
-    let k = c.in_ok-after.ensures question log h in
-    IfOk-weaker c.go_on.result _ _ (λ t goes. from_less k.falls goes) (c.go_on.ensures c.args.port question log k.is_search)
+    let k = c.in_ok-after.ensures.smaller question log h in
+    IfOk-weaker c.go_on.result _ _ (λ t goes. from_less k.falls goes) (c.go_on.ensures.goes c.args.port question log k.is_search k.orderly)

@@ -20,4 +20,4 @@ pub returns-in_ok-refer_base-in-Refers : goal.returns-in_ok-refer_base-in-Refers
 returns-in_ok-refer_base-in-Refers g c = λ port question log h.
     let r = referring_last c.in-Refers.referral c.in_ok-servers-in-Refers.servers h c.requires c.in-Refers.is c.in_ok-servers-in-Refers.ensures in
     let s = c.in_ok-refer_base-in-Refers.ensures.reached port question log h.since h.is_search r in
-    IfOk-weaker c.go_on.result _ _ (λ t goes. from_less s.falls goes) (c.go_on.ensures port question log s.is_search)
+    IfOk-weaker c.go_on.result _ _ (λ t goes. from_less s.falls goes) (c.go_on.ensures.goes port question log s.is_search s.orderly)

@@ -6,4 +6,4 @@ use Rattle.iterate.proofs.following.harvested_alias.Goals as goal
 
 pub returns : goal.returns
 returns c = λ port log h.
-    subst (λ (o : Labels). IfOk c.harvested.result (λ told. IfSome told (λ t. Known port log (Had (alias_question o) t)))) c.in_ok-owner.ensures (c.harvested.ensures port log h)
+    subst (λ (o : Labels). IfOk c.harvested.result (λ told. IfSome told (λ t. Known port log (Had (alias_question o) t)))) c.in_ok-owner.ensures (c.harvested.ensures.had port log h)

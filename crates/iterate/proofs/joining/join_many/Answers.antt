@@ -10,7 +10,7 @@ loop-addr-preserved c =
     let inv = c.loop-addr.invariant in
     let t = join_more c.args.known.items c.loop-addr.addrs.items c.in_ok-addrs.addrs.items c.args.others.now c.loop-addr.addr-index _ (take_more c.args.others.now c.loop-addr.addr-index _ c.loop-addr-test.true)
     inv.first inv.all inv.only c.in_ok-addrs.ensures.first c.in_ok-addrs.ensures.has c.in_ok-addrs.ensures.only in
-    record { first = t.0; all = t.1; only = t.2; seen = c.in_ok-addrs.ensures.seen }
+    record { first = t.0; all = t.1; distinct = λ d. c.in_ok-addrs.ensures.distinct (inv.distinct d); only = t.2; seen = c.in_ok-addrs.ensures.seen }
 
 pub returns-clause-all : goal.returns-clause-all
 returns-clause-all c = λ addr is.

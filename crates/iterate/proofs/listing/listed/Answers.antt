@@ -10,7 +10,7 @@ use Rattle.iterate.specs.Hunting.{IsUnnamed, Names}
 use Rattle.iterate.specs.Served.{served_name}
 use Rattle.iterate.proofs.Falling.{few_is}
 use Rattle.iterate.proofs.Asking.{turned, from_more_ok}
-use Rattle.iterate.proofs.Finding.{below_served, path_named, listed_named, reached_named, failing_listing}
+use Rattle.iterate.proofs.Finding.{path_named, named_reached, failing_listing}
 use Rattle.iterate.proofs.listing.listed.Goals as goal
 
 pub returns-in_ok-search-in-Some : goal.returns-in_ok-search-in-Some
@@ -19,13 +19,9 @@ returns-in_ok-search-in-Some g c = λ port m question before log p adds suits.
     let by_name = subst (λ (s : Servers). Names c.in_ok-name.name c.args.input.now s) (sym c.in_ok-list-in-Some.ensures) c.in-Some.ensures in
     let named = subst (λ (n : Labels). Names n c.args.input.now list) c.in_ok-name.ensures by_name in
     let here = subst (λ (i : Input). Adds before (exchange (Book (Look m (ServersFor (served_name c.args.path.last)))) i) log) named.replied adds in
-    let k = c.in_ok-search-in-Some.ensures.reached port question log [] (path_named port question before log m c.args.path list p here) (record {
-      listed = listed_named port before log m (served_name c.args.path.last) list here;
-      reached = reached_named port before log m c.args.path.last list here;
-      above = below_served c.args.path.last list.zone named.zone;
-    }) in
+    let k = c.in_ok-search-in-Some.ensures.reached port question log [] (path_named port question before log m c.args.path list p here) (named_reached port before log m c.args.path.last list named.zone here) in
     let less = k.falls in
-    from_more_ok port question log c.args.moment c.go_on.result refl (few_is less) (c.go_on.ensures port question log k.is_search)
+    from_more_ok port question log c.args.moment c.go_on.result refl (few_is less) (c.go_on.ensures.goes port question log k.is_search k.orderly)
 
 pub returns-in-None : goal.returns-in-None
 returns-in-None g c = λ port m question before log p adds suits.

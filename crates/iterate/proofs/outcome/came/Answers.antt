@@ -8,7 +8,7 @@ use Rattle.iterate.specs.Measure.{left_of_sending}
 use Rattle.iterate.specs.Phase.{IsHearing, Suits}
 use Rattle.iterate.specs.Searching.{hunt_of, question_of}
 use Rattle.history.specs.declared.servers.Servers.{Servers}
-use Rattle.iterate.proofs.Coming.{counted, asked_once, same_next, meant, useless, vain, was_truncated, from_less, below, going_less, again_less, ended_less, hearing_less, hearing}
+use Rattle.iterate.proofs.Coming.{counted, asked_once, orderly_heard, orderly_cut, cut_udp, same_next, meant, useless, vain, was_truncated, from_less, below, going_less, again_less, ended_less, hearing_less, hearing}
 use Rattle.iterate.proofs.outcome.came.Goals as goal
 
 pub returns-in-Struck : goal.returns-in-Struck
@@ -21,8 +21,10 @@ returns-in-Struck g c = λ question before log want w suits adds.
     let v = vain c.counted.result same w adds (useless c.args.port c.args.over (hunt_of search_in).servers.zone c.args.id (question_of search_in) c.args.input.now judged) in
     let after = c.in_ok-strike-in-Struck.field-0 in
     let s = c.in_ok-strike-in-Struck.ensures.further c.args.port question log c.args.server w.rest v.is_search (same_next c.counted.result same w) v.struck in
+    let heard = orderly_heard c.one_meaning.ensures.message c.counted.result same w adds in
+    let orderly = c.in_ok-strike-in-Struck.ensures.orderly c.args.port log c.args.server w.rest (same_next c.counted.result same w) heard in
     let path = c.in_ok-strike-in-Struck.ensures.path ∙ ap (λ (x : Search). x.path) same in
-    IfOk-weaker c.go_on.result _ _ (λ t goes. from_less (going_less search_in.path after path s) goes) (c.go_on.ensures c.args.port question log s)
+    IfOk-weaker c.go_on.result _ _ (λ t goes. from_less (going_less search_in.path after path s) goes) (c.go_on.ensures.goes c.args.port question log s orderly)
 
 pub returns-in-Cut : goal.returns-in-Cut
 returns-in-Cut g c = λ question before log want w suits adds.
@@ -33,6 +35,7 @@ returns-in-Cut g c = λ question before log want w suits adds.
     let same : c.counted-in-Cut.result ≡ counted search_in = c.counted-in-Cut.ensures (omega (arith, w.some)) in
     let path = ap (λ (x : Search). x.path) same in
     c.again.ensures.goes c.args.port c.args.moment (left_of_sending search_in.path) question log w.rest (asked_once c.counted-in-Cut.result same w adds) (same_next c.counted-in-Cut.result same w)
+    (orderly_cut c.one_meaning.ensures.message (cut_udp c.args.port c.args.over (hunt_of search_in).servers.zone c.args.id (question_of search_in) c.args.input.now judged) c.counted-in-Cut.result same w adds)
     (was_truncated c.args.port (hunt_of search_in).servers.zone c.args.input.now c.counted-in-Cut.result same w adds judged) (λ few. again_less search_in.path c.counted-in-Cut.result.path path few) (ended_less search_in.path w.is_search.path)
 
 pub returns : goal.returns
@@ -47,6 +50,6 @@ returns g c = λ question before log want w suits adds.
     let path = ap (λ (x : Search). x.path) same in
     c.admit.ensures question log (left_of_sending search_in.path)
     (subst (λ (h : Heard). IsHearing c.args.port question log after h) (sym c.in_ok-heard-in-Heard.ensures.ok)
-    (hearing c.args.port question before log want search_in c.args.server c.args.id c.args.over c.args.input.now after c.in-Heard.heard same w adds judged))
+    (hearing c.args.port question before log want search_in c.args.server c.args.id c.args.over c.args.input.now after c.in-Heard.heard same w adds judged c.one_meaning.ensures.message))
     (below _ _ (hearing_less search_in.path after.path 1 path (omega arith)))
     (λ few. hearing_less search_in.path after.path (length heard.harvest.finds - 0) path (omega (arith, few)))

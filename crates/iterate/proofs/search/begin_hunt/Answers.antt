@@ -3,7 +3,8 @@ use Rattle.std.specs.List.{Contains}
 use Rattle.dns_name.specs.Labels.{Labels}
 use Rattle.dns_text.specs.declared.addr.Addr.{Addr}
 use Rattle.history.specs.declared.servers.Servers.{Servers}
-use Rattle.iterate.proofs.Supplying.{none_within}
+use Rattle.iterate.specs.Searching.{AreDistinct}
+use Rattle.iterate.proofs.Lists.{none_within}
 use Rattle.iterate.proofs.search.begin_hunt.Goals as goal
 
 pub returns : goal.returns
@@ -19,5 +20,6 @@ returns c =
         | inl old ↦ absurd (none_within c.new.result.items addr c.new.ensures.items old)
         | inr new ↦ subst (λ (xs : List Addr). Contains xs addr) same new
       ];
+      distinct = c.in_ok-addrs.ensures.distinct (subst (λ (xs : List Addr). AreDistinct xs) (sym c.new.ensures.items) tt);
       countable = let many = ap (λ (xs : List Labels). length xs) missing in omega (arith, many);
     }

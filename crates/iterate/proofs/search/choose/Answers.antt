@@ -1,4 +1,4 @@
-use Rattle.std.proofs.Common.{List, subst}
+use Rattle.std.proofs.Common.{List, subst, rules}
 use Rattle.dns_text.specs.declared.addr.Addr.{Addr}
 use Rattle.iterate.specs.declared.search.Hunt.{Hunt}
 use Rattle.iterate.specs.Hunting.{IsAt}
@@ -11,4 +11,4 @@ returns-in-Some c =
 pub returns-else-may_seek : goal.returns-else-may_seek
 returns-else-may_seek c =
     let at = subst (λ (h : Hunt). IsAt h.servers.missing h.sought c.in-Some-next_missing.name.now) c.hunt-hunt.ensures c.in-Some-next_missing.ensures in
-    (c.in-Some-next_missing.name.now, record { rest = at.0; next = at.1 }, λ none may. let t = c.may_seek.ensures.passes none may in let e : ⊥ = cc in e)
+    (c.in-Some-next_missing.name.now, record { rest = at.0; next = at.1 }, λ none may. (let t = c.may_seek.ensures.passes none may in let e : ⊥ = cc in e), search rules)

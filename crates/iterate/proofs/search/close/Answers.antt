@@ -11,6 +11,6 @@ returns-clause-fewer c =
     hunts_close c.args.search.frames.items c.in_ok-after.after.frames.items c.args.search.base c.in_ok-after.after.base c.args.found.now c.requires i
 
 pub returns-clause-further : goal.returns-clause-further
-returns-clause-further c = λ port question log s serve.
+returns-clause-further c = λ port question log turn s orderly serve.
     let i = subst (λ (fs : List Nested). AreSupplied fs c.args.search.base c.args.found.now c.in_ok-after.after.frames.items c.in_ok-after.after.base) c.remove.ensures.items c.in_ok-after.ensures.supplied in
-    closing port question log c.args.search c.in_ok-after.after c.args.found.now c.requires c.in_ok-after.ensures.path i s serve
+    closing port question log c.args.search c.in_ok-after.after c.args.found.now c.requires c.in_ok-after.ensures.path i s turn orderly serve

@@ -1,31 +1,34 @@
-use Rattle.std.proofs.Common.{◌≡◌, [], ap, subst, rules}
+use Rattle.std.proofs.Common.{◌≡◌, ◌<◌, [], ap, sym, ◌∙◌, subst, rules}
 use Rattle.iterate.specs.declared.search.Move.{Move}
 use Rattle.iterate.specs.Hunting.{IsNextStep, IsTried}
+use Rattle.dns_query.specs.declared.over.Over.TheVariants.{Udp}
 use Rattle.iterate.specs.Measure.{left_of_search}
-use Rattle.iterate.specs.Searching.{hunt_of}
+use Rattle.iterate.specs.declared.search.Search.{Search}
+use Rattle.iterate.specs.Searching.{IsNextServer, Turn, hunt_of}
 use Rattle.iterate.specs.Phase.{Goes, drawing}
 use Rattle.rand_core.specs.Stream.{Stream}
-use Rattle.iterate.proofs.Asking.{turned, at_most, from_more, from_more_ok, address_less, smaller_stays, giving_up}
-use Rattle.iterate.proofs.Supplying.{hunts_fall, next_within}
+use Rattle.iterate.proofs.Asking.{turned, at_most, from_more, from_more_ok, address_less, smaller_stays, giving_up, asks_same, same_first}
+use Rattle.iterate.proofs.Lists.{next_within}
+use Rattle.iterate.proofs.Supplying.{hunts_fall, asked_not}
 use Rattle.iterate.proofs.search.go_on.Goals as goal
 
-pub returns-in-Ask : goal.returns-in-Ask
-returns-in-Ask g c = λ port question log s.
-    let at = c.going.invariant.going port question log s in
+pub returns-in-Ask-clause-goes : goal.returns-in-Ask-clause-goes
+returns-in-Ask-clause-goes g c = λ port question log s o.
+    let at = c.going.invariant.going port question log s o in
     let next = subst (λ (n : Move). IsNextStep c.going.current n) c.in-Ask.is c.in_ok-server.ensures in
     let behind = g.R.Rng.stream c.ask.new.ids in
     let here : g.R.Rng.stream c.going.ids ≡ g.R.Rng.stream c.args.ids.now = cc in
     let same : drawing (g.R.Rng.stream c.going.ids) behind ≡ drawing (g.R.Rng.stream c.args.ids.now) behind = ap (λ (s : Stream). drawing s behind) here in
-    from_more_ok port question log c.args.moment c.ask.result same at.1 (c.ask.ensures port c.args.moment question log next.0 at.0 next.1)
+    from_more_ok port question log c.args.moment c.ask.result same at.1 (c.ask.ensures.goes port c.args.moment question log next.0 at.0 next.1 at.2)
 
-pub returns-in-Seek : goal.returns-in-Seek
-returns-in-Seek g c = λ port question log s.
-    let at = c.going.invariant.going port question log s in
+pub returns-in-Seek-clause-goes : goal.returns-in-Seek-clause-goes
+returns-in-Seek-clause-goes g c = λ port question log s o.
+    let at = c.going.invariant.going port question log s o in
     let next = subst (λ (n : Move). IsNextStep c.going.current n) c.in-Seek.is c.in_ok-server.ensures in
     let stream = g.R.Rng.stream c.going.ids in
     let here : stream ≡ g.R.Rng.stream c.args.ids.now = cc in
     from_more_ok port question log c.args.moment c.seek.result (ap (λ (s : Stream). drawing s stream) here) (at_most (left_of_search c.args.search 4))
-    (c.seek.ensures port stream (left_of_search c.args.search 4) question log record { is_search = at.0; shallow = next.1; next = next.0; unknown = tt; early = tt } (address_less c.going.current (left_of_search c.args.search 4) at.0 at.1))
+    (c.seek.ensures.goes port stream (left_of_search c.args.search 4) question log record { is_search = at.0; shallow = next.1; next = next.0; unknown = tt; early = tt; orderly = at.2; other = next.2 } (address_less c.going.current (left_of_search c.args.search 4) at.0 at.1))
 
 pub going-smaller-in-Pass : goal.going-smaller-in-Pass
 going-smaller-in-Pass g c =
@@ -38,15 +41,16 @@ going-preserved-in-Pass g c =
     let next = subst (λ (n : Move). IsNextStep c.going.current n) c.in-Pass.is c.in_ok-server.ensures in
     record {
       same = c.going.invariant.same;
-      going = λ port question log s.
-          let at = c.going.invariant.going port question log s in
-          let tried : IsTried port question log c.going.current next.0 = record { is_search = at.0; next = next.1; tried = λ none may. absurd (next.2 none may) } in
+      first = λ server rest is. absurd (asked_not (hunt_of c.going.current) server rest (subst (λ (x : Search). IsNextServer x server rest) (sym (c.going.invariant.first server rest is)) is) next.3);
+      going = λ port question log s o.
+          let at = c.going.invariant.going port question log s o in
+          let tried : IsTried port question log c.going.current next.0 [] = record { is_search = at.0; next = next.1; orderly = at.2; tried = λ none may. absurd (next.2 none may) } in
           smaller_stays c.going.current c.in_ok-current-in-Pass.current (left_of_search c.args.search 4) at.0 (c.in_ok-current-in-Pass.ensures.further port question log next.0 tried tt) at.1;
     }
 
-pub returns-then-is_outermost : goal.returns-then-is_outermost
-returns-then-is_outermost g c = λ port question log s.
-    let at = c.going.invariant.going port question log s in
+pub returns-then-is_outermost-clause-goes : goal.returns-then-is_outermost-clause-goes
+returns-then-is_outermost-clause-goes g c = λ port question log s o.
+    let at = c.going.invariant.going port question log s o in
     let next = subst (λ (n : Move). IsNextStep c.going.current n) c.in-Close.is c.in_ok-server.ensures in
     let none : c.going.current.frames.items ≡ [] = c.if-is_outermost.ensures.outermost (search rules) in
     let stream = g.R.Rng.stream c.going.ids in
@@ -55,9 +59,28 @@ returns-then-is_outermost g c = λ port question log s.
     (turned c.failed.ensures.phase c.failed.ensures.want (from_more at.1 (giving_up port question log c.args.moment stream 4 c.going.current at.0 none next.0 next.1)))
 
 pub going-preserved : goal.going-preserved
-going-preserved g c = record {
-  same = c.going.invariant.same;
-  going = λ port question log s.
-      let at = c.going.invariant.going port question log s in
-      smaller_stays c.going.current c.in_ok-current-in-Close.current (left_of_search c.args.search 4) at.0 (c.in_ok-current-in-Close.ensures.further port question log at.0 tt) at.1;
-}
+going-preserved g c =
+    let next = subst (λ (n : Move). IsNextStep c.going.current n) c.in-Close.is c.in_ok-server.ensures in record {
+      same = c.going.invariant.same;
+      first = λ server rest is. absurd (asked_not (hunt_of c.going.current) server rest (subst (λ (x : Search). IsNextServer x server rest) (sym (c.going.invariant.first server rest is)) is) next.0);
+      going = λ port question log s o.
+          let at = c.going.invariant.going port question log s o in
+          smaller_stays c.going.current c.in_ok-current-in-Close.current (left_of_search c.args.search 4) at.0 (c.in_ok-current-in-Close.ensures.further port question log Turn.unasked at.0 at.2 tt) at.1;
+    }
+
+pub returns-in-Ask-clause-asks : goal.returns-in-Ask-clause-asks
+returns-in-Ask-clause-asks g c = λ server rest is few.
+    let next = subst (λ (n : Move). IsNextStep c.going.current n) c.in-Ask.is c.in_ok-server.ensures in
+    let same = c.going.invariant.first server rest is in
+    let there = subst (λ (x : Search). IsNextServer x server rest) (sym same) is in
+    asks_same Udp c.ask.result (same_first (sym next.1 ∙ there)) (c.ask.ensures.query (subst (λ (x : Search). x.path.sent < 64) (sym same) few))
+
+pub returns-in-Seek-clause-asks : goal.returns-in-Seek-clause-asks
+returns-in-Seek-clause-asks g c = λ server rest is few.
+    let next = subst (λ (n : Move). IsNextStep c.going.current n) c.in-Seek.is c.in_ok-server.ensures in
+    absurd (asked_not (hunt_of c.going.current) server rest (subst (λ (x : Search). IsNextServer x server rest) (sym (c.going.invariant.first server rest is)) is) next.3)
+
+pub returns-then-is_outermost-clause-asks : goal.returns-then-is_outermost-clause-asks
+returns-then-is_outermost-clause-asks g c = λ server rest is few.
+    let next = subst (λ (n : Move). IsNextStep c.going.current n) c.in-Close.is c.in_ok-server.ensures in
+    absurd (asked_not (hunt_of c.going.current) server rest (subst (λ (x : Search). IsNextServer x server rest) (sym (c.going.invariant.first server rest is)) is) next.0)
