@@ -12,13 +12,13 @@ use Rattle.front_workers.specs.Serves.{Tells}
 use Rattle.flight.specs.Flight.{Hears, Lands}
 use Rattle.flight.specs.Told.{IsTold, answered, IsUntold, silent}
 
-module _ {D C : Type 0} {calls : Calls D} {seen : D → ℕ} {hears : Hears} {ticks : Ticks C} {port : ℕ} {m : List ℕ} {query : Query} where
-  pub told_by : {out : List ℕ} → (answer : Answer) → AsksFor m (Good query) → Lands calls seen hears ticks port query.question answer → Tells Udp m query answer (Some out)
-      → IsTold calls seen hears ticks port m out
+module _ {D C : Type 0} {calls : Calls D} {seen : D → ℕ} {hears : Hears} {ticks : Ticks C} {since port : ℕ} {m : List ℕ} {query : Query} where
+  pub told_by : {out : List ℕ} → (answer : Answer) → AsksFor m (Good query) → Lands calls seen hears ticks since port query.question answer → Tells Udp m query answer (Some out)
+      → IsTold calls seen hears ticks since port m out
   told_by (Replies rcode aa aliases last authority) wanted lands tells = answered wanted lands tells
   told_by Silent wanted lands tells = absurd tells
 
-  pub untold_by : (answer : Answer) → AsksFor m (Good query) → Lands calls seen hears ticks port query.question answer → Tells Udp m query answer None
-      → IsUntold calls seen hears ticks port m
+  pub untold_by : (answer : Answer) → AsksFor m (Good query) → Lands calls seen hears ticks since port query.question answer → Tells Udp m query answer None
+      → IsUntold calls seen hears ticks since port m
   untold_by (Replies rcode aa aliases last authority) wanted lands tells = absurd tells
   untold_by Silent wanted lands tells = silent wanted lands

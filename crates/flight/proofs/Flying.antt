@@ -32,37 +32,37 @@ suits (refused known call is) = tt
 suits (came heard) = tt
 suits failed = tt
 
-module _ {D C : Type 0} {calls : Calls D} {seen : D → ℕ} {hears : Hears} {ticks : Ticks C} {port : ℕ} {question : Question} where
+module _ {D C : Type 0} {calls : Calls D} {seen : D → ℕ} {hears : Hears} {ticks : Ticks C} {since port : ℕ} {question : Question} where
   -- What comes next is due.
   pub due : {steps : List Step} {input : Input} {n : ℕ}
       → ((phase : Phase) → IsDueAt phase [] Begin)
       → ((phase : Phase) (steps : List Step) (step : Step) (input : Input) → Suits step.want input → IsDueAt phase (steps ++ step ∷ []) input)
-      → (phase : Phase) → Flies calls seen hears ticks port question steps input n → IsDueAt phase steps input
+      → (phase : Phase) → Flies calls seen hears ticks since port question steps input n → IsDueAt phase steps input
   due first more phase begins = first phase
   due first more phase (goes_on {steps} {after} {input} {next} {want} before draws answered) =
       subst (λ (steps : List Step). IsDueAt phase steps next) (sym draws.wants.grown) (more phase steps (record { input = input; want = want }) next (suits answered))
 
   -- A want that is open is answered.
   pub flown : {steps : List Step} {want : Want} {n n' : ℕ} {next : Input}
-      → IsOpen calls seen hears ticks port question steps want n → Answered calls seen hears n want next n' → Flies calls seen hears ticks port question steps next n'
+      → IsOpen calls seen hears ticks since port question steps want n → Answered calls seen hears n want next n' → Flies calls seen hears ticks since port question steps next n'
   flown is answered = goes_on is.flies is.draws answered
 
   -- A reply is heard.
   pub heard : {steps : List Step} {query : Sent} {n : ℕ} {octets : List ℕ}
-      → Awaits calls seen hears ticks port question steps query n → hears query octets → Flies calls seen hears ticks port question steps (Came octets) n
+      → Awaits calls seen hears ticks since port question steps query n → hears query octets → Flies calls seen hears ticks since port question steps (Came octets) n
   heard is may = flown is (came may)
 
   -- None is.
   pub missed : {steps : List Step} {query : Sent} {n : ℕ}
-      → Awaits calls seen hears ticks port question steps query n → Flies calls seen hears ticks port question steps Failed n
+      → Awaits calls seen hears ticks since port question steps query n → Flies calls seen hears ticks since port question steps Failed n
   missed is = flown is failed
 
   -- A step of the task: what it wants is open.
   pub open_on : {n : ℕ} {input : Input} {want wanted : Want} {after : List Step} {c c' : C} {words' : Stream}
       → (port_of : ℕ) (question_of : Question) (steps : List Step) (moment : ℕ) (words : Stream) → port_of ≡ port → question_of ≡ question
-      → Flies calls seen hears ticks port question steps input n → ticks c moment c' → after ≡ steps ++ record { input = input; want = want } ∷ []
+      → Flies calls seen hears ticks since port question steps input n → ticks c moment c' → after ≡ steps ++ record { input = input; want = want } ∷ []
       → MayWant port_of question_of (exchanges_of after) moment (id_drawn words) want → words' ≡ stream_behind want words → want ≡ wanted
-      → IsOpen calls seen hears ticks port question after wanted n
+      → IsOpen calls seen hears ticks since port question after wanted n
   open_on {input = input} {want = want} {after = after} {c = c} {c' = c'} {words' = words'} port_of question_of steps moment words same_port same_question flies ticked grown may taken is =
       let id = id_drawn words in
       let here = subst (λ (q : Question). MayWant port_of q (exchanges_of after) moment id want) same_question may in
@@ -82,12 +82,12 @@ module _ {D C : Type 0} {calls : Calls D} {seen : D → ℕ} {hears : Hears} {ti
 
   -- It is open for this query, which went out on a line.
   pub awaits_at : {steps : List Step} {n : ℕ} {server : Addr} {over : Over} {query : List ℕ} {asked : Sent}
-      → asked ≡ query_to server over query → IsOpen calls seen hears ticks port question steps (Send server over query) n → Awaits calls seen hears ticks port question steps asked n
-  awaits_at {steps = steps} {n = n} same is = subst (λ (q : Sent). Awaits calls seen hears ticks port question steps q n) (sym same) is
+      → asked ≡ query_to server over query → IsOpen calls seen hears ticks since port question steps (Send server over query) n → Awaits calls seen hears ticks since port question steps asked n
+  awaits_at {steps = steps} {n = n} same is = subst (λ (q : Sent). Awaits calls seen hears ticks since port question steps q n) (sym same) is
 
   -- The task answers, where this is the port of name servers.
   pub lands_at : {steps : List Step} {n port' : ℕ} {answer : Answer}
-      → port ≡ port' → IsOpen calls seen hears ticks port question steps (Finish answer) n → Lands calls seen hears ticks port' question answer
+      → port ≡ port' → IsOpen calls seen hears ticks since port question steps (Finish answer) n → Lands calls seen hears ticks since port' question answer
   lands_at {steps = steps} {n = n} {answer = answer} same is =
-      let lands : Lands calls seen hears ticks port question answer = record { steps = steps; n = n; ends = is } in
-      subst (λ (p : ℕ). Lands calls seen hears ticks p question answer) same lands
+      let lands : Lands calls seen hears ticks since port question answer = record { steps = steps; n = n; ends = is } in
+      subst (λ (p : ℕ). Lands calls seen hears ticks since p question answer) same lands

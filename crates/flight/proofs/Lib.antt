@@ -7,5 +7,6 @@ mod Accounting
 mod Flights
 mod Looking
 mod Keeping
+mod Leaving
 mod Settling
 mod Places

@@ -23,15 +23,15 @@ use Rattle.flight.proofs.Flying.{suits}
 abbrev pub look_step : Question → ℕ → Step
 look_step question moment = record { input = Begin; want = Book (Look moment (Asked question)) }
 
-module _ {D C : Type 0} {calls : Calls D} {seen : D → ℕ} {hears : Hears} {ticks : Ticks C} {question : Question} {moment : ℕ} {came : Input} {n : ℕ} where
-  pub looked_by : (clock clock' : C) {event : Event} → event ≡ Look moment (Asked question) → ticks clock moment clock' → Answered calls seen hears 0 (Book event) came n
-      → HasLooked calls seen hears ticks question moment came n
+module _ {D C : Type 0} {calls : Calls D} {seen : D → ℕ} {hears : Hears} {ticks : Ticks C} {since : ℕ} {question : Question} {moment : ℕ} {came : Input} {n : ℕ} where
+  pub looked_by : (clock clock' : C) {event : Event} → event ≡ Look moment (Asked question) → ticks clock moment clock' → Answered calls seen hears since (Book event) came n
+      → HasLooked calls seen hears ticks since question moment came n
   looked_by clock clock' is ticked answered =
-      record { clock = clock; clock' = clock'; ticked = ticked; answered = subst (λ (e : Event). Answered calls seen hears 0 (Book e) came n) is answered }
+      record { clock = clock; clock' = clock'; ticked = ticked; answered = subst (λ (e : Event). Answered calls seen hears since (Book e) came n) is answered }
 
   -- A task that has begun by the look goes on with what came of it. No number was drawn, so that the words may be any.
-  pub looked_flies : HasLooked calls seen hears ticks question moment came n → (port : ℕ) (words : Stream) (steps : List Step) → steps ≡ look_step question moment ∷ []
-      → Flies calls seen hears ticks port question steps came n
+  pub looked_flies : HasLooked calls seen hears ticks since question moment came n → (port : ℕ) (words : Stream) (steps : List Step) → steps ≡ look_step question moment ∷ []
+      → Flies calls seen hears ticks since port question steps came n
   looked_flies looked port words steps is =
       let draws : Draws ticks port question [] Begin (looked.clock, words) (Book (Look moment (Asked question))) steps (looked.clock', words) = record {
         wants = record { moment = moment; ticked = looked.ticked; grown = is; id = id_drawn words; may = refl };
@@ -41,7 +41,7 @@ module _ {D C : Type 0} {calls : Calls D} {seen : D → ℕ} {hears : Hears} {ti
       goes_on begins draws looked.answered
 
   -- The look settles the question.
-  pub looked_resolves : HasLooked calls seen hears ticks question moment came n → (port : ℕ) (answer : Answer) (found : Option Answer) → found ≡ Some answer
+  pub looked_resolves : HasLooked calls seen hears ticks since question moment came n → (port : ℕ) (answer : Answer) (found : Option Answer) → found ≡ Some answer
       → ((port m : ℕ) (log : List Exchange) → Adds [] (exchange (Book (Look m (Asked question))) came) log → Suits (Book (Look m (Asked question))) came
       → MatchOption found (IsNoAnswer question came) (IsResolved port question log))
       → IsResolved port question (exchange (Book (Look moment (Asked question))) came ∷ []) answer
@@ -50,8 +50,8 @@ module _ {D C : Type 0} {calls : Calls D} {seen : D → ℕ} {hears : Hears} {ti
       subst (λ (a : Option Answer). MatchOption a (IsNoAnswer question came) (IsResolved port question log)) is (settles port moment log (record { adds = refl }) (suits looked.answered))
 
   -- A task may give the answer then.
-  pub looked_lands : HasLooked calls seen hears ticks question moment came n → (port : ℕ) (words : Stream) (answer : Answer)
-      → IsResolved port question (exchange (Book (Look moment (Asked question))) came ∷ []) answer → Lands calls seen hears ticks port question answer
+  pub looked_lands : HasLooked calls seen hears ticks since question moment came n → (port : ℕ) (words : Stream) (answer : Answer)
+      → IsResolved port question (exchange (Book (Look moment (Asked question))) came ∷ []) answer → Lands calls seen hears ticks since port question answer
   looked_lands looked port words answer resolved =
       let first = look_step question moment in
       let last : Step = record { input = came; want = Finish answer } in

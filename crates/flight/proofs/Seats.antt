@@ -1,16 +1,43 @@
 -- At a seat of a shared book the numbers of a question's calls rise.
-use Rattle.std.proofs.Common.{◌≡◌, ◌<◌, ℕ, sym, ap, subst, arith}
+use Rattle.std.proofs.Common.{◌≡◌, ◌<◌, ◌≤◌, ◌++◌, ℕ, List, [], ◌∷◌, sym, ap, refl, subst, arith}
 use Rattle.history.specs.declared.event.Event.{Event}
 use Rattle.history.specs.declared.event.Reply.{Reply}
 use Rattle.history.specs.declared.desk.DeskFault.{DeskFault}
-use Rattle.history.specs.declared.desk.DeskFault.TheVariants.{Step, Behind}
+use Rattle.history.specs.declared.desk.DeskFault.TheVariants.{Step as Faulted, Behind}
 use Rattle.history.specs.declared.event.Settings.{Settings}
-use Rattle.std.specs.Prelude.{List, Ok, Err}
+use Rattle.std.specs.Prelude.{Ok, Err}
+use Rattle.std.specs.List.{AllByRecursion}
 use Rattle.shared_book.specs.Calling.{SeatCall, IsJustified}
 use Rattle.shared_book.specs.Pass.{PassState}
-use Rattle.front_workers.specs.Leads.{Calls}
-use Rattle.flight.specs.Flight.{Hears, replied, refused, came, failed}
-use Rattle.flight.specs.Laws.{NumbersNeverFall, ReceiptsRise}
+use Rattle.front_workers.specs.Leads.{Calls, Ticks}
+use Rattle.dns_text.specs.declared.record.Question.{Question}
+use Rattle.iterate.specs.declared.want.Input.{Input}
+use Rattle.iterate.specs.declared.want.Input.TheVariants.{Reply as Replied}
+use Rattle.iterate.specs.declared.want.Step.{Step}
+use Rattle.iterate.specs.declared.want.Want.{Want}
+use Rattle.iterate.specs.declared.want.Want.TheVariants.{Finish}
+use Rattle.iterate.specs.Exchanges.{Exchange, exchange, exchanges_behind, exchanges_of}
+use Rattle.flight.specs.Flight.{Hears, Answered, replied, refused, came, failed, Flies, begins, goes_on}
+use Rattle.flight.specs.Laws.{IsLater, NumbersNeverFall, ReceiptsAreLater, ReceiptsRise}
+
+-- a step, by its parts
+abbrev step_of : Input → Want → Step
+step_of input want = record { input = input; want = want }
+
+behind_more : (want : Want) (rest : List Step) (last next : Step)
+    → exchanges_behind want ((rest ++ last ∷ []) ++ next ∷ []) ≡ exchanges_behind want (rest ++ last ∷ []) ++ exchange last.want next.input ∷ []
+behind_more want [] last next = refl
+behind_more want (step ∷ rest) last next = ap (λ (log : List Exchange). exchange want step.input ∷ log) (behind_more step.want rest last next)
+
+-- One step more answers the want of the last.
+one_more : (steps : List Step) (last next : Step) → exchanges_of ((steps ++ last ∷ []) ++ next ∷ []) ≡ exchanges_of (steps ++ last ∷ []) ++ exchange last.want next.input ∷ []
+one_more [] last next = refl
+one_more (step ∷ steps) last next = behind_more step.want steps last next
+
+-- What holds of each, and of one more.
+all_then : (fact : Exchange → Type 0) {x : Exchange} (log : List Exchange) → AllByRecursion fact log → fact x → AllByRecursion fact (log ++ x ∷ [])
+all_then fact [] all one = (one, tt)
+all_then fact (y ∷ log) all one = (all.0, all_then fact log all.1 one)
 
 module _ {B : Type 0} (stands_for : B → List Event → Type 0) (made_with : B → Settings) (stored : B → ℕ) where
   risen : (settings : Settings) (pass pass' : PassState) (event : Event) (reply : Reply) → SeatCall stands_for made_with stored settings pass event (Ok reply) pass'
@@ -21,7 +48,7 @@ module _ {B : Type 0} (stands_for : B → List Event → Type 0) (made_with : B 
       (omega (arith, number, call.2.later), subst (λ (n : ℕ). IsJustified settings n event reply) (sym number) call.3)
 
   unseen : (settings : Settings) (pass pass' : PassState) (event : Event) (fault : DeskFault) → SeatCall stands_for made_with stored settings pass event (Err fault) pass' → pass'.seen ≡ pass.seen
-  unseen settings pass pass' event (Step fault) call = ap (λ (p : PassState). p.seen) call.0
+  unseen settings pass pass' event (Faulted fault) call = ap (λ (p : PassState). p.seen) call.0
   unseen settings pass pass' event (Behind at) call = ap (λ (p : PassState). p.seen) call.0
 
 module _ {D : Type 0} {B : Type 0} (stands_for : B → List Event → Type 0) (made_with : B → Settings) (stored : B → ℕ) (pass : D → PassState) (settings : Settings) (hears : Hears) where
@@ -45,3 +72,30 @@ module _ {D : Type 0} {B : Type 0} (stands_for : B → List Event → Type 0) (m
       omega (arith, unseen stands_for made_with stored settings (pass d) (pass d') event fault call, known, is)
   never_falls n n' want input (came heard) = omega arith
   never_falls n n' want input failed = omega arith
+
+  -- No number falls below that with which the question began.
+  flown_on : {C : Type 0} {ticks : Ticks C} {since port : ℕ} {question : Question} {steps : List Step} {input : Input} {n : ℕ} → Flies calls_by seen_by hears ticks since port question steps input n → since ≤ n
+  flown_on begins = omega arith
+  flown_on (goes_on {input = input} {next = next} {want = want} {n = n} {n' = n'} before draws answered) = omega (arith, flown_on before, never_falls n n' want next answered)
+
+  -- What answers a want has a later receipt, if the book gave it.
+  later_one : (since n n' : ℕ) (want : Want) (next : Input) → since ≤ n → Answered calls_by seen_by hears n want next n' → IsLater settings since (exchange want next)
+  later_one since n n' want next known answered event reply wants comes =
+      let one = rises n n' event reply (subst (λ (w : Want). Answered calls_by seen_by hears n w (Replied reply) n') wants
+      (subst (λ (i : Input). Answered calls_by seen_by hears n want i n') comes answered)) in
+      (n', omega (arith, one.0, known), one.1)
+
+  -- So it is with each reply of the book so far, whatever is wanted next.
+  all_later : {C : Type 0} {ticks : Ticks C} {since port : ℕ} {question : Question} {steps : List Step} {input : Input} {n : ℕ} → Flies calls_by seen_by hears ticks since port question steps input n
+      → (want : Want) → AllByRecursion (IsLater settings since) (exchanges_of (steps ++ step_of input want ∷ []))
+  all_later begins want = tt
+  all_later {since = since} (goes_on {steps = steps} {input = input} {next = next} {want = wanted} {n = n} {n' = n'} before draws answered) want =
+      let so_far = all_then (IsLater settings since) (exchanges_of (steps ++ step_of input wanted ∷ [])) (all_later before wanted) (later_one since n n' wanted next (flown_on before) answered) in
+      let log = sym (one_more steps (step_of input wanted) (step_of next want)) in
+      subst (λ (list : List Step). AllByRecursion (IsLater settings since) (exchanges_of (list ++ step_of next want ∷ []))) (sym draws.wants.grown)
+      (subst (λ (list : List Exchange). AllByRecursion (IsLater settings since) list) log so_far)
+
+  pub later : {C : Type 0} {ticks : Ticks C} → ReceiptsAreLater calls_by seen_by hears ticks settings
+  later since port question answer lands =
+      let ends = lands.ends in
+      subst (λ (list : List Step). AllByRecursion (IsLater settings since) (exchanges_of list)) (sym ends.draws.wants.grown) (all_later ends.flies (Finish answer))

@@ -1,11 +1,12 @@
 -- A client that is settled.
-use Rattle.std.proofs.Common.{◌≡◌, ◌∙◌, ℕ, List, Option, is_some, count_by, ap, inl, inr, subst, sym, arith}
+use Rattle.std.proofs.Common.{◌≡◌, ◌∙◌, ℕ, List, [], ◌∷◌, Option, is_some, count_by, ap, inl, inr, refl, subst, sym, arith}
 use Rattle.flight.specs.declared.counts.Counts.{Counts}
 use Rattle.flight.specs.Clients.{LosesNone, Settles, SettlesOrWaits}
 use Rattle.flight.specs.Counted.{CountsSettled}
+use Rattle.flight.specs.Leaving.{Leaves}
 use Rattle.flight.specs.Told.{Keeps}
 use Rattle.flight.specs.Waiting.{FlightState, IsAccounted, UnderWay, count_with, outstanding, since_in}
-use Rattle.flight.proofs.Keeping.{kept_on}
+use Rattle.flight.proofs.Leaving.{one_left}
 use Rattle.flight.proofs.Flights.{as_it_was, on_or_begun_then}
 use Rattle.flight.proofs.Places.{kept_fewer, kept_same, kept_then}
 
@@ -39,12 +40,19 @@ accounted_settled waiting old new settles =
     }
 
 -- It does not wait where nothing in flight has changed, and nothing was counted before.
-pub settled_there : {W K : Type 0} {server_port : W → ℕ} {counts : W → Counts} {told : W → K → List ℕ → Type 0} (now : ℕ) (flight flight' : FlightState) (old mid new : W)
-    → Keeps server_port told old mid → counts mid ≡ counts old → flight' ≡ flight → Settles server_port counts told mid new
-    → SettlesOrWaits server_port counts told now flight old flight' new
-settled_there {server_port = server_port} {counts = counts} {told = told} now flight flight' old mid new keeps counted same settles =
+pub settled_there : {W O K : Type 0} {server_port : W → ℕ} {counts : W → Counts} {outbox : W → O} {posts : O → K → List ℕ → O → Type 0} {client : K} {reply : Option (List ℕ)}
+    (now : ℕ) (flight flight' : FlightState) (old mid new : W)
+    → Keeps server_port outbox old mid → counts mid ≡ counts old → flight' ≡ flight → Settles server_port counts outbox posts client reply mid new
+    → SettlesOrWaits server_port counts outbox posts now client flight old flight' new
+settled_there {counts = counts} {outbox = outbox} {posts = posts} {client = client} {reply = reply} now flight flight' old mid new keeps counted same settles =
     record {
-      keeps = kept_on keeps settles.keeps;
+      port = settles.port ∙ keeps.port;
+      ends = record {
+        ends = record { client = client; reply = reply } ∷ [];
+        left = one_left posts client reply (outbox old) (outbox mid) (outbox new) keeps.silent settles.left;
+        count = omega (arith, ap outstanding same);
+      };
+      own = (refl, tt);
       accounted = rw (same, ← counted) (accounted_settled (outstanding flight) (counts mid) (counts new) settles.settled);
       unheard = settles.settled.listened ∙ ap (λ (c : Counts). c.listened) counted;
       unexpired = settles.settled.expired ∙ ap (λ (c : Counts). c.expired) counted;
@@ -54,14 +62,40 @@ settled_there {server_port = server_port} {counts = counts} {told = told} now fl
       limit = ap (λ (state : FlightState). state.limit) same;
     }
 
+-- The same of the same client.
+pub own_client : {W O K : Type 0} {server_port : W → ℕ} {counts : W → Counts} {outbox : W → O} {posts : O → K → List ℕ → O → Type 0} {client client' : K} {now : ℕ} {flight flight' : FlightState} {old new : W}
+    → client' ≡ client → SettlesOrWaits server_port counts outbox posts now client' flight old flight' new → SettlesOrWaits server_port counts outbox posts now client flight old flight' new
+own_client {K = K} {server_port = server_port} {counts = counts} {outbox = outbox} {posts = posts} {now = now} {flight = flight} {flight' = flight'} {old = old} {new = new} same is =
+    subst (λ (c : K). SettlesOrWaits server_port counts outbox posts now c flight old flight' new) same is
+
+-- So it is where nothing happened before.
+pub settled_now : {W O K : Type 0} {server_port : W → ℕ} {counts : W → Counts} {outbox : W → O} {posts : O → K → List ℕ → O → Type 0} {client : K} {reply : Option (List ℕ)}
+    (now : ℕ) (flight flight' : FlightState) (old new : W)
+    → flight' ≡ flight → Settles server_port counts outbox posts client reply old new → SettlesOrWaits server_port counts outbox posts now client flight old flight' new
+settled_now now flight flight' old new same settles = settled_there now flight flight' old old new (record { port = refl; silent = refl }) refl same settles
+
+-- A client is settled, where nothing was told or counted before.
+pub settles_behind : {W O K : Type 0} {server_port : W → ℕ} {counts : W → Counts} {outbox : W → O} {posts : O → K → List ℕ → O → Type 0} {client : K} {reply : Option (List ℕ)}
+    {old mid new : W} → Keeps server_port outbox old mid → counts mid ≡ counts old → Settles server_port counts outbox posts client reply mid new
+    → (reply : Option (List ℕ)) × Settles server_port counts outbox posts client reply old new
+settles_behind {O = O} {counts = counts} {outbox = outbox} {posts = posts} {client = client} {reply = reply} {new = new} keeps counted settles = (
+  reply,
+  record {
+    port = settles.port ∙ keeps.port;
+    settled = subst (λ (was : Counts). CountsSettled was (counts new)) counted settles.settled;
+    left = subst (λ (out : O). Leaves posts client reply out (outbox new)) keeps.silent settles.left;
+  },
+)
+
 -- None is lost if the same exchanges are under way, however many the queue names.
-pub loses_as_before : {W K : Type 0} {server_port : W → ℕ} {counts : W → Counts} {told : W → K → List ℕ → Type 0} (now : ℕ) (first old new : FlightState) (before between : W)
-    → LosesNone server_port counts told now first before old between → new.exchanges ≡ old.exchanges → new.latest ≡ old.latest → new.limit ≡ old.limit
-    → LosesNone server_port counts told now first before new between
+pub loses_as_before : {W O K : Type 0} {server_port : W → ℕ} {counts : W → Counts} {outbox : W → O} {posts : O → K → List ℕ → O → Type 0} (now : ℕ) (first old new : FlightState) (before between : W)
+    → LosesNone server_port counts outbox posts now first before old between → new.exchanges ≡ old.exchanges → new.latest ≡ old.latest → new.limit ≡ old.limit
+    → LosesNone server_port counts outbox posts now first before new between
 loses_as_before {counts = counts} now first old new before between so_far exchanges latest limit =
     let many : outstanding new ≡ outstanding old = ap (count_by is_some) exchanges in
     record {
-      keeps = so_far.keeps;
+      port = so_far.port;
+      ends = record { ends = so_far.ends.ends; left = so_far.ends.left; count = omega (arith, many, so_far.ends.count) };
       accounted = subst (λ (waiting : ℕ). IsAccounted 0 (outstanding first) (counts before) waiting (counts between)) (sym many) so_far.accounted;
       begins = on_or_begun_then now first old new so_far.begins (as_it_was now old new (λ key. ap (λ (list : List (Option UnderWay)). since_in list key) exchanges) latest);
       no_more = omega (arith, many, so_far.no_more);

@@ -23,14 +23,14 @@ pub record IsAskedBy {K : Type 0} (sends : K → List ℕ → Type 0) (port : �
   pub port_is : task.port ≡ port
 
 -- A question began by a lookup of it, at a reading of the clock. This came of it, and n is the number of the desk's latest call that the question knows of.
-pub record HasLooked {D C : Type 0} (calls : Calls D) (seen : D → ℕ) (hears : Hears) (ticks : Ticks C) (question : Question) (moment : ℕ) (came : Input) (n : ℕ) : Type 0 where
+pub record HasLooked {D C : Type 0} (calls : Calls D) (seen : D → ℕ) (hears : Hears) (ticks : Ticks C) (since : ℕ) (question : Question) (moment : ℕ) (came : Input) (n : ℕ) : Type 0 where
   pub clock : C
   pub clock' : C
   pub ticked : ticks clock moment clock'
-  pub answered : Answered calls seen hears 0 (Book (Look moment (Asked question))) came n
+  pub answered : Answered calls seen hears since (Book (Look moment (Asked question))) came n
 
 -- A question waited for the reply to a query, and this was heard of it.
-pub record HasHeard {D C : Type 0} (calls : Calls D) (seen : D → ℕ) (hears : Hears) (ticks : Ticks C) (port : ℕ) (question : Question) (steps : List Step) (heard : Listened) (n : ℕ) : Type 0 where
+pub record HasHeard {D C : Type 0} (calls : Calls D) (seen : D → ℕ) (hears : Hears) (ticks : Ticks C) (since port : ℕ) (question : Question) (steps : List Step) (heard : Listened) (n : ℕ) : Type 0 where
   pub query : Sent
-  pub awaits : Awaits calls seen hears ticks port question steps query n
+  pub awaits : Awaits calls seen hears ticks since port question steps query n
   pub came : IsHeard (hears query) heard

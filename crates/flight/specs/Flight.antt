@@ -28,36 +28,36 @@ query_to server over query = record { server = server; over = over; query = quer
 abbrev pub Hears : Type 1
 Hears = Sent → List ℕ → Type 0
 
--- One call of the desk, or one exchange, answers what a question wants. The desk numbers its calls. The first number is that of the latest call that the desk knew of when this question last called it, 0 before its first call. The last number is the same afterwards. Calls of other questions may come between two calls of this one.
+-- One call of the desk, or one exchange, answers what a question wants. The desk numbers its calls. The first number is that of the latest call that the desk knew of when this question last called it, or, before its first call, when the octets of its client were taken. The last number is the same afterwards. Calls of other questions may come between two calls of this one.
 pub data Answered {D : Type 0} (calls : Calls D) (seen : D → ℕ) (hears : Hears) : ℕ → Want → Input → ℕ → Type 0 where
   replied : {n n' : ℕ} {d d' : D} {event : Event} {reply : Reply} → n ≤ seen d → calls d event (Ok reply) d' → n' ≡ seen d' → Answered calls seen hears n (Book event) (Replied reply) n'
   refused : {n n' : ℕ} {d d' : D} {event : Event} {fault : DeskFault} → n ≤ seen d → calls d event (Err fault) d' → n' ≡ seen d' → Answered calls seen hears n (Book event) (Refused fault) n'
   came : {n : ℕ} {server : Addr} {over : Over} {query octets : List ℕ} → hears (query_to server over query) octets → Answered calls seen hears n (Send server over query) (Came octets) n
   failed : {n : ℕ} {server : Addr} {over : Over} {query : List ℕ} → Answered calls seen hears n (Send server over query) Failed n
 
--- The task of a question took these steps. Each step read the clock, each query has an identifier that the generator drew, and each step but the first had the answer to the want before it. This input comes next, and n is the number of the desk's latest call that the question knows of.
-pub data Flies {D C : Type 0} (calls : Calls D) (seen : D → ℕ) (hears : Hears) (ticks : Ticks C) (port : ℕ) (question : Question) : List Step → Input → ℕ → Type 0 where
-  begins : Flies calls seen hears ticks port question [] Begin 0
+-- The task of a question took these steps, since the desk knew of so many calls. Each step read the clock, each query has an identifier that the generator drew, and each step but the first had the answer to the want before it. This input comes next, and n is the number of the desk's latest call that the question knows of.
+pub data Flies {D C : Type 0} (calls : Calls D) (seen : D → ℕ) (hears : Hears) (ticks : Ticks C) (since port : ℕ) (question : Question) : List Step → Input → ℕ → Type 0 where
+  begins : Flies calls seen hears ticks since port question [] Begin since
   goes_on : {steps after : List Step} {input next : Input} {want : Want} {l l' : Lent C} {n n' : ℕ}
-      → Flies calls seen hears ticks port question steps input n
+      → Flies calls seen hears ticks since port question steps input n
       → Draws ticks port question steps input l want after l' → Answered calls seen hears n want next n'
-      → Flies calls seen hears ticks port question after next n'
+      → Flies calls seen hears ticks since port question after next n'
 
 -- After these steps the task of a question wants this, and has no answer to it yet.
-pub record IsOpen {D C : Type 0} (calls : Calls D) (seen : D → ℕ) (hears : Hears) (ticks : Ticks C) (port : ℕ) (question : Question) (steps : List Step) (want : Want) (n : ℕ) : Type 0 where
+pub record IsOpen {D C : Type 0} (calls : Calls D) (seen : D → ℕ) (hears : Hears) (ticks : Ticks C) (since port : ℕ) (question : Question) (steps : List Step) (want : Want) (n : ℕ) : Type 0 where
   pub before : List Step
   pub input : Input
   pub l : Lent C
   pub l' : Lent C
-  pub flies : Flies calls seen hears ticks port question before input n
+  pub flies : Flies calls seen hears ticks since port question before input n
   pub draws : Draws ticks port question before input l want steps l'
 
 -- The task waits for the reply to a query.
-abbrev pub Awaits : {D C : Type 0} → Calls D → (D → ℕ) → Hears → Ticks C → ℕ → Question → List Step → Sent → ℕ → Type 0
-Awaits calls seen hears ticks port question steps query n = IsOpen calls seen hears ticks port question steps (Send query.server query.over query.query) n
+abbrev pub Awaits : {D C : Type 0} → Calls D → (D → ℕ) → Hears → Ticks C → ℕ → ℕ → Question → List Step → Sent → ℕ → Type 0
+Awaits calls seen hears ticks since port question steps query n = IsOpen calls seen hears ticks since port question steps (Send query.server query.over query.query) n
 
 -- The task ends in this answer, which its steps allow it to give: the answer resolves the question.
-pub record Lands {D C : Type 0} (calls : Calls D) (seen : D → ℕ) (hears : Hears) (ticks : Ticks C) (port : ℕ) (question : Question) (answer : Answer) : Type 0 where
+pub record Lands {D C : Type 0} (calls : Calls D) (seen : D → ℕ) (hears : Hears) (ticks : Ticks C) (since port : ℕ) (question : Question) (answer : Answer) : Type 0 where
   pub steps : List Step
   pub n : ℕ
-  pub ends : IsOpen calls seen hears ticks port question steps (Finish answer) n
+  pub ends : IsOpen calls seen hears ticks since port question steps (Finish answer) n

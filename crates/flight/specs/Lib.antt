@@ -4,6 +4,7 @@ pub mod Asking
 pub mod Counted
 pub mod Waiting
 pub mod Places
+pub mod Leaving
 pub mod Clients
 pub mod Queue
 pub mod Table

@@ -15,18 +15,18 @@ use Rattle.flight.specs.declared.outside.Listened.{Listened}
 use Rattle.flight.specs.declared.outside.Listened.TheVariants.{Came}
 use Rattle.flight.specs.Flight.{Hears, Lands}
 
--- The octets of a client may get this reply: the one that reports their fault, or the one that spells an answer in which their question ended.
-pub data IsTold {D C : Type 0} (calls : Calls D) (seen : D → ℕ) (hears : Hears) (ticks : Ticks C) (port : ℕ) (m out : List ℕ) : Type 0 where
-  faulty : {rcode : ℕ} → AsksFor m (Fault rcode) → out ≡ fault_octets m rcode → IsTold calls seen hears ticks port m out
+-- The octets of a client may get this reply: the one that reports their fault, or the one that spells an answer in which their question ended. Its task began when the desk knew of so many calls.
+pub data IsTold {D C : Type 0} (calls : Calls D) (seen : D → ℕ) (hears : Hears) (ticks : Ticks C) (since port : ℕ) (m out : List ℕ) : Type 0 where
+  faulty : {rcode : ℕ} → AsksFor m (Fault rcode) → out ≡ fault_octets m rcode → IsTold calls seen hears ticks since port m out
   answered : {query : Query} {rcode : ℕ} {aa : Bool} {aliases : List AnswerSet} {last : Option AnswerSet} {authority : Option Soa}
-      → AsksFor m (Good query) → Lands calls seen hears ticks port query.question (Replies rcode aa aliases last authority)
+      → AsksFor m (Good query) → Lands calls seen hears ticks since port query.question (Replies rcode aa aliases last authority)
       → Written Udp m query (reply_told query rcode aa aliases last authority) out
-      → IsTold calls seen hears ticks port m out
+      → IsTold calls seen hears ticks since port m out
 
 -- The octets of a client are owed no reply: they ask for none, or their question ended in silence.
-pub data IsUntold {D C : Type 0} (calls : Calls D) (seen : D → ℕ) (hears : Hears) (ticks : Ticks C) (port : ℕ) (m : List ℕ) : Type 0 where
-  dropped : AsksFor m Drop → IsUntold calls seen hears ticks port m
-  silent : {query : Query} → AsksFor m (Good query) → Lands calls seen hears ticks port query.question Silent → IsUntold calls seen hears ticks port m
+pub data IsUntold {D C : Type 0} (calls : Calls D) (seen : D → ℕ) (hears : Hears) (ticks : Ticks C) (since port : ℕ) (m : List ℕ) : Type 0 where
+  dropped : AsksFor m Drop → IsUntold calls seen hears ticks since port m
+  silent : {query : Query} → AsksFor m (Good query) → Lands calls seen hears ticks since port query.question Silent → IsUntold calls seen hears ticks since port m
 
 -- If octets came, they are such.
 abbrev pub IsHeard : (List ℕ → Type 0) → Listened → Type 0
@@ -38,7 +38,7 @@ abbrev pub octets_of : ReplyOctets → List ℕ
 octets_of (Header octets) = octets
 octets_of (Message octets) = octets.items
 
--- Between two states of a worker's sockets the port of name servers is the same, and each reply that was sent, or waits to be sent, still is.
-pub record Keeps {W K : Type 0} (server_port : W → ℕ) (told : W → K → List ℕ → Type 0) (old new : W) : Type 0 where
+-- Between two states of a worker's sockets the port of name servers is the same, and nothing leaves for clients.
+pub record Keeps {W O : Type 0} (server_port : W → ℕ) (outbox : W → O) (old new : W) : Type 0 where
   pub port : server_port new ≡ server_port old
-  pub kept : (client : K) (octets : List ℕ) → told old client octets → told new client octets
+  pub silent : outbox new ≡ outbox old

@@ -30,16 +30,21 @@ impl<D: Numbered, L: InFlight, C: Clock, G: Rng, K: Client> Flight<D, L, C, G, K
     )
         requires own { K.sent client octets.now }
         requires good { AsksFor octets.now (Good query) }
-        ensures { SettlesOrWaits O.server_port O.counts O.told now self.old outside.old self.new outside.new }
+        ensures { SettlesOrWaits O.server_port O.counts O.outbox O.posts now client self.old outside.old self.new outside.new }
     {
         resolved_law();
+        if desk.seen() < client.since() {
+            outside.fail(client, octets, Unserved::Elsewhere);
+            drop(query);
+            return;
+        }
         let moment = self.clock.now();
         let Ok(look) = first_look(&query.question, moment) else {
             outside.fail(client, octets, Unserved::NoMemory);
             drop(query);
             return;
         };
-        let mut seen = 0;
+        let mut seen = client.since();
         let came = ask::<D, L>(desk, &mut seen, look);
         match settled(self.alloc, &query.question, &came) {
             Ok(Some(answer)) => {
@@ -79,9 +84,9 @@ impl<D: Numbered, L: InFlight, C: Clock, G: Rng, K: Client> Flight<D, L, C, G, K
     )
         requires own { K.sent client octets.now }
         requires good { AsksFor octets.now (Good query) }
-        requires looked { HasLooked D.calls D.seen L.hears C.ticks query.question moment came seen }
+        requires looked { HasLooked D.calls D.seen L.hears C.ticks (K.since client) query.question moment came seen }
         requires known { seen ≤ D.seen desk.old }
-        ensures { SettlesOrWaits O.server_port O.counts O.told now self.old outside.old self.new outside.new }
+        ensures { SettlesOrWaits O.server_port O.counts O.outbox O.posts now client self.old outside.old self.new outside.new }
     {
         let port = outside.server_port();
         let Ok(question) = query.question.clone() else {

@@ -3,8 +3,8 @@
 ghost use Rattle.std.specs.Prelude.{◌≡◌, ◌≤◌, ◌+◌};
 ghost use Rattle.front_workers.specs.Counts.{Rises};
 ghost use Rattle.flight.specs.Asking.{HasHeard, IsAskedBy};
-ghost use Rattle.flight.specs.Flight.{Flies, IsOpen, query_to};
-ghost use Rattle.flight.specs.Told.{Keeps};
+ghost use Rattle.flight.specs.Flight.{Flies};
+ghost use Rattle.flight.specs.Leaving.{Ends};
 ghost use Rattle.flight.specs.Clients.{SettlesOrWaits};
 ghost use Rattle.flight.specs.Places.{KeepsPlaces};
 ghost use Rattle.flight.specs.Waiting.{IsAccounted, WaitsFrom, outstanding};
@@ -32,7 +32,8 @@ impl<D: Numbered, L: InFlight, C: Clock, G: Rng, K: Client> Flight<D, L, C, G, K
         now: u64,
         job: Job<D, L, C, K>,
     )
-        ensures keeps { Keeps O.server_port O.told outside.old outside.new }
+        ensures port { O.server_port outside.new ≡ O.server_port outside.old }
+        ensures ends { Ends O.posts 0 (outstanding self.old + 1) (O.outbox outside.old) (outstanding self.new) (O.outbox outside.new) }
         ensures accounted { IsAccounted 0 (outstanding self.old + 1) (O.counts outside.old) (outstanding self.new) (O.counts outside.new) }
         ensures heard { Rises (O.counts outside.old).listened (O.counts outside.new).listened }
         ensures waits { WaitsFrom now self.old self.new }
@@ -65,9 +66,9 @@ impl<D: Numbered, L: InFlight, C: Clock, G: Rng, K: Client> Flight<D, L, C, G, K
         heard: Listened,
     )
         requires asked { IsAskedBy K.sent asking.port octets asking.client asking.query asking.task }
-        requires heard { HasHeard D.calls D.seen L.hears C.ticks asking.port asking.query.question asking.task.steps.items
-            heard asking.seen }
-        ensures { SettlesOrWaits O.server_port O.counts O.told now self.old outside.old self.new outside.new }
+        requires heard { HasHeard D.calls D.seen L.hears C.ticks (K.since asking.client) asking.port asking.query.question
+            asking.task.steps.items heard asking.seen }
+        ensures { SettlesOrWaits O.server_port O.counts O.outbox O.posts now asking.client self.old outside.old self.new outside.new }
     {
         let input = match heard {
             Listened::Came(reply) => Input::Came(reply),
@@ -95,10 +96,11 @@ impl<D: Numbered, L: InFlight, C: Clock, G: Rng, K: Client> Flight<D, L, C, G, K
         first: Input,
     )
         requires asked { IsAskedBy K.sent asking.port octets.now asking.client asking.query asking.task }
-        requires flies { Flies D.calls D.seen L.hears C.ticks asking.port asking.query.question asking.task.steps.items first asking.seen }
+        requires flies { Flies D.calls D.seen L.hears C.ticks (K.since asking.client) asking.port asking.query.question
+            asking.task.steps.items first asking.seen }
         requires port { asking.port ≡ O.server_port outside.old }
         requires known { asking.seen ≤ D.seen desk.old }
-        ensures { SettlesOrWaits O.server_port O.counts O.told now self.old outside.old self.new outside.new }
+        ensures { SettlesOrWaits O.server_port O.counts O.outbox O.posts now asking.client self.old outside.old self.new outside.new }
     {
         due_law();
         let mut asking = asking;

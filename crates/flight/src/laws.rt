@@ -1,9 +1,10 @@
 //! Laws of the definitions at a seat of a shared book.
 
-ghost use Rattle.flight.specs.Laws.{NumbersNeverFall, ReceiptsRise};
+ghost use Rattle.flight.specs.Laws.{NumbersNeverFall, ReceiptsAreLater, ReceiptsRise};
 
 use crate::line::InFlight;
 use crate::numbered::Numbered;
+use command_text::Clock;
 use history::{Book, Desk};
 use shared_book::{CallLedger, Seat};
 use std::sync::Wait;
@@ -18,4 +19,16 @@ pub fn fall_law<B: Book + 'static, P: CallLedger + 'static, R: Wait + 'static, L
 #[tactic(auto, using(crate::proofs::Seats::rises))]
 pub fn rise_law<B: Book + 'static, P: CallLedger + 'static, R: Wait + 'static, L: InFlight>()
     ensures { ReceiptsRise (⟦<Seat<'static, B, P, R> as Desk>⟧.calls) (⟦<Seat<'static, B, P, R> as Numbered>⟧.seen) L.hears P.settings }
+{}
+
+/// Each reply of the book behind an answer has a receipt with a higher number than the desk knew of when the client was taken.
+pub fn later_law<
+    B: Book + 'static,
+    P: CallLedger + 'static,
+    R: Wait + 'static,
+    L: InFlight,
+    C: Clock,
+>()
+    ensures { ReceiptsAreLater (⟦<Seat<'static, B, P, R> as Desk>⟧.calls) (⟦<Seat<'static, B, P, R> as Numbered>⟧.seen)
+        L.hears C.ticks P.settings }
 {}

@@ -34,7 +34,7 @@ mod laws;
 
 pub use counts::Counts;
 pub use engine::Flight;
-pub use laws::{fall_law, rise_law};
+pub use laws::{fall_law, later_law, rise_law};
 pub use line::InFlight;
 pub use numbered::Numbered;
 pub use outside::{Client, Listened, Outside, Unserved};

@@ -1,6 +1,6 @@
 //! The clients of a worker, and its sockets.
 
-ghost use Rattle.std.specs.Prelude.{◌≡◌, ◌≤◌, ℕ, List, length, IfNone, IfSome, OnSome};
+ghost use Rattle.std.specs.Prelude.{◌≡◌, ◌≤◌, ℕ, List, None, Some, length, IfNone, IfSome, OnSome};
 ghost use Rattle.dns_wire.specs.declared.server.query.Asked.TheVariants.{Drop};
 ghost use Rattle.dns_wire.specs.Server.Asking.{AsksFor};
 ghost use Rattle.front_workers.specs.declared.limits.TheConstants.{MOST_UDP_REPLY};
@@ -22,6 +22,13 @@ use dns_text::{Addr, Octets, Shared};
 pub trait Client: Drop {
     /// The client may have sent these octets.
     ghost sent: { Self → List ℕ → Type 0 };
+
+    /// The number of the latest call that the desk knew of when the octets were taken.
+    ghost since: { Self → ℕ };
+
+    /// The number of the latest call that the desk knew of when the octets were taken.
+    fn since(&self) -> u64
+        ensures { result ≡ since self.now };
 }
 
 /// The result of listening to an exchange.
@@ -56,8 +63,15 @@ pub trait Outside<D: Numbered, L: InFlight, C: Clock, K: Client> {
     /// The counters, each up to 2^64 - 1.
     ghost counts: { Self → Counts };
 
-    /// These octets were sent to this client (perhaps in vain), or wait to be sent.
-    ghost told: { Self → K → List ℕ → Type 0 };
+    /// The states of an outbox.
+    ghost Sending: { Type 0 };
+
+    /// The outbox: what sends replies to clients, and the replies that wait to be sent.
+    ghost outbox: { Self → Sending };
+
+    /// Exactly one reply was sent (perhaps in vain), or waits to be sent: the outbox before, the client, the octets, the outbox
+    /// after.
+    ghost posts: { Sending → K → List ℕ → Sending → Type 0 };
 
     /// The port of name servers that are known by name.
     fn server_port(&self) -> u16
@@ -66,46 +80,44 @@ pub trait Outside<D: Numbered, L: InFlight, C: Clock, K: Client> {
     /// A buffer for a reply. The reply replaces whatever octets it holds.
     fn buffer(&mut self) -> Vec<u8>
         ensures counts { counts self.new ≡ counts self.old }
-        ensures keeps { Keeps server_port told self.old self.new };
+        ensures keeps { Keeps server_port outbox self.old self.new };
 
     /// Begins an exchange, which is watched under the key. Returns `None` if it could not begin.
     fn open(&mut self, key: usize, server: &Addr, over: Over, query: Shared<Octets>) -> Option<L>
         ensures asked { IfSome result (λ line. L.asked line ≡ query_to server.now over query) }
         ensures opened { OnSome result (CountsOpened (counts self.old) (counts self.new)) }
         ensures unopened { IfNone result (counts self.new ≡ counts self.old) }
-        ensures keeps { Keeps server_port told self.old self.new };
+        ensures keeps { Keeps server_port outbox self.old self.new };
 
     /// Listens to an exchange, without waiting.
     fn hear(&mut self, line: &mut L) -> Listened
         ensures heard { IsHeard (L.hears (L.asked line.old)) result }
         ensures asked { L.asked line.new ≡ L.asked line.old }
         ensures listened { CountsListened result (counts self.old) (counts self.new) }
-        ensures keeps { Keeps server_port told self.old self.new };
+        ensures keeps { Keeps server_port outbox self.old self.new };
 
     /// Ends an exchange because its time is up.
     fn expire(&mut self, line: L)
         ensures expired { CountsExpired (counts self.old) (counts self.new) }
-        ensures keeps { Keeps server_port told self.old self.new };
+        ensures keeps { Keeps server_port outbox self.old self.new };
 
     /// Sends a client the reply to its octets, now or later. It may be lost on the way.
     fn give(&mut self, client: K, octets: &[u8], reply: ReplyOctets)
         requires own { K.sent client octets.now }
-        requires told { IsTold D.calls D.seen L.hears C.ticks (server_port self.old) octets.now (octets_of reply) }
+        requires told { IsTold D.calls D.seen L.hears C.ticks (K.since client) (server_port self.old) octets.now (octets_of reply) }
         requires short { length (octets_of reply) ≤ MOST_UDP_REPLY }
-        ensures told { told self.new client (octets_of reply) }
-        ensures settles { Settles server_port counts told self.old self.new };
+        ensures { Settles server_port counts outbox posts client (Some (octets_of reply)) self.old self.new };
 
     /// Sends a client SERVFAIL (RFC 1035, section 4.1.1, RCODE 2), by the header alone.
     fn fail(&mut self, client: K, octets: &[u8], why: Unserved)
         requires own { K.sent client octets.now }
         requires header { 12 ≤ length octets.now }
         requires owed { ¬ (AsksFor octets.now Drop) }
-        ensures told { told self.new client (fault_octets octets.now 2) }
-        ensures settles { Settles server_port counts told self.old self.new };
+        ensures { Settles server_port counts outbox posts client (Some (fault_octets octets.now 2)) self.old self.new };
 
     /// Drops a client that is owed no reply.
     fn pass_over(&mut self, client: K, octets: &[u8])
         requires own { K.sent client octets.now }
-        requires untold { IsUntold D.calls D.seen L.hears C.ticks (server_port self.old) octets.now }
-        ensures settles { Settles server_port counts told self.old self.new };
+        requires untold { IsUntold D.calls D.seen L.hears C.ticks (K.since client) (server_port self.old) octets.now }
+        ensures { Settles server_port counts outbox posts client None self.old self.new };
 }

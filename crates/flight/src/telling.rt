@@ -1,6 +1,6 @@
 //! The reply to a client.
 
-ghost use Rattle.std.specs.Prelude.{◌≡◌};
+ghost use Rattle.std.specs.Prelude.{◌≡◌, List, Option, Some, ℕ};
 ghost use Rattle.dns_wire.specs.declared.server.query.Asked.TheVariants.{Fault, Good};
 ghost use Rattle.dns_wire.specs.Server.Asking.{AsksFor};
 ghost use Rattle.front_workers.specs.Serves.{fault_octets};
@@ -37,7 +37,7 @@ pub(crate) fn refuse<D: Numbered, L: InFlight, C: Clock, K: Client, O: Outside<D
     why: Unserved,
 )
     requires asked { IsAskedBy K.sent asking.port octets.now asking.client asking.query asking.task }
-    ensures { Settles O.server_port O.counts O.told outside.old outside.new }
+    ensures { Settles O.server_port O.counts O.outbox O.posts asking.client (Some (fault_octets octets.now 2)) outside.old outside.new }
 {
     outside.fail(asking.client, octets, why);
 }
@@ -53,9 +53,9 @@ pub(crate) fn tell<D: Numbered, L: InFlight, C: Clock, K: Client, O: Outside<D, 
 )
     requires own { K.sent client octets.now }
     requires good { AsksFor octets.now (Good query.now) }
-    requires lands { Lands D.calls D.seen L.hears C.ticks (O.server_port outside.old) query.now.question answer.now }
+    requires lands { Lands D.calls D.seen L.hears C.ticks (K.since client) (O.server_port outside.old) query.now.question answer.now }
     requires fit { IsFit answer.now }
-    ensures { Settles O.server_port O.counts O.told outside.old outside.new }
+    ensures { (reply : Option (List ℕ)) × Settles O.server_port O.counts O.outbox O.posts client reply outside.old outside.new }
 {
     let buffer = outside.buffer();
     match write_answer(alloc, buffer, Over::Udp, octets, query, answer) {

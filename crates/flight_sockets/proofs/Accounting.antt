@@ -1,11 +1,14 @@
 -- How the counts of a worker go on.
-use Rattle.std.proofs.Common.{◌≡◌, ◌∙◌, ℕ, ◌+◌, inl, inr, arith}
+use Rattle.std.proofs.Common.{◌≡◌, ◌∙◌, ◌≤◌, ◌++◌, ℕ, ◌+◌, List, inl, inr, refl, subst, sym, arith}
 use Rattle.front_workers.specs.Counts.{Rises}
 use Rattle.front_workers.specs.Working.{HasFailed}
 use Rattle.flight.specs.declared.counts.Counts.{Counts}
 use Rattle.flight.specs.Counted.{NeverFall, IsFull}
-use Rattle.flight.specs.Waiting.{FlightState, IsAccounted}
+use Rattle.flight.specs.Waiting.{FlightState, IsAccounted, outstanding}
 use Rattle.flight_sockets.specs.Accounts.{WorkerState, Accounts, GoesOn}
+use Rattle.flight_sockets.specs.Endings.{Endings}
+use Rattle.flight_sockets.specs.Outgoing.{Comes, Datagram, OutboxState, Posts, Sends}
+use Rattle.flight_sockets.proofs.Posting.{clients_then, endings_none, leaving_then, posts_none, posts_then}
 
 none_fell : (old mid new : Counts) → NeverFall old mid → NeverFall mid new → NeverFall old new
 none_fell old mid new before after = record {
@@ -16,6 +19,13 @@ none_fell old mid new before after = record {
   listened = omega (arith, before.listened, after.listened);
 }
 
+-- No count changed.
+pub same_counts : (waiting : ℕ) (counts : Counts) → IsAccounted 0 waiting counts waiting counts
+same_counts waiting counts = record {
+  never_fall = record { settled = omega arith; opened = omega arith; ended = omega arith; listened = omega arith; expired = omega arith };
+  add_up = inl (record { clients = omega arith; exchanges = omega arith });
+}
+
 -- What was full is.
 full_on : (old new : Counts) → NeverFall old new → IsFull old → IsFull new
 full_on old new later full = elim full [
@@ -23,67 +33,131 @@ full_on old new later full = elim full [
   | inr other ↦ elim other [ inl opened ↦ inr (inl (omega (arith, opened, later.opened))) | inr ended ↦ inr (inr (omega (arith, ended, later.ended))) ]
 ]
 
--- What goes on is accounted for as a whole.
-pub followed : (w w' w'' : ℕ) (old mid new : WorkerState) → Accounts w old w' mid → Accounts w' mid w'' new → Accounts w old w'' new
-followed w w' w'' old mid new before after = record {
-  taken = omega (arith, before.taken, after.taken);
-  never_fall = none_fell old.counts mid.counts new.counts before.never_fall after.never_fall;
+-- What is counted is counted on.
+pub accounted_on : (w w' w'' : ℕ) (old mid new : Counts) → IsAccounted 0 w old w' mid → IsAccounted 0 w' mid w'' new → IsAccounted 0 w old w'' new
+accounted_on w w' w'' old mid new before after = record {
+  never_fall = none_fell old mid new before.never_fall after.never_fall;
   add_up = elim before.add_up [
     | inl one ↦ elim after.add_up [
       | inl two ↦ inl (record { clients = omega (arith, one.clients, two.clients); exchanges = omega (arith, one.exchanges, two.exchanges) })
-      | inr end ↦ inr end
+      | inr full ↦ inr full
     ]
-    | inr end ↦ elim end [
-      | inl full ↦ inr (inl (full_on mid.counts new.counts after.never_fall full))
-      | inr many ↦ inr (inr (omega (arith, many, after.taken)))
-    ]
+    | inr full ↦ inr (full_on mid new after.never_fall full)
   ];
 }
 
--- What goes on and on goes on.
-pub gone_on : (a b c : FlightState) (old mid new : WorkerState) → GoesOn a old b mid → GoesOn b mid c new → GoesOn a old c new
-gone_on a b c old mid new before after = record {
-  accounts = followed _ _ _ old mid new before.accounts after.accounts;
-  within = λ few. omega (arith, after.within (omega (arith, before.within few, before.limit)), before.limit);
-  limit = after.limit ∙ before.limit;
-  failures = after.failures ∙ before.failures;
-}
+-- the visible state of a worker, by its parts
+abbrev pub worker_of : {S : Type 0} → ℕ → ℕ → ℕ → OutboxState S → Counts → WorkerState S
+worker_of port taken failures outbox counts = record { server_port = port; taken = taken; failures = failures; outbox = outbox; counts = counts }
 
--- A query that was taken begins.
-pub begun : (w w' : ℕ) (old new : WorkerState) → Rises old.taken new.taken → IsAccounted 1 w old.counts w' new.counts → Accounts w old w' new
-begun w w' old new rises accounted = record {
-  taken = elim rises [ inl one ↦ omega (arith, one) | inr last ↦ omega (arith, last.1) ];
-  never_fall = accounted.never_fall;
-  add_up = elim accounted.add_up [
-    | inl all ↦ elim rises [
-      | inl one ↦ inl (record { clients = omega (arith, all.clients, one); exchanges = all.exchanges })
-      | inr last ↦ inr (inr (omega (arith, last.0, last.1)))
-    ]
-    | inr full ↦ inr (inl full)
-  ];
-}
+module _ {S : Type 0} {comes : Comes} {sends : Sends S} where
+  -- What goes on is accounted for as a whole.
+  pub followed : (w w' w'' : ℕ) (old mid new : WorkerState S) → Accounts comes sends w old w' mid → Accounts comes sends w' mid w'' new → Accounts comes sends w old w'' new
+  followed w w' w'' old mid new before after = record {
+    ends = before.ends ++ after.ends;
+    left = subst (λ (list : List Datagram). Posts sends list old.outbox new.outbox) (sym (leaving_then before.ends after.ends)) (posts_then before.left after.left);
+    once = elim after.once [
+      | inl two ↦ elim before.once [
+        | inl one ↦ inl (omega (arith, clients_then before.ends after.ends, one, two))
+        | inr many ↦ inr (omega (arith, many, after.taken))
+      ]
+      | inr many ↦ inr many
+    ];
+    taken = omega (arith, before.taken, after.taken);
+    never_fall = none_fell old.counts mid.counts new.counts before.never_fall after.never_fall;
+    add_up = elim before.add_up [
+      | inl one ↦ elim after.add_up [
+        | inl two ↦ inl (record { clients = omega (arith, one.clients, two.clients); exchanges = omega (arith, one.exchanges, two.exchanges) })
+        | inr end ↦ inr end
+      ]
+      | inr end ↦ elim end [
+        | inl full ↦ inr (inl (full_on mid.counts new.counts after.never_fall full))
+        | inr many ↦ inr (inr (omega (arith, many, after.taken)))
+      ]
+    ];
+  }
 
--- No query is taken, and those that wait go on.
-pub went_on : (w w' : ℕ) (old new : WorkerState) → new.taken ≡ old.taken → IsAccounted 0 w old.counts w' new.counts → Accounts w old w' new
-went_on w w' old new same accounted = record {
-  taken = omega (arith, same);
-  never_fall = accounted.never_fall;
-  add_up = elim accounted.add_up [
-    | inl all ↦ inl (record { clients = omega (arith, all.clients, same); exchanges = all.exchanges })
-    | inr full ↦ inr (inl full)
-  ];
-}
+  -- What goes on and on goes on.
+  pub gone_on : (a b c : FlightState) (old mid new : WorkerState S) → GoesOn comes sends a old b mid → GoesOn comes sends b mid c new → GoesOn comes sends a old c new
+  gone_on a b c old mid new before after = record {
+    accounts = followed _ _ _ old mid new before.accounts after.accounts;
+    within = λ few. omega (arith, after.within (omega (arith, before.within few, before.limit)), before.limit);
+    limit = after.limit ∙ before.limit;
+    failures = after.failures ∙ before.failures;
+  }
 
--- A failure changes nothing of it.
-pub failed : (w w' : ℕ) (old mid new : WorkerState) → Accounts w old w' mid → new.taken ≡ mid.taken → new.counts ≡ mid.counts → Accounts w old w' new
-failed w w' old mid new before taken counts = record {
-  taken = omega (arith, before.taken, taken);
-  never_fall = rw counts before.never_fall;
-  add_up = elim before.add_up [
-    | inl all ↦ inl (record { clients = rw counts (omega (arith, all.clients, taken)); exchanges = rw counts all.exchanges })
-    | inr end ↦ elim end [ inl full ↦ inr (inl (rw counts full)) | inr many ↦ inr (inr (omega (arith, many, taken))) ]
-  ];
-}
+  -- A query that was taken begins.
+  pub begun : (w w' : ℕ) (old new : WorkerState S) → Rises old.taken new.taken → IsAccounted 1 w old.counts w' new.counts → Endings comes sends 1 w old.outbox w' new.outbox
+      → Accounts comes sends w old w' new
+  begun w w' old new rises accounted ends = record {
+    ends = ends.ends;
+    left = ends.left;
+    once = elim rises [ inl one ↦ inl (omega (arith, ends.count, one)) | inr last ↦ inr (omega (arith, last.0, last.1)) ];
+    taken = elim rises [ inl one ↦ omega (arith, one) | inr last ↦ omega (arith, last.1) ];
+    never_fall = accounted.never_fall;
+    add_up = elim accounted.add_up [
+      | inl all ↦ elim rises [
+        | inl one ↦ inl (record { clients = omega (arith, all.clients, one); exchanges = all.exchanges })
+        | inr last ↦ inr (inr (omega (arith, last.0, last.1)))
+      ]
+      | inr full ↦ inr (inl full)
+    ];
+  }
+
+  -- No query is taken, and those that wait go on.
+  pub went_on : (w w' : ℕ) (old new : WorkerState S) → new.taken ≡ old.taken → IsAccounted 0 w old.counts w' new.counts → Endings comes sends 0 w old.outbox w' new.outbox
+      → Accounts comes sends w old w' new
+  went_on w w' old new same accounted ends = record {
+    ends = ends.ends;
+    left = ends.left;
+    once = inl (omega (arith, ends.count, same));
+    taken = omega (arith, same);
+    never_fall = accounted.never_fall;
+    add_up = elim accounted.add_up [
+      | inl all ↦ inl (record { clients = omega (arith, all.clients, same); exchanges = all.exchanges })
+      | inr full ↦ inr (inl full)
+    ];
+  }
+
+  -- Nothing has happened yet, and none waits.
+  pub none_yet : (w : ℕ) (old new : WorkerState S) → new ≡ old → w ≡ 0 → Accounts comes sends 0 old w new
+  none_yet w old new same none = subst (λ (state : WorkerState S). Accounts comes sends 0 old w state) (sym same)
+      (subst (λ (waiting : ℕ). Accounts comes sends 0 old waiting old) (sym none) (went_on 0 0 old old refl (same_counts 0 old.counts) (endings_none (posts_none refl) refl)))
+
+  -- No query is taken, no exchange more is under way, and no turn fails.
+  pub looked_on : (a b : FlightState) (old new : WorkerState S) → new.taken ≡ old.taken → IsAccounted 0 (outstanding a) old.counts (outstanding b) new.counts
+      → Endings comes sends 0 (outstanding a) old.outbox (outstanding b) new.outbox → outstanding b ≤ outstanding a → b.limit ≡ a.limit → new.failures ≡ old.failures → GoesOn comes sends a old b new
+  looked_on a b old new same accounted ends no_more limit failures = record {
+    accounts = went_on _ _ old new same accounted ends;
+    within = λ few. omega (arith, few, no_more);
+    limit = limit;
+    failures = failures;
+  }
+
+  -- Nothing goes on, but what waits may leave, or a datagram is refused.
+  pub stayed : (flight : FlightState) (old new : WorkerState S) → Endings comes sends 0 (outstanding flight) old.outbox (outstanding flight) new.outbox
+      → new.taken ≡ old.taken → new.counts ≡ old.counts → new.failures ≡ old.failures → GoesOn comes sends flight old flight new
+  stayed flight old new ends taken counts failures = record {
+    accounts = went_on _ _ old new taken (rw counts (same_counts (outstanding flight) old.counts)) ends;
+    within = λ few. few;
+    limit = refl;
+    failures = failures;
+  }
+
+  -- A failure changes nothing of it.
+  pub failed : (w w' : ℕ) (old mid new : WorkerState S) → Accounts comes sends w old w' mid → new.taken ≡ mid.taken → new.counts ≡ mid.counts → new.outbox ≡ mid.outbox
+      → Accounts comes sends w old w' new
+  failed w w' old mid new before taken counts outbox = record {
+    ends = before.ends;
+    left = rw outbox before.left;
+    once = elim before.once [ inl one ↦ inl (omega (arith, one, taken)) | inr many ↦ inr (omega (arith, many, taken)) ];
+    taken = omega (arith, before.taken, taken);
+    never_fall = rw counts before.never_fall;
+    add_up = elim before.add_up [
+      | inl all ↦ inl (record { clients = rw counts (omega (arith, all.clients, taken)); exchanges = rw counts all.exchanges })
+      | inr end ↦ elim end [ inl full ↦ inr (inl (rw counts full)) | inr many ↦ inr (inr (omega (arith, many, taken))) ]
+    ];
+  }
 
 -- A turn that did not fail begins the count anew.
 pub not_failed : (n old mid new : ℕ) → HasFailed n old mid → new ≡ mid → HasFailed 0 old new

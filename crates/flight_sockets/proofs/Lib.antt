@@ -1,4 +1,6 @@
 mod Accounting
+mod Beginning
 mod Durations
 mod Hearing
 mod Pausing
+mod Posting

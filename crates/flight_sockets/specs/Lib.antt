@@ -1,5 +1,7 @@
 pub mod Accounts
+pub mod Begun
 pub mod Descriptors
+pub mod Endings
 pub mod Exchanges
 pub mod Outgoing
 pub mod Patience

@@ -3,7 +3,7 @@
 ghost use Rattle.std.specs.Prelude.{◌≡◌, ◌≤◌, take};
 ghost use Rattle.front_workers.specs.declared.limits.TheConstants.{MOST_DATAGRAM};
 
-use flight::Client;
+use flight::{Client, Numbered};
 use front_workers::{Came, DATAGRAM_ROOM, MOST_DATAGRAM};
 use std::net::SocketAddr;
 use std::snapshot::Snapshot;
@@ -14,19 +14,23 @@ pub(crate) struct UdpClient {
     came: Came,
     /// The room whose front the datagram filled.
     room: Snapshot<[u8; DATAGRAM_ROOM]>,
+    /// The number of the latest call that the worker's desk knew of when this client was made.
+    since: u64,
     ghost within: { came.count ≤ MOST_DATAGRAM },
 }
 
 impl UdpClient {
-    /// The client whose datagram fills the front of the room.
-    pub fn new(came: Came, room: &[u8; DATAGRAM_ROOM]) -> UdpClient
+    /// The client whose datagram fills the front of the room. The datagram came before this desk made a later call.
+    pub fn new<D: Numbered>(came: Came, room: &[u8; DATAGRAM_ROOM], desk: &D) -> UdpClient
         requires { came.count ≤ MOST_DATAGRAM }
         ensures came { result.came ≡ came }
         ensures room { result.room.value ≡ room.now }
+        ensures since { result.since ≡ D.seen desk.now }
     {
         UdpClient {
             came,
             room: Snapshot::of(room),
+            since: desk.seen(),
         }
     }
 
@@ -49,4 +53,10 @@ impl UdpClient {
 impl Client for UdpClient {
     // It sent the octets that its datagram put into the room.
     ghost sent = { λ client octets. octets ≡ take client.came.count client.room.value };
+
+    ghost since = { λ client. client.since };
+
+    fn since(&self) -> u64 {
+        self.since
+    }
 }

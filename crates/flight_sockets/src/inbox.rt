@@ -10,6 +10,7 @@ use crate::client::UdpClient;
 use crate::service_socket::ServiceSocket;
 use dns_sockets::{is_answerable, would_wait};
 use dns_text::NoMemory;
+use flight::Numbered;
 use front_workers::{Came, DATAGRAM_ROOM, MOST_DATAGRAM};
 use std::alloc::Global;
 use std::io;
@@ -64,9 +65,9 @@ impl<S: ServiceSocket> Slot<S> {
         Ok(())
     }
 
-    /// Sorts the datagram that has come.
-    pub fn taken(&self) -> Arrival
-        ensures { IsTakenFrom self.now.room self.now.came result }
+    /// Sorts the datagram that has come, before this desk makes a later call.
+    pub fn taken<D: Numbered>(&self, desk: &D) -> Arrival
+        ensures { IsTakenFrom self.now.room self.now.came (D.seen desk.now) result }
     {
         let Some(came) = self.came else {
             return Arrival::Passed;
@@ -76,12 +77,12 @@ impl<S: ServiceSocket> Slot<S> {
         } else if came.count > MOST_DATAGRAM {
             Arrival::TooLong(came.peer)
         } else {
-            Arrival::Query(UdpClient::new(came, &self.room))
+            Arrival::Query(UdpClient::new(came, &self.room, desk))
         }
     }
 }
 
-/// Datagrams that have come in and have not begun.
+/// A batch of datagrams that have come in.
 #[derive(Drop)]
 pub(crate) struct Inbox<S: ServiceSocket> {
     slots: Vec<Slot<S>>,

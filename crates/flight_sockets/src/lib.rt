@@ -25,6 +25,8 @@ mod inbox;
 mod outgoing;
 // The buffers of sent replies, kept for later replies.
 mod buffers;
+// The outbox of a worker: the socket of the service, and the replies that wait to be sent.
+mod outbox;
 // The pause of a name server that let queries go unanswered.
 mod pause;
 // The pauses of the name servers that were asked lately.

@@ -24,8 +24,8 @@ pub trait ServiceSocket: Drop {
     /// A call failed in another way.
     ghost failed: { Type 0 };
 
-    /// These octets were sent to this peer, perhaps in vain.
-    ghost tried: { SocketAddr → List ℕ → Type 0 };
+    /// Exactly one datagram was sent, perhaps in vain: the socket before, the peer, the octets, the socket after.
+    ghost sends: { Self → SocketAddr → List ℕ → Self → Type 0 };
 
     /// Takes the next datagram. Returns how many octets of the room it fills, and its sender. Octets that do not fit the room
     /// are lost.
@@ -37,8 +37,8 @@ pub trait ServiceSocket: Drop {
         ensures failed { IfErr result (OnFault failed) };
 
     /// Sends a datagram. It may fail if the peer cannot be reached.
-    fn send_datagram(&self, octets: &[u8], peer: SocketAddr) -> io::Result<()>
-        ensures { tried peer octets.now };
+    fn send_datagram(&mut self, octets: &[u8], peer: SocketAddr) -> io::Result<()>
+        ensures { sends self.old peer octets.now self.new };
 }
 
 impl ServiceSocket for UdpSocket {
@@ -52,13 +52,13 @@ impl ServiceSocket for UdpSocket {
     ghost failed = { Unit {0} };
 
     // Nor of what leaves.
-    ghost tried = { λ _ _. Unit {0} };
+    ghost sends = { λ _ _ _ _. Unit {0} };
 
     fn take_datagram(&self, room: &mut [u8]) -> io::Result<(usize, SocketAddr)> {
         self.recv_from(room)
     }
 
-    fn send_datagram(&self, octets: &[u8], peer: SocketAddr) -> io::Result<()> {
+    fn send_datagram(&mut self, octets: &[u8], peer: SocketAddr) -> io::Result<()> {
         self.send_to(octets, peer)?;
         Ok(())
     }

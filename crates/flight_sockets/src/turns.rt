@@ -1,12 +1,14 @@
 //! The turns of a worker. In each it waits, goes on with its exchanges, and takes datagrams.
 
-ghost use Rattle.std.specs.Prelude.{◌≡◌, ◌≤◌, false, IfOk, OnErr};
+ghost use Rattle.std.specs.Prelude.{◌≡◌, ◌≤◌, [], false, map, take, IfOk, OnErr};
 ghost use Rattle.std.specs.Duration.{as_nanos};
 ghost use Rattle.front_workers.specs.Counts.{Rises};
 ghost use Rattle.dns_sockets.specs.Moments.{millis_at, IsRead};
 ghost use Rattle.flight.specs.declared.table.TheConstants.{PATIENCE};
 ghost use Rattle.flight.specs.Waiting.{IsAccounted, outstanding, time_left};
 ghost use Rattle.flight_sockets.specs.Accounts.{GoesOn, fresh_worker};
+ghost use Rattle.flight_sockets.specs.Begun.{AllBegin, BatchBegins, IsBegun, arrived};
+ghost use Rattle.flight_sockets.specs.Endings.{Endings};
 ghost use Rattle.flight_sockets.specs.Patience.{patience_of};
 ghost use Rattle.flight_sockets.specs.Taken.{IsQuery};
 
@@ -41,8 +43,8 @@ const MOST_READY: usize = 16;
 /// The questions of a worker that are in flight.
 pub(crate) type Questions<D, C, G, R> = Flight<D, SocketLine<R>, C, G, UdpClient>;
 
-/// The state of a worker between its turns. Contracts see its port of name servers, its counters, and the number of replies
-/// that wait to be sent.
+/// The state of a worker between its turns. Contracts see its port of name servers, its counters, the socket of the service, and
+/// the replies that wait to be sent by it.
 #[derive(Drop)]
 pub(crate) struct Turns<'a, R, S: ServiceSocket> {
     sockets: WorkerSockets<'a, R, S>,
@@ -53,16 +55,15 @@ pub(crate) struct Turns<'a, R, S: ServiceSocket> {
 }
 
 impl<'a, R, S: ServiceSocket> Model for Turns<'a, R, S> {
-    ghost use Rattle.std.specs.Prelude.{length};
     ghost use Rattle.flight_sockets.specs.Accounts.{WorkerState};
 
-    ghost Value = { WorkerState };
+    ghost Value = { WorkerState S };
 
     ghost view = { λ turns. record {
       server_port = turns.sockets.server_port;
       taken = turns.taken;
       failures = turns.failures;
-      unsent = length turns.sockets.waiting.items;
+      outbox = turns.sockets.outbox;
       counts = turns.sockets.counts;
     } };
 }
@@ -78,7 +79,7 @@ impl<'a, R: ReadyNet + Log + Elapsing, S: ServiceSocket> Turns<'a, R, S> {
         server_port: u16,
         start: Instant,
     ) -> Result<Turns<'a, R, S>, NoMemory>
-        ensures { IfOk result (λ turns. turns ≡ fresh_worker server_port) }
+        ensures { IfOk result (λ turns. turns ≡ fresh_worker listener.socket server_port) }
     {
         Ok(Turns {
             sockets: WorkerSockets::new(rt, tally, alloc, listener, server_port)?,
@@ -93,6 +94,7 @@ impl<'a, R: ReadyNet + Log + Elapsing, S: ServiceSocket> Turns<'a, R, S> {
     fn count_taken(&mut self)
         ensures taken { Rises self.old.taken self.new.taken }
         ensures counts { self.new.counts ≡ self.old.counts }
+        ensures outbox { self.new.outbox ≡ self.old.outbox }
         ensures failures { self.new.failures ≡ self.old.failures }
     {
         self.taken = self.taken.saturating_add(1);
@@ -103,7 +105,7 @@ impl<'a, R: ReadyNet + Log + Elapsing, S: ServiceSocket> Turns<'a, R, S> {
         ensures failures { Rises self.old.failures self.new.failures }
         ensures taken { self.new.taken ≡ self.old.taken }
         ensures counts { self.new.counts ≡ self.old.counts }
-        ensures unsent { self.new.unsent ≡ self.old.unsent }
+        ensures outbox { self.new.outbox ≡ self.old.outbox }
     {
         self.failures = self.failures.saturating_add(1);
     }
@@ -117,9 +119,10 @@ impl<'a, R: ReadyNet + Log + Elapsing, S: ServiceSocket> Turns<'a, R, S> {
         now: u64,
     )
         ensures begun { IsQuery slot.now.came → Rises self.old.taken self.new.taken }
-        ensures goes_on { GoesOn questions.old self.old questions.new self.new }
+        ensures goes_on { GoesOn S.came S.sends questions.old self.old questions.new self.new }
+        ensures just { IsBegun S.sends (D.seen desk.old) slot.now.came slot.now.room questions.old self.old questions.new self.new }
     {
-        match slot.taken() {
+        match slot.taken(desk) {
             Arrival::Passed => {}
             Arrival::TooLong(peer) => self.sockets.refuse(peer, &slot.room),
             Arrival::Query(client) => {
@@ -140,15 +143,17 @@ impl<'a, R: ReadyNet + Log + Elapsing, S: ServiceSocket> Turns<'a, R, S> {
         inbox: &Inbox<S>,
         now: u64,
     )
-        ensures goes_on { GoesOn questions.old self.old questions.new self.new }
+        ensures goes_on { GoesOn S.came S.sends questions.old self.old questions.new self.new }
+        ensures begin { AllBegin S.sends (map (λ slot. arrived slot.came slot.room) (take inbox.now.filled inbox.now.slots.items))
+            questions.old self.old questions.new self.new }
     {
         for slot in inbox.datagrams() {
             self.begin(desk, questions, slot, now);
         }
     }
 
-    /// Takes a batch of datagrams, begins their questions, and sends the replies that are ready. Returns whether more datagrams
-    /// may be there: if any came, others may have followed while those were answered.
+    /// Takes a batch of datagrams, which the inbox then has, begins their questions, and sends the replies that are ready. Returns
+    /// whether more datagrams may be there: if any came, others may have followed while those were answered.
     fn take_batch<D: Numbered, C: Clock, G: Rng>(
         &mut self,
         desk: &mut D,
@@ -158,15 +163,16 @@ impl<'a, R: ReadyNet + Log + Elapsing, S: ServiceSocket> Turns<'a, R, S> {
     ) -> io::Result<bool>
         ensures drained { IfOk result (λ more. more ≡ false → S.drained) }
         ensures failed { OnErr result S.failed }
-        ensures goes_on { GoesOn questions.old self.old questions.new self.new }
-        ensures sent { self.new.unsent ≡ 0 }
-        ensures begun { inbox.new.filled ≡ 0 }
+        ensures goes_on { GoesOn S.came S.sends questions.old self.old questions.new self.new }
+        ensures sent { self.new.outbox.waiting ≡ [] }
+        ensures begun { BatchBegins S.sends (map (λ slot. arrived slot.came slot.room) (take inbox.new.filled inbox.new.slots.items))
+            questions.old self.old questions.new self.new }
     {
+        inbox.clear();
         let received = self.sockets.receive(inbox);
         let took = !inbox.datagrams().is_empty();
         self.sockets.set_now(now);
         self.begin_each(desk, questions, inbox, now);
-        inbox.clear();
         self.sockets.flush();
         Ok(received? || took)
     }
@@ -180,8 +186,8 @@ impl<'a, R: ReadyNet + Log + Elapsing, S: ServiceSocket> Turns<'a, R, S> {
     ) -> io::Result<bool>
         ensures drained { IfOk result (λ more. more ≡ false → S.drained) }
         ensures failed { OnErr result S.failed }
-        ensures goes_on { GoesOn questions.old self.old questions.new self.new }
-        ensures sent { self.old.unsent ≡ 0 → self.new.unsent ≡ 0 }
+        ensures goes_on { GoesOn S.came S.sends questions.old self.old questions.new self.new }
+        ensures sent { self.old.outbox.waiting ≡ [] → self.new.outbox.waiting ≡ [] }
     {
         let begun = self.clock.millis();
         let mut now = begun;
@@ -203,9 +209,9 @@ impl<'a, R: ReadyNet + Log + Elapsing, S: ServiceSocket> Turns<'a, R, S> {
         desk: &mut D,
         questions: &mut Questions<D, C, G, R>,
     )
-        ensures goes_on { GoesOn questions.old self.old questions.new self.new }
+        ensures goes_on { GoesOn S.came S.sends questions.old self.old questions.new self.new }
         ensures no_more { outstanding questions.new ≤ outstanding questions.old }
-        ensures sent { self.new.unsent ≡ 0 }
+        ensures sent { self.new.outbox.waiting ≡ [] }
     {
         look_all(
             &self.events,
@@ -231,8 +237,8 @@ impl<'a, R: ReadyNet + Log + Elapsing, S: ServiceSocket> Turns<'a, R, S> {
         were_left: bool,
     ) -> io::Result<bool>
         ensures drained { IfOk result (λ more. more ≡ false → S.drained) }
-        ensures goes_on { GoesOn questions.old self.old questions.new self.new }
-        ensures sent { self.old.unsent ≡ 0 → self.new.unsent ≡ 0 }
+        ensures goes_on { GoesOn S.came S.sends questions.old self.old questions.new self.new }
+        ensures sent { self.old.outbox.waiting ≡ [] → self.new.outbox.waiting ≡ [] }
     {
         let wait = if were_left {
             Duration::ZERO
@@ -272,6 +278,7 @@ fn look_all<D: Numbered, C: Clock, G: Rng, R: ReadyNet + Log + Elapsing, S: Serv
     questions: &mut Questions<D, C, G, R>,
 )
     ensures accounted { IsAccounted 0 (outstanding questions.old) sockets.old.counts (outstanding questions.new) sockets.new.counts }
+    ensures ends { Endings S.came S.sends 0 (outstanding questions.old) sockets.old.outbox (outstanding questions.new) sockets.new.outbox }
     ensures no_more { outstanding questions.new ≤ outstanding questions.old }
     ensures limit { questions.new.limit ≡ questions.old.limit }
     ensures in_time { sockets.new.counts.expired ≡ sockets.old.counts.expired }

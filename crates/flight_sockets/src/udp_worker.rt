@@ -1,6 +1,6 @@
 //! A worker that keeps many questions in flight.
 
-ghost use Rattle.std.specs.Prelude.{◌≡◌, ◌≤◌, ℕ, IfOk};
+ghost use Rattle.std.specs.Prelude.{◌≡◌, ◌≤◌, [], ℕ, IfOk};
 ghost use Rattle.front_workers.specs.declared.limits.TheConstants.{MOST_FAILURES};
 ghost use Rattle.front_workers.specs.declared.work_end.WorkEnd.TheVariants.{Ended, Failing};
 ghost use Rattle.front_workers.specs.Working.{HasFailed};
@@ -25,8 +25,8 @@ use std::marker::Model;
 use std::sync::Wait;
 use std::time::Instant;
 
-/// A worker that takes datagrams. Contracts see its port of name servers, its counters, and the number of replies that wait
-/// to be sent.
+/// A worker that takes datagrams. Contracts see its port of name servers, its counters, the socket of the service, and the
+/// replies that wait to be sent by it.
 #[derive(Drop)]
 pub struct UdpWorker<'a, R, S: ServiceSocket = UdpSocket> {
     inbox: Inbox<S>,
@@ -36,7 +36,7 @@ pub struct UdpWorker<'a, R, S: ServiceSocket = UdpSocket> {
 impl<'a, R, S: ServiceSocket> Model for UdpWorker<'a, R, S> {
     ghost use Rattle.flight_sockets.specs.Accounts.{WorkerState};
 
-    ghost Value = { WorkerState };
+    ghost Value = { WorkerState S };
 
     ghost view = { λ worker. worker.turns };
 }
@@ -52,7 +52,7 @@ impl<'a, R: ReadyNet + Log + Elapsing, S: ServiceSocket> UdpWorker<'a, R, S> {
         server_port: u16,
         start: Instant,
     ) -> Result<UdpWorker<'a, R, S>, NoMemory>
-        ensures { IfOk result (λ worker. worker ≡ fresh_worker server_port) }
+        ensures { IfOk result (λ worker. worker ≡ fresh_worker listener.socket server_port) }
     {
         Ok(UdpWorker {
             inbox: Inbox::new(alloc)?,
@@ -86,10 +86,11 @@ pub fn fly_udp<
     limit: usize,
     stop: &F,
 ) -> WorkEnd
-    // Each query that was taken was settled once, and each exchange that began ended once, except those that wait at the end.
-    ensures accounts { (waiting : ℕ) × (waiting ≤ limit) × Accounts 0 worker.old waiting worker.new }
+    // Each query that was taken was settled once, and each exchange that began ended once, except those that wait at the end. One
+    // datagram left for each query that got a reply, one for each datagram that is too long and was refused, and no other.
+    ensures accounts { (waiting : ℕ) × (waiting ≤ limit) × Accounts S.came S.sends 0 worker.old waiting worker.new }
     // No reply waits at the end.
-    ensures unsent { worker.old.unsent ≡ 0 → worker.new.unsent ≡ 0 }
+    ensures unsent { worker.old.outbox.waiting ≡ [] → worker.new.outbox.waiting ≡ [] }
     ensures ended { result ≡ Ended → F.stopped }
     ensures failing { result ≡ Failing → HasFailed MOST_FAILURES worker.old.failures worker.new.failures }
 {

@@ -1,9 +1,6 @@
 //! The sockets of one worker.
 
-ghost use Rattle.std.specs.Prelude.{◌≡◌, ◌⊎◌, ◌≤◌, [], false, length, true, vec_len, IfNone, IfOk, IfSome, OnErr, OnSome};
-ghost use Rattle.std.specs.List.{All};
-ghost use Rattle.dns_wire.specs.declared.server.query.Asked.TheVariants.{Drop};
-ghost use Rattle.dns_wire.specs.Server.Asking.{AsksFor};
+ghost use Rattle.std.specs.Prelude.{◌≡◌, ◌⊎◌, ◌≤◌, [], ◌∷◌, false, length, true, vec_len, IfNone, IfOk, IfSome, OnErr, OnSome};
 ghost use Rattle.dns_sockets.specs.Own.{MayAskServer};
 ghost use Rattle.front_workers.specs.declared.limits.TheConstants.{MOST_MESSAGE};
 ghost use Rattle.front_workers.specs.Serves.{fault_octets};
@@ -12,18 +9,17 @@ ghost use Rattle.flight.specs.Counted.{CountsExpired, CountsListened, CountsOpen
 ghost use Rattle.flight.specs.Flight.{query_to};
 ghost use Rattle.flight.specs.Told.{octets_of, IsHeard, Keeps};
 ghost use Rattle.flight_sockets.specs.Exchanges.{IsNotToBeHad, IsQuiet};
-ghost use Rattle.flight_sockets.specs.Outgoing.{IsOnItsWay, StayOnTheirWay};
+ghost use Rattle.flight_sockets.specs.Endings.{IsTooLong, Refuses};
+ghost use Rattle.flight_sockets.specs.Outgoing.{OutboxState, Posts, PostsTo, datagram_to};
 ghost use Rattle.flight_sockets.specs.Pauses.{HeedsPause, IsPaused, Loses, NotesHeard};
 ghost use Rattle.flight_sockets.specs.Replies.{IsServerReply};
-ghost use Rattle.flight_sockets.specs.declared.client.UdpClient.{UdpClient as UdpClientValue};
 ghost use Rattle.flight_sockets.specs.declared.inbox.TheConstants.{BATCH};
 
-use crate::buffers::Buffers;
 use crate::client::UdpClient;
 use crate::fault_line::{cause_of, log_exchange};
 use crate::inbox::{BATCH, Inbox};
 use crate::listener::UdpListener;
-use crate::outgoing::Outgoing;
+use crate::outbox::Outbox;
 use crate::pauses::Pauses;
 use crate::service_socket::ServiceSocket;
 use crate::socket_line::SocketLine;
@@ -36,7 +32,7 @@ use dns_wire::{Rcode, fault_reply};
 use flight::{Counts, InFlight, Listened, Numbered, Outside, ReplyOctets, Unserved};
 use front_workers::{DEVICE_FAULT, MOST_MESSAGE, wants_reply};
 use log::{Log, warn};
-use mio::{Events, Token};
+use mio::{Events, Poll, Token};
 use std::alloc::Global;
 use std::io;
 use std::net::SocketAddr;
@@ -68,14 +64,14 @@ pub(crate) struct WorkerSockets<'a, R, S: ServiceSocket> {
     /// The counters that others read.
     pub(crate) tally: &'a Tally,
     alloc: Global,
-    listener: UdpListener<S>,
+    /// Watches the socket of the service and those of the exchanges.
+    poll: Poll,
+    /// The address at which the service listens.
+    place: SocketAddr,
+    outbox: Outbox<S>,
     server_port: u16,
     /// The room for a reply of a name server.
     room: Vec<u8>,
-    /// Replies that wait to be sent.
-    waiting: Vec<Outgoing>,
-    /// Buffers for replies to come.
-    buffers: Buffers,
     /// Which servers are passed over, and until when.
     pauses: Pauses,
     /// The moment of the exchanges that begin and end, in milliseconds.
@@ -95,68 +91,47 @@ impl<'a, R: Log, S: ServiceSocket> WorkerSockets<'a, R, S> {
     ) -> Result<WorkerSockets<'a, R, S>, NoMemory>
         ensures port { IfOk result (λ sockets. sockets.server_port ≡ server_port) }
         ensures counts { IfOk result (λ sockets. sockets.counts ≡ no_counts) }
-        ensures none { IfOk result (λ sockets. sockets.waiting.items ≡ []) }
+        ensures outbox { IfOk result (λ sockets. sockets.outbox ≡ record { socket = listener.socket; waiting = [] }) }
     {
         let room = Vec::from_elem(alloc, 0u8, MOST_MESSAGE)?;
+        let UdpListener {
+            poll,
+            socket,
+            place,
+        } = listener;
         Ok(WorkerSockets {
             rt,
             tally,
             alloc,
-            listener,
+            poll,
+            place,
+            outbox: Outbox::new(alloc, socket),
             server_port,
             room,
-            waiting: Vec::new(alloc),
-            buffers: Buffers::new(alloc),
             pauses: Pauses::new(alloc)?,
             moment: 0,
             counts: Counts::new(),
         })
     }
 
-    /// Sends a reply. A failure is logged and does not end the worker: perhaps only this client cannot be reached.
-    fn send_now(&self, outgoing: &Outgoing)
-        ensures { S.tried outgoing.now.peer (octets_of outgoing.now.reply) }
-    {
-        let Outgoing { peer, reply } = outgoing;
-        let sent = self.listener.socket.send_datagram(reply.as_slice(), *peer);
-        if let Err(error) = sent {
-            let cause = cause_of(&error);
-            warn!(self.rt; "{DEVICE_FAULT}: a reply is not sent: {cause}");
-        }
-    }
-
     /// Sends a reply with the next batch, or at once if there is no memory for it to wait.
     fn send(&mut self, peer: SocketAddr, reply: ReplyOctets)
-        ensures sent { IsOnItsWay S.tried self.new.waiting.items peer (octets_of reply) }
-        ensures kept { StayOnTheirWay S.tried self.old.waiting.items self.new.waiting.items }
+        ensures posts { Posts S.sends (datagram_to peer (octets_of reply) ∷ []) self.old.outbox self.new.outbox }
         ensures port { self.new.server_port ≡ self.old.server_port }
         ensures counts { self.new.counts ≡ self.old.counts }
     {
         self.tally.reply(reply.as_slice());
-        let outgoing = Outgoing { peer, reply };
-        if let Err(failed) = self.waiting.push(outgoing) {
-            self.send_now(&failed.value);
-        }
-    }
-
-    /// Sends each reply that waits.
-    fn send_each(&self)
-        ensures { All (λ out. S.tried out.peer (octets_of out.reply)) self.now.waiting.items }
-    {
-        for outgoing in &self.waiting {
-            self.send_now(outgoing);
-        }
+        self.outbox.post(self.rt, peer, reply);
     }
 
     /// Sends each reply that waits. Then none waits.
     pub fn flush(&mut self)
-        ensures none { self.new.waiting.items ≡ [] }
-        ensures kept { StayOnTheirWay S.tried self.old.waiting.items self.new.waiting.items }
+        ensures none { self.new.outbox.waiting ≡ [] }
+        ensures posts { Posts S.sends [] self.old.outbox self.new.outbox }
         ensures port { self.new.server_port ≡ self.old.server_port }
         ensures counts { self.new.counts ≡ self.old.counts }
     {
-        self.send_each();
-        self.buffers.keep_each(&mut self.waiting);
+        self.outbox.flush(self.rt);
     }
 
     /// Sets the moment of the exchanges that begin and end from now on, in milliseconds.
@@ -164,7 +139,7 @@ impl<'a, R: Log, S: ServiceSocket> WorkerSockets<'a, R, S> {
         ensures now { self.new.moment ≡ now }
         ensures port { self.new.server_port ≡ self.old.server_port }
         ensures counts { self.new.counts ≡ self.old.counts }
-        ensures kept { self.new.waiting ≡ self.old.waiting }
+        ensures kept { self.new.outbox ≡ self.old.outbox }
     {
         self.moment = now;
     }
@@ -173,27 +148,27 @@ impl<'a, R: Log, S: ServiceSocket> WorkerSockets<'a, R, S> {
     pub fn wait(&mut self, events: &mut Events, most: Duration) -> io::Result<()>
         ensures port { self.new.server_port ≡ self.old.server_port }
         ensures counts { self.new.counts ≡ self.old.counts }
-        ensures kept { self.new.waiting ≡ self.old.waiting }
+        ensures kept { self.new.outbox ≡ self.old.outbox }
     {
-        let listener = &mut self.listener;
-        listener.poll.poll(events, Some(most))
+        self.poll.poll(events, Some(most))
     }
 
-    /// Takes the datagrams that are there, up to a full inbox. Returns whether there may be more.
+    /// Takes the datagrams that are there into an empty inbox, until it is full. Returns whether there may be more.
     pub fn receive(&self, inbox: &mut Inbox<S>) -> io::Result<bool>
+        requires empty { inbox.old.filled ≡ 0 }
         ensures drained { IfOk result (λ more. more ≡ false → S.drained) }
         ensures full { IfOk result (λ more. more ≡ true → S.interrupted ⊎ (inbox.new.filled ≡ BATCH)) }
         ensures failed { OnErr result S.failed }
         ensures keeps { inbox.old.filled ≤ inbox.new.filled }
     {
-        inbox.fill(&self.listener.socket)
+        inbox.fill(&self.outbox.socket)
     }
 
     /// Sends FORMERR to the sender of a datagram that is too long, unless the datagram is itself a reply.
     pub fn refuse(&mut self, peer: SocketAddr, front: &[u8])
-        requires { 12 ≤ length front.now }
-        ensures sent { ¬ (AsksFor front.now Drop) → IsOnItsWay S.tried self.new.waiting.items peer (fault_octets front.now 1) }
-        ensures kept { StayOnTheirWay S.tried self.old.waiting.items self.new.waiting.items }
+        requires header { 12 ≤ length front.now }
+        requires came { ∥ IsTooLong S.came peer front.now ∥₁ }
+        ensures refuses { Refuses S.sends peer front.now self.old.outbox self.new.outbox }
         ensures port { self.new.server_port ≡ self.old.server_port }
         ensures counts { self.new.counts ≡ self.old.counts }
     {
@@ -228,15 +203,19 @@ impl<'a, D: Numbered, C: Clock, R: ReadyNet + Log, S: ServiceSocket> Outside<
 
     ghost counts = { λ sockets. sockets.counts };
 
-    // Sent to the address from which the client's datagram came, or waiting to be.
-    ghost told = { λ sockets client octets. IsOnItsWay S.tried sockets.waiting.items client.came.peer octets };
+    ghost Sending = { OutboxState S };
+
+    ghost outbox = { λ sockets. sockets.outbox };
+
+    // To the address from which the client's datagram came.
+    ghost posts = { PostsTo S.sends };
 
     fn server_port(&self) -> u16 {
         self.server_port
     }
 
     fn buffer(&mut self) -> Vec<u8> {
-        self.buffers.take(self.alloc)
+        self.outbox.buffer(self.alloc)
     }
 
     fn open(
@@ -253,14 +232,12 @@ impl<'a, D: Numbered, C: Clock, R: ReadyNet + Log, S: ServiceSocket> Outside<
         ensures opened { OnSome result (CountsOpened self.old.counts self.new.counts) }
         ensures unopened { IfNone result (self.new.counts ≡ self.old.counts) }
         ensures reported { IfSome result (λ line. line.token.0 ≡ key) }
-        ensures keeps { Keeps (λ sockets. sockets.server_port)
-            (λ sockets (client : UdpClientValue) octets. IsOnItsWay S.tried sockets.waiting.items client.came.peer octets)
-            self.old self.new }
+        ensures keeps { Keeps (λ sockets. sockets.server_port) (λ sockets. sockets.outbox) self.old self.new }
         ensures may_ask { OnSome result (MayAskServer R.Datagrams.opened R.Datagrams.is_at R.Connection.connected
-            R.Connection.is_at over self.old.listener.place server.now) }
+            R.Connection.is_at over self.old.place server.now) }
         ensures failed { IfNone result (IsPaused server.now over self.old.moment self.old.pauses
             ⊎ IsNotToBeHad R.failed R.Datagrams.opened R.Datagrams.is_at R.Datagrams.failed
-            self.old.listener.place server.now over) }
+            self.old.place server.now over) }
         ensures pauses { HeedsPause result server.now over self.old.moment self.old.pauses self.new.pauses }
     {
         if !self.pauses.lets_through(server, over, self.moment) {
@@ -268,13 +245,13 @@ impl<'a, D: Numbered, C: Clock, R: ReadyNet + Log, S: ServiceSocket> Outside<
         }
         self.tally.ask(over);
         let asked = query.share();
-        let registry = self.listener.poll.registry();
+        let registry = self.poll.registry();
         match SocketLine::open(
             self.rt,
             self.alloc,
             registry,
             Token(key),
-            self.listener.place,
+            self.place,
             server,
             over,
             query,
@@ -300,13 +277,11 @@ impl<'a, D: Numbered, C: Clock, R: ReadyNet + Log, S: ServiceSocket> Outside<
             R.Connection.connected R.Connection.contents R.Connection.remaining line.old.asked) result }
         ensures asked { line.new.asked ≡ line.old.asked }
         ensures listened { CountsListened result self.old.counts self.new.counts }
-        ensures keeps { Keeps (λ sockets. sockets.server_port)
-            (λ sockets (client : UdpClientValue) octets. IsOnItsWay S.tried sockets.waiting.items client.came.peer octets)
-            self.old self.new }
+        ensures keeps { Keeps (λ sockets. sockets.server_port) (λ sockets. sockets.outbox) self.old self.new }
         ensures nothing { result ≡ Nothing → IsQuiet R.Datagrams.sent R.Datagrams.drained R.Datagrams.reported_again line.old }
         ensures pauses { NotesHeard result line.old.asked.server line.old.asked.over self.old.moment self.old.pauses self.new.pauses }
     {
-        let heard = line.hear(self.alloc, self.listener.poll.registry(), &mut self.room);
+        let heard = line.hear(self.alloc, self.poll.registry(), &mut self.room);
         self.counts.listen(&heard);
         note_heard(
             &mut self.pauses,
@@ -329,9 +304,7 @@ impl<'a, D: Numbered, C: Clock, R: ReadyNet + Log, S: ServiceSocket> Outside<
     fn expire(&mut self, line: SocketLine<R>)
         // As for any `Outside`. Also, the server let a query go unanswered.
         ensures expired { CountsExpired self.old.counts self.new.counts }
-        ensures keeps { Keeps (λ sockets. sockets.server_port)
-            (λ sockets (client : UdpClientValue) octets. IsOnItsWay S.tried sockets.waiting.items client.came.peer octets)
-            self.old self.new }
+        ensures keeps { Keeps (λ sockets. sockets.server_port) (λ sockets. sockets.outbox) self.old self.new }
         ensures pauses { Loses line.asked.server line.asked.over self.old.moment self.old.pauses self.new.pauses }
     {
         self.pauses

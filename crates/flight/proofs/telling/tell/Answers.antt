@@ -1,4 +1,5 @@
 use Rattle.flight.proofs.Answering.{told_by, untold_by}
+use Rattle.flight.proofs.Settling.{settles_behind}
 use Rattle.flight.proofs.telling.tell.Goals as goal
 
 pub give-requires-clause-told : goal.give-requires-clause-told
@@ -10,3 +11,12 @@ pub pass_over-requires-clause-untold : goal.pass_over-requires-clause-untold
 pass_over-requires-clause-untold g c =
     let tells = rw c.in-Ok-None.field-0-is at c.in-Ok-None.ensures.tells in
     rw c.buffer-buffer.ensures.keeps.port (untold_by _ c.requires.good c.requires.lands tells)
+
+pub returns-in-Ok-Some : goal.returns-in-Ok-Some
+returns-in-Ok-Some g c = settles_behind c.buffer-buffer.ensures.keeps c.buffer-buffer.ensures.counts c.give.ensures
+
+pub returns-in-Ok-None : goal.returns-in-Ok-None
+returns-in-Ok-None g c = settles_behind c.buffer-buffer.ensures.keeps c.buffer-buffer.ensures.counts c.pass_over.ensures
+
+pub returns-in-Err : goal.returns-in-Err
+returns-in-Err g c = settles_behind c.buffer-buffer.ensures.keeps c.buffer-buffer.ensures.counts c.fail.ensures

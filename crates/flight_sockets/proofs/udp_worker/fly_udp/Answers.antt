@@ -1,5 +1,5 @@
 use Rattle.std.proofs.Common.{rules, ◌∙◌, arith}
-use Rattle.flight_sockets.proofs.Accounting.{followed, failed, not_failed, failed_more}
+use Rattle.flight_sockets.proofs.Accounting.{followed, failed, none_yet, not_failed, failed_more}
 use Rattle.flight_sockets.proofs.udp_worker.fly_udp.Goals as goal
 
 pub loop-preserved-in-Ok : goal.loop-preserved-in-Ok
@@ -19,7 +19,7 @@ pub returns-then-failed-eq-MOST_FAILURES-clause-accounts :
     goal.returns-then-failed-eq-MOST_FAILURES-clause-accounts
 returns-then-failed-eq-MOST_FAILURES-clause-accounts g c =
     let turned = followed _ _ _ _ _ _ c.loop.invariant.so_far c.turn-turned.ensures.goes_on.accounts in
-    (_, search rules, failed _ _ _ _ _ turned c.count_failure.ensures.taken c.count_failure.ensures.counts)
+    (_, search rules, failed _ _ _ _ _ turned c.count_failure.ensures.taken c.count_failure.ensures.counts c.count_failure.ensures.outbox)
 
 pub returns-then-failed-eq-MOST_FAILURES-clause-failing :
     goal.returns-then-failed-eq-MOST_FAILURES-clause-failing
@@ -32,10 +32,21 @@ loop-preserved g c =
     let within = c.turn-turned.ensures.goes_on.within (omega (arith, before.within, before.limit)) in
     let turned = followed _ _ _ _ _ _ before.so_far c.turn-turned.ensures.goes_on.accounts in
     record {
-      so_far = failed _ _ _ _ _ turned c.count_failure.ensures.taken c.count_failure.ensures.counts;
+      so_far = failed _ _ _ _ _ turned c.count_failure.ensures.taken c.count_failure.ensures.counts c.count_failure.ensures.outbox;
       within = omega (arith, within, before.limit);
       limit = c.turn-turned.ensures.goes_on.limit ∙ before.limit;
       few = omega (arith, before.few, c.if-failed-eq-MOST_FAILURES.false);
       counted = failed_more _ _ _ _ _ before.counted c.turn-turned.ensures.goes_on.failures c.count_failure.ensures.failures;
-      sent = λ none. c.count_failure.ensures.unsent ∙ c.turn-turned.ensures.sent (before.sent none);
+      sent = λ none. rw c.count_failure.ensures.outbox (c.turn-turned.ensures.sent (before.sent none));
+    }
+
+pub loop-init : goal.loop-init
+loop-init g c =
+    record {
+      so_far = none_yet _ _ _ (search rules) (search rules);
+      within = search rules;
+      limit = search rules;
+      few = search rules;
+      counted = search rules;
+      sent = search rules;
     }

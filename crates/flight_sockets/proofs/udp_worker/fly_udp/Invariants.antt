@@ -1,4 +1,4 @@
-use Rattle.std.proofs.Common.{◌≡◌, ◌≤◌, ◌<◌}
+use Rattle.std.proofs.Common.{◌≡◌, ◌≤◌, ◌<◌, []}
 use Rattle.front_workers.specs.Working.{HasFailed}
 use Rattle.flight.specs.Waiting.{outstanding}
 use Rattle.flight_sockets.specs.Accounts.{Accounts}
@@ -7,10 +7,10 @@ use Rattle.flight_sockets.proofs.udp_worker.fly_udp.Given as goal
 -- what was taken so far is accounted for, and so many turns have failed in a row
 abbrev pub invariant-loop : goal.invariant-loop
 invariant-loop g l = record {
-  so_far : Accounts 0 l.fn.worker (outstanding l.questions) l.worker-inside.turns;
+  so_far : Accounts g.S.ServiceSocket.came g.S.ServiceSocket.sends 0 l.fn.worker (outstanding l.questions) l.worker-inside.turns;
   within : outstanding l.questions ≤ l.fn.limit;
   limit : l.questions.limit ≡ l.fn.limit;
   few : l.failed < 16;
   counted : HasFailed l.failed l.fn.worker.failures l.worker-inside.turns.failures;
-  sent : l.fn.worker.unsent ≡ 0 → l.worker-inside.turns.unsent ≡ 0;
+  sent : l.fn.worker.outbox.waiting ≡ [] → l.worker-inside.turns.outbox.waiting ≡ [];
 }

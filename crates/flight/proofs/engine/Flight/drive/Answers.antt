@@ -1,4 +1,4 @@
-use Rattle.std.proofs.Common.{◌∙◌, ◌+◌, ℕ, List, Option, Some, is_some, cond, count_by, ap, inr, map, max, refl, subst, sym, arith, rules}
+use Rattle.std.proofs.Common.{◌∙◌, ◌+◌, ℕ, List, [], Option, Some, is_some, cond, count_by, ap, inr, map, max, refl, subst, sym, arith, rules}
 use Rattle.flight.specs.Flight.{Sent, failed}
 use Rattle.flight.specs.Places.{HasPlace}
 use Rattle.flight.specs.Waiting.{FlightState, UnderWay, count_with, is_with}
@@ -6,7 +6,7 @@ use Rattle.flight.proofs.Flights.{begins, begun_behind}
 use Rattle.flight.proofs.Flying.{asked_on, awaits_at, due, flown, lands_at, open_on}
 use Rattle.flight.proofs.Keeping.{kept_on}
 use Rattle.flight.proofs.Places.{kept_begun}
-use Rattle.flight.proofs.Settling.{same_state, settled_there}
+use Rattle.flight.proofs.Settling.{own_client, same_state, settled_there}
 use Rattle.flight.proofs.engine.Flight.drive.Goals as goal
 
 pub step-requires : goal.step-requires
@@ -23,6 +23,7 @@ loop-want-preserved-in-Book g c =
       flies = flown is c.ask-input.ensures.answered;
       port = before.port;
       known = omega (arith, c.ask-input.ensures.known);
+      client_kept = before.client_kept;
       keeps = before.keeps;
       counts_kept = before.counts_kept;
       exchanges_kept = before.exchanges_kept;
@@ -42,6 +43,7 @@ loop-want-preserved g c =
       flies = flown is failed;
       port = before.port ∙ sym c.open.ensures.keeps.port;
       known = before.known;
+      client_kept = before.client_kept;
       keeps = kept_on before.keeps c.open.ensures.keeps;
       counts_kept = c.in_default-open.ensures.unopened ∙ before.counts_kept;
       exchanges_kept = c.make_room.ensures.jobs ∙ before.exchanges_kept;
@@ -71,8 +73,25 @@ returns-in-Finish g c =
     let before = c.loop-want.invariant in
     let table = c.loop-want.self-inside.table in
     let state : FlightState = record { exchanges = table.jobs.slots; begun = map (λ wait. wait.since) table.waits.items; latest = table.latest; limit = table.limit } in
-    settled_there c.args.now c.args.self.now state c.args.outside.now c.loop-want.outside c.tell.new.outside before.keeps before.counts_kept
-    (same_state c.args.self.now state before.exchanges_kept before.begun_kept before.latest_kept before.limit_kept) c.tell.ensures
+    own_client before.client_kept (settled_there c.args.now c.args.self.now state c.args.outside.now c.loop-want.outside c.tell.new.outside before.keeps before.counts_kept
+    (same_state c.args.self.now state before.exchanges_kept before.begun_kept before.latest_kept before.limit_kept) c.tell.ensures.1)
+
+pub returns-in_default : goal.returns-in_default
+returns-in_default g c =
+    let before = c.loop-want.invariant in
+    let table = c.loop-want.self-inside.table in
+    let state : FlightState = record { exchanges = table.jobs.slots; begun = map (λ wait. wait.since) table.waits.items; latest = table.latest; limit = table.limit } in
+    own_client before.client_kept (settled_there c.args.now c.args.self.now state c.args.outside.now c.loop-want.outside c.refuse.new.outside before.keeps before.counts_kept
+    (same_state c.args.self.now state before.exchanges_kept before.begun_kept before.latest_kept before.limit_kept) c.refuse.ensures)
+
+pub returns-in-Err : goal.returns-in-Err
+returns-in-Err g c =
+    let before = c.loop-want.invariant in
+    let room = c.make_room.ensures in
+    let table = c.make_room.new.self in
+    let state : FlightState = record { exchanges = table.jobs.slots; begun = map (λ wait. wait.since) table.waits.items; latest = table.latest; limit = table.limit } in
+    own_client before.client_kept (settled_there c.args.now c.args.self.now state c.args.outside.now c.loop-want.outside c.refuse-in-Err.new.outside before.keeps before.counts_kept
+    (same_state c.args.self.now state (room.jobs ∙ before.exchanges_kept) (ap (map (λ wait. wait.since)) room.waits ∙ before.begun_kept) (room.latest ∙ before.latest_kept) (room.limit ∙ before.limit_kept)) c.refuse-in-Err.ensures)
 
 pub returns-in-Some : goal.returns-in-Some
 returns-in-Some g c =
@@ -90,8 +109,15 @@ returns-in-Some g c =
     let place = subst (λ (limit : ℕ). HasPlace c.in-Send.server c.args.self.now.exchanges limit) (before.limit_kept ∙ sym limit)
     (subst (λ (exchanges : List (Option UnderWay)). HasPlace c.in-Send.server exchanges c.loop-want.self-inside.table.limit) before.exchanges_kept c.in-Ok-make_room.ensures.place)
     in
+    let keeps = kept_on before.keeps c.open.ensures.keeps in
     record {
-      keeps = kept_on before.keeps c.open.ensures.keeps;
+      port = keeps.port;
+      ends = record {
+        ends = [];
+        left = keeps.silent;
+        count = omega (arith, c.keep.ensures.one_more.len, ap (λ (exchanges : List (Option UnderWay)). count_by is_some exchanges) same);
+      };
+      own = tt;
       accounted = search rules;
       unheard = search rules;
       unexpired = search rules;

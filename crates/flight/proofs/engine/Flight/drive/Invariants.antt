@@ -9,10 +9,11 @@ use Rattle.flight.proofs.engine.Flight.drive.Given as goal
 abbrev pub invariant-loop-want : goal.invariant-loop-want
 invariant-loop-want g l = record {
   asked : IsAskedBy g.K.Client.sent l.asking.port l.octets l.asking.client l.asking.query l.asking.task;
-  flies : Flies g.D.Desk.calls g.D.Numbered.seen g.L.InFlight.hears g.C.Clock.ticks l.asking.port l.asking.query.question l.asking.task.steps.items l.input l.asking.seen;
+  flies : Flies g.D.Desk.calls g.D.Numbered.seen g.L.InFlight.hears g.C.Clock.ticks (g.K.Client.since l.asking.client) l.asking.port l.asking.query.question l.asking.task.steps.items l.input l.asking.seen;
   port : l.asking.port ≡ g.O.Outside.server_port l.outside;
   known : l.asking.seen ≤ g.D.Numbered.seen l.desk;
-  keeps : Keeps g.O.Outside.server_port g.O.Outside.told l.fn.outside l.outside;
+  client_kept : l.asking.client ≡ l.fn.asking.client;
+  keeps : Keeps g.O.Outside.server_port g.O.Outside.outbox l.fn.outside l.outside;
   counts_kept : g.O.Outside.counts l.outside ≡ g.O.Outside.counts l.fn.outside;
   exchanges_kept : l.self-inside.table.jobs.slots ≡ l.fn.self.exchanges;
   begun_kept : map (λ wait. wait.since) l.self-inside.table.waits.items ≡ l.fn.self.begun;

@@ -3,7 +3,7 @@ use Rattle.slab.specs.Slab.{Slab}
 use Rattle.flight.specs.Waiting.{FlightState, IsAccounted, UnderWay, outstanding, since_at, since_in, since_of, with_server}
 use Rattle.flight.proofs.Accounting.{accounted_then}
 use Rattle.flight.proofs.Flights.{begun_or_not, early_then, less_over, no_more_then, on_or_begun_then, taken_out}
-use Rattle.flight.proofs.Keeping.{kept_on}
+use Rattle.flight.proofs.Leaving.{ends_of, ends_then}
 use Rattle.flight.proofs.Places.{kept_after, kept_then}
 use Rattle.flight.proofs.Settling.{loses_as_before}
 use Rattle.flight.proofs.engine.Flight.expire.Goals as goal
@@ -40,7 +40,8 @@ loop-wait-preserved-in-Some-pass g c =
       early = early_then 2000 c.args.now key c.in-Some-pass.job.since c.args.self.now c.loop-wait.self _ c.end.new.self before.early (ap (λ (state : FlightState). since_at state key) (sym was) ∙ ap since_of due.0) due.1
           (λ other differs. ap since_of (c.in-Some-pass.ensures.taken.others other differs) ∙ ap (λ (state : FlightState). since_at state other) was) c.end.ensures.waits;
       so_far = record {
-        keeps = kept_on before.so_far.keeps c.end.ensures.keeps;
+        port = c.end.ensures.port ∙ before.so_far.port;
+        ends = ends_then before.so_far.ends (ends_of 0 _ (omega (arith, fewer)) c.end.ensures.ends);
         accounted = accounted_then 0 0 _ _ _ _ _ _ before.so_far.accounted after;
         begins = on_or_begun_then c.args.now c.args.self.now c.loop-wait.self c.end.new.self before.so_far.begins
             (on_or_begun_then c.args.now c.loop-wait.self _ c.end.new.self out (begun_or_not c.args.now _ c.end.new.self c.end.ensures.waits));

@@ -1,4 +1,6 @@
+use Rattle.std.proofs.Common.{refl}
 use Rattle.flight.proofs.Flying.{heard, missed}
+use Rattle.flight.proofs.Settling.{settled_now}
 use Rattle.flight.proofs.engine.Flight.go_on.Goals as goal
 use Rattle.flight.proofs.engine.Flight.go_on.Goals.{in-Came, in-Nothing}
 
@@ -9,3 +11,9 @@ drive-requires-clause-flies g c =
       | in-Came w ↦ rw w.input-is (heard waited.awaits (rw w.in-Came.is at waited.came))
       | in-Nothing w ↦ rw w.input-is (missed waited.awaits)
     ]
+
+pub returns-in-NoMemory : goal.returns-in-NoMemory
+returns-in-NoMemory g c = settled_now _ _ _ _ _ refl c.refuse.ensures
+
+pub returns-then-seen-asking : goal.returns-then-seen-asking
+returns-then-seen-asking g c = settled_now _ _ _ _ _ refl c.refuse-then-seen-asking.ensures

@@ -3,7 +3,7 @@ use Rattle.flight.specs.Flight.{Sent}
 use Rattle.flight.specs.Table.{OneMore}
 use Rattle.flight.specs.Waiting.{FlightState, UnderWay, outstanding, since_at, since_of, with_server}
 use Rattle.flight.proofs.Flights.{as_it_was, begun_or_not, no_more_then, on_or_begun_then, put_back_same, taken_out}
-use Rattle.flight.proofs.Keeping.{kept_on}
+use Rattle.flight.proofs.Leaving.{ends_behind, ends_of, none_ends}
 use Rattle.flight.proofs.Places.{kept_after, kept_fewer}
 use Rattle.flight.proofs.engine.Flight.look.Goals as goal
 
@@ -21,7 +21,8 @@ returns-in-Nothing-clause-loses_none g c =
     back.updates
     in
     record {
-      keeps = c.hear.ensures.keeps;
+      port = c.hear.ensures.keeps.port;
+      ends = none_ends 0 _ _ c.hear.ensures.keeps.silent (omega (arith, back.len, taken.len, ap outstanding was));
       accounted = search rules;
       begins = as_it_was c.args.now c.args.self.now _ (λ key. ap since_of (same key) ∙ ap (λ (state : FlightState). since_at state key) was)
           (c.put_back.ensures.latest ∙ c.in-Some.ensures.latest ∙ ap (λ (state : FlightState). state.latest) was);
@@ -40,7 +41,8 @@ returns-in_default-hear-clause-loses_none g c =
     (c.in-Some.ensures.latest ∙ ap (λ (state : FlightState). state.latest) was)
     in
     record {
-      keeps = kept_on c.hear.ensures.keeps c.go_on.ensures.keeps;
+      port = c.go_on.ensures.port ∙ c.hear.ensures.keeps.port;
+      ends = ends_of 0 _ (omega (arith, taken.len, ap outstanding was)) (ends_behind c.hear.ensures.keeps.silent c.go_on.ensures.ends);
       accounted = search rules;
       begins = on_or_begun_then c.args.now c.args.self.now _ c.go_on.new.self out (begun_or_not c.args.now _ c.go_on.new.self c.go_on.ensures.waits);
       no_more = no_more_then c.args.now (outstanding c.args.self.now) _ c.go_on.new.self (taken.len ∙ ap outstanding was) c.go_on.ensures.waits;

@@ -1,4 +1,3 @@
-use Rattle.std.proofs.Common.{ℕ}
 use Rattle.flight_sockets.proofs.buffers.Buffers.keep_each.Given as goal
 
 abbrev pub decreases-loop-outgoing : goal.decreases-loop-outgoing

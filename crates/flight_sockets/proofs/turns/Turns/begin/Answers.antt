@@ -1,7 +1,34 @@
-use Rattle.std.proofs.Common.{rules}
-use Rattle.flight_sockets.proofs.Accounting.{begun}
+use Rattle.std.proofs.Common.{refl, rules}
+use Rattle.flight_sockets.specs.Begun.{begun as begun_now, passed, refused}
+use Rattle.flight_sockets.proofs.Accounting.{begun, stayed}
+use Rattle.flight_sockets.proofs.Beginning.{own_ends, too_long}
+use Rattle.flight_sockets.proofs.Posting.{endings_none, endings_of, endings_refused, endings_within, posts_none}
 use Rattle.flight_sockets.proofs.turns.Turns.begin.Goals as goal
+
+pub returns-in-Passed-clause-goes_on : goal.returns-in-Passed-clause-goes_on
+returns-in-Passed-clause-goes_on g c = stayed _ _ _ (endings_none (posts_none refl) refl) refl refl refl
+
+pub returns-in-Passed-clause-just : goal.returns-in-Passed-clause-just
+returns-in-Passed-clause-just g c = passed c.in-Passed.ensures refl refl
+
+pub refuse-requires-clause-came : goal.refuse-requires-clause-came
+refuse-requires-clause-came g c = too_long g.S.ServiceSocket.came c.args.slot.now.came_so c.in-TooLong.ensures
+
+pub returns-in-TooLong-clause-goes_on : goal.returns-in-TooLong-clause-goes_on
+returns-in-TooLong-clause-goes_on g c =
+    rw (← c.self.view_is) (stayed _ _ _ (endings_refused (too_long g.S.ServiceSocket.came c.args.slot.now.came_so c.in-TooLong.ensures) c.refuse.ensures.refuses) refl c.refuse.ensures.counts refl)
+
+pub returns-in-TooLong-clause-just : goal.returns-in-TooLong-clause-just
+returns-in-TooLong-clause-just g c = rw (← c.self.view_is) (refused c.in-TooLong.ensures c.refuse.ensures.refuses refl refl c.refuse.ensures.counts)
 
 pub returns-in-Query-clause-goes_on : goal.returns-in-Query-clause-goes_on
 returns-in-Query-clause-goes_on g c =
-    record { accounts = begun _ _ _ _ (search rules) (search rules); within = search rules; limit = search rules; failures = search rules }
+    record {
+      accounts = begun _ _ _ _ (search rules) (search rules) (endings_within (search rules) refl (endings_of c.begin.ensures.ends));
+      within = search rules;
+      limit = search rules;
+      failures = search rules;
+    }
+
+pub returns-in-Query-clause-just : goal.returns-in-Query-clause-just
+returns-in-Query-clause-just g c = begun_now c.in-Query.ensures (search rules) (own_ends (search rules) refl c.begin.ensures.ends c.begin.ensures.own)

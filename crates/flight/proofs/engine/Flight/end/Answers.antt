@@ -1,0 +1,12 @@
+use Rattle.std.proofs.Common.{◌≡◌, ◌∙◌, arith}
+use Rattle.flight.proofs.Leaving.{ends_behind, ends_of}
+use Rattle.flight.proofs.engine.Flight.end.Goals as goal
+use Rattle.flight.proofs.engine.Flight.end.Goals.{in-Nothing, in_default}
+
+pub returns-clause-ends : goal.returns-clause-ends
+returns-clause-ends g c =
+    let silent : g.O.Outside.outbox c.match-heard.outside ≡ g.O.Outside.outbox c.args.outside.now = elim c.match-heard.branch [
+      | in-Nothing w ↦ rw w.outside-is (w.expire.ensures.keeps.silent ∙ c.hear-heard.ensures.keeps.silent)
+      | in_default w ↦ rw w.outside-is c.hear-heard.ensures.keeps.silent
+    ] in
+    ends_of 0 _ (omega arith) (ends_behind silent c.go_on.ensures.ends)
