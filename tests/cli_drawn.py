@@ -4,7 +4,7 @@ from collections import Counter
 
 from lib.checks import Checks, short
 from lib.drawing import LISTS, drawn_script
-from lib.model import cell_of, now, servers_at, shown, standing, tables_of
+from lib.model import UNNAMED, cell_of, now, servers_at, shown, standing, tables_of
 from lib.programs import RESOLVER, run
 from lib.reading import name_in, type_in, words_of
 
@@ -21,6 +21,7 @@ found 2, found 3, found 4, found of several, nodata N, noname N, unknown, unknow
 local data, local data of several, local nodata, local noname, local refuse, local drop
 servers hints, servers no hints, servers stub, servers stub at a set, servers cache
 servers with some missing, servers with all missing
+oldest of some, oldest of none, oldest of what a command hides
 list_commands done, list_commands undone
 """.strip().replace("\n", ", ").split(", ") + [f"{word} of {size}" for word in LISTS for size in ("some", "none")]
 
@@ -55,6 +56,18 @@ def kinds_of_servers(model, words):
     yield f"servers {words[2]}"
 
 
+def kinds_of_oldest(model, words):
+    if words == ["unknown"]:
+        yield "oldest of none"
+        return
+    yield "oldest of some"
+    name = name_in(words[1])
+    finds = [entry.event.what for entry in model.history if entry.event.verb == "admit" and entry.event.what.owner == name]
+    questions = [(name, UNNAMED if find.kind is None else find.kind) for find in finds]
+    if not any(shown(settled(model), question, now(model.history)) for question in questions):
+        yield "oldest of what a command hides"
+
+
 def kinds_of(model, line, told):
     """The kinds of a reply, by the model after it."""
     verb, words = line.split(" ")[0], told[0].split(" ")
@@ -69,6 +82,8 @@ def kinds_of(model, line, told):
         yield f"{words[0]} {what}"
         if "|" in words:
             yield "found of several" if words[0] == "found" else "local data of several"
+    elif verb == "oldest" and words[0] in ("oldest", "unknown"):
+        yield from kinds_of_oldest(model, words)
     elif words[:2] == ["fault", "full"]:
         yield "fault full"
     else:

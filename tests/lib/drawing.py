@@ -49,6 +49,7 @@ redo 1
 sweep now
 list_commands all
 servers a.test. b.test.
+oldest a.test.
 forget
 forget a..b
 forget a.test. A
@@ -68,9 +69,9 @@ at 1 2
 WEIGHTS = [
     dict(
         at=6, clock=1, admit=16, ns=8, denial=6, look=16, servers=8, flush=7,
-        stub=4, zone=2, record=3, list=5, back=5, sweep=1, forget=1, wrong=2,
+        stub=4, zone=2, record=3, list=5, back=5, sweep=1, forget=1, oldest=1, wrong=2,
     ),
-    dict(at=6, clock=4, admit=20, denial=8, look=20, flush=12, flushed_type=4, list=1, back=6, sweep=4, forget=4, wrong=1),
+    dict(at=6, clock=4, admit=20, denial=8, look=20, flush=12, flushed_type=4, list=1, back=6, sweep=4, forget=4, oldest=4, wrong=1),
     dict(at=6, admit=4, ns=24, denial=3, servers=32, flush=4, stub=7, list=2, back=6),
     dict(at=2, admit=4, look=20, zone=12, record=24, stub=4, list=10, back=8, wrong=1),
 ]
@@ -139,7 +140,7 @@ class Drawer:
     def clock(self):
         """An event whose moment counts whatever its reply is, before the moment goes back."""
         owner, kind = self.question()
-        draws = [self.change, self.change, self.admit, self.list, self.servers, self.sweep, self.forget, self.look]
+        draws = [self.change, self.change, self.admit, self.list, self.servers, self.sweep, self.forget, self.oldest, self.look]
         refused = f"stub_add {owner} {' '.join(ADDRESSES * 3)}"
         event = self.draw.choice([*(draw() for draw in draws), ["undo"], ["redo"], [*self.change(), "undo"], [refused]])
         before, later = f"at {self.moment}", f"at {self.moment + self.draw.randint(1, 9)}"
@@ -192,6 +193,10 @@ class Drawer:
     def forget(self):
         """A forget of a name, and a lookup after it."""
         return [f"forget {self.name()}", *self.look()]
+
+    def oldest(self):
+        """The name to forget first, with a flush, an undo or a forget before it now and then."""
+        return [*self.draw.choice([list, list, self.flush, lambda: ["undo"], self.forget])(), "oldest"]
 
     def wrong(self):
         return [self.draw.choice(WRONG)]

@@ -106,6 +106,37 @@ def shown(entries, question, moment):
     return (cell[0], cell[1] + cell[0].ttl - moment) if is_alive(cell, moment) else None
 
 
+# ---- the name to forget first
+
+UNNAMED = 65_536  # a type that no find and no flush names
+
+
+def versions(bound, history):
+    """What is in force with none of the commands of the journal, and with each of them alone: the last flush that covers a cell decides it."""
+    done, undone, struck = marks(bound, history)
+    out = {*done, *undone} | struck
+    return [
+        [
+            entry for entry in history
+            if entry.event.verb in ("admit", "forget") or (entry.ticket is not None and (entry.ticket == own or entry.ticket not in out))
+        ]
+        for own in (None, *done, *undone)
+    ]
+
+
+def oldest(bound, history, moment):
+    """The name whose last find ends first, whichever commands of the journal are in force. Of equals it is the first in the order of names."""
+    finds = [entry.event.what for entry in history if entry.event.verb == "admit" and entry.moment + entry.event.what.ttl > moment]
+    asked = {(find.owner, UNNAMED if find.kind is None else find.kind) for find in finds}
+    ends = {}
+    for entries in versions(bound, history):
+        for question in asked:
+            cell = cell_of(entries, question)
+            if is_alive(cell, moment):
+                ends[question[0]] = max(cell[1] + cell[0].ttl, ends.get(question[0], 0))
+    return min(ends, key=lambda name: (ends[name], [label.encode() for label in reversed(name)]), default=None)
+
+
 # ---- the places of the cache
 
 # The content of a version for a type, if that is the denial of the whole name.
@@ -427,6 +458,9 @@ def seen_text(settings, history, entries, ask, moment):
         return [" ".join(["servers", name_text(zone), source, *addrs, *(["|", *missing] if missing else [])])]
     if word == "list_commands":
         return commands_text(settings, history) + ["end"]
+    if word == "oldest":
+        name = oldest(settings.journal, history, moment)
+        return ["unknown" if name is None else f"oldest {name_text(name)}"]
     return list_text(tables, word)
 
 

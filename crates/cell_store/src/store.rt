@@ -12,7 +12,7 @@ ghost use Rattle.dns_text.specs.declared.record.Question.{Question};
 ghost use Rattle.ranked.specs.Find.{admission_of, touches};
 ghost use Rattle.ranked.specs.Cell.{shown_at};
 ghost use Rattle.cell_store.specs.Owner.{after_settle, after_touch, held_now};
-ghost use Rattle.cell_store.specs.Count.{has_pair, has_place_for, one_if, pair_of, stored_in, AddPair, KeepPairs};
+ghost use Rattle.cell_store.specs.Count.{count_of, has_pair, has_place_for, one_if, pair_of, stored_in, AddPair, KeepPairs};
 ghost use Rattle.cell_store.specs.Same.{same_cell};
 ghost use Rattle.cell_store.specs.Store.{cell_of, AreLeft, AreSameCells, AreUpTo, CanSettleAt, IsDroppedAt, IsIndex, KeepSettling, KeepUpTo, StayBut};
 ghost use Rattle.cell_store.specs.Store.{name_place, StayButAt};
@@ -193,7 +193,8 @@ pub fn forget(owners: &mut Owners, stored: &mut u64, owner: &Name)
     ensures upto { KeepUpTo owners.old owners.new }
     ensures settles { KeepSettling owners.old owners.new }
     ensures counted { stored.new ≡ stored_in owners.new }
-    ensures fewer { stored.new ≤ stored.old }
+    ensures fewer { (stored.new ≤ stored.old)
+        × IfSome (get name_eq owners.old owner.now) (λ cells. stored.new + count_of cells ≡ stored.old) }
     ensures pairs { KeepPairs owners.old owners.new }
 {
     if let Some(cells) = owners.swap_remove(owner) {

@@ -24,6 +24,10 @@ abbrev pub IsChoice : {S : Type 0} → (S → Option ℕ) → List (KeptChange S
 IsChoice table [] chosen = Unit {0}
 IsChoice table (k ∷ later) chosen = AllowsAt table chosen k.standing k later × IsChoice table later chosen
 
+-- Two choices agree on the kept changes.
+abbrev pub Agree : {S : Type 0} → (ℕ → Bool) → (ℕ → Bool) → List (KeptChange S) → Type 0
+Agree chosen other kept = AllByRecursion (λ k. chosen k.ticket ≡ other k.ticket) kept
+
 -- whether a change is in effect
 abbrev pub is_done : Standing → Bool
 is_done Done = true

@@ -1,13 +1,15 @@
 //! The world: its face, and the changes that it keeps.
 
-ghost use Rattle.std.specs.Prelude.{◌≡◌, ℕ, Bool, List, Option, IfOk, IsOk, OnOk, OnErr, IsErrOf};
+ghost use Rattle.std.specs.Prelude.{◌≡◌, ◌<◌, ℕ, Bool, List, Option, IfOk, IfSome, IfNone, IsOk, OnOk, OnErr, IsErrOf};
 ghost use Rattle.dns_name.specs.Labels.{Labels};
+ghost use Rattle.dns_text.specs.declared.record.Question.{Question};
 ghost use Rattle.ranked.specs.declared.find.Scope.{Scope};
 ghost use Rattle.change_law.specs.declared.kept.KeptChange.{KeptChange};
 ghost use Rattle.change_law.specs.Face.{Face, IsSame, face_with, face_without, fate_in};
-ghost use Rattle.change_law.specs.Choice.{IsPresent, cleared};
+ghost use Rattle.change_law.specs.Choice.{Agree, IsPresent, cleared};
 ghost use Rattle.change_law.specs.Row.{IsRowAfter, IsEachRow, IsEachRowFrom, IsNoMore, IsOneMore, IsRefused, any, same_face};
 ghost use Rattle.change_law.specs.Pairs.{CountsNoneOf, IsAliveIn, pair_of};
+ghost use Rattle.change_law.specs.Oldest.{AreCurrent, IsEnding, IsOldest, NoneEnds};
 
 use crate::fault::WorldFault;
 use dns_name::Name;
@@ -90,11 +92,29 @@ pub trait World: Drop {
     fn forget(&mut self, owner: &Name)
         ensures row { IsEachRow table keeps face (face_without has_cells owner.now) self.old self.new }
         ensures counts { IsNoMore newest stored limit counts self.old self.new }
-        ensures gone { CountsNoneOf counts owner.now self.new };
+        ensures gone { CountsNoneOf counts owner.now self.new }
+
+        // Fewer cells are stored, if a find of the name was alive, by whichever choice of the kept changes.
+        ensures fewer { (kept : List (KeptChange Self.Saved)) (t end : ℕ) → keeps self.old kept →
+            IsEnding table face self.old kept t owner.now end → stored self.new < stored self.old };
+
+    /// The name to forget first when no more cells fit: the one whose last find ends first, of the names that have a find alive at a moment,
+    /// by whichever choice of the kept changes. Of names whose last finds end in the same second it is the first in the order of names.
+    /// It takes no memory.
+    fn oldest(&self, moment: u64) -> Option<&Name>
+        ensures some { IfSome result (λ name. (kept : List (KeptChange Self.Saved)) → keeps self.now kept → AreCurrent kept →
+            IsOldest (IsEnding table face self.now kept moment) name.now) }
+        ensures none { IfNone result ((kept : List (KeptChange Self.Saved)) → keeps self.now kept → AreCurrent kept →
+            NoneEnds (IsEnding table face self.now kept moment)) };
 
     /// A law: the face that it shows is the face of the changes in effect.
     ghost shows: { (world : Self) (kept : List (KeptChange Self.Saved)) (chosen : ℕ → Bool) → keeps world kept → IsPresent kept chosen →
         IsSame (face world kept chosen) (shown world) };
+
+    /// A law: the cells of a face depend only on which of the kept changes are chosen.
+    ghost reads: { (world : Self) (kept : List (KeptChange Self.Saved)) (chosen other : ℕ → Bool) → keeps world kept →
+        Agree chosen other kept →
+        (q : Question) → (face world kept chosen).cell q ≡ (face world kept other).cell q };
 
     /// A law: to clear the undone changes, no call is needed. Each face is as before.
     ghost clears: { (world : Self) (kept : List (KeptChange Self.Saved)) → keeps world kept →

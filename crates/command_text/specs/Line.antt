@@ -4,7 +4,7 @@ use Rattle.streams.specs.declared.held_line.TheConstants.{LONGEST_LINE}
 use Rattle.dns_name.specs.Results.{◌>>=◌, or_fault}
 use Rattle.dns_text.specs.Word.{next_word}
 use Rattle.dns_text.specs.Number.{number_in}
-use Rattle.history.specs.declared.event.Ask.TheVariants.{Answer, Servers as ServersAsk, Zones, Records, Stubs, Commands as CommandsAsk}
+use Rattle.history.specs.declared.event.Ask.TheVariants.{Answer, Servers as ServersAsk, Zones, Records, Stubs, Commands as CommandsAsk, Oldest as OldestAsk}
 use Rattle.history.specs.declared.event.Command.TheVariants.{Flush as FlushCommand, FlushType as FlushTypeCommand, FlushZone as FlushZoneCommand}
 use Rattle.command_text.specs.declared.line.Line.{Line}
 use Rattle.command_text.specs.declared.line.Line.TheVariants.{Silent, At as AtLine, Admit as AdmitLine, Deny as DenyLine, Request as RequestLine, Stop as StopLine}
@@ -12,7 +12,7 @@ use Rattle.command_text.specs.declared.request.Request.TheVariants.{Look as Look
 use Rattle.command_text.specs.declared.fault.LineFault.{LineFault}
 use Rattle.command_text.specs.declared.fault.LineFault.TheVariants.{Unknown, BadData, TooLong}
 use Rattle.command_text.specs.declared.words.Verb.{Verb}
-use Rattle.command_text.specs.declared.words.Verb.TheVariants.{At, Admit, NoData, NoName, Forget, Look, Servers, Sweep, Flush, FlushType, FlushZone, LocalZone, LocalZoneRemove, LocalData, LocalDataRemove, StubAdd, StubRemove, ListLocalZones, ListLocalData, ListStubs, ListCommands, Undo, Redo, Stop}
+use Rattle.command_text.specs.declared.words.Verb.TheVariants.{At, Admit, NoData, NoName, Forget, Oldest, Look, Servers, Sweep, Flush, FlushType, FlushZone, LocalZone, LocalZoneRemove, LocalData, LocalDataRemove, StubAdd, StubRemove, ListLocalZones, ListLocalData, ListStubs, ListCommands, Undo, Redo, Stop}
 use Rattle.command_text.specs.declared.words.Channel.{Channel}
 use Rattle.command_text.specs.Words.{verb_in}
 use Rattle.command_text.specs.Parts.{word_in, ends, question_words, question_in, only_name}
@@ -140,6 +140,7 @@ said_by Admit text = admit_in text
 said_by NoData text = no_data_in text
 said_by NoName text = no_name_in text
 said_by Forget text = forget_in text
+said_by Oldest text = alone (RequestLine (LookRequest OldestAsk)) text
 said_by Look text = look_in text
 said_by Servers text = servers_in text
 said_by Sweep text = alone (RequestLine SweepRequest) text
@@ -183,6 +184,7 @@ takes_by Admit text = is_ok (admit_words text)
 takes_by NoData text = is_ok (no_data_words text)
 takes_by NoName text = is_ok (no_name_words text)
 takes_by Forget text = is_ok (word_in text)
+takes_by Oldest text = false
 takes_by Look text = is_ok (question_words text)
 takes_by Servers text = is_ok (word_in text)
 takes_by Sweep text = false

@@ -1,5 +1,5 @@
 -- The texts of replies and faults, each with its line end.
-use Rattle.std.specs.Prelude.{ℕ, Bool, true, false, not, List, [], ◌∷◌, ◌++◌, codes, decimal, flat_map}
+use Rattle.std.specs.Prelude.{ℕ, Bool, true, false, not, Option, Some, None, is_some, List, [], ◌∷◌, ◌++◌, codes, decimal, flat_map}
 use Rattle.streams.specs.Split.{with_end}
 use Rattle.dns_name.specs.Labels.{Labels}
 use Rattle.dns_name.specs.Text.{text_of}
@@ -28,7 +28,7 @@ use Rattle.history.specs.declared.servers.Origin.TheVariants as source
 use Rattle.history.specs.declared.event.Reason.{Reason}
 use Rattle.history.specs.declared.event.Reason.TheVariants.{BelowRedirect, DataBelow, CnameClash, TooMany}
 use Rattle.history.specs.declared.event.Seen.{Seen as Sight}
-use Rattle.history.specs.declared.event.Seen.TheVariants.{Unknown as NothingHeld, Held, Local as LocalSeen, Servers, Zones, Records, Stubs, Commands}
+use Rattle.history.specs.declared.event.Seen.TheVariants.{Unknown as NothingHeld, Held, Local as LocalSeen, Servers, Zones, Records, Stubs, Commands, Oldest}
 use Rattle.history.specs.declared.event.Reply.{Reply}
 use Rattle.history.specs.declared.event.Reply.TheVariants.{Taken, Outranked, Swept, Forgotten, Seen, Done, Refused, Undone, Redone, NothingToUndo, NothingToRedo}
 use Rattle.history.specs.declared.book.StepFault.{StepFault}
@@ -120,6 +120,11 @@ missing_text (name ∷ names) = codes " |" ++ names_text (name ∷ names)
 unfoldable pub servers_text : ServersOf → List ℕ
 servers_text servers = text_of servers.zone ++ 32 ∷ source_text servers.source ++ addrs_text servers.addrs ++ missing_text servers.missing
 
+-- The name to forget first, if there is one.
+abbrev pub oldest_text : Option Labels → List ℕ
+oldest_text None = codes "unknown"
+oldest_text (Some name) = codes "oldest " ++ text_of name
+
 -- The reply to a lookup, without its line end.
 abbrev pub seen_text : Sight → List ℕ
 seen_text NothingHeld = codes "unknown"
@@ -130,6 +135,7 @@ seen_text (Zones zones) = flat_map zone_line zones ++ codes "end"
 seen_text (Records records) = flat_map record_line records ++ codes "end"
 seen_text (Stubs stubs) = flat_map stub_line stubs ++ codes "end"
 seen_text (Commands commands) = flat_map journalled_line commands ++ codes "end"
+seen_text (Oldest name) = oldest_text name
 
 -- Why a command is refused.
 abbrev pub reason_text : Reason → List ℕ
@@ -143,7 +149,7 @@ abbrev pub has_data : Local (List Record) Record → Bool
 has_data (local.Data records) = true
 has_data _ = false
 
--- The reply is a set, local data or a list: only these texts may be of any length.
+-- The reply is a set, local data, a list or a name: only these texts may be long.
 abbrev pub is_long : Reply → Bool
 is_long (Seen (Held shown)) = not (is_negative shown.body.body)
 is_long (Seen (LocalSeen answer)) = has_data answer
@@ -152,6 +158,7 @@ is_long (Seen (Zones zones)) = true
 is_long (Seen (Records records)) = true
 is_long (Seen (Stubs stubs)) = true
 is_long (Seen (Commands commands)) = true
+is_long (Seen (Oldest name)) = is_some name
 is_long _ = false
 
 -- The reply to an event that was taken.

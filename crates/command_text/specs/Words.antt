@@ -3,7 +3,7 @@ use Rattle.std.specs.Prelude.{ℕ, Bool, true, false, List, [], ◌∷◌, ◌++
 use Rattle.std.specs.Str.{bytes_eq}
 use Rattle.dns_name.specs.Options.{◌>>=◌}
 use Rattle.command_text.specs.declared.words.Verb.{Verb}
-use Rattle.command_text.specs.declared.words.Verb.TheVariants.{At, Admit, NoData, NoName, Forget, Look, Servers, Sweep, Flush, FlushType, FlushZone, LocalZone, LocalZoneRemove, LocalData, LocalDataRemove, StubAdd, StubRemove, ListLocalZones, ListLocalData, ListStubs, ListCommands, Undo, Redo, Stop}
+use Rattle.command_text.specs.declared.words.Verb.TheVariants.{At, Admit, NoData, NoName, Forget, Oldest, Look, Servers, Sweep, Flush, FlushType, FlushZone, LocalZone, LocalZoneRemove, LocalData, LocalDataRemove, StubAdd, StubRemove, ListLocalZones, ListLocalData, ListStubs, ListCommands, Undo, Redo, Stop}
 use Rattle.command_text.specs.declared.words.Channel.{Channel}
 use Rattle.command_text.specs.declared.words.Channel.TheVariants.{Script, Control}
 use Rattle.command_text.specs.declared.words.Usage.{Usage}
@@ -33,6 +33,7 @@ commands =
     ∷ script_only NoData (codes "nodata") (codes "NAME TTL TYPE OWNER SOA-DATA")
     ∷ script_only NoName (codes "noname") (codes "NAME TTL OWNER SOA-DATA")
     ∷ script_only Forget (codes "forget") (codes "NAME")
+    ∷ script_only Oldest (codes "oldest") []
     ∷ anywhere Look (codes "look") (codes "NAME TYPE")
     ∷ anywhere Servers (codes "servers") (codes "NAME")
     ∷ anywhere Sweep (codes "sweep") []

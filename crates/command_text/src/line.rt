@@ -217,6 +217,7 @@ fn read_command(alloc: Global, verb: Verb, text: &[u8]) -> Result<Line, LineFaul
         Verb::NoData => read_no_data_line(alloc, text),
         Verb::NoName => read_no_name_line(alloc, text),
         Verb::Forget => read_forget(alloc, text),
+        Verb::Oldest => read_alone(Line::Request(Request::Look(Ask::Oldest)), text),
         Verb::Look => read_look(alloc, text),
         Verb::Servers => read_servers(alloc, text),
         Verb::Sweep => read_alone(Line::Request(Request::Sweep), text),

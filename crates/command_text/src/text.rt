@@ -1,12 +1,12 @@
 //! Texts of replies and faults, each with its line end.
 
-ghost use Rattle.std.specs.Prelude.{◌≡◌, ◌≤◌, not, ◌++◌, ◌∷◌, [], length, IsTrue, IfOk, OnOk, OnErr, codes, decimal, flat_map};
+ghost use Rattle.std.specs.Prelude.{◌≡◌, ◌≤◌, not, is_some, ◌++◌, ◌∷◌, [], length, IsTrue, IfOk, OnOk, OnErr, codes, decimal, flat_map};
 ghost use Rattle.streams.specs.Split.{with_end};
 ghost use Rattle.streams.specs.Text.{octets_in};
 ghost use Rattle.dns_name.specs.Text.{text_of};
 ghost use Rattle.dns_text.specs.Data.{data_text};
 ghost use Rattle.ranked.specs.Body.{is_negative};
-ghost use Rattle.command_text.specs.Text.{set_text, scope_text, found_text, held_text, is_long, reply_text, reason_text, fault_text, desk_fault_text, line_fault_text};
+ghost use Rattle.command_text.specs.Text.{set_text, scope_text, found_text, held_text, is_long, oldest_text, reply_text, reason_text, fault_text, desk_fault_text, line_fault_text};
 ghost use Rattle.command_text.specs.declared.text.TheConstants.{MOST_WORDS};
 ghost use Rattle.command_text.specs.Obeying.{IsTextOf};
 
@@ -16,6 +16,7 @@ use crate::journal::commands_lines;
 use crate::lists::{records_lines, stubs_lines, zones_lines};
 use crate::servers::servers_line;
 use arrayvec::ArrayVec;
+use dns_name::Name;
 use dns_text::{Data, NoMemory, push_data, push_type};
 use history::{DeskFault, Reason, Reply, Seen, StepFault};
 use itoa::Buffer;
@@ -129,7 +130,28 @@ fn reason_line(reason: Reason) -> Text
     }
 }
 
-/// The lines of a reply, each with its end. Only those of a set, of local data or of a list take memory, and can fail.
+/// The line of the name to forget first. It takes memory only if there is one.
+fn oldest_line(alloc: Global, name: &Option<Name>) -> Result<Text, NoMemory>
+    ensures text { IfOk result (λ text. octets_in text ≡ with_end (oldest_text name.now)) }
+    ensures memory { OnErr result (IsTrue (is_some name.now)) }
+{
+    match name {
+        Some(name) => Ok(Text::Made(name_line(alloc, name)?)),
+        None => Ok(Text::Fixed(b"unknown\n")),
+    }
+}
+
+fn name_line(alloc: Global, name: &Name) -> Result<Vec<u8>, NoMemory>
+    ensures { IfOk result (λ text. text.items ≡ with_end (codes "oldest " ++ text_of name.now)) }
+{
+    let mut out = Vec::new(alloc);
+    out.extend_from_slice(b"oldest ")?;
+    name.push_text(&mut out)?;
+    out.push(b'\n')?;
+    Ok(out)
+}
+
+/// The lines of a reply, each with its end. Only those of a set, of local data, of a list or of a name take memory, and can fail.
 pub fn reply_text(alloc: Global, reply: &Reply) -> Result<Text, NoMemory>
     ensures text { IfOk result (λ text. octets_in text ≡ reply_text reply.now) }
     ensures memory { OnErr result (IsTrue (is_long reply.now)) }
@@ -147,6 +169,7 @@ pub fn reply_text(alloc: Global, reply: &Reply) -> Result<Text, NoMemory>
         Reply::Seen(Seen::Records(records)) => Ok(Text::Made(records_lines(alloc, records)?)),
         Reply::Seen(Seen::Stubs(stubs)) => Ok(Text::Made(stubs_lines(alloc, stubs)?)),
         Reply::Seen(Seen::Commands(commands)) => Ok(Text::Made(commands_lines(alloc, commands)?)),
+        Reply::Seen(Seen::Oldest(name)) => oldest_line(alloc, name),
         Reply::Done { ticket } => Ok(number_line(b"ok", *ticket)),
         Reply::Refused(reason) => Ok(reason_line(*reason)),
         Reply::Undone { ticket } => Ok(number_line(b"undone", *ticket)),
@@ -178,7 +201,7 @@ fn desk_fault_text(fault: DeskFault) -> Text
     }
 }
 
-/// The lines of a desk's answer. If there is no memory for the text of a set, of local data or of a list, it is
+/// The lines of a desk's answer. If there is no memory for the text of a set, of local data, of a list or of a name, it is
 /// `fault reply_lost`; the event still took effect.
 pub fn answer_text(alloc: Global, answer: &Result<Reply, DeskFault>) -> Text
     ensures { IsTextOf answer.now (octets_in result) }

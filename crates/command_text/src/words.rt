@@ -14,6 +14,7 @@ pub(crate) enum Verb {
     NoData,
     NoName,
     Forget,
+    Oldest,
     Look,
     Servers,
     Sweep,
@@ -55,7 +56,7 @@ struct Usage {
     in_control: bool,
 }
 
-static COMMANDS: [Usage; 24] = [
+static COMMANDS: [Usage; 25] = [
     Usage {
         verb: Verb::At,
         word: "at",
@@ -88,6 +89,13 @@ static COMMANDS: [Usage; 24] = [
         verb: Verb::Forget,
         word: "forget",
         form: "NAME",
+        in_script: true,
+        in_control: false,
+    },
+    Usage {
+        verb: Verb::Oldest,
+        word: "oldest",
+        form: "",
         in_script: true,
         in_control: false,
     },

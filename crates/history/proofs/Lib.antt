@@ -1,4 +1,3 @@
-mod FlushLaw
 mod JournalLaw
 mod OrderLaw
 mod RedoLaw

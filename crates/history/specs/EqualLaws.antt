@@ -54,6 +54,7 @@ ask_eq_exact ask.Records ask.Records e = refl
 ask_eq_exact ask.Stubs ask.Stubs e = refl
 ask_eq_exact ask.Commands ask.Commands e = refl
 ask_eq_exact (ask.Servers name) (ask.Servers other) e = ap ask.Servers (name_eq_exact name other e)
+ask_eq_exact ask.Oldest ask.Oldest e = refl
 ask_eq_exact _ _ e = absurd (false≢true e)
 
 pub ask_eq_itself : (a : Ask) → ask_eq a a ≡ true
@@ -63,6 +64,7 @@ ask_eq_itself ask.Records = refl
 ask_eq_itself ask.Stubs = refl
 ask_eq_itself ask.Commands = refl
 ask_eq_itself (ask.Servers name) = name_eq_itself name
+ask_eq_itself ask.Oldest = refl
 
 -- ---- commands
 
@@ -242,6 +244,11 @@ local_exact : (a : Local (List Record) Record) (b : SeenValue) → seen_eq (seen
 local_exact a (seen.Local b) e = ap seen.Local (answer_exact a b e)
 local_exact a _ e = absurd (false≢true e)
 
+oldest_exact : (a b : Option Labels) → seen_eq (seen.Oldest a) (seen.Oldest b) ≡ true → a ≡ b
+oldest_exact None None e = refl
+oldest_exact (Some name) (Some other) e = ap Some (name_eq_exact name other e)
+oldest_exact _ _ e = absurd (false≢true e)
+
 pub seen_eq_exact : (a b : SeenValue) → seen_eq a b ≡ true → a ≡ b
 seen_eq_exact seen.Unknown seen.Unknown e = refl
 seen_eq_exact (seen.Held s) b e = held_exact s b e
@@ -251,6 +258,7 @@ seen_eq_exact (seen.Records records) (seen.Records other) e = ap seen.Records ((
 seen_eq_exact (seen.Stubs stubs) (seen.Stubs other) e = ap seen.Stubs ((slice_eq-Decides stub_eq-Decides stubs other _ refl).0 e)
 seen_eq_exact (seen.Commands commands) (seen.Commands other) e = ap seen.Commands ((slice_eq-Decides journalled_eq-Decides commands other _ refl).0 e)
 seen_eq_exact (seen.Servers servers) (seen.Servers other) e = ap seen.Servers (servers_eq_exact servers other e)
+seen_eq_exact (seen.Oldest name) (seen.Oldest other) e = ap seen.Oldest (oldest_exact name other e)
 seen_eq_exact _ _ e = absurd (false≢true e)
 
 no_data_itself : (a : Option Record) → seen_eq (seen.Local (local.NoData a)) (seen.Local (local.NoData a)) ≡ true
@@ -269,6 +277,10 @@ local_itself local.Refuse = refl
 local_itself local.Drop = refl
 local_itself local.Pass = refl
 
+oldest_itself : (a : Option Labels) → seen_eq (seen.Oldest a) (seen.Oldest a) ≡ true
+oldest_itself None = refl
+oldest_itself (Some name) = name_eq_itself name
+
 pub seen_eq_itself : (a : SeenValue) → seen_eq a a ≡ true
 seen_eq_itself seen.Unknown = refl
 seen_eq_itself (seen.Held s) = both_true (rank_eq_itself s.rank) (both_true (same s.left) (find_eq_itself s.body))
@@ -277,6 +289,7 @@ seen_eq_itself (seen.Zones zones) = (slice_eq-Decides zone_eq-Decides zones zone
 seen_eq_itself (seen.Records records) = (slice_eq-Decides record_eq-Decides records records _ refl).1 refl
 seen_eq_itself (seen.Stubs stubs) = (slice_eq-Decides stub_eq-Decides stubs stubs _ refl).1 refl
 seen_eq_itself (seen.Servers servers) = servers_eq_itself servers
+seen_eq_itself (seen.Oldest name) = oldest_itself name
 seen_eq_itself (seen.Commands commands) = (slice_eq-Decides journalled_eq-Decides commands commands _ refl).1 refl
 
 -- ---- replies

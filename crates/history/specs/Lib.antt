@@ -7,6 +7,12 @@ pub mod TicketLaws
 pub mod Cells
 pub mod Flushes
 pub mod Journal
+pub mod Oldest
+pub mod OldestFound
+pub mod FlushLaws
+pub mod SoonestLaws
+pub mod EndingLaws
+pub mod OldestLaws
 pub mod Servers
 pub mod Reply
 pub mod Answers

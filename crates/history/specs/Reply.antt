@@ -16,9 +16,9 @@ use Rattle.history.specs.declared.event.Event.TheVariants.{Admit, Look as LookEv
 use Rattle.history.specs.declared.event.Reason.{Reason}
 use Rattle.history.specs.declared.event.Settings.{Settings}
 use Rattle.history.specs.declared.event.Ask.{Ask}
-use Rattle.history.specs.declared.event.Ask.TheVariants.{Answer, Zones as ZonesAsked, Records as RecordsAsked, Stubs as StubsAsked, Commands as CommandsAsked, Servers as ServersAsked}
+use Rattle.history.specs.declared.event.Ask.TheVariants.{Answer, Zones as ZonesAsked, Records as RecordsAsked, Stubs as StubsAsked, Commands as CommandsAsked, Servers as ServersAsked, Oldest as OldestAsked}
 use Rattle.history.specs.declared.event.Seen.{Seen as SeenValue}
-use Rattle.history.specs.declared.event.Seen.TheVariants.{Unknown, Held, Local as LocalSeen, Zones, Records, Stubs, Commands, Servers}
+use Rattle.history.specs.declared.event.Seen.TheVariants.{Unknown, Held, Local as LocalSeen, Zones, Records, Stubs, Commands, Servers, Oldest}
 use Rattle.history.specs.declared.event.Look.{Look}
 use Rattle.history.specs.declared.event.Look.TheVariants.{Unknown as NothingLent, Held as HeldLent, Local as LocalLent}
 use Rattle.history.specs.declared.event.Reply.{Reply}
@@ -27,6 +27,7 @@ use Rattle.history.specs.Marks.{Marks, last_of}
 use Rattle.history.specs.History.{Past, past_of, tables_of, stubs_of, reason_of}
 use Rattle.history.specs.Cells.{cell_of, shows}
 use Rattle.history.specs.Journal.{commands_of}
+use Rattle.history.specs.OldestFound.{oldest_of}
 use Rattle.history.specs.Servers.{servers_of}
 
 -- Data of the lowest rank is cached and never shown.
@@ -51,6 +52,7 @@ seen_of settings past RecordsAsked moment = Records (tables_of past).local.recor
 seen_of settings past StubsAsked moment = Stubs (stubs_of past)
 seen_of settings past CommandsAsked moment = Commands (commands_of past)
 seen_of settings past (ServersAsked name) moment = Servers (servers_of settings past name moment)
+seen_of settings past OldestAsked moment = Oldest (oldest_of past (max past.now moment))
 
 -- what is lent, as what is seen
 abbrev pub look_seen : Look → SeenValue

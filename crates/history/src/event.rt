@@ -27,6 +27,8 @@ pub enum Ask {
     Commands,
     /// The servers to ask about a name.
     Servers(Name),
+    /// The name to forget first when the cells are full.
+    Oldest,
 }
 
 /// A command of the operator, which can be undone.
@@ -209,6 +211,8 @@ pub enum Seen {
     Commands(Items<Journalled>),
     /// The servers that are closest to a name.
     Servers(Shared<Servers>),
+    /// The name to forget first, if any name has a find that is alive.
+    Oldest(Option<Name>),
 }
 
 /// A command that can be undone or redone, as the journal holds it.

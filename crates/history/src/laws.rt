@@ -1,6 +1,6 @@
-//! The laws of undo, redo, flush and refusal, by the definitions alone.
+//! The laws of undo, redo, flush, refusal and of the name to forget first, by the definitions alone.
 
-ghost use Rattle.std.specs.Prelude.{◌≡◌, ◌≤◌, ℕ, List, IsTrue, true, max, fold, map};
+ghost use Rattle.std.specs.Prelude.{◌≡◌, ◌≤◌, ℕ, List, Option, IsTrue, true, max, fold, map};
 ghost use Rattle.dns_name.specs.Labels.{Labels, IsAtOrBelow};
 ghost use Rattle.dns_text.specs.declared.record.Question.{Question};
 ghost use Rattle.history.specs.declared.event.Entry.{Entry};
@@ -14,6 +14,8 @@ ghost use Rattle.history.specs.History.{Past, past_of};
 ghost use Rattle.history.specs.Flushes.{ForgetsBefore, LastFlushDecides};
 ghost use Rattle.history.specs.Journal.{commands_of, is_among, tickets_done, tickets_of, tickets_undone};
 ghost use Rattle.history.specs.Marks.{AreAscending};
+ghost use Rattle.history.specs.Oldest.{IsOldest};
+ghost use Rattle.history.specs.OldestFound.{oldest_of};
 ghost use Rattle.history.specs.Reply.{reply_to};
 ghost use Rattle.history.specs.Refusal.{is_refusal, ChangesOnlyClock};
 ghost use Rattle.history.specs.Undo.{TakesBack};
@@ -41,6 +43,12 @@ pub fn redo_puts_back()
 pub fn flush_forgets()
     ensures after { (question : Question) (flush : Entry) → ForgetsBefore question flush }
     ensures last { (question : Question) → LastFlushDecides question }
+{}
+
+/// The name to forget first is the one whose last find ends first, over each choice of the commands of the journal. No other is.
+pub fn oldest_law()
+    ensures oldest { (past : Past) (t : ℕ) → IsOldest past t (oldest_of past t) }
+    ensures only { (past : Past) (t : ℕ) (name : Option Labels) → IsOldest past t name → name ≡ oldest_of past t }
 {}
 
 /// The clock is the greatest moment given, by struck and refused commands too. It begins at 0.

@@ -35,8 +35,9 @@ pub use closest::servers as closest_servers;
 pub use desk::{Desk, DeskFault};
 pub use event::{Ask, Command, Entry, Event, Journalled, Look, Reason, Reply, Seen, Settings};
 pub use laws::{
-    clock_is_greatest, done_is_in_order, equality_law, flush_forgets, journal_law, redo_puts_back,
-    refusal_changes_only_the_clock, servers_law, sweep_changes_only_the_clock, undo_takes_back,
+    clock_is_greatest, done_is_in_order, equality_law, flush_forgets, journal_law, oldest_law,
+    redo_puts_back, refusal_changes_only_the_clock, servers_law, sweep_changes_only_the_clock,
+    undo_takes_back,
 };
 pub use limits::{
     MOMENT_END, MOST_CELLS, MOST_COMMANDS, MOST_EVENTS, MOST_HINTS, MakeFault, are_settings,

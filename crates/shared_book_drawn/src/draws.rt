@@ -216,7 +216,7 @@ pub fn shared_event(
 }
 
 /// An event of any kind, within 100 seconds from a moment on. It is more often an admission, at times that of a denial, and at times a
-/// forget.
+/// forget. Of the looks about one in 40 asks for the name to forget first, since the book that replays takes long for that.
 pub fn event_or_denial(rng: &mut Pcg32, alloc: Global, from: u64) -> Result<Event, AllocError> {
     let moment = from.saturating_add(u64::from(below(rng, 100)));
     match below(rng, 12) {
@@ -232,6 +232,12 @@ pub fn event_or_denial(rng: &mut Pcg32, alloc: Global, from: u64) -> Result<Even
             moment,
             find: find(rng, alloc)?,
         }),
-        _ => event(rng, alloc, from),
+        _ => {
+            if below(rng, 120) == 0 {
+                let ask = Ask::Oldest;
+                return Ok(Event::Look { moment, ask });
+            }
+            event(rng, alloc, from)
+        }
     }
 }

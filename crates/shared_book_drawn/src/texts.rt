@@ -58,6 +58,7 @@ fn push_ask(ask: &Ask, out: &mut Vec<u8>) -> Result<(), NoMemory> {
         Ask::Records => out.extend_from_slice(b"list_local_data"),
         Ask::Stubs => out.extend_from_slice(b"list_stubs"),
         Ask::Commands => out.extend_from_slice(b"list_commands"),
+        Ask::Oldest => out.extend_from_slice(b"oldest"),
     }
 }
 

@@ -61,7 +61,7 @@ module _ {S : Type 0} (old new : IndexMap Labels OwnerCells S) where
 
 -- ---- what is alive has a place that counts
 
-alive_held : (t : ℕ) (h : Option (Admitted Find)) (held : Admitted Find) → alive_at t h ≡ Some held → h ≡ Some held
+pub alive_held : (t : ℕ) (h : Option (Admitted Find)) (held : Admitted Find) → alive_at t h ≡ Some held → h ≡ Some held
 alive_held t None held is = let none : None ≡ Some held = is in absurd cc
 alive_held t (Some x) held is = split (is_alive x t) is
   where

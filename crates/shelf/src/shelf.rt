@@ -91,6 +91,7 @@ fn set_shown(kept: &mut Vec<KeptFlush>, number: u64, shown: bool)
 impl Shelf {
     ghost use Rattle.shelf.specs.Told.{Told, HasAdmitted, HasFlushed, IsShelf, IsShelfOf, IsSame, KeepsFlushes, cell_at, shown_version, shown_cell, replayed_cell, face_of};
     ghost use Rattle.shelf.specs.Stored.{count_pairs, pairs_in, HasAdmittedEach, IsAliveInFace, IsAliveInReplay, IsByRoom};
+    ghost use Rattle.shelf.specs.Oldest.{IsEnding};
 
     /// An empty cache of at most `limit` places, whose index hashes with the fixed seed. It is for scripts and tests.
     pub fn new(alloc: Global, limit: u64) -> Shelf
@@ -354,9 +355,12 @@ impl Shelf {
         ensures faces { (chosen : ℕ → Bool) (q : Question) →
             face_of self.new chosen q ≡ (if name_eq owner.now q.owner then None else face_of self.old chosen q) }
         ensures flushes { KeepsFlushes self.old self.new }
-        ensures stored { self.new.stored ≤ self.old.stored }
         ensures pairs { KeepPairs self.old.owners self.new.owners }
         ensures gone { get name_eq self.new.owners owner.now ≡ None }
+        ensures stored { self.new.stored ≤ self.old.stored }
+
+        // Fewer places are counted, if a find of the name was alive, whatever choice of the kept flushes was in force.
+        ensures fewer { (t end : ℕ) → IsEnding self.old t owner.now end → self.new.stored < self.old.stored }
     {
         drop_end(&self.owners, &mut self.ends, owner);
         forget(&mut self.owners, &mut self.stored, owner);

@@ -5,3 +5,4 @@ pub mod WorldLaws
 pub mod Store
 pub mod StoreLaws
 pub mod Command
+pub mod ReadLaws

@@ -37,7 +37,7 @@ use Rattle.store.specs.Store.{tables_in, cells_in, table_way, flush_way, of_tabl
 
 -- ---- the tables of the parts
 
-abbrev no_table : SavedFlush → Option ℕ
+abbrev pub no_table : SavedFlush → Option ℕ
 no_table saved = None
 
 way_of_tables : (w : WayBack) (s : SavedTable) → table_way w ≡ Some s → table_of w ≡ saved_table s
@@ -51,7 +51,7 @@ way_of_cells (way.Flush saved) s e = refl
 tables_agree : (saved : SavedChange) (s : SavedTable) → of_tables saved ≡ Some s → store_table saved ≡ saved_table s
 tables_agree saved s e = way_of_tables saved.way s e
 
-cells_agree : (saved : SavedChange) (s : SavedFlush) → of_cells saved ≡ Some s → store_table saved ≡ no_table s
+pub cells_agree : (saved : SavedChange) (s : SavedFlush) → of_cells saved ≡ Some s → store_table saved ≡ no_table s
 cells_agree saved s e = way_of_cells saved.way s e
 
 pub flush_needs_none : (w : WayBack) → table_of w ≡ None → needs_memory_of w ≡ false

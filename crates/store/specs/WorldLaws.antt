@@ -82,11 +82,11 @@ clears_by_word shelf kept h = record {
 
 -- ---- what is shown
 
-abbrev first_mark : List (ℕ × Bool) → ℕ × Bool
+abbrev pub first_mark : List (ℕ × Bool) → ℕ × Bool
 first_mark [] = (0, false)
 first_mark (m ∷ ms) = m
 
-abbrev rest : List (ℕ × Bool) → List (ℕ × Bool)
+abbrev pub rest : List (ℕ × Bool) → List (ℕ × Bool)
 rest [] = []
 rest (m ∷ ms) = ms
 

@@ -65,6 +65,7 @@ impl World for Store {
     ghost use Rattle.std.specs.Prelude.{true};
     ghost use Rattle.store.specs.Store.{store_face, store_shown, table_of, needs_memory_of, KeepsStore};
     ghost use Rattle.store.specs.StoreLaws.{clears_store, shows_store};
+    ghost use Rattle.store.specs.ReadLaws.{reads_store};
     ghost use Rattle.store.specs.World.{counts_in};
 
     type Tables = Tables;
@@ -115,6 +116,15 @@ impl World for Store {
     fn forget(&mut self, owner: &Name) {
         self.cells.forget(owner);
     }
+
+    fn oldest(&self, moment: u64) -> Option<&Name> {
+        match self.cells.oldest(moment) {
+            Some(name) => Some(name),
+            None => None,
+        }
+    }
+
+    ghost reads = { λ world kept chosen other h same q. reads_store world kept chosen other h same q };
 
     ghost clears = { λ world kept h. clears_store world kept h };
 }

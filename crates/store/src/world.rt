@@ -116,6 +116,7 @@ impl World for ShelfWorld {
     ghost use Rattle.std.specs.Prelude.{true, false, None};
     ghost use Rattle.store.specs.World.{KeepsFlushes, counts_in, face_by, shown_face};
     ghost use Rattle.store.specs.WorldLaws.{shows_present, clears_by_word};
+    ghost use Rattle.store.specs.ReadLaws.{reads_flushes};
 
     type Tables = ();
 
@@ -147,6 +148,8 @@ impl World for ShelfWorld {
 
     ghost shows = { λ world kept chosen h p. shows_present world kept chosen h p };
 
+    ghost reads = { λ world kept chosen other h same q. reads_flushes world kept chosen other h same q };
+
     ghost clears = { λ world kept h. clears_by_word world kept h };
 
     fn admit(&mut self, find: SharedFind, moment: u64) -> Result<Fate, WorldFault> {
@@ -167,6 +170,13 @@ impl World for ShelfWorld {
 
     fn forget(&mut self, owner: &Name) {
         self.shelf.forget(owner);
+    }
+
+    fn oldest(&self, moment: u64) -> Option<&Name> {
+        match self.shelf.oldest(moment) {
+            Some(name) => Some(name),
+            None => None,
+        }
     }
 }
 

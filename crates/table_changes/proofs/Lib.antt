@@ -1,2 +1,3 @@
 pub mod PartRows
 pub mod BothRows
+pub mod EndLaws

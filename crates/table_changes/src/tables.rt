@@ -90,7 +90,7 @@ impl TableWorld {
 }
 
 impl World for TableWorld {
-    ghost use Rattle.std.specs.Prelude.{false, true};
+    ghost use Rattle.std.specs.Prelude.{false, true, refl};
     ghost use Rattle.table_changes.specs.Both.{saved_table, face_by, shown_tables, KeepsBoth};
     ghost use Rattle.table_changes.specs.BothLaws.{clears_both, shows_both};
 
@@ -135,6 +135,12 @@ impl World for TableWorld {
     }
 
     fn forget(&mut self, _owner: &Name) {}
+
+    fn oldest(&self, _moment: u64) -> Option<&Name> {
+        None
+    }
+
+    ghost reads = { λ world kept chosen other h same q. refl };
 
     ghost clears = { λ world kept h. clears_both world kept h };
 }

@@ -6,6 +6,11 @@ pub use Rattle.history.specs.History
 pub use Rattle.history.specs.Cells
 pub use Rattle.history.specs.Flushes
 pub use Rattle.history.specs.Journal
+pub use Rattle.history.specs.Oldest
+pub use Rattle.history.specs.OldestFound
+pub use Rattle.history.specs.SoonestLaws
+pub use Rattle.history.specs.EndingLaws
+pub use Rattle.history.specs.OldestLaws
 pub use Rattle.history.specs.Servers
 pub use Rattle.history.specs.Reply
 pub use Rattle.history.specs.Answers
@@ -18,6 +23,7 @@ pub use Rattle.history.specs.Redo
 pub use Rattle.history.specs.Counts
 pub mod Plain
 pub mod Index
+pub mod Ends
 pub mod Stored
 pub mod Replayed
 pub mod PlainPast

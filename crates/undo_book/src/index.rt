@@ -48,7 +48,7 @@ impl Indexed {
     }
 
     /// Whether the entry may be about a name of this tag.
-    fn concerns(&self, tag: u64) -> bool
+    pub fn concerns(&self, tag: u64) -> bool
         ensures { result ≡ concerns tag self.now.tag }
     {
         match self.tag {

@@ -17,6 +17,10 @@ mod plain_history;
 mod tables;
 // The list of commands that can be undone or redone.
 mod listing;
+// The cell of a name for finds of one scope, by a replay of a log.
+mod scope_replay;
+// The name to forget first.
+mod oldest;
 // What a lookup sees.
 mod lookup_result;
 // The reply to an event, and the tables after it.
@@ -30,7 +34,7 @@ pub use history::{
     Ask, Book, Command, Desk, DeskFault, Entry, Event, Journalled, Look, MOMENT_END, MOST_CELLS,
     MOST_COMMANDS, MOST_EVENTS, MOST_HINTS, MakeFault, Origin, Reason, Reply, RunFault, Seen,
     Servers, Settings, StepFault, clock_is_greatest, done_is_in_order, equality_law, flush_forgets,
-    journal_law, redo_puts_back, refusal_changes_only_the_clock, run, servers_law,
+    journal_law, oldest_law, redo_puts_back, refusal_changes_only_the_clock, run, servers_law,
     sweep_changes_only_the_clock, undo_takes_back,
 };
 pub use plain::PlainBook;

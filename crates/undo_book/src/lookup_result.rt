@@ -7,6 +7,7 @@ ghost use Rattle.history.specs.Servers.{servers_of};
 ghost use Rattle.undo_book.specs.PlainPast.{past_in};
 
 use crate::listing::commands;
+use crate::oldest::oldest;
 use crate::plain_history::PlainPast;
 use dns_name::{Name, NoMemory};
 use dns_text::{Items, Shared};
@@ -39,6 +40,7 @@ pub(crate) fn seen(
         Ask::Stubs => Ok(Seen::Stubs(Items::new(share_stubs(alloc, tables.stubs.stubs())?))),
         Ask::Commands => Ok(Seen::Commands(Items::new(commands(alloc, past)?))),
         Ask::Servers(name) => seen_servers(alloc, past, &tables.stubs, name, moment),
+        Ask::Oldest => Ok(Seen::Oldest(oldest(alloc, past, past.moment.max(moment))?)),
     }
 }
 

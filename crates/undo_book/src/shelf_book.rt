@@ -50,14 +50,14 @@ impl ShelfBook {
 }
 
 impl Book for ShelfBook {
-    ghost use Rattle.std.proofs.Common.{◌≡◌, ◌≤◌, List, sym, ◌∙◌};
-    ghost use Rattle.std.specs.Prelude.{◌⊎◌, ℕ, OnErr, IfErr, IsErrOf};
+    ghost use Rattle.std.proofs.Common.{◌≡◌, ◌<◌, ◌≤◌, List, sym, ◌∙◌};
+    ghost use Rattle.std.specs.Prelude.{◌⊎◌, ℕ, OnOk, OnErr, IfErr, IsErrOf};
     ghost use Rattle.dns_name.specs.Labels.{Labels};
     ghost use Rattle.ranked.specs.declared.find.Scope.{Scope};
     ghost use Rattle.history.specs.declared.event.Event.{Event};
     ghost use Rattle.history.specs.Answers.{Answers, history_after};
     ghost use Rattle.history.specs.History.{past_of};
-    ghost use Rattle.world_book.specs.Versions.{count_pairs, pairs_left, AreAliveAfter, IsFreeIn};
+    ghost use Rattle.world_book.specs.Versions.{count_pairs, pairs_left, AreAliveAfter, ForgetsOldest, IsFreeIn};
 
     ghost stands_for = { λ book history. ⟦<WorldBook<StoreChange> as Book>⟧.stands_for book.book history };
 
@@ -92,6 +92,11 @@ impl Book for ShelfBook {
         ensures free { (h : List Event) → ⟦<WorldBook<StoreChange> as Book>⟧.stands_for self.old.book h →
             IsFreeIn (past_of (⟦<WorldBook<StoreChange> as Book>⟧.settings self.old.book).journal h) event →
             IfErr result (λ fault. (fault ≡ StepFault.BadMoment) ⊎ (fault ≡ StepFault.CountEnded)) }
+
+        // A forget of the name to forget first at its moment makes room: fewer cells are stored after it.
+        ensures room { OnOk result ((h : List Event) → ⟦<WorldBook<StoreChange> as Book>⟧.stands_for self.old.book h →
+            ForgetsOldest (past_of (⟦<WorldBook<StoreChange> as Book>⟧.settings self.old.book).journal h) event →
+            ⟦<WorldBook<StoreChange> as Book>⟧.stored self.new.book < ⟦<WorldBook<StoreChange> as Book>⟧.stored self.old.book) }
     {
         match self.book.step(event) {
             Ok(reply) => Ok(reply),

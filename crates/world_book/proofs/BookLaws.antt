@@ -30,8 +30,8 @@ use Rattle.history.specs.History.{Past, past_of, nothing, followed_by}
 use Rattle.world_book.specs.Book.{BookState, IsBookOf, IsUntouched}
 use Rattle.world_book.specs.Deeds.{empty_face}
 use Rattle.world_book.specs.Step.{ForgetsPairs, IsFaultOf}
-use Rattle.world_book.specs.Versions.{finds_after, finds_left, pairs_left}
-use Rattle.world_book.specs.Tied.{IsTied, IsHistoryReply, StaysTied, TakesIn, TakesNothingIn}
+use Rattle.world_book.specs.Versions.{finds_after, finds_left, pairs_left, ForgetsOldest}
+use Rattle.world_book.specs.Tied.{IsTied, IsHistoryReply, MakesRoom, StaysTied, TakesIn, TakesNothingIn}
 
 pub past_more : (bound : ℕ) (h : List Event) (event : Event) → past_of bound (h ++ event ∷ []) ≡ followed_by bound (past_of bound h) event
 past_more bound h event = fold-append (followed_by bound) nothing h (event ∷ [])
@@ -127,6 +127,20 @@ module _ {W S : Type 0} (by : Ghosts W Tables S Command) where
         most = same ∙ so.most;
         some_commands = so.some_commands;
       }
+
+  -- after a forget of the name to forget first
+  forgot_oldest : (w w' : W) (changes : Changes S) (bound : ℕ) (past : Past) (event : Event) → MakesRoom by event w changes w' → IsTied by w changes bound past → ForgetsOldest past event → by.stored w' < by.stored w
+  forgot_oldest w w' changes bound past (Forget m owner) makes tied first = makes bound past tied first
+  forgot_oldest w w' changes bound past (Admit m find) makes tied first = absurd first
+  forgot_oldest w w' changes bound past (Look m a) makes tied first = absurd first
+  forgot_oldest w w' changes bound past (Sweep m) makes tied first = absurd first
+  forgot_oldest w w' changes bound past (Do m c) makes tied first = absurd first
+  forgot_oldest w w' changes bound past (Undo m) makes tied first = absurd first
+  forgot_oldest w w' changes bound past (Redo m) makes tied first = absurd first
+
+  pub room_made : (book : BookState W S) (w' : W) (event : Event) → MakesRoom by event book.world book.changes w' →
+      (h : List Event) → BookOf book h → ForgetsOldest (past_of book.settings.journal h) event → by.stored w' < by.stored book.world
+  room_made book w' event makes h so first = forgot_oldest book.world w' book.changes book.settings.journal (past_of book.settings.journal h) event makes so.tied first
 
   -- after a sweep that is no event
   pub swept_some : (book : BookState W S) (w' : W) → StaysTied by book.moment book.world book.changes w' → by.stored w' ≤ by.stored book.world + 0 → by.limit w' ≡ by.limit book.world →

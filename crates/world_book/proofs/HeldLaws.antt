@@ -114,17 +114,17 @@ passed k ks (g ∷ gs) h =
 
 -- ---- what is in a list
 
-in_front : {X : Type 0} (head x : X) (rest : List X) → Contains (head ∷ rest) x → (head ≡ x) ⊎ Contains rest x
+pub in_front : {X : Type 0} (head x : X) (rest : List X) → Contains (head ∷ rest) x → (head ≡ x) ⊎ Contains rest x
 in_front {X} head x rest p = by_index p.0 p.1 p.2
   where
     by_index : (k : ℕ) → k < suc (length rest) → get_or (head ∷ rest) k x ≡ x → (head ≡ x) ⊎ Contains rest x
     by_index zero within found = inl found
     by_index (suc k) within found = inr (k, omega arith, found)
 
-abbrev first_of : ℕ × Command → ℕ
+abbrev pub first_of : ℕ × Command → ℕ
 first_of given = given.0
 
-of_all : (P : ℕ → Type 0) (gs : List (ℕ × Command)) (given : ℕ × Command) → AllByRecursion P (map first_of gs) → Contains gs given → P given.0
+pub of_all : (P : ℕ → Type 0) (gs : List (ℕ × Command)) (given : ℕ × Command) → AllByRecursion P (map first_of gs) → Contains gs given → P given.0
 of_all P [] given all has = absurd (omega (arith, has.1))
 of_all P (g ∷ gs) given all has = elim (in_front g given gs has) [ inl e ↦ subst (λ (x : ℕ × Command). P x.0) e all.0 | inr more ↦ of_all P gs given all.1 more ]
 

@@ -3,13 +3,14 @@ use Rattle.std.proofs.Common.{◌≡◌, ◌≢◌, ℕ, ◌-◌, ◌≤◌, Boo
 use Rattle.std.specs.Prelude.{reverse, slice_get, IfSome}
 use Rattle.std.specs.List.{AllByRecursion}
 use Rattle.dns_name.specs.Labels.{Labels}
+use Rattle.dns_text.specs.declared.record.Question.{Question}
 use Rattle.ranked.specs.declared.find.Scope.{Scope}
 use Rattle.change_law.specs.declared.kept.KeptChange.{KeptChange}
 use Rattle.change_law.specs.declared.kept.Standing.{Standing}
 use Rattle.change_law.specs.declared.kept.Standing.TheVariants.{Done, Undone, Cleared}
 use Rattle.change_law.specs.declared.world.World.{Ghosts}
 use Rattle.change_law.specs.Choice.{AllowsAt, AreLeftOut, IsChoice, IsOneTable}
-use Rattle.change_law.specs.Face.{IsSame, IsSameAt}
+use Rattle.change_law.specs.Face.{IsSame, IsSameAt, alive_at}
 use Rattle.change_law.specs.Pairs.{IsAliveIn}
 use Rattle.undo_journal.specs.Journal.{Changes, AreChanges, tickets_of, told_of}
 use Rattle.course.specs.Course.{IsFair, face_by}
@@ -68,7 +69,7 @@ other_tables [] = []
 other_tables (one ∷ ones) = ones
 
 module _ {S : Type 0} (table : S → Option ℕ) (told : S → Command) where
-  abbrev HasTable : KeptChange S → Type 0
+  abbrev pub HasTable : KeptChange S → Type 0
   HasTable k = table k.saved ≡ table_of (told k.saved)
 
   have_tables : (kept : List (KeptChange S)) → told_of table kept ≡ tables_told (told_of told kept) → AllByRecursion HasTable kept
@@ -94,7 +95,7 @@ module _ {S : Type 0} (table : S → Option ℕ) (told : S → Command) where
   choice_of chosen (k ∷ kept) standing tables h =
       (allowed chosen k kept k.standing standing.0 (λ out. left_out chosen k kept tables.0 tables.1 (h.0 out)), choice_of chosen kept standing.1 tables.1 h.1)
 
-  absent_held : (t : ℕ) (kept : List (KeptChange S)) → AllByRecursion (λ u. u ≢ t) (tickets_of kept) → AllByRecursion (λ held. held.ticket ≢ t) (held_in told kept)
+  pub absent_held : (t : ℕ) (kept : List (KeptChange S)) → AllByRecursion (λ u. u ≢ t) (tickets_of kept) → AllByRecursion (λ held. held.ticket ≢ t) (held_in told kept)
   absent_held t [] h = tt
   absent_held t (k ∷ kept) h = (h.0, absent_held t kept h.1)
 
@@ -112,7 +113,7 @@ done_not_cleared s e f = let both : Done ≡ Cleared = sym e ∙ f in absurd cc
 undone_not_cleared : (s : Standing) → s ≡ Undone → s ≢ Cleared
 undone_not_cleared s e f = let both : Undone ≡ Cleared = sym e ∙ f in absurd cc
 
-none_cleared : {S : Type 0} (changes : Changes S) → AreChanges changes → AllByRecursion (λ k. k.standing ≢ Cleared) changes.kept
+pub none_cleared : {S : Type 0} (changes : Changes S) → AreChanges changes → AllByRecursion (λ k. k.standing ≢ Cleared) changes.kept
 none_cleared {S} changes are =
     subst (λ (l : List (KeptChange S)). AllByRecursion (λ k. k.standing ≢ Cleared) l) (take-append-drop changes.done changes.kept)
     (all-append (λ k. k.standing ≢ Cleared) (take changes.done changes.kept) (drop changes.done changes.kept)
@@ -120,34 +121,40 @@ none_cleared {S} changes are =
     (all_weaker (λ k. k.standing ≡ Undone) (λ k. k.standing ≢ Cleared) (λ k e. undone_not_cleared k.standing e) (drop changes.done changes.kept) are.others))
 
 module _ {W S : Type 0} (by : Ghosts W Tables S Command) (w : W) (changes : Changes S) (bound : ℕ) (past : Past) (are : AreChanges changes) (tied : IsTied by w changes bound past) where
-  commands : held_in by.told changes.kept ≡ commands_of past
-  commands = held_commands by.told changes past are tied.stands.ascending tied.done tied.undone tied.given
+  pub held_commands_of : held_in by.told changes.kept ≡ commands_of past
+  held_commands_of = held_commands by.told changes past are tied.stands.ascending tied.done tied.undone tied.given
 
-  tables : AllByRecursion (HasTable by.table by.told) changes.kept
-  tables = have_tables by.table by.told changes.kept tied.tables
+  pub tables_kept : AllByRecursion (HasTable by.table by.told) changes.kept
+  tables_kept = have_tables by.table by.told changes.kept tied.tables
+
+  -- a face shows of a question what a replay of the log does
+  pub face_shows : (t : ℕ) (chosen : ℕ → Bool) → past.now ≤ t → IsChoice by.table changes.kept chosen → IsFair changes (is_struck past.marks) chosen →
+      (q : Question) → alive_at t ((by.face w changes.kept chosen).cell q) ≡ alive_at t ((face_of chosen past.log).cell q)
+  face_shows t chosen less choice fair q =
+      let face = by.face w changes.kept chosen in
+      let shown : IsSame (face_by by.has_cells chosen empty_face (deeds_of past.log)) (face_of chosen past.log)
+      = subst (λ (b : Bool). IsSame (face_by b chosen empty_face (deeds_of past.log)) (face_of chosen past.log)) (sym tied.cells) (deeds_show chosen past.log) in
+      let now : IsSameAt past.now face (face_of chosen past.log)
+      = same_at_then (tied.stands.faces chosen choice fair) (same_at past.now (face_by by.has_cells chosen empty_face (deeds_of past.log)) (face_of chosen past.log) shown) in
+      (same_at_later past.now t face (face_of chosen past.log) less now).cell q
 
   -- ---- what is alive in a version is alive in a face
 
   pub alive_in_face : (t : ℕ) (pair : Labels × Scope) → past.now ≤ t → IsAliveInVersion past t pair → IsAliveIn by.table by.face w changes.kept t pair
   alive_in_face t pair less alive =
       let chosen = alive.chosen in
-      let face = by.face w changes.kept chosen in
       let choice : IsChoice by.table changes.kept chosen
-      = choice_of by.table by.told chosen changes.kept (none_cleared changes are) tables
-      (subst (λ (l : List Journalled). IsChoiceOf l chosen) (sym commands) alive.version.journal) in
+      = choice_of by.table by.told chosen changes.kept (none_cleared changes are) tables_kept
+      (subst (λ (l : List Journalled). IsChoiceOf l chosen) (sym held_commands_of) alive.version.journal) in
       let fair : IsFair changes (is_struck past.marks) chosen
       = λ ticket given absent. alive.version.others ticket
-      (subst (λ (l : List Journalled). AllByRecursion (λ held. held.ticket ≢ ticket) l) commands (absent_held by.table by.told ticket changes.kept absent)) in
-      let shown : IsSame (face_by by.has_cells chosen empty_face (deeds_of past.log)) (face_of chosen past.log)
-      = subst (λ (b : Bool). IsSame (face_by b chosen empty_face (deeds_of past.log)) (face_of chosen past.log)) (sym tied.cells) (deeds_show chosen past.log) in
-      let now : IsSameAt past.now face (face_of chosen past.log)
-      = same_at_then (tied.stands.faces chosen choice fair) (same_at past.now (face_by by.has_cells chosen empty_face (deeds_of past.log)) (face_of chosen past.log) shown) in
+      (subst (λ (l : List Journalled). AllByRecursion (λ held. held.ticket ≢ ticket) l) held_commands_of (absent_held by.table by.told ticket changes.kept absent)) in
       record {
         chosen = chosen;
         choice = choice;
         question = alive.question;
         held = alive.held;
-        alive = (same_at_later past.now t face (face_of chosen past.log) less now).cell alive.question ∙ alive.alive;
+        alive = face_shows t chosen less choice fair alive.question ∙ alive.alive;
         same = alive.same;
       }
 
@@ -158,8 +165,8 @@ module _ {W S : Type 0} (by : Ghosts W Tables S Command) (w : W) (changes : Chan
 
   no_memory : ((saved : S) → by.table saved ≡ None → by.needs_memory saved ≡ false) → (t : ℕ) → IsFlush past t → AllByRecursion (λ k. k.ticket ≡ t → by.needs_memory k.saved ≡ false) changes.kept
   no_memory law t flush =
-      flush_needs by.table by.told by.needs_memory law t changes.kept tables
-      (subst (λ (l : List Journalled). AllByRecursion (λ held. held.ticket ≡ t → table_of held.command ≡ None) l) (sym commands) flush)
+      flush_needs by.table by.told by.needs_memory law t changes.kept tables_kept
+      (subst (λ (l : List Journalled). AllByRecursion (λ held. held.ticket ≡ t → table_of held.command ≡ None) l) (sym held_commands_of) flush)
 
   pub undo_free : ((saved : S) → by.table saved ≡ None → by.needs_memory saved ≡ false) → (t : ℕ) → last_of past.marks.done ≡ Some t → IsFlush past t →
       IfSome (slice_get changes.kept (changes.done - 1)) (λ last. by.needs_memory last.saved ≡ false)

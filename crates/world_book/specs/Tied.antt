@@ -1,5 +1,5 @@
 -- What ties a world under its journal to a past.
-use Rattle.std.specs.Prelude.{◌≡◌, ℕ, ◌≤◌, max, true, Option, List, [], map, reverse, Result, IsOk}
+use Rattle.std.specs.Prelude.{◌≡◌, ℕ, ◌<◌, ◌≤◌, max, true, Option, Some, List, [], map, reverse, Result, IsOk}
 use Rattle.std.specs.List.{AllByRecursion, Contains}
 use Rattle.change_law.specs.declared.world.World.{Ghosts}
 use Rattle.change_law.specs.Pairs.{AddsPairs}
@@ -7,12 +7,14 @@ use Rattle.undo_journal.specs.Journal.{Changes, done_of, undone_of, told_of}
 use Rattle.course.specs.Course.{AreAscending, Stands}
 use Rattle.history.specs.declared.event.Command.{Command}
 use Rattle.history.specs.declared.event.Event.{Event}
+use Rattle.history.specs.declared.event.Event.TheVariants.{Forget}
 use Rattle.history.specs.declared.event.Reply.{Reply}
 use Rattle.history.specs.declared.event.Settings.{Settings}
 use Rattle.history.specs.declared.tables.Tables.{Tables}
 use Rattle.history.specs.Event.{moment_of}
 use Rattle.history.specs.Marks.{is_struck}
 use Rattle.history.specs.History.{Past, followed_by}
+use Rattle.history.specs.Oldest.{IsOldest}
 use Rattle.history.specs.Reply.{reply_of}
 use Rattle.world_book.specs.Deeds.{deeds_of, given_in, given_tickets, empty_face}
 use Rattle.world_book.specs.Versions.{table_of, IsFreeIn}
@@ -64,3 +66,9 @@ pub record TakesNothingIn {W S : Type 0} (by : Ghosts W Tables S Command) (world
 abbrev pub IsTakenIfFree : {W S A E : Type 0} → Ghosts W Tables S Command → ℕ → Event → W → Changes S → Result A E → Type 0
 IsTakenIfFree by clock event world changes result =
     (bound : ℕ) (past : Past) → clock ≡ max past.now (moment_of event) → IsTied by world changes bound past → IsFreeIn past event → IsOk result
+
+-- If an event forgets the name to forget first at its moment, fewer cells are stored after it, whatever history the world and its journal came to.
+abbrev pub MakesRoom : {W S : Type 0} → Ghosts W Tables S Command → Event → W → Changes S → W → Type 0
+MakesRoom by (Forget moment owner) world changes world' =
+    (bound : ℕ) (past : Past) → IsTied by world changes bound past → IsOldest past (max past.now moment) (Some owner) → by.stored world' < by.stored world
+MakesRoom by event world changes world' = Unit {0}

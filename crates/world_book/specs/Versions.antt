@@ -19,6 +19,7 @@ use Rattle.history.specs.declared.event.Journalled.{Journalled}
 use Rattle.history.specs.History.{Past, is_unstruck, past_of}
 use Rattle.history.specs.Journal.{commands_of}
 use Rattle.history.specs.Marks.{last_of}
+use Rattle.history.specs.Oldest.{IsOldest}
 use Rattle.world_book.specs.Deeds.{face_of}
 
 -- the finds that were admitted and not forgotten, after one event more
@@ -81,3 +82,8 @@ IsFreeIn past (Undo moment) = (ticket : ℕ) × (last_of past.marks.done ≡ Som
 IsFreeIn past (Redo moment) = (ticket : ℕ) × (last_of past.marks.undone ≡ Some ticket) × IsFlush past ticket
 IsFreeIn past (Admit moment find) = IsAliveInVersion past (max past.now moment) (pair_of find)
 IsFreeIn past event = ⊥
+
+-- A forget of the name to forget first at its moment.
+abbrev pub ForgetsOldest : Past → Event → Type 0
+ForgetsOldest past (Forget moment owner) = IsOldest past (max past.now moment) (Some owner)
+ForgetsOldest past event = ⊥

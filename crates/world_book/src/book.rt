@@ -64,8 +64,8 @@ impl<C: BookChange> WorldBook<C> {
 }
 
 impl<C: BookChange> Book for WorldBook<C> {
-    ghost use Rattle.std.proofs.Common.{◌≡◌, ◌≤◌, List, sym, ◌∙◌};
-    ghost use Rattle.std.specs.Prelude.{◌⊎◌, ℕ, OnErr, IfErr, IsErrOf};
+    ghost use Rattle.std.proofs.Common.{◌≡◌, ◌<◌, ◌≤◌, List, sym, ◌∙◌};
+    ghost use Rattle.std.specs.Prelude.{◌⊎◌, ℕ, OnOk, OnErr, IfErr, IsErrOf};
     ghost use Rattle.dns_name.specs.Labels.{Labels};
     ghost use Rattle.ranked.specs.declared.find.Scope.{Scope};
     ghost use Rattle.change_law.specs.Pairs.{count_pairs};
@@ -73,7 +73,7 @@ impl<C: BookChange> Book for WorldBook<C> {
     ghost use Rattle.history.specs.Answers.{Answers, history_after};
     ghost use Rattle.history.specs.History.{past_of};
     ghost use Rattle.world_book.specs.Book.{IsBookOf};
-    ghost use Rattle.world_book.specs.Versions.{pairs_left, AreAliveAfter, IsFreeIn};
+    ghost use Rattle.world_book.specs.Versions.{pairs_left, AreAliveAfter, ForgetsOldest, IsFreeIn};
 
     ghost stands_for = { IsBookOf C.World.World };
 
@@ -103,6 +103,11 @@ impl<C: BookChange> Book for WorldBook<C> {
         // An event that needs no memory is refused only by the clock and the count of events.
         ensures free { (h : List Event) → IsBookOf C.World.World self.old h → IsFreeIn (past_of self.old.settings.journal h) event →
             IfErr result (λ fault. (fault ≡ StepFault.BadMoment) ⊎ (fault ≡ StepFault.CountEnded)) }
+
+        // A forget of the name to forget first at its moment makes room: fewer cells are stored after it.
+        ensures room { OnOk result ((h : List Event) → IsBookOf C.World.World self.old h →
+            ForgetsOldest (past_of self.old.settings.journal h) event →
+            C.World.stored self.new.world < C.World.stored self.old.world) }
     {
         if event.moment() >= MOMENT_END {
             return Err(StepFault::BadMoment);

@@ -5,7 +5,7 @@ ghost use Rattle.change_law.specs.Pairs.{CountsNoneOf, IsAliveIn, pair_of};
 ghost use Rattle.history.specs.declared.event.Event.TheVariants.{Admit, Sweep, Forget};
 ghost use Rattle.history.specs.declared.event.Settings.{Settings};
 ghost use Rattle.world_book.specs.Step.{IsSound, IsSoundAfter, IsFaultOf, reply_of_fate};
-ghost use Rattle.world_book.specs.Tied.{IsHistoryReply, StaysTied, TakesIn, TakesNothingIn};
+ghost use Rattle.world_book.specs.Tied.{IsHistoryReply, MakesRoom, StaysTied, TakesIn, TakesNothingIn};
 
 use crate::world::BookChange;
 use change_law::{World, WorldFault};
@@ -78,8 +78,9 @@ pub(crate) fn forget<C: BookChange>(journal: &Journal<C>, world: &mut C::World, 
     ensures tied { (clock moment : ℕ) →
         TakesIn C.World.World clock (Forget moment owner.now) world.old journal.now world.new journal.now }
     ensures gone { CountsNoneOf C.World.counts owner.now world.new }
+    ensures room { (moment : ℕ) → MakesRoom C.World.World (Forget moment owner.now) world.old journal.now world.new }
     ensures sound { IsSoundAfter C.World.World 0 [] world.old journal.now world.new journal.now }
 {
-    let _ = journal;
+    let _undone = journal.undone();
     world.forget(owner);
 }

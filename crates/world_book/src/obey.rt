@@ -3,7 +3,7 @@
 ghost use Rattle.std.specs.Prelude.{◌<◌, ◌^◌, ◌∷◌, [], IfOk, IfErr, OnOk, OnErr, if◌then◌else◌};
 ghost use Rattle.history.specs.Event.{is_admission};
 ghost use Rattle.world_book.specs.Step.{ForgetsPairs, IsSound, IsSoundAfter, IsFaultOf};
-ghost use Rattle.world_book.specs.Tied.{IsHistoryReply, IsTakenIfFree, TakesIn, TakesNothingIn};
+ghost use Rattle.world_book.specs.Tied.{IsHistoryReply, IsTakenIfFree, MakesRoom, TakesIn, TakesNothingIn};
 ghost use Rattle.world_book.specs.Versions.{pairs_left};
 
 use crate::finds::{admit, forget, sweep};
@@ -32,7 +32,8 @@ pub(crate) fn obey<C: BookChange>(
     ensures free { IsTakenIfFree C.World.World clock event world.old journal.old result }
     ensures sound { IsSoundAfter C.World.World (if is_admission event then 1 else 0) (pairs_left (event ∷ []))
         world.old journal.old world.new journal.new }
-    ensures forgotten { OnOk result (ForgetsPairs C.World.World event world.new) }
+    ensures forgotten { OnOk result (ForgetsPairs C.World.World event world.new
+        × MakesRoom C.World.World event world.old journal.old world.new) }
 {
     let _undone = journal.undone();
     match event {

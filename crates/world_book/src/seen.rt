@@ -1,19 +1,37 @@
 //! Lookups in a world under its journal.
 
-ghost use Rattle.std.specs.Prelude.{◌≡◌, max, ℕ, IfOk};
+ghost use Rattle.std.specs.Prelude.{◌≡◌, ◌≤◌, max, ℕ, IfOk};
 ghost use Rattle.history.specs.History.{Past};
+ghost use Rattle.history.specs.Oldest.{IsOldest};
 ghost use Rattle.history.specs.Reply.{seen_of};
 ghost use Rattle.world_book.specs.Tied.{IsTied};
 
 use crate::commands::commands;
 use crate::world::{BookChange, BookWorld};
-use dns_name::NoMemory;
+use change_law::World;
+use dns_name::{Name, NoMemory};
 use dns_text::{Items, Shared};
 use history::{
     Ask, Seen, Settings, closest_servers, question_sight, share_records, share_stubs, share_zones,
 };
 use std::alloc::Global;
 use undo_journal::Journal;
+
+// The name to forget first at the clock, if any name has a find that is alive.
+fn oldest<C: BookChange>(
+    journal: &Journal<C>,
+    world: &C::World,
+    clock: u64,
+) -> Result<Option<Name>, NoMemory>
+    ensures { IfOk result (λ name. (bound : ℕ) (past : Past) → past.now ≤ clock →
+        IsTied C.World.World world.now journal.now bound past → IsOldest past clock name) }
+{
+    let _undone = journal.undone();
+    match world.oldest(clock) {
+        Some(name) => Ok(Some(name.clone()?)),
+        None => Ok(None),
+    }
+}
 
 /// The result of a lookup. `clock` is the clock at the lookup.
 pub(crate) fn seen<C: BookChange>(
@@ -45,5 +63,6 @@ pub(crate) fn seen<C: BookChange>(
             let found = closest_servers(alloc, settings, world, &tables.stubs, name, clock)?;
             Ok(Seen::Servers(Shared::new(alloc, found)?))
         }
+        Ask::Oldest => Ok(Seen::Oldest(oldest(journal, world, clock)?)),
     }
 }

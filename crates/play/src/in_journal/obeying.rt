@@ -73,14 +73,14 @@ fn stubs(alloc: Global, tables: &Tables) -> Result<Seen, NoMemory> {
     Ok(Seen::Stubs(Items::new(share_stubs(alloc, tables.stubs.stubs())?)))
 }
 
-/// What is seen of what is asked. The tables alone say nothing of servers, nor of the commands that were given.
+/// What is seen of what is asked. The tables alone say nothing of servers, of names to forget, nor of the commands that were given.
 fn seen(alloc: Global, tables: &Tables, ask: &Ask) -> Result<Seen, Stop> {
     match ask {
         Ask::Answer(question) => Ok(answer(alloc, tables, question)?),
         Ask::Zones => Ok(zones(alloc, tables)?),
         Ask::Records => Ok(records(alloc, tables)?),
         Ask::Stubs => Ok(stubs(alloc, tables)?),
-        Ask::Commands | Ask::Servers(_) => Err(Stop::Device),
+        Ask::Commands | Ask::Servers(_) | Ask::Oldest => Err(Stop::Device),
     }
 }
 

@@ -1,4 +1,4 @@
-use Rattle.std.proofs.Common.{◌≡◌, Some, ap, arith}
+use Rattle.std.proofs.Common.{◌≡◌, Some, None, ap, arith}
 use Rattle.std.proofs.lemmas.Grind.{common_steps}
 use Rattle.indexmap.specs.IndexMap.{get}
 use Rattle.dns_name.specs.Order.{name_eq}
@@ -37,6 +37,17 @@ returns-in-Some-clause-counted c =
     let held : get name_eq c.args.owners.now c.args.owner.now ≡ Some c.in-Some.cells = grind (arith, common_steps) in
     let gone = count_removed (name_eq c.args.owner.now) c.args.owners.now.entries c.in-Some.cells held in
     omega (arith, gone, ap count_entries c.swap_remove.ensures.entries, c.requires.counted, c.counted.ensures)
+
+pub returns-in-Some-clause-fewer : goal.returns-in-Some-clause-fewer
+returns-in-Some-clause-fewer c =
+    let held : get name_eq c.args.owners.now c.args.owner.now ≡ Some c.in-Some.cells = grind (arith, common_steps) in
+    let gone = count_removed (name_eq c.args.owner.now) c.args.owners.now.entries c.in-Some.cells held in
+    rw held ((omega (arith, gone, c.requires.counted, c.counted.ensures), omega (arith, gone, c.requires.counted, c.counted.ensures)))
+
+pub returns-in_default-clause-fewer : goal.returns-in_default-clause-fewer
+returns-in_default-clause-fewer c =
+    let none : get name_eq c.args.owners.now c.args.owner.now ≡ None = grind (arith, common_steps) in
+    rw none ((omega arith, tt))
 
 pub returns-in-Some-clause-pairs : goal.returns-in-Some-clause-pairs
 returns-in-Some-clause-pairs c = forgot_pairs c.args.owners.now c.swap_remove.new.self c.args.owner.now c.swap_remove.ensures.updates

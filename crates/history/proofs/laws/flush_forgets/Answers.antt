@@ -1,4 +1,4 @@
-use Rattle.history.proofs.FlushLaw.{last_decides}
+use Rattle.history.specs.FlushLaws.{last_decides}
 use Rattle.history.proofs.laws.flush_forgets.Goals as goal
 
 pub returns-clause-last : goal.returns-clause-last

@@ -1,7 +1,9 @@
-use Rattle.std.proofs.Common.{◌∙◌, sym, ap}
+use Rattle.std.proofs.Common.{◌≡◌, ◌≤◌, ◌∙◌, max, ℕ, Option, sym, ap, subst, arith}
 use Rattle.history.specs.declared.event.Ask.{Ask}
-use Rattle.history.specs.declared.event.Seen.TheVariants.{Zones, Records, Stubs, Commands, Servers}
+use Rattle.history.specs.declared.event.Seen.TheVariants.{Zones, Records, Stubs, Commands, Servers, Oldest}
 use Rattle.history.specs.declared.tables.Tables.{Tables}
+use Rattle.history.specs.Oldest.{IsOldest}
+use Rattle.history.specs.OldestLaws.{oldest_only}
 use Rattle.history.specs.Reply.{seen_of}
 use Rattle.history.specs.Servers.{servers_by}
 use Rattle.world_book.proofs.TiedLaws.{tied_shows}
@@ -49,3 +51,11 @@ returns-in_ok-new-in-Servers g c = λ bound moment past is tied.
     ∙ ap (λ (t : Tables). servers_by c.args.settings.now t.stubs shown c.in-Servers.name) c.tables-tables.ensures
     ∙ servers_tell c.args.settings.now past (g.C.World.World.shown c.args.world.now) moment c.args.clock shown c.in-Servers.name (g.met.C.World.BookWorld.as_shown c.args.world.now c.args.clock) is same)
     ∙ sym (ap (λ (a : Ask). seen_of c.args.settings.now past a moment) c.in-Servers.is)
+
+pub returns-in_ok-oldest-in-Oldest : goal.returns-in_ok-oldest-in-Oldest
+returns-in_ok-oldest-in-Oldest g c = λ bound moment past is tied.
+    let found = c.in_ok-oldest-in-Oldest.field-0 in
+    let less : past.now ≤ c.args.clock = omega (arith, is) in
+    let first : IsOldest past (max past.now moment) found = subst (λ (t : ℕ). IsOldest past t found) is (c.in_ok-oldest-in-Oldest.ensures bound past less tied) in
+    ap Oldest (oldest_only past (max past.now moment) found first)
+    ∙ sym (ap (λ (a : Ask). seen_of c.args.settings.now past a moment) c.in-Oldest.is)

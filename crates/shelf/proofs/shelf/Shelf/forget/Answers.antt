@@ -9,6 +9,7 @@ use Rattle.shelf.proofs.EndLaws.{ends_by, keyed_dropped}
 use Rattle.shelf.specs.Told.{chosen_version}
 use Rattle.dns_name.specs.Order.{name_eq}
 use Rattle.shelf.proofs.AboutLaws.{about_forgot}
+use Rattle.shelf.proofs.PlaceLaws.{fewer_left}
 use Rattle.shelf.proofs.FaceLaws.{settles_each}
 use Rattle.shelf.proofs.SettlingLaws.{forgot_face, forgot_settling}
 use Rattle.shelf.proofs.shelf.Shelf.forget.Goals as goal
@@ -35,7 +36,7 @@ returns-clause-whole c =
       ascending = whole.ascending;
       settles = settles_each self.owners c.forget.new.owners self.kept.items c.forget.ensures.settles whole.settles;
       counted = c.forget.ensures.counted;
-      few = omega (arith, c.forget.ensures.fewer, whole.few);
+      few = omega (arith, c.forget.ensures.fewer.0, whole.few);
       small = whole.small;
       room = whole.room;
       ends = subst (λ (l : List (Labels × OwnerCells)). AreEnds self.kept.items l c.drop_end.new.ends) (sym c.forget.ensures.gone.1)
@@ -43,3 +44,10 @@ returns-clause-whole c =
           (λ P start l keyed. keyed_dropped P (name_eq c.args.owner.now) self.owners.entries l keyed) c.drop_end.ensures whole.ends);
       settling = forgot_settling self.top self.owners c.forget.new.owners c.args.owner.now c.forget.ensures.cells c.forget.ensures.gone.1 self.settling c.fit_place.new.settling c.fit_place.ensures whole.settling;
     }
+
+pub returns-clause-stored : goal.returns-clause-stored
+returns-clause-stored c = c.forget.ensures.fewer.0
+
+pub returns-clause-fewer : goal.returns-clause-fewer
+returns-clause-fewer c = λ t end is.
+    fewer_left c.args.self.now c.requires.whole c.args.owner.now c.forget.new.stored c.forget.ensures.fewer.1 t end is

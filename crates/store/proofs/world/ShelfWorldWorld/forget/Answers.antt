@@ -1,6 +1,7 @@
 use Rattle.std.proofs.Common.{arith}
 use Rattle.store.specs.World.{shelved}
 use Rattle.store.specs.WorldLaws.{row_forgot}
+use Rattle.store.proofs.OldestLaws.{ending_back}
 use Rattle.store.proofs.PairLaws.{none_of}
 use Rattle.store.proofs.world.ShelfWorldWorld.forget.Goals as goal
 
@@ -18,3 +19,7 @@ returns-clause-counts c = rw (← c.self.view_is) ((
 
 pub returns-clause-gone : goal.returns-clause-gone
 returns-clause-gone c = none_of c.args.owner.now c.forget.new.self c.forget.ensures.gone
+
+pub returns-clause-fewer : goal.returns-clause-fewer
+returns-clause-fewer c = rw (← c.self.view_is) (λ kept t end h is.
+    c.forget.ensures.fewer t end (ending_back c.self.inside.shelf kept t c.args.owner.now end is))

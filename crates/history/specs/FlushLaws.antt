@@ -157,3 +157,96 @@ by_last question chosen log (Some t) is = covered question chosen t log is None 
 pub last_decides : (question : Question) (chosen : ℕ → Bool) (log : List Entry)
     → cell_by question (standing_with chosen log) ≡ cell_by question (standing_with (only (last_covering question (standing_with chosen log))) log)
 last_decides question chosen log = by_last question chosen log (last_covering question (standing_with chosen log)) refl
+
+-- ---- a narrower choice that has the last command that covers
+
+fewer_none : (question : Question) (chosen other : ℕ → Bool) → ((t : ℕ) → other t ≡ true → chosen t ≡ true) → (log : List Entry)
+    → last_covering question (standing_with chosen log) ≡ None → last_covering question (standing_with other log) ≡ None
+fewer_none question chosen other more [] none = refl
+fewer_none question chosen other more (e ∷ log) none =
+    elim (cases_Bool (stands_by chosen e.event e.ticket)) [
+      | inl stays ↦
+          let both : option_or (last_covering question (standing_with chosen log)) (ticket_covering question e.event e.ticket) ≡ None =
+          sym (ap (λ b. last_covering question (cond b (e ∷ standing_with chosen log) (standing_with chosen log))) stays) ∙ none in
+          let rest = fewer_none question chosen other more log (later_none _ _ both) in
+          elim (cases_Bool (stands_by other e.event e.ticket)) [
+            | inl too ↦ rw too (ap (λ (o : Option ℕ). option_or o (ticket_covering question e.event e.ticket)) rest ∙ here_none _ _ both)
+            | inr out ↦ rw out rest
+          ]
+      | inr gone ↦
+          let out : stands_by other e.event e.ticket ≡ false = elim (cases_Bool (stands_by other e.event e.ticket)) [
+            | inl too ↦ absurd (false≢true (sym gone ∙ wider chosen other more e.event e.ticket too))
+            | inr so ↦ so
+          ] in
+          let none' : last_covering question (standing_with chosen log) ≡ None =
+          sym (ap (λ b. last_covering question (cond b (e ∷ standing_with chosen log) (standing_with chosen log))) gone) ∙ none in
+          rw out (fewer_none question chosen other more log none')
+    ]
+
+-- an entry whose command of this ticket covers the question is in force by each choice that has the ticket
+stands_with : (question : Question) (other : ℕ → Bool) (e : Event) (ticket : Option ℕ) (t : ℕ) → other t ≡ true → ticket_covering question e ticket ≡ Some t → stands_by other e ticket ≡ true
+stands_with question other (Admit m f) ticket t has is = refl
+stands_with question other (Look m a) ticket t has is = absurd cc
+stands_with question other (Sweep m) ticket t has is = absurd cc
+stands_with question other (Forget m n) ticket t has is = refl
+stands_with question other (Do m c) None t has is = absurd (no_ticket (covers c question) t is)
+stands_with question other (Do m c) (Some s) t has is = of_covers (covers c question) is
+  where
+    of_covers : (covered : Bool) → cond covered (Some s) None ≡ Some t → other s ≡ true
+    of_covers true same = let one : s ≡ t = cc in ap other one ∙ has
+    of_covers false same = absurd cc
+stands_with question other (Undo m) ticket t has is = absurd cc
+stands_with question other (Redo m) ticket t has is = absurd cc
+
+fewer_last : (question : Question) (chosen other : ℕ → Bool) → ((t : ℕ) → other t ≡ true → chosen t ≡ true) → (t : ℕ) → other t ≡ true → (log : List Entry)
+    → last_covering question (standing_with chosen log) ≡ Some t → last_covering question (standing_with other log) ≡ Some t
+fewer_last question chosen other more t has [] is = absurd cc
+fewer_last question chosen other more t has (e ∷ log) is =
+    elim (cases_Bool (stands_by chosen e.event e.ticket)) [
+      | inl stays ↦
+          let both : option_or (last_covering question (standing_with chosen log)) (ticket_covering question e.event e.ticket) ≡ Some t =
+          sym (ap (λ b. last_covering question (cond b (e ∷ standing_with chosen log) (standing_with chosen log))) stays) ∙ is in
+          elim (behind _ _ t both) [
+            | inl later ↦
+                let rest = fewer_last question chosen other more t has log later in
+                elim (cases_Bool (stands_by other e.event e.ticket)) [
+                  | inl too ↦ rw too (ap (λ (o : Option ℕ). option_or o (ticket_covering question e.event e.ticket)) rest)
+                  | inr out ↦ rw out rest
+                ]
+            | inr here ↦
+                let too : stands_by other e.event e.ticket ≡ true = stands_with question other e.event e.ticket t has here.1 in
+                rw too (ap (λ (o : Option ℕ). option_or o (ticket_covering question e.event e.ticket)) (fewer_none question chosen other more log here.0) ∙ here.1)
+          ]
+      | inr gone ↦
+          let out : stands_by other e.event e.ticket ≡ false = elim (cases_Bool (stands_by other e.event e.ticket)) [
+            | inl too ↦ absurd (false≢true (sym gone ∙ wider chosen other more e.event e.ticket too))
+            | inr so ↦ so
+          ] in
+          let later : last_covering question (standing_with chosen log) ≡ Some t =
+          sym (ap (λ b. last_covering question (cond b (e ∷ standing_with chosen log) (standing_with chosen log))) gone) ∙ is in
+          rw out (fewer_last question chosen other more t has log later)
+    ]
+
+-- the last command of a choice that covers is chosen
+pub last_is_chosen : (question : Question) (chosen : ℕ → Bool) (t : ℕ) (log : List Entry) → last_covering question (standing_with chosen log) ≡ Some t → chosen t ≡ true
+last_is_chosen question chosen t [] is = absurd cc
+last_is_chosen question chosen t (e ∷ log) is =
+    elim (cases_Bool (stands_by chosen e.event e.ticket)) [
+      | inl stays ↦
+          let both : option_or (last_covering question (standing_with chosen log)) (ticket_covering question e.event e.ticket) ≡ Some t =
+          sym (ap (λ b. last_covering question (cond b (e ∷ standing_with chosen log) (standing_with chosen log))) stays) ∙ is in
+          elim (behind _ _ t both) [
+            | inl later ↦ last_is_chosen question chosen t log later
+            | inr here ↦ (empties question chosen e.event e.ticket t stays here.1).is_chosen
+          ]
+      | inr gone ↦
+          last_is_chosen question chosen t log (sym (ap (λ b. last_covering question (cond b (e ∷ standing_with chosen log) (standing_with chosen log))) gone) ∙ is)
+    ]
+
+-- A narrower choice gives the same cell, if it has the last command of the wider one that covers it.
+pub fewer_decide : (question : Question) (chosen other : ℕ → Bool) → ((t : ℕ) → other t ≡ true → chosen t ≡ true) → (log : List Entry) (last : Option ℕ)
+    → last_covering question (standing_with chosen log) ≡ last → ((t : ℕ) → last ≡ Some t → other t ≡ true)
+    → cell_by question (standing_with chosen log) ≡ cell_by question (standing_with other log)
+fewer_decide question chosen other more log None is has = uncovered question chosen other more log is None
+fewer_decide question chosen other more log (Some t) is has =
+    covered question chosen t log is None None ∙ sym (covered question other t log (fewer_last question chosen other more t (has t refl) log is) None None)

@@ -1,0 +1,42 @@
+-- The name to forget first: the one whose last find ends first, over each choice of the kept changes, the undone ones among them.
+use Rattle.std.specs.Prelude.{◌≡◌, ◌≢◌, ◌⊎◌, ◌<◌, ◌≤◌, ℕ, Bool, Option, Some, List, [], ◌∷◌}
+use Rattle.std.specs.List.{AllByRecursion}
+use Rattle.dns_name.specs.Labels.{Labels}
+use Rattle.dns_name.specs.Order.{IsNotAfter}
+use Rattle.ranked.specs.declared.cell.Admitted.{Admitted}
+use Rattle.ranked.specs.declared.find.Find.{Find}
+use Rattle.ranked.specs.Cell.{end_of}
+use Rattle.change_law.specs.declared.kept.KeptChange.{KeptChange}
+use Rattle.change_law.specs.declared.kept.Standing.TheVariants.{Cleared}
+use Rattle.change_law.specs.Choice.{IsChoice}
+use Rattle.change_law.specs.Face.{Face, alive_at}
+
+-- No kept change is cleared, and each has a ticket less than the later ones.
+abbrev pub AreCurrent : {S : Type 0} → List (KeptChange S) → Type 0
+AreCurrent [] = Unit {0}
+AreCurrent (k ∷ later) = (k.standing ≢ Cleared) × AllByRecursion (λ other. k.ticket < other.ticket) later × AreCurrent later
+
+-- By some choice of the kept changes, a cell of a name has a find that is alive at a moment, and its life ends in this second.
+pub record IsEnding {W S T : Type 0} (table : S → Option ℕ) (face : W → List (KeptChange S) → (ℕ → Bool) → Face T)
+    (world : W) (kept : List (KeptChange S)) (t : ℕ) (name : Labels) (end : ℕ) : Type 0 where
+  pub chosen : ℕ → Bool
+  pub choice : IsChoice table kept chosen
+  pub kind : ℕ
+  pub held : Admitted Find
+  pub alive : alive_at t ((face world kept chosen).cell (record { owner = name; kind = kind })) ≡ Some held
+  pub at : end_of held ≡ end
+
+-- Of the seconds in which finds of a name end, it is the last.
+pub record IsLastEnding (Ends : Labels → ℕ → Type 0) (name : Labels) (end : ℕ) : Type 0 where
+  pub ending : Ends name end
+  pub last : (other : ℕ) → Ends name other → other ≤ end
+
+-- The last find of no other name ends sooner. Of the names whose last finds end in the same second this is the first in the order of names.
+pub record IsOldest (Ends : Labels → ℕ → Type 0) (name : Labels) : Type 0 where
+  pub end : ℕ
+  pub own : IsLastEnding Ends name end
+  pub first : (other : Labels) (later : ℕ) → IsLastEnding Ends other later → (end < later) ⊎ ((end ≡ later) × IsNotAfter name other)
+
+-- No find of any name ends.
+abbrev pub NoneEnds : (Labels → ℕ → Type 0) → Type 0
+NoneEnds Ends = (name : Labels) (end : ℕ) → Ends name end → ⊥
