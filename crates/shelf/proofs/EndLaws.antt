@@ -1,5 +1,5 @@
 -- The moments before which names need no sweep, when names come, go and change.
-use Rattle.std.proofs.Common.{◌≡◌, ℕ, zero, suc, ◌+◌, ◌-◌, ◌<◌, ◌≤◌, Bool, true, false, cond, Option, Some, None, List, [], ◌∷◌, ◌++◌, length, take, get_or, refl, sym, ap, ◌∙◌, subst, arith, ◌⊎◌, inl, inr}
+use Rattle.std.proofs.Common.{◌≡◌, ℕ, ◌+◌, ◌-◌, ◌<◌, ◌≤◌, Bool, true, false, cond, Option, Some, None, List, [], ◌∷◌, ◌++◌, length, take, get_or, refl, sym, ap, ◌∙◌, subst, arith, ◌⊎◌, inl, inr}
 use Rattle.std.specs.Prelude.{◌==◌, ◌||◌, ◌&&◌, nat_lt, Result, Ok, Err, OnOk, OnErr, IfSome, slice_get, replicate, position, swap_remove}
 use Rattle.std.specs.List.{list_any, position_or_len}
 use Rattle.std.specs.Map.{keys_of}
@@ -13,6 +13,7 @@ use Rattle.std.proofs.lemmas.Option.{slice_get_past}
 use Rattle.std.proofs.lemmas.Bool.Decides.{nat_tests}
 use Rattle.indexmap.specs.IndexMap.{swap_remove_entry}
 use Rattle.dns_name.specs.Labels.{Labels}
+use Rattle.dns_name.specs.Order.{name_eq}
 use Rattle.dns_text.specs.declared.record.Question.{Question}
 use Rattle.cell_store.specs.declared.owner.OwnerCells.{OwnerCells}
 use Rattle.cell_store.specs.Store.{cell_of, name_place, AreAbout, AreSameCells, AreUpTo, StayBut}
@@ -29,58 +30,12 @@ use Rattle.shelf.specs.declared.shelf.Shelf.{Shelf}
 use Rattle.shelf.specs.declared.shelf.KeptFlush.{KeptFlush}
 use Rattle.shelf.specs.Kept.{is_kept, is_version}
 use Rattle.shelf.specs.Clean.{dropped, evens, fitted, touched, AreBy, AreEnds, AreEvened, AreKeyed, IsClean, IsEnd}
+use Rattle.shelf.specs.Lasts.{last_at, AreLow, AreWinners, IsShaped}
 use Rattle.shelf.specs.declared.ends.Ends.{Ends}
-
--- ---- lists
-
-pub same_or : (a b : ℕ) → (a ≡ b) ⊎ (a ≡ b → ⊥)
-same_or a b = grind arith
-
-pub lt_or : (a b : ℕ) → (a < b) ⊎ (b ≤ a)
-lt_or a b = grind arith
-
-pub always_some : {A : Type 0} (P : A → Type 0) (o : Option A) → ((a : A) → P a) → IfSome o P
-always_some P None all = tt
-always_some P (Some a) all = all a
-
-pub some_map : {A : Type 0} (P Q : A → Type 0) (o : Option A) → ((a : A) → P a → Q a) → IfSome o P → IfSome o Q
-some_map P Q None step is = tt
-some_map P Q (Some a) step is = step a is
-
-pub get_take : {X : Type 0} (m : ℕ) (xs : List X) (j : ℕ) → j < m → slice_get (take m xs) j ≡ slice_get xs j
-get_take zero xs j low = absurd (omega arith)
-get_take (suc m) [] j low = refl
-get_take (suc m) (x ∷ xs) zero low = refl
-get_take (suc m) (x ∷ xs) (suc j) low = get_take m xs j (omega arith)
-
-pub get_set_same : {X : Type 0} (xs : List X) (i : ℕ) (x : X) → i < length xs → slice_get (set xs i x) i ≡ Some x
-get_set_same [] i x low = absurd (omega arith)
-get_set_same (y ∷ xs) zero x low = refl
-get_set_same (y ∷ xs) (suc i) x low = get_set_same xs i x (omega arith)
-
-pub get_set_other : {X : Type 0} (xs : List X) (i j : ℕ) (x : X) → (j ≡ i → ⊥) → slice_get (set xs i x) j ≡ slice_get xs j
-get_set_other [] i j x off = refl
-get_set_other (y ∷ xs) zero zero x off = absurd (off refl)
-get_set_other (y ∷ xs) zero (suc j) x off = refl
-get_set_other (y ∷ xs) (suc i) zero x off = refl
-get_set_other (y ∷ xs) (suc i) (suc j) x off = get_set_other xs i j x (λ e. off (ap suc e))
-
-pub get_some : {X : Type 0} (xs : List X) (i : ℕ) (d : X) → i < length xs → slice_get xs i ≡ Some (get_or xs i d)
-get_some [] i d low = absurd (omega arith)
-get_some (x ∷ xs) zero d low = refl
-get_some (x ∷ xs) (suc i) d low = get_some xs i d (omega arith)
-
-append_zero : (xs : List ℕ) (i : ℕ) → get_or (xs ++ 0 ∷ []) i 0 ≡ get_or xs i 0
-append_zero [] zero = refl
-append_zero [] (suc i) = refl
-append_zero (x ∷ xs) zero = refl
-append_zero (x ∷ xs) (suc i) = append_zero xs i
-
-set_zero : (xs : List ℕ) (i : ℕ) → get_or (set xs i 0) i 0 ≡ 0
-set_zero xs i = elim (lt_or i (length xs)) [
-  | inl low ↦ get_or-set_same xs i 0 0 low
-  | inr high ↦ get_or_past (set xs i 0) i 0 (omega (arith, length-set xs i 0, high))
-]
+use Rattle.shelf.specs.declared.lasts.Lasts.{Lasts}
+use Rattle.shelf.proofs.LowLaws.{low_dropped, low_kept, low_lasts, low_still, AreStill}
+use Rattle.shelf.proofs.ListLaws.{always_some, append_zero, get_set_other, get_set_same, get_some, get_take, lt_or, same_or, set_zero, some_map}
+use Rattle.shelf.proofs.WinnerLaws.{same_size, winners_named, winners_same}
 
 -- ---- a name that is to be visited
 
@@ -127,6 +82,34 @@ fit_touched n place ends size = split (nat_lt place (length ends)) refl size
     split false high (inl same) = subst (λ m. IsFit m (ends ++ 0 ∷ [])) (sym same) (fit_less ends)
     split false high (inr more) = fit_same n (ends ++ 0 ∷ []) (length-append ends (0 ∷ []) ∙ sym more.1)
 
+-- one name may have changed, or have come: there is a moment for each name
+fit_stay : (name : Labels) (old new : List (Labels × OwnerCells)) (ends : List ℕ) → length ends ≡ length old → StayBut name old new → IsFit (length new) (touched (name_place name old) ends)
+fit_stay name old new ends own stay = fit_touched (length new) (name_place name old) ends (sizes stay.size)
+  where
+    sizes : (length new ≡ length old) ⊎ ((name_place name old ≡ length old) × (length new ≡ length old + 1)) → (length new ≡ length ends) ⊎ ((name_place name old ≡ length ends) × (length new ≡ length ends + 1))
+    sizes (inl same) = inl (same ∙ sym own)
+    sizes (inr more) = inr (more.0 ∙ sym own, more.1 ∙ ap (λ n. n + 1) (sym own))
+
+-- ---- each name is to be visited, or is as it was
+
+still_touched : (name : Labels) (old new : List (Labels × OwnerCells)) (ends : List ℕ) → length ends ≡ length old → StayBut name old new → AreStill old new ends (fitted (length new) (touched (name_place name old) ends))
+still_touched name old new ends own stay i = elim (same_or i (name_place name old)) [
+  | inl here ↦ inl (fits.same i ∙ (ap (λ n. get_or (touched (name_place name old) ends) n 0) here ∙ touched_here (name_place name old) ends))
+  | inr away ↦ inr (stay.others i away, fits.same i ∙ touched_other (name_place name old) ends i away)
+]
+  where
+    fits : IsFit (length new) (touched (name_place name old) ends)
+    fits = fit_stay name old new ends own stay
+
+still_set : (old new : List (Labels × OwnerCells)) (ends : List ℕ) (place : ℕ) → ((i : ℕ) → (i ≡ place → ⊥) → slice_get new i ≡ slice_get old i) → AreStill old new ends (set ends place 0)
+still_set old new ends place others i = elim (same_or i place) [
+  | inl here ↦ inl (ap (λ n. get_or (set ends place 0) n 0) here ∙ set_zero ends place)
+  | inr away ↦ inr (others i away, get_or-set_other ends place i 0 0 away)
+]
+
+zero_at : (n i : ℕ) → ◌≡◌ {A = ℕ} (get_or (replicate n 0) i 0) 0
+zero_at n i = elim (lt_or i n) [ inl low ↦ get_or-replicate n i 0 0 low | inr high ↦ get_or_past (replicate n 0) i 0 (omega (arith, high, length-replicate {A = ℕ} n 0)) ]
+
 -- ---- any relation that holds at moment 0
 
 module _ (P : Labels × OwnerCells → ℕ → Type 0) where
@@ -150,12 +133,8 @@ module _ (P : Labels × OwnerCells → ℕ → Type 0) where
       place : ℕ
       place = name_place name old
 
-      sizes : (length new ≡ length old) ⊎ ((name_place name old ≡ length old) × (length new ≡ length old + 1)) → (length new ≡ length ends) ⊎ ((place ≡ length ends) × (length new ≡ length ends + 1))
-      sizes (inl same) = inl (same ∙ sym keyed.size)
-      sizes (inr more) = inr (more.0 ∙ sym keyed.size, more.1 ∙ ap (λ n. n + 1) (sym keyed.size))
-
       fits : IsFit (length new) (touched place ends)
-      fits = fit_touched (length new) place ends (sizes stay.size)
+      fits = fit_stay name old new ends keyed.size stay
 
   -- one name may have changed
   pub keyed_reset : ((e : Labels × OwnerCells) → P e 0) → (name : Labels) (old new : List (Labels × OwnerCells)) (ends : List ℕ) → AreKeyed P old ends → StayBut name old new → length new ≡ length old
@@ -235,8 +214,7 @@ module _ (P : Labels × OwnerCells → ℕ → Type 0) where
   pub keyed_zero : ((e : Labels × OwnerCells) → P e 0) → (entries : List (Labels × OwnerCells)) (n : ℕ) → n ≡ length entries → AreKeyed P entries (replicate n 0)
   keyed_zero start entries n size = record {
     size = length-replicate n 0 ∙ size;
-    each = λ i. put_zero (slice_get entries i) _ start
-        (elim (lt_or i n) [ inl low ↦ get_or-replicate n i 0 0 low | inr high ↦ get_or_past (replicate n 0) i 0 (omega (arith, high, length-replicate {A = ℕ} n 0)) ]);
+    each = λ i. put_zero (slice_get entries i) _ start (zero_at n i);
   }
 
 pub keyed_map : (P Q : Labels × OwnerCells → ℕ → Type 0) → ((e : Labels × OwnerCells) (n : ℕ) → P e n → Q e n) → (entries : List (Labels × OwnerCells)) (ends : List ℕ) → AreKeyed P entries ends → AreKeyed Q entries ends
@@ -265,24 +243,39 @@ keyed_kept kept more step entries ends keyed = keyed_map (IsEnd kept) (IsEnd mor
 
 pub ends_kept : (kept more : List KeptFlush) → ((q : Question) (v : ℕ) → is_version kept q v ≡ true → is_version more q v ≡ true) → (entries : List (Labels × OwnerCells)) (ends : Ends)
     → AreEnds kept entries ends → AreEnds more entries ends
-ends_kept kept more step entries ends is = record { now = keyed_kept kept more step entries ends.moments is.now; ever = is.ever; flags = is.flags }
+ends_kept kept more step entries ends is = record {
+  now = keyed_kept kept more step entries ends.moments is.now;
+  ever = is.ever;
+  flags = is.flags;
+  low = low_kept kept more step entries ends.moments ends.lasts.ends.items is.low;
+  low_ever = is.low_ever;
+  winners = is.winners;
+}
 
--- each list of moments has changed alike
+-- the moments have changed in a way, and the seconds
+pub low_by : (kept : List KeptFlush) (entries : List (Labels × OwnerCells)) (f g : List ℕ → List ℕ) (was ends lasts more : List ℕ) → ends ≡ f was → more ≡ g lasts → AreLow kept entries (f was) (g lasts) → AreLow kept entries ends more
+low_by kept entries f g was ends lasts more moments same is =
+    subst (λ (l : List ℕ). AreLow kept entries l more) (sym moments) (subst (λ (l : List ℕ). AreLow kept entries (f was) l) (sym same) is)
+
+-- each list of moments has changed alike, and each name that is not to be visited is as it was
 pub ends_by : (kept : List KeptFlush) (old new : List (Labels × OwnerCells)) (f : List ℕ → List ℕ) (was ends : Ends)
-    → ((P : Labels × OwnerCells → ℕ → Type 0) → ((e : Labels × OwnerCells) → P e 0) → (l : List ℕ) → AreKeyed P old l → AreKeyed P new (f l)) → AreBy f was ends → AreEnds kept old was → AreEnds kept new ends
-ends_by kept old new f was ends step by is = record {
+    → ((P : Labels × OwnerCells → ℕ → Type 0) → ((e : Labels × OwnerCells) → P e 0) → (l : List ℕ) → AreKeyed P old l → AreKeyed P new (f l)) → ((l : List ℕ) → length l ≡ length old → AreStill old new l (f l))
+    → keys_of new ≡ keys_of old → AreBy f was ends → AreEnds kept old was → AreEnds kept new ends
+ends_by kept old new f was ends step still names by is = record {
   now = subst (λ (l : List ℕ). AreKeyed (IsEnd kept) new l) (sym by.moments) (step (IsEnd kept) (end_zero kept) was.moments is.now);
   ever = subst (λ (l : List ℕ). AreKeyed (IsEnd []) new l) (sym by.unmixed) (step (IsEnd []) (end_zero []) (evens was) is.ever);
   flags = by.flags;
+  low = low_by kept new f (λ l. l) was.moments ends.moments was.lasts.ends.items ends.lasts.ends.items by.moments by.lasts.0
+      (low_still kept old new was.moments (f was.moments) was.lasts.ends.items (still was.moments is.now.size) is.low);
+  low_ever = low_by [] new f (λ l. l) (evens was) (evens ends) was.lasts.ends.items ends.lasts.ends.items by.unmixed by.lasts.0
+      (low_still [] old new (evens was) (f (evens was)) was.lasts.ends.items (still (evens was) is.ever.size) is.low_ever);
+  winners = winners_same new was.lasts ends.lasts by.lasts (winners_named old new was.lasts names is.winners);
 }
 
--- the oldest flush has gone: every name is to be visited
-pub ends_zero : (kept more : List KeptFlush) (old new : List (Labels × OwnerCells)) (was ends : Ends) → AreEnds kept old was → length new ≡ length old → AreBy (λ l. replicate (length l) 0) was ends → AreEnds more new ends
-ends_zero kept more old new was ends is size by = record {
-  now = subst (λ (l : List ℕ). AreKeyed (IsEnd more) new l) (sym by.moments) (keyed_zero (IsEnd more) (end_zero more) new (length was.moments) (is.now.size ∙ sym size));
-  ever = subst (λ (l : List ℕ). AreKeyed (IsEnd []) new l) (sym by.unmixed) (keyed_zero (IsEnd []) (end_zero []) new (length (evens was)) (is.ever.size ∙ sym size));
-  flags = by.flags;
-}
+-- every name is to be visited
+pub ends_zero : (kept : List KeptFlush) (entries : List (Labels × OwnerCells)) (was ends : Ends) → AreEnds kept entries was → AreBy (λ l. replicate (length l) 0) was ends → AreEnds kept entries ends
+ends_zero kept entries was ends is by = ends_by kept entries entries (λ l. replicate (length l) 0) was ends
+    (λ P start l keyed. keyed_zero P start entries (length l) keyed.size) (λ l size i. inl (zero_at (length l) i)) refl by is
 
 or_false : (a b : Bool) → (a || false) ≡ true → (a || b) ≡ true
 or_false true b is = refl
@@ -294,6 +287,10 @@ ends_mixed kept more entries was ends is by = record {
   now = subst (λ (l : List ℕ). AreKeyed (IsEnd more) entries l) (sym by.moments) (keyed_kept [] more (λ q v there. or_false (v == 0) (is_kept more q v) there) entries (evens was) is.ever);
   ever = subst (λ (l : List ℕ). AreKeyed (IsEnd []) entries l) (sym by.unmixed) is.ever;
   flags = by.flags;
+  low = low_by more entries (λ l. l) (λ l. l) (evens was) ends.moments was.lasts.ends.items ends.lasts.ends.items by.moments by.lasts.0
+      (low_kept [] more (λ q v there. or_false (v == 0) (is_kept more q v) there) entries (evens was) was.lasts.ends.items is.low_ever);
+  low_ever = low_by [] entries (λ l. l) (λ l. l) (evens was) (evens ends) was.lasts.ends.items ends.lasts.ends.items by.unmixed by.lasts.0 is.low_ever;
+  winners = winners_same entries was.lasts ends.lasts by.lasts is.winners;
 }
 
 or_more : (a b c : Bool) → (a || b) ≡ true → (a || (b || c)) ≡ true
@@ -309,13 +306,18 @@ version_more kept own q v there =
 -- a name has changed, and is to be visited
 pub ends_reset : (kept : List KeptFlush) (name : Labels) (old new : List (Labels × OwnerCells)) (was ends : Ends) → AreEnds kept old was → StayBut name old new → length new ≡ length old
     → AreBy (λ l. set l (name_place name old) 0) was ends → AreEnds kept new ends
-ends_reset kept name old new was ends is stay size by = ends_by kept old new (λ l. set l (name_place name old) 0) was ends (λ P start l keyed. keyed_reset P start name old new l keyed stay size) by is
+ends_reset kept name old new was ends is stay size by = ends_by kept old new (λ l. set l (name_place name old) 0) was ends
+    (λ P start l keyed. keyed_reset P start name old new l keyed stay size) (λ l long. still_set old new l (name_place name old) stay.others) (names stay.names) by is
+  where
+    names : (keys_of new ≡ keys_of old) ⊎ (keys_of new ≡ keys_of old ++ name ∷ []) → keys_of new ≡ keys_of old
+    names (inl same) = same
+    names (inr more) = absurd (omega (arith, size, length-keys_of new, length-keys_of old, ap length more, length-append (keys_of old) (name ∷ [])))
 
 -- the name at a place has changed, and is to be visited
-pub ends_put : (kept : List KeptFlush) (old new : List (Labels × OwnerCells)) (was ends : Ends) (place : ℕ) → AreEnds kept old was → ((i : ℕ) → (i ≡ place → ⊥) → slice_get new i ≡ slice_get old i) → length new ≡ length old → place < length old
+pub ends_put : (kept : List KeptFlush) (old new : List (Labels × OwnerCells)) (was ends : Ends) (place : ℕ) → AreEnds kept old was → ((i : ℕ) → (i ≡ place → ⊥) → slice_get new i ≡ slice_get old i) → keys_of new ≡ keys_of old → place < length old
     → AreBy (λ l. set l place 0) was ends → AreEnds kept new ends
-ends_put kept old new was ends place is others size low by =
-    ends_by kept old new (λ l. set l place 0) was ends (λ P start l keyed. keyed_set P old new l place 0 keyed others size low (always_some (λ e. P e 0) (slice_get new place) start)) by is
+ends_put kept old new was ends place is others names low by = ends_by kept old new (λ l. set l place 0) was ends
+    (λ P start l keyed. keyed_set P old new l place 0 keyed others (same_size old new names) low (always_some (λ e. P e 0) (slice_get new place) start)) (λ l long. still_set old new l place others) names by is
 
 -- a flush was made
 pub reset_ends : (shelf : Shelf) (owners : IndexMap Labels OwnerCells NameSeed) (flush : Flush) (ends : Ends) → AreEnds shelf.kept.items shelf.owners.entries shelf.ends → StayBut flush.name shelf.owners.entries owners.entries
@@ -323,16 +325,83 @@ pub reset_ends : (shelf : Shelf) (owners : IndexMap Labels OwnerCells NameSeed) 
 reset_ends shelf owners flush ends is stay size by = ends_reset shelf.kept.items flush.name shelf.owners.entries owners.entries shelf.ends ends is stay size by
 
 by_twice : (f g : List ℕ → List ℕ) (a b c : Ends) → AreBy f a b → AreBy g b c → AreBy (λ l. g (f l)) a c
-by_twice f g a b c first then = record { moments = then.moments ∙ ap g first.moments; unmixed = then.unmixed ∙ ap g first.unmixed; flags = then.flags }
+by_twice f g a b c first then = record {
+  moments = then.moments ∙ ap g first.moments;
+  unmixed = then.unmixed ∙ ap g first.unmixed;
+  flags = then.flags;
+  lasts = (then.lasts.0 ∙ first.lasts.0, then.lasts.1 ∙ first.lasts.1);
+}
 
 -- a find was admitted, or refused
-pub held_ends : (shelf : Shelf) (owners : IndexMap Labels OwnerCells NameSeed) (find lent : Find) (middle ends : Ends) → AreEnds shelf.kept.items shelf.owners.entries shelf.ends → StayBut find.owner shelf.owners.entries owners.entries → lent ≡ find
-    → AreBy (touched (name_place lent.owner shelf.owners.entries)) shelf.ends middle → AreBy (fitted (length owners.entries)) middle ends → AreEnds shelf.kept.items owners.entries ends
-held_ends shelf owners find lent middle ends is stay same first then =
-    let touch : AreBy (touched (name_place find.owner shelf.owners.entries)) shelf.ends middle = subst (λ (x : Find). AreBy (touched (name_place x.owner shelf.owners.entries)) shelf.ends middle) same first in
-    ends_by shelf.kept.items shelf.owners.entries owners.entries (λ l. fitted (length owners.entries) (touched (name_place find.owner shelf.owners.entries) l)) shelf.ends ends
-    (λ P start l keyed. keyed_touched P start find.owner shelf.owners.entries owners.entries l keyed stay)
-    (by_twice (touched (name_place find.owner shelf.owners.entries)) (fitted (length owners.entries)) shelf.ends middle ends touch then) is
+module _ (shelf : Shelf) (owners : IndexMap Labels OwnerCells NameSeed) (find lent : Find) (middle ends : Ends) (is : AreEnds shelf.kept.items shelf.owners.entries shelf.ends) (stay : StayBut find.owner shelf.owners.entries owners.entries) (same : lent ≡ find)
+    (first : AreBy (touched (name_place lent.owner shelf.owners.entries)) shelf.ends middle) (then : AreBy (fitted (length owners.entries)) middle ends) where
+  abbrev held_moments : List ℕ → List ℕ
+  held_moments l = fitted (length owners.entries) (touched (name_place find.owner shelf.owners.entries) l)
+
+  held_by : AreBy held_moments shelf.ends ends
+  held_by = by_twice (touched (name_place find.owner shelf.owners.entries)) (fitted (length owners.entries)) shelf.ends middle ends
+      (subst (λ (x : Find). AreBy (touched (name_place x.owner shelf.owners.entries)) shelf.ends middle) same first) then
+
+  pub held_shape : IsShaped ends.lasts
+  held_shape = (winners_same shelf.owners.entries shelf.ends.lasts ends.lasts held_by.lasts is.winners).shape
+
+  pub held_room : (X : Type 0) → (name_place lent.owner shelf.owners.entries ≡ length shelf.owners.entries → X) → length ends.lasts.ends.items < length owners.entries → X
+  held_room X room more = split stay.size
+    where
+      split : (length owners.entries ≡ length shelf.owners.entries) ⊎ ((name_place find.owner shelf.owners.entries ≡ length shelf.owners.entries) × (length owners.entries ≡ length shelf.owners.entries + 1)) → X
+      split (inl size) = absurd (omega (arith, more, size, ap length held_by.lasts.0, is.winners.size))
+      split (inr grown) = room (ap (λ (x : Find). name_place x.owner shelf.owners.entries) same ∙ grown.0)
+
+  held_low : (kept : List KeptFlush) (was now : List ℕ) (after : Lasts) → length was ≡ length shelf.owners.entries → now ≡ held_moments was → ((i : ℕ) → last_at after.ends.items i ≡ last_at ends.lasts.ends.items i)
+      → AreLow kept shelf.owners.entries was shelf.ends.lasts.ends.items → AreLow kept owners.entries now after.ends.items
+  held_low kept was now after size moments lasts low =
+      low_lasts kept owners.entries now shelf.ends.lasts.ends.items after.ends.items (λ i. lasts i ∙ ap (λ (l : List ℕ). last_at l i) held_by.lasts.0)
+      (low_by kept owners.entries held_moments (λ l. l) was now shelf.ends.lasts.ends.items shelf.ends.lasts.ends.items moments refl
+      (low_still kept shelf.owners.entries owners.entries was (held_moments was) shelf.ends.lasts.ends.items (still_touched find.owner shelf.owners.entries owners.entries was size stay) low))
+
+  pub held_ends : (after : Lasts) → ((i : ℕ) → last_at after.ends.items i ≡ last_at ends.lasts.ends.items i)
+      → ((name : Labels) (old : List (Labels × OwnerCells)) → StayBut name old owners.entries → AreWinners old ends.lasts → AreWinners owners.entries after)
+      → AreEnds shelf.kept.items owners.entries (record { moments = ends.moments; mixed = ends.mixed; lasts = after })
+  held_ends after lasts follow = record {
+    now = subst (λ (l : List ℕ). AreKeyed (IsEnd shelf.kept.items) owners.entries l) (sym held_by.moments) (keyed_touched (IsEnd shelf.kept.items) (end_zero shelf.kept.items) find.owner shelf.owners.entries owners.entries shelf.ends.moments is.now stay);
+    ever = subst (λ (l : List ℕ). AreKeyed (IsEnd []) owners.entries l) (sym held_by.unmixed) (keyed_touched (IsEnd []) (end_zero []) find.owner shelf.owners.entries owners.entries (evens shelf.ends) is.ever stay);
+    flags = held_by.flags;
+    low = held_low shelf.kept.items shelf.ends.moments ends.moments after is.now.size held_by.moments lasts is.low;
+    low_ever = held_low [] (evens shelf.ends) (evens ends) after is.ever.size held_by.unmixed lasts is.low_ever;
+    winners = follow find.owner shelf.owners.entries stay (winners_same shelf.owners.entries shelf.ends.lasts ends.lasts held_by.lasts is.winners);
+  }
+
+-- a find was refused, before its name was touched
+pub ends_same : (kept : List KeptFlush) (entries : List (Labels × OwnerCells)) (was ends : Ends) → AreBy (λ l. l) was ends → AreEnds kept entries was → AreEnds kept entries ends
+ends_same kept entries was ends by is = ends_by kept entries entries (λ l. l) was ends (λ P start l keyed. keyed) (λ l size i. inr (refl, refl)) refl by is
+
+-- a name was removed
+module _ (kept : List KeptFlush) (name : Labels) (entries : List (Labels × OwnerCells)) (was ends : Ends) (is : AreEnds kept entries was) (by : AreBy (dropped (position (name_eq name) (keys_of entries))) was ends) where
+  pub gone_winners : AreWinners entries ends.lasts
+  gone_winners = winners_same entries was.lasts ends.lasts by.lasts is.winners
+
+  pub gone_low : (place : Option ℕ) → IfSome place (λ p. p < length entries) → IfSome place (λ p. p < length ends.lasts.ends.items)
+  gone_low None low = tt
+  gone_low (Some p) low = omega (arith, low, gone_winners.size)
+
+  pub gone_ends : (place : Option ℕ) (after : Lasts) → place ≡ position (name_eq name) (keys_of entries) → after.ends.items ≡ dropped place ends.lasts.ends.items → AreWinners (swap_remove_entry (name_eq name) entries) after
+      → AreEnds kept (swap_remove_entry (name_eq name) entries) (record { moments = ends.moments; mixed = ends.mixed; lasts = after })
+  gone_ends place after at lasts winners = record {
+    now = subst (λ (l : List ℕ). AreKeyed (IsEnd kept) (swap_remove_entry (name_eq name) entries) l) (sym by.moments) (keyed_dropped (IsEnd kept) (name_eq name) entries was.moments is.now);
+    ever = subst (λ (l : List ℕ). AreKeyed (IsEnd []) (swap_remove_entry (name_eq name) entries) l) (sym by.unmixed) (keyed_dropped (IsEnd []) (name_eq name) entries (evens was) is.ever);
+    flags = by.flags;
+    low = low_by kept (swap_remove_entry (name_eq name) entries) drop drop was.moments ends.moments was.lasts.ends.items after.ends.items by.moments noted
+        (low_dropped kept (name_eq name) entries was.moments was.lasts.ends.items is.now.size is.winners.size is.low);
+    low_ever = low_by [] (swap_remove_entry (name_eq name) entries) drop drop (evens was) (evens ends) was.lasts.ends.items after.ends.items by.unmixed noted
+        (low_dropped [] (name_eq name) entries (evens was) was.lasts.ends.items is.ever.size is.winners.size is.low_ever);
+    winners = winners;
+  }
+    where
+      drop : List ℕ → List ℕ
+      drop l = dropped (position (name_eq name) (keys_of entries)) l
+
+      noted : after.ends.items ≡ drop was.lasts.ends.items
+      noted = lasts ∙ ((λ i. dropped (at i) (by.lasts.0 i)))
 
 pub held_ok : {X : Type 0} {T E : Type 0} (result : Result T E) (done : T) → OnOk result X → result ≡ Ok done → X
 held_ok {X} {T} {E} result done is same = subst (λ (r : Result T E). OnOk r X) same is

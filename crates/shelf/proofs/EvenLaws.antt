@@ -1,10 +1,11 @@
 -- The moments of the names that are not mixed.
-use Rattle.std.proofs.Common.{◌≡◌, ℕ, zero, suc, ◌+◌, ◌-◌, ◌<◌, ◌≤◌, Bool, true, false, cond, Option, Some, None, List, [], ◌∷◌, ◌++◌, length, take, get_or, refl, sym, ap, ◌∙◌, subst, arith}
+use Rattle.std.proofs.Common.{◌≡◌, ℕ, zero, suc, ◌+◌, ◌-◌, ◌<◌, ◌≤◌, Bool, true, false, cond, Some, None, List, [], ◌∷◌, ◌++◌, length, take, get_or, refl, sym, ap, ◌∙◌, arith}
 use Rattle.std.specs.Prelude.{nat_lt, replicate, swap_remove}
 use Rattle.std.proofs.Math.ListN.{set, length-set, length-append}
 use Rattle.std.proofs.lemmas.List.{length-replicate, length-take-le}
 use Rattle.std.proofs.lemmas.Bool.Decides.{nat_tests}
 use Rattle.shelf.specs.Clean.{evens, evens_of, fitted, touched, AreBy, AreEvened}
+use Rattle.shelf.specs.Lasts.{AreSameLasts}
 use Rattle.shelf.specs.declared.ends.Ends.{Ends}
 
 pub evens_length : (ends : List ℕ) (mixed : List Bool) → length (evens_of ends mixed) ≡ length ends
@@ -113,7 +114,7 @@ evens_twice (e ∷ ends) (false ∷ mixed) = ap (λ (l : List ℕ). e ∷ l) (ev
 
 -- ---- the place of a name
 
-find_some : (p n place : ℕ) → Some place ≡ cond (nat_lt p n) (Some p) None → (place ≡ p) × (p < n)
+pub find_some : (p n place : ℕ) → Some place ≡ cond (nat_lt p n) (Some p) None → (place ≡ p) × (p < n)
 find_some p n place is = split (nat_lt p n) refl is
   where
     split : (b : Bool) → nat_lt p n ≡ b → Some place ≡ cond b (Some p) None → (place ≡ p) × (p < n)
@@ -138,7 +139,7 @@ set_past [] p high = refl
 set_past (x ∷ l) zero high = absurd (omega arith)
 set_past (x ∷ l) (suc p) high = ap (λ (r : List ℕ). x ∷ r) (set_past l p (omega arith))
 
-module _ (was ends : Ends) (p n : ℕ) (size : length was.moments ≡ n) (flags : length was.mixed.items ≡ length was.moments) where
+module _ (was ends : Ends) (p n : ℕ) (size : length was.moments ≡ n) (flags : length was.mixed.items ≡ length was.moments) (same : AreSameLasts was.lasts ends.lasts) where
   -- the moment of a name that is there is 0
   pub by_zero : (place : ℕ) → Some place ≡ cond (nat_lt p n) (Some p) None → ends.moments ≡ set was.moments place 0 → ends.mixed.items ≡ was.mixed.items → AreBy (λ l. set l p 0) was ends
   by_zero place found moments mixed =
@@ -148,6 +149,7 @@ module _ (was ends : Ends) (p n : ℕ) (size : length was.moments ≡ n) (flags 
         moments = now;
         unmixed = (λ i. evens_of (now i) (mixed i)) ∙ evens_zero was.moments was.mixed.items p;
         flags = omega (arith, ap length mixed, flags, ap length now, length-set was.moments p 0);
+        lasts = same;
       }
 
   pub by_touched : (place : ℕ) → Some place ≡ cond (nat_lt p n) (Some p) None → ends.moments ≡ set was.moments place 0 → ends.mixed.items ≡ was.mixed.items → AreBy (touched p) was ends
@@ -158,6 +160,7 @@ module _ (was ends : Ends) (p n : ℕ) (size : length was.moments ≡ n) (flags 
         moments = by.moments ∙ sym (touched_low p was.moments (omega (arith, at.1, size)));
         unmixed = by.unmixed ∙ sym (touched_low p (evens was) (omega (arith, at.1, size, evens_length was.moments was.mixed.items)));
         flags = by.flags;
+        lasts = same;
       }
 
   pub by_none : None ≡ cond (nat_lt p n) (Some p) None → ends.moments ≡ was.moments → ends.mixed.items ≡ was.mixed.items → AreBy (λ l. set l p 0) was ends
@@ -167,6 +170,7 @@ module _ (was ends : Ends) (p n : ℕ) (size : length was.moments ≡ n) (flags 
         moments = moments ∙ sym (set_past was.moments p (omega (arith, high, size)));
         unmixed = (λ i. evens_of (moments i) (mixed i)) ∙ sym (set_past (evens was) p (omega (arith, high, size, evens_length was.moments was.mixed.items)));
         flags = omega (arith, ap length mixed, flags, ap length moments);
+        lasts = same;
       }
 
   pub by_more : None ≡ cond (nat_lt p n) (Some p) None → ends.moments ≡ was.moments ++ 0 ∷ [] → ends.mixed.items ≡ was.mixed.items ++ false ∷ [] → AreBy (touched p) was ends
@@ -176,9 +180,10 @@ module _ (was ends : Ends) (p n : ℕ) (size : length was.moments ≡ n) (flags 
         moments = moments ∙ sym (touched_past p was.moments (omega (arith, high, size)));
         unmixed = (λ i. evens_of (moments i) (mixed i)) ∙ (evens_more was.moments was.mixed.items flags ∙ sym (touched_past p (evens was) (omega (arith, high, size, evens_length was.moments was.mixed.items))));
         flags = omega (arith, ap length mixed, length-append was.mixed.items (false ∷ []), flags, ap length moments, length-append was.moments (0 ∷ []));
+        lasts = same;
       }
 
-module _ (was ends : Ends) (flags : length was.mixed.items ≡ length was.moments) where
+module _ (was ends : Ends) (flags : length was.mixed.items ≡ length was.moments) (same : AreSameLasts was.lasts ends.lasts) where
   pub by_fit : (n k : ℕ) → n < length was.moments → k ≡ length was.moments - 1 → ends.moments ≡ take (length was.moments - 1) was.moments → ends.mixed.items ≡ take k was.mixed.items → AreBy (fitted n) was ends
   by_fit n k more fewer moments mixed =
       let is : nat_lt n (length was.moments) ≡ true = grind (arith, nat_tests) in
@@ -190,6 +195,7 @@ module _ (was ends : Ends) (flags : length was.mixed.items ≡ length was.moment
         moments = moments ∙ sym (ap (λ b. cond b (take (length was.moments - 1) was.moments) was.moments) is);
         unmixed = even ∙ sym (ap (λ b. cond b (take (length (evens was) - 1) (evens was)) (evens was)) is');
         flags = omega (arith, ap length cut, ap length moments, length-take-le (length was.moments - 1) was.mixed.items (omega (arith, flags)), length-take-le (length was.moments - 1) was.moments (omega arith));
+        lasts = same;
       }
 
   pub by_fit_same : (n : ℕ) → length was.moments ≤ n → AreBy (fitted n) was was
@@ -200,6 +206,7 @@ module _ (was ends : Ends) (flags : length was.mixed.items ≡ length was.moment
         moments = sym (ap (λ b. cond b (take (length was.moments - 1) was.moments) was.moments) is);
         unmixed = sym (ap (λ b. cond b (take (length (evens was) - 1) (evens was)) (evens was)) is');
         flags = flags;
+        lasts = (refl, refl);
       }
 
   pub by_swap : (place : ℕ) (d : Bool) → place < length was.moments → ends.moments ≡ swap_remove was.moments place 0 → ends.mixed.items ≡ swap_remove was.mixed.items place d → length ends.mixed.items + 1 ≡ length was.mixed.items
@@ -211,6 +218,7 @@ module _ (was ends : Ends) (flags : length was.mixed.items ≡ length was.moment
         let last = length was.moments - 1 in
         let left : length (swap_remove was.moments place 0) ≡ last = length-take-le last (set was.moments place (get_or was.moments last 0)) (omega (arith, length-set was.moments place (get_or was.moments last 0))) in
         omega (arith, ap length moments, left, fewer, flags, low);
+    lasts = same;
   }
 
   pub by_all : ends.moments ≡ replicate (length was.moments) 0 → ends.mixed.items ≡ was.mixed.items → AreBy (λ l. replicate (length l) 0) was ends
@@ -218,6 +226,7 @@ module _ (was ends : Ends) (flags : length was.mixed.items ≡ length was.moment
     moments = moments;
     unmixed = (λ i. evens_of (moments i) (mixed i)) ∙ (evens_none (length was.moments) was.mixed.items ∙ ap (λ k. replicate k 0) (sym (evens_length was.moments was.mixed.items)));
     flags = omega (arith, ap length mixed, flags, ap length moments, length-replicate {A = ℕ} (length was.moments) 0);
+    lasts = same;
   }
 
   pub by_evened : (place : ℕ) → length was.moments ≤ place → ends.moments ≡ evens_to place was.moments was.mixed.items → ends.mixed.items ≡ was.mixed.items → AreEvened was ends
@@ -227,4 +236,5 @@ module _ (was ends : Ends) (flags : length was.mixed.items ≡ length was.moment
         moments = all;
         unmixed = (λ i. evens_of (all i) (mixed i)) ∙ evens_twice was.moments was.mixed.items;
         flags = omega (arith, ap length mixed, flags, ap length all, evens_length was.moments was.mixed.items);
+        lasts = same;
       }

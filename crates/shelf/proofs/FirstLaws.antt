@@ -2,15 +2,20 @@
 use Rattle.std.proofs.Common.{◌≡◌, ℕ, ◌+◌, ◌*◌, ◌<◌, ◌≤◌, Option, Some, None, List, length, refl, sym, ap, ◌∙◌, subst, arith, ◌⊎◌, inl, inr}
 use Rattle.std.specs.Prelude.{slice_get, IfSome, IfNone}
 use Rattle.std.specs.Option.{option_map_or}
+use Rattle.std.proofs.lemmas.List.{get_or_default}
 use Rattle.std.proofs.lemmas.Option.{slice_get_past}
 use Rattle.dns_name.specs.Labels.{Labels}
 use Rattle.cell_store.specs.declared.owner.OwnerCells.{OwnerCells}
-use Rattle.winner_tree.specs.Tree.{moment_at, IsBelow}
+use Rattle.winner_tree.specs.Tree.{moment_at, never, IsBelow}
 use Rattle.shelf.specs.declared.settling.Settling.{Settling}
 use Rattle.shelf.specs.declared.shelf.KeptFlush.{KeptFlush}
 use Rattle.shelf.specs.declared.oldest.Candidate.{Candidate}
 use Rattle.shelf.specs.First.{life_at, name_at, name_life, AreBounds, Beats, IsAhead, IsBefore, IsCandidate, IsEnough, IsFirst, IsNoLater, IsSooner, IsSoonerOf}
-use Rattle.shelf.proofs.OrderLaws.{below_low, below_split, sooner_itself, sooner_same, sooner_then}
+use Rattle.shelf.specs.declared.ends.Ends.{Ends}
+use Rattle.shelf.specs.Clean.{AreEnds}
+use Rattle.shelf.specs.Lasts.{last_at, winner_at, AreVisited, IsNoted}
+use Rattle.shelf.proofs.WinnerLaws.{root_leads}
+use Rattle.shelf.proofs.OrderLaws.{below_low, below_root, below_split, sooner_itself, sooner_same, sooner_then}
 
 -- ---- one of two candidates
 
@@ -147,6 +152,38 @@ module _ (settling : Option Settling) (kept : List KeptFlush) (entries : List (L
         let own : IsSooner c.end c.name.now (life place) (name_at entries place) = later_bound c.end (moment_at ends place) (life place) c.name.now (name_at entries place) low is.2 in
         subst (λ n. IsBefore settling kept entries c.place n) (sym at)
         (sooner_same c.end (life c.place) (life place) (life place) c.name.now (name_at entries c.place) (name_at entries place) (name_at entries place) candidate.end candidate.name refl refl own);
+  }
+
+  -- ---- the first by the seconds that the last visits noted
+
+  noted_beats : (ends : Ends) (own : Candidate) → AreEnds kept entries ends → AreVisited settling ends.moments → IsNoted settling kept entries ends.lasts.ends.items t (winner_at ends.lasts.winners.items 0) own
+      → (i : ℕ) → i < length entries → IsBefore settling kept entries own.place i
+  noted_beats ends own is visited noted i there =
+      let lasts = ends.lasts.ends.items in
+      let w = winner_at ends.lasts.winners.items 0 in
+      let long : i < length ends.moments = omega (arith, there, is.now.size) in
+      let some : 0 < moment_at ends.moments i = visited.1 i (below_root i) long in
+      let low : last_at lasts i ≤ life_at None kept entries i = is.low i (omega (arith, some, get_or_default ends.moments i never 0 long)) in
+      let same : life i ≡ life_at None kept entries i = ap (λ (s : Option Settling). life_at s kept entries i) visited.0 in
+      let first : IsSooner (last_at lasts w) (name_at entries w) (life i) (name_at entries i) =
+      later_bound (last_at lasts w) (last_at lasts i) (life i) (name_at entries w) (name_at entries i) (omega (arith, low, same)) (root_leads entries ends.lasts is.winners i there) in
+      let end : last_at lasts w ≡ life own.place = sym noted.2 ∙ noted.1.end in
+      let name : name_at entries w ≡ name_at entries own.place = ap (name_at entries) (sym noted.0) in
+      sooner_same (last_at lasts w) (life own.place) (life i) (life i) (name_at entries w) (name_at entries own.place) (name_at entries i) (name_at entries i) end name refl refl first
+
+  pub noted_first : (ends : Ends) (place : ℕ) (result : Option Candidate) → AreEnds kept entries ends → AreVisited settling ends.moments → place ≡ winner_at ends.lasts.winners.items 0
+      → IfSome result (IsNoted settling kept entries ends.lasts.ends.items t place) → IfSome result (λ own. IsFirst settling kept entries t (IsBelow 0) None (Some own))
+  noted_first ends place None is visited at noted = tt
+  noted_first ends place (Some own) is visited at noted = record {
+    candidate = noted.1;
+    later = tt;
+    beats = λ i below alive. elim (within_or i (length entries)) [
+      | inl there ↦ noted_beats ends own is visited (subst (λ p. IsNoted settling kept entries ends.lasts.ends.items t p own) at noted) i there
+      | inr far ↦
+          let none : slice_get entries i ≡ None = slice_get_past entries i far in
+          let dead : life_at settling kept entries i ≡ 0 = ap (λ (o : Option (Labels × OwnerCells)). option_map_or (λ e. name_life settling kept e.0 e.1) o 0) none in
+          absurd (omega (arith, dead, alive))
+    ];
   }
 
   -- ---- a node and its children

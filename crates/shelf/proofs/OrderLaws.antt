@@ -1,12 +1,12 @@
 -- The order of names by the ends of their last finds, and the places at or below a node.
-use Rattle.std.proofs.Common.{◌≡◌, ℕ, zero, suc, ◌+◌, ◌*◌, ◌/◌, ◌<◌, ◌≤◌, false, refl, sym, ap, ◌∙◌, subst, arith, ◌⊎◌, inl, inr}
+use Rattle.std.proofs.Common.{◌≡◌, ℕ, zero, suc, ◌+◌, ◌*◌, ◌/◌, ◌<◌, ◌≤◌, false, [], ◌∷◌, reverse, refl, sym, ap, ◌∙◌, subst, arith, ◌⊎◌, inl, inr}
 use Rattle.std.specs.Prelude.{IsTrue}
 use Rattle.std.specs.Ordering.{is_le, ordering_reverse}
 use Rattle.std.specs.declared.cmp.Ordering.{Ordering}
 use Rattle.std.specs.declared.cmp.Ordering.TheVariants.{Less, Equal, Greater}
 use Rattle.std.proofs.lemmas.Cmp.{tied_itself}
 use Rattle.dns_name.specs.Labels.{Labels}
-use Rattle.dns_name.specs.Order.{name_cmp, name_cmp_exact, name_total, IsNotAfter}
+use Rattle.dns_name.specs.Order.{labels_cmp, name_cmp, name_cmp_exact, name_total, IsNotAfter}
 use Rattle.winner_tree.specs.Tree.{up, IsBelow}
 use Rattle.shelf.specs.First.{IsSooner}
 
@@ -35,6 +35,14 @@ back_by Greater Greater is past = absurd cc
 pub not_after_back : (a b : Labels) → is_le (name_cmp a b) ≡ false → IsNotAfter b a
 not_after_back a b past = back_by (name_cmp a b) (name_cmp b a) (name_total.antisymm a b) past
 
+none_first : (l : Labels) → IsTrue (is_le (labels_cmp [] l))
+none_first [] = refl
+none_first (x ∷ l) = refl
+
+-- the root is the first name
+pub root_first : (a : Labels) → IsNotAfter [] a
+root_first a = none_first (reverse a)
+
 -- ---- seconds and names
 
 pub sooner_then : (a b c : ℕ) (k m n : Labels) → IsSooner a k b m → IsSooner b m c n → IsSooner a k c n
@@ -52,7 +60,7 @@ sooner_same a b c d k m n o p q r s is =
 
 -- ---- the places at or below a node
 
-up_last : (k n : ℕ) → up (suc k) n ≡ up k n / 2
+pub up_last : (k n : ℕ) → up (suc k) n ≡ up k n / 2
 up_last zero n = refl
 up_last (suc k) n = up_last k (n / 2)
 

@@ -1,6 +1,6 @@
 -- A name that has a find alive has a place that counts, so fewer are left without it.
-use Rattle.std.proofs.Common.{◌≡◌, ℕ, ◌+◌, ◌<◌, ◌≤◌, Bool, true, false, cond, Option, Some, None, List, [], ◌∷◌, refl, sym, ap, ◌∙◌, subst, arith, inl, inr}
-use Rattle.std.specs.Prelude.{◌==◌, is_some, IfSome}
+use Rattle.std.proofs.Common.{◌≡◌, ℕ, ◌+◌, ◌<◌, ◌≤◌, true, false, cond, Option, Some, None, List, [], ◌∷◌, refl, sym, ap, ◌∙◌, subst, arith, inl, inr}
+use Rattle.std.specs.Prelude.{◌==◌, IfSome}
 use Rattle.std.specs.Option.{option_map_or}
 use Rattle.std.proofs.lemmas.Bool.{cases_Bool, false≢true}
 use Rattle.indexmap.specs.IndexMap.{get}
@@ -15,7 +15,6 @@ use Rattle.cell_store.specs.declared.owner.KindColumn.{KindColumn}
 use Rattle.cell_store.specs.declared.owner.OwnerCells.{OwnerCells}
 use Rattle.cell_store.specs.Count.{count_kinds, count_of, has_place, is_counted, one_if}
 use Rattle.cell_store.specs.HeldLaws.{cell_counted}
-use Rattle.cell_store.specs.Life.{IsAliveTo}
 use Rattle.cell_store.specs.Owner.{cell_in, column_of, IsUpTo}
 use Rattle.cell_store.specs.Store.{cell_by_owner}
 use Rattle.shelf.specs.declared.shelf.Shelf.{Shelf}

@@ -24,7 +24,7 @@ use Rattle.cell_store.specs.Store.{cell_by_owner, cell_of, name_place, AreAbout,
 use Rattle.shelf.specs.declared.settling.Settling.{Settling}
 use Rattle.shelf.specs.Settling.{fitted_place, is_outdone, names_left, settled_cell, settled_version, unmoved, AreReached, IsMoved, IsReaching, IsSettling}
 use Rattle.shelf.proofs.AboutLaws.{about_moved}
-use Rattle.shelf.proofs.EndLaws.{get_set_other, get_set_same, get_some, get_take, lt_or, some_map}
+use Rattle.shelf.proofs.ListLaws.{get_set_other, get_set_same, get_some, get_take, lt_or, some_map}
 use Rattle.shelf.proofs.ShelfLaws.{nothing_past}
 
 -- ---- versions

@@ -1,7 +1,7 @@
 -- The sweep of one name after the other.
 use Rattle.std.proofs.Common.{◌≡◌, ℕ, zero, suc, ◌+◌, ◌<◌, ◌≤◌, max, min, Bool, true, false, cond, Option, Some, None, List, [], ◌∷◌, length, get_or, refl, sym, ap, ◌∙◌, subst, arith, ◌⊎◌, inl, inr}
 use Rattle.std.specs.Prelude.{is_some, replicate, IfNone, IfSome, slice_get, swap_remove}
-use Rattle.std.specs.Map.{lookup}
+use Rattle.std.specs.Map.{keys_of, lookup}
 use Rattle.std.proofs.Math.ListN.{set}
 use Rattle.std.proofs.lemmas.Bool.Decides.{nat_tests}
 use Rattle.std.proofs.lemmas.List.{get_or_default}
@@ -26,7 +26,13 @@ use Rattle.shelf.specs.declared.shelf.KeptFlush.{KeptFlush}
 use Rattle.shelf.specs.Clean.{evens, AreBy, AreEnds, AreKeyed, IsAlive, IsClean, IsEnd}
 use Rattle.shelf.specs.declared.ends.Ends.{Ends}
 use Rattle.shelf.specs.Sweep.{count_ended, one_ended, AreAlive, AreLessened, IsDue, IsLessened, IsNext, IsSwept, IsSweptAt, IsUnderway}
-use Rattle.shelf.proofs.EndLaws.{always_some, end_zero, ends_zero, keyed_map, keyed_set, keyed_swap, keyed_zero, some_map}
+use Rattle.shelf.specs.First.{life_at}
+use Rattle.shelf.specs.Lasts.{AreLow, AreWinners}
+use Rattle.shelf.specs.declared.lasts.Lasts.{Lasts}
+use Rattle.shelf.proofs.EndLaws.{end_zero, ends_zero, keyed_map, keyed_set, keyed_swap, keyed_zero, low_by}
+use Rattle.shelf.proofs.ListLaws.{always_some, some_map}
+use Rattle.shelf.proofs.LowLaws.{life_like, low_put, low_put_ever, low_swap}
+use Rattle.shelf.proofs.WinnerLaws.{winners_named, winners_same}
 use Rattle.shelf.proofs.SweepLaws.{less_left, less_more, less_same, not_dead, swept_less}
 
 -- ---- one name
@@ -123,6 +129,7 @@ swept_at kept t place entries news key old new end after mixed like there is put
   size = size_at entries place new;
   next = here_at (λ e. IsNext kept t e end) entries place key old new there (next_at kept t key old new end after is at then);
   ever = λ none. here_at (λ e. IsNext [] t e end) entries place key old new there (next_first kept t key new end (like none) (next_at kept t key old new end after is at then));
+  alike = λ none. here_at (λ e. IsLikeFirst e.1) entries place key old new there (like none);
 })
 
 -- ---- a visit
@@ -140,24 +147,44 @@ ever_end t o end true next some = always_some (λ e. IsEnd [] e 0) o (end_zero [
 ever_end t o end false next some =
     some_map (λ e. IsEnd [] e end × IsClean [] t e.0 e.1 × ((s : ℕ) → s ≤ t → s < latest → s < end)) (λ e. IsEnd [] e end) o (λ e all. all.0) (both_some [] t o end (next refl) some)
 
+each_names : (Q : Labels → OwnerCells → OwnerCells → Type 0) (old new : List (Labels × OwnerCells)) → IsEach (IsEntry Q) old new → keys_of new ≡ keys_of old
+each_names Q [] [] each = refl
+each_names Q [] (x ∷ new) each = absurd each
+each_names Q (e ∷ old) [] each = absurd each
+each_names Q (e ∷ old) (x ∷ new) each = (λ i. each.0.0 i ∷ each_names Q old new each.1 i)
+
 module _ {S : Type 0} (kept : List KeptFlush) (t place end : ℕ) (mixed : Bool) (old middle new : IndexMap Labels OwnerCells S) (ends after : Ends) (was stored : ℕ) (low : place < length old.entries) (size : length ends.moments ≡ length old.entries)
     (swept : IsSweptAt kept t place old.entries middle.entries end mixed) (counted : stored ≡ stored_in middle) (fewer : stored ≤ was) (same : AreSameCells middle new) (left : AreLeft middle new) (count : stored_in new ≡ stored_in middle) where
   less : AreLessened kept t old new
   less = less_more kept t old middle new (swept_less kept t old middle swept.each) (less_left kept t middle new same left)
 
+  named : keys_of middle.entries ≡ keys_of old.entries
+  named = each_names (IsLessened kept t) old.entries middle.entries swept.each
+
+  -- the ends, with other seconds
+  abbrev noting : Lasts → Ends
+  noting lasts = record { moments = after.moments; mixed = after.mixed; lasts = lasts }
+
   -- the name stays
-  pub on_kept : after.moments ≡ set ends.moments place end → evens after ≡ set (evens ends) place (cond mixed 0 end) → length after.mixed.items ≡ length after.moments
-      → new.entries ≡ middle.entries → IfSome (slice_get middle.entries place) (λ e. 1 ≤ count_of e.1) → (asked most : ℕ) (first : IndexMap Labels OwnerCells S) → asked ≤ t → asked < latest
-      → IsUnderway kept t asked first most old ends was → IsUnderway kept t asked first most new after stored
-  on_kept moments unmixed flags entries some asked most first before small is = record {
+  pub on_kept : after.moments ≡ set ends.moments place end → evens after ≡ set (evens ends) place (cond mixed 0 end) → length after.mixed.items ≡ length after.moments → after.lasts ≡ ends.lasts
+      → new.entries ≡ middle.entries → IfSome (slice_get middle.entries place) (λ e. 1 ≤ count_of e.1)
+      → (lasts : Lasts) (last : ℕ) → last ≡ min (life_at None kept new.entries place) latest → lasts.ends.items ≡ set after.lasts.ends.items place last → (AreWinners new.entries after.lasts → AreWinners new.entries lasts)
+      → (asked most : ℕ) (first : IndexMap Labels OwnerCells S) → asked ≤ t → asked < latest → IsUnderway kept t asked first most old ends was → IsUnderway kept t asked first most new (noting lasts) stored
+  on_kept moments unmixed flags same entries some lasts last noted seconds tree asked most first before small is = record {
     less = less_more kept t first old new is.less less;
-    ends = subst (λ (l : List (Labels × OwnerCells)). AreEnds kept l after) (sym entries) (record {
+    ends = subst (λ (l : List (Labels × OwnerCells)). AreEnds kept l (noting lasts)) (sym entries) (record {
       now = subst (λ (l : List ℕ). AreKeyed (IsEnd kept) middle.entries l) (sym moments)
           (keyed_set (IsEnd kept) old.entries middle.entries ends.moments place end is.ends.now swept.others swept.size low
           (some_map (λ e. IsEnd kept e end × IsClean kept t e.0 e.1 × ((s : ℕ) → s ≤ t → s < latest → s < end)) (λ e. IsEnd kept e end) (slice_get middle.entries place) (λ e all. all.0) both));
       ever = subst (λ (l : List ℕ). AreKeyed (IsEnd []) middle.entries l) (sym unmixed)
           (keyed_set (IsEnd []) old.entries middle.entries (evens ends) place (cond mixed 0 end) is.ends.ever swept.others swept.size low (ever_end t (slice_get middle.entries place) end mixed swept.ever some));
       flags = flags;
+      low = low_by kept middle.entries (λ l. set l place end) (λ l. set l place last) ends.moments after.moments ends.lasts.ends.items lasts.ends.items moments put
+          (low_put old.entries middle.entries place last swept.others kept ends.moments ends.lasts.ends.items end (omega (arith, low, size)) (omega (arith, low, is.ends.winners.size)) at is.ends.low);
+      low_ever = low_by [] middle.entries (λ l. set l place (cond mixed 0 end)) (λ l. set l place last) (evens ends) (evens after) ends.lasts.ends.items lasts.ends.items unmixed put
+          (low_put_ever old.entries middle.entries place last swept.others kept (evens ends) ends.lasts.ends.items end mixed (omega (arith, low, is.ends.ever.size)) (omega (arith, low, is.ends.winners.size)) at swept.alike is.ends.low_ever);
+      winners = subst (λ (l : List (Labels × OwnerCells)). AreWinners l lasts) entries
+          (tree (subst (λ (x : Lasts). AreWinners new.entries x) (sym same) (winners_named old.entries new.entries ends.lasts (ap keys_of entries ∙ named) is.ends.winners)));
     });
     due = subst (λ (l : List (Labels × OwnerCells)). AreKeyed (IsDue kept t asked) l after.moments) (sym entries)
         (subst (λ (l : List ℕ). AreKeyed (IsDue kept t asked) middle.entries l) (sym moments)
@@ -167,24 +194,43 @@ module _ {S : Type 0} (kept : List KeptFlush) (t place end : ℕ) (mixed : Bool)
     fewer = omega (arith, fewer, is.fewer);
   }
     where
+      put : lasts.ends.items ≡ set ends.lasts.ends.items place last
+      put = seconds ∙ ap (λ (x : Lasts). set x.ends.items place last) same
+
+      at : last ≡ min (life_at None kept middle.entries place) latest
+      at = noted ∙ ap (λ (l : List (Labels × OwnerCells)). min (life_at None kept l place) latest) entries
+
       both : IfSome (slice_get middle.entries place) (λ e. IsEnd kept e end × IsClean kept t e.0 e.1 × ((s : ℕ) → s ≤ t → s < latest → s < end))
       both = both_some kept t (slice_get middle.entries place) end swept.next some
 
   -- the name goes
-  pub on_gone : AreBy (λ l. swap_remove l place 0) ends after → (d : Labels × OwnerCells) → new.entries ≡ swap_remove middle.entries place d → (asked most : ℕ) (first : IndexMap Labels OwnerCells S)
-      → IsUnderway kept t asked first most old ends was → IsUnderway kept t asked first most new after stored
-  on_gone by d entries asked most first is = record {
+  pub on_gone : AreBy (λ l. swap_remove l place 0) ends after → (d : Labels × OwnerCells) → new.entries ≡ swap_remove middle.entries place d
+      → (lasts : Lasts) → lasts.ends.items ≡ swap_remove after.lasts.ends.items place 0 → ((was : List (Labels × OwnerCells)) (d : Labels × OwnerCells) → new.entries ≡ swap_remove was place d → AreWinners was after.lasts → AreWinners new.entries lasts)
+      → (asked most : ℕ) (first : IndexMap Labels OwnerCells S) → IsUnderway kept t asked first most old ends was → IsUnderway kept t asked first most new (noting lasts) stored
+  on_gone by d entries lasts seconds tree asked most first is = record {
     less = less_more kept t first old new is.less less;
     ends = record {
       now = subst (λ (l : List ℕ). AreKeyed (IsEnd kept) new.entries l) (sym by.moments) (moved (IsEnd kept) ends.moments size is.ends.now);
       ever = subst (λ (l : List ℕ). AreKeyed (IsEnd []) new.entries l) (sym by.unmixed) (moved (IsEnd []) (evens ends) is.ends.ever.size is.ends.ever);
       flags = by.flags;
+      low = sunk kept ends.moments after.moments size by.moments is.ends.winners.size is.ends.low;
+      low_ever = sunk [] (evens ends) (evens after) is.ends.ever.size by.unmixed is.ends.winners.size is.ends.low_ever;
+      winners = tree middle.entries d entries (winners_same middle.entries ends.lasts after.lasts by.lasts (winners_named old.entries middle.entries ends.lasts named is.ends.winners));
     };
     due = subst (λ (l : List ℕ). AreKeyed (IsDue kept t asked) new.entries l) (sym by.moments) (moved (IsDue kept t asked) ends.moments size is.due);
     counted = counted ∙ sym count;
     fewer = omega (arith, fewer, is.fewer);
   }
     where
+      swap : List ℕ → List ℕ
+      swap l = swap_remove l place 0
+
+      sunk : (flushes : List KeptFlush) (l now : List ℕ) → length l ≡ length old.entries → now ≡ swap l → length ends.lasts.ends.items ≡ length old.entries → AreLow flushes old.entries l ends.lasts.ends.items → AreLow flushes new.entries now lasts.ends.items
+      sunk flushes l now long moments wide was = subst (λ (e : List (Labels × OwnerCells)). AreLow flushes e now lasts.ends.items) (sym entries)
+          (low_by flushes (swap_remove middle.entries place d) swap swap l now ends.lasts.ends.items lasts.ends.items moments (seconds ∙ ap swap by.lasts.0)
+          (low_swap flushes middle.entries l ends.lasts.ends.items place d (long ∙ sym swept.size) (wide ∙ sym swept.size) (omega (arith, swept.size, low))
+          (λ i off some. omega (arith, was i some, life_like flushes old.entries middle.entries i i (swept.others i off)))))
+
       moved : (P : Labels × OwnerCells → ℕ → Type 0) (l : List ℕ) → length l ≡ length old.entries → AreKeyed P old.entries l → AreKeyed P new.entries (swap_remove l place 0)
       moved P l long keyed = subst (λ (e : List (Labels × OwnerCells)). AreKeyed P e (swap_remove l place 0)) (sym entries)
           (keyed_swap P middle.entries l place d (long ∙ sym swept.size)
@@ -256,7 +302,7 @@ pub start_all : {S : Type 0} (kept : List KeptFlush) (t asked : ℕ) (owners : I
     → IsUnderway kept t asked owners stored owners ends stored
 start_all kept t asked owners old ends stored is by counted = record {
   less = less_same kept t owners;
-  ends = ends_zero kept kept owners.entries owners.entries old ends is refl by;
+  ends = ends_zero kept owners.entries old ends is by;
   due = subst (λ (l : List ℕ). AreKeyed (IsDue kept t asked) owners.entries l) (sym by.moments) (keyed_zero (IsDue kept t asked) (due_zero kept t asked) owners.entries (length old.moments) is.now.size);
   counted = counted;
   fewer = omega arith;

@@ -6,10 +6,10 @@ use Rattle.cell_store.specs.declared.owner.OwnerCells.{OwnerCells}
 use Rattle.cell_store.specs.Owner.{cell_in}
 use Rattle.cell_store.specs.Count.{count_of, has_place}
 use Rattle.cell_store.specs.Sweep.{alive_at, is_dead}
-use Rattle.cell_store.specs.Store.{name_place}
 use Rattle.shelf.specs.declared.ends.Ends.{Ends}
 use Rattle.shelf.specs.declared.shelf.KeptFlush.{KeptFlush}
 use Rattle.shelf.specs.Kept.{is_version}
+use Rattle.shelf.specs.Lasts.{AreLow, AreSameLasts, AreWinners}
 
 -- Some version of a type has a find that is alive at a moment.
 abbrev pub IsAlive : List KeptFlush → Labels → ℕ → OwnerCells → ℕ → Type 0
@@ -58,18 +58,24 @@ pub record AreBy (f : List ℕ → List ℕ) (old new : Ends) : Type 0 where
   pub moments : new.moments ≡ f old.moments
   pub unmixed : evens new ≡ f (evens old)
   pub flags : length new.mixed.items ≡ length new.moments
+  pub lasts : AreSameLasts old.lasts new.lasts
 
 -- The moments of the names that are mixed are 0, and the others are as they were.
 pub record AreEvened (old new : Ends) : Type 0 where
   pub moments : new.moments ≡ evens old
   pub unmixed : evens new ≡ evens old
   pub flags : length new.mixed.items ≡ length new.moments
+  pub lasts : AreSameLasts old.lasts new.lasts
 
 -- No name needs a sweep before its moment. A name that is not mixed needs none whatever flushes are kept: version 0 alone says so.
+-- The last find of a name does not end before the second that the last visit noted, unless the next sweep is to visit it.
 pub record AreEnds (kept : List KeptFlush) (entries : List (Labels × OwnerCells)) (ends : Ends) : Type 0 where
   pub now : AreKeyed (IsEnd kept) entries ends.moments
   pub ever : AreKeyed (IsEnd []) entries (evens ends)
   pub flags : length ends.mixed.items ≡ length ends.moments
+  pub low : AreLow kept entries ends.moments ends.lasts.ends.items
+  pub low_ever : AreLow [] entries (evens ends) ends.lasts.ends.items
+  pub winners : AreWinners entries ends.lasts
 
 -- There is a moment for each entry, and a flag for each moment.
 abbrev pub HaveEnds : List (Labels × OwnerCells) → Ends → Type 0

@@ -1,5 +1,5 @@
 -- The kept cells of a question.
-use Rattle.std.specs.Prelude.{◌≡◌, ℕ, ◌||◌, Bool, true, false, List, [], ◌∷◌, Option, map, if◌then◌else◌}
+use Rattle.std.specs.Prelude.{◌≡◌, ℕ, ◌||◌, Bool, false, List, [], ◌∷◌, Option, map, if◌then◌else◌}
 use Rattle.indexmap.specs.IndexMap.{IndexMap}
 use Rattle.dns_name.specs.Labels.{Labels}
 use Rattle.dns_text.specs.declared.record.Question.{Question}
@@ -9,7 +9,6 @@ use Rattle.ranked.specs.declared.cell.Admitted.{Admitted}
 use Rattle.cell_store.specs.declared.owner.OwnerCells.{OwnerCells}
 use Rattle.cell_store.specs.Count.{has_pair}
 use Rattle.cell_store.specs.Same.{same_cell}
-use Rattle.shelf.specs.declared.shelf.KeptFlush.{KeptFlush}
 use Rattle.shelf.specs.declared.settling.Settling.{Settling}
 use Rattle.shelf.specs.declared.shelf.Shelf.{Shelf}
 use Rattle.shelf.specs.Settling.{settled_cell}

@@ -7,4 +7,5 @@ pub mod Sweep
 pub mod Stored
 pub mod KeptCells
 pub mod First
+pub mod Lasts
 pub mod Oldest

@@ -11,6 +11,7 @@ use Rattle.cell_store.specs.Count.{count_of, has_place, stored_in, KeepPairs, Lo
 use Rattle.cell_store.specs.Ends.{latest}
 use Rattle.cell_store.specs.Walk.{IsEach, IsEntry}
 use Rattle.cell_store.specs.Store.{cell_of, AreAbout, AreCountedFrom, AreUpTo, KeepSettling}
+use Rattle.cell_store.specs.Mixed.{IsLikeFirst}
 use Rattle.cell_store.specs.Sweep.{alive_at, is_dead, whole_swept}
 use Rattle.shelf.specs.declared.shelf.KeptFlush.{KeptFlush}
 use Rattle.ranked.specs.Flush.{covers}
@@ -68,6 +69,7 @@ pub record IsSweptAt (kept : List KeptFlush) (t place : ℕ) (old new : List (La
   pub size : length new ≡ length old
   pub next : IfSome (slice_get new place) (λ entry. IsNext kept t entry end)
   pub ever : mixed ≡ false → IfSome (slice_get new place) (λ entry. IsNext [] t entry end)
+  pub alike : mixed ≡ false → IfSome (slice_get new place) (λ entry. IsLikeFirst entry.1)
 
 -- A name that ends after a moment needs no sweep at another.
 abbrev pub IsDue : List KeptFlush → ℕ → ℕ → Labels × OwnerCells → ℕ → Type 0

@@ -1,13 +1,15 @@
 //! The moments before which names need no sweep, when names come and go.
 
-ghost use Rattle.std.specs.Prelude.{◌≡◌, ◌<◌, [], List, true, false, length, replicate, slice_set, swap_remove, is_some, IsOk, OnOk, OnErr, position, if◌then◌else◌};
+ghost use Rattle.std.specs.Prelude.{◌≡◌, ◌<◌, [], List, true, false, length, replicate, slice_set, swap_remove, is_some, IfSome, IsOk, OnOk, OnErr, position, if◌then◌else◌};
 ghost use Rattle.std.specs.Map.{keys_of};
 ghost use Rattle.indexmap.specs.IndexMap.{get};
 ghost use Rattle.dns_name.specs.Order.{name_eq};
 ghost use Rattle.cell_store.specs.Store.{name_place};
 ghost use Rattle.shelf.specs.Clean.{dropped, evens, fitted, touched, AreBy, AreEnds, AreEvened};
+ghost use Rattle.shelf.specs.Lasts.{HaveRoom};
 ghost use Rattle.shelf.specs.declared.shelf.KeptFlush.{KeptFlush};
 
+use crate::lasts::Lasts;
 use cell_store::Owners;
 use dns_name::Name;
 use std::alloc::{AllocError, Global};
@@ -19,6 +21,7 @@ pub struct Ends {
     pub moments: WinnerTree,
     /// Whether the moment is right only as long as no kept flush goes.
     pub mixed: Vec<bool>,
+    pub lasts: Lasts,
 }
 
 // No names.
@@ -28,6 +31,7 @@ pub(crate) fn no_ends(alloc: Global) -> Ends
     Ends {
         moments: WinnerTree::new(alloc),
         mixed: Vec::new(alloc),
+        lasts: Lasts::new(alloc),
     }
 }
 
@@ -37,6 +41,7 @@ pub(crate) fn touch(owners: &Owners, ends: &mut Ends, owner: &Name) -> Result<()
     requires flags { length ends.old.mixed.items ≡ length ends.old.moments }
     ensures ok { OnOk result (AreBy (touched (name_place owner.now owners.now.entries)) ends.old ends.new) }
     ensures err { OnErr result (AreBy (λ l. l) ends.old ends.new) }
+    ensures room { OnOk result (name_place owner.now owners.now.entries ≡ length owners.now.entries → HaveRoom ends.new.lasts) }
     ensures free { is_some (get name_eq owners.now owner.now) ≡ true → IsOk result }
 {
     match owners.get_index_of(owner) {
@@ -46,6 +51,7 @@ pub(crate) fn touch(owners: &Owners, ends: &mut Ends, owner: &Name) -> Result<()
         }
         None => {
             ends.mixed.reserve(1)?;
+            ends.lasts.reserve()?;
             ends.moments.push(0)?;
             ends.mixed.push_reserved(false);
             Ok(())
@@ -67,7 +73,8 @@ pub(crate) fn reset(owners: &Owners, ends: &mut Ends, owner: &Name)
 // Removes the last moment, if there are more than names.
 pub(crate) fn fit(owners: &Owners, ends: &mut Ends)
     requires flags { length ends.old.mixed.items ≡ length ends.old.moments }
-    ensures { AreBy (fitted (length owners.now.entries)) ends.old ends.new }
+    ensures ends { AreBy (fitted (length owners.now.entries)) ends.old ends.new }
+    ensures lasts { ends.new.lasts ≡ ends.old.lasts }
 {
     if owners.len() < ends.moments.len() {
         ends.moments.pop();
@@ -85,15 +92,17 @@ pub(crate) fn drop_at(ends: &mut Ends, place: usize)
     ends.mixed.swap_remove(place);
 }
 
-// Removes the moment of a name that is to go.
-pub(crate) fn drop_end(owners: &Owners, ends: &mut Ends, owner: &Name)
+// Removes the moment of a name that is to go, and returns its place, if it is there.
+pub(crate) fn drop_end(owners: &Owners, ends: &mut Ends, owner: &Name) -> Option<usize>
     requires size { length ends.old.moments ≡ length owners.now.entries }
     requires flags { length ends.old.mixed.items ≡ length ends.old.moments }
-    ensures { AreBy (dropped (position (name_eq owner.now) (keys_of owners.now.entries))) ends.old ends.new }
+    ensures ends { AreBy (dropped (position (name_eq owner.now) (keys_of owners.now.entries))) ends.old ends.new }
+    ensures place { result ≡ position (name_eq owner.now) (keys_of owners.now.entries) }
+    ensures low { IfSome result (λ p. p < length owners.now.entries) }
 {
-    if let Some(place) = owners.get_index_of(owner) {
-        drop_at(ends, place);
-    }
+    let place = owners.get_index_of(owner)?;
+    drop_at(ends, place);
+    Some(place)
 }
 
 // Gives the name at a place another moment.
@@ -103,6 +112,7 @@ pub(crate) fn put(ends: &mut Ends, place: usize, end: u64, mixed: bool)
     ensures moments { ends.new.moments ≡ slice_set ends.old.moments place end }
     ensures unmixed { evens ends.new ≡ slice_set (evens ends.old) place (if mixed then 0 else end) }
     ensures flags { length ends.new.mixed.items ≡ length ends.new.moments }
+    ensures lasts { ends.new.lasts ≡ ends.old.lasts }
 {
     ends.moments.set(place, end);
     ends.mixed[place] = mixed;

@@ -9,6 +9,8 @@ mod fault;
 mod room;
 // The moments before which names need no sweep.
 mod ends;
+// The seconds in which the last finds of names end.
+mod lasts;
 // A permanent flush of a zone, while it reaches the names.
 mod settling;
 // The shelf: cells and flushes.
@@ -24,6 +26,7 @@ mod kept;
 
 pub use ends::Ends;
 pub use fault::StoreFault;
+pub use lasts::Lasts;
 pub use laws::admitted_law;
 pub use room::Room;
 pub use settling::Settling;

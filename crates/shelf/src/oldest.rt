@@ -1,12 +1,17 @@
 //! The name to forget first when the cache is full.
 
-ghost use Rattle.std.specs.Prelude.{◌≡◌, ◌⊎◌, ◌<◌, ◌≤◌, ◌+◌, ◌-◌, ◌*◌, ◌^◌, true, false, IfSome, IfNone};
+ghost use Rattle.std.specs.Prelude.{◌≡◌, ◌⊎◌, ◌<◌, ◌≤◌, ◌+◌, ◌-◌, ◌*◌, ◌^◌, Some, None, true, false, min, IfSome, IfNone};
+ghost use Rattle.cell_store.specs.Ends.{latest};
 ghost use Rattle.cell_store.specs.Life.{life_end};
 ghost use Rattle.cell_store.specs.Owner.{whole_held};
 ghost use Rattle.winner_tree.specs.Tree.{IsBelow};
 ghost use Rattle.shelf.specs.First.{cell_at_name, kind_life, life_at, name_life, AreBounds, IsAhead, IsCandidate, IsEnough, IsFirst, IsSooner, IsSoonerOf};
+ghost use Rattle.shelf.specs.Lasts.{AreVisited, IsNoted};
+ghost use Rattle.shelf.specs.Clean.{AreEnds};
 ghost use Rattle.shelf.specs.Told.{IsShelf};
 
+use crate::ends::Ends;
+use crate::lasts::{Lasts, is_not_after, last_at};
 use crate::settling::{Settling, settled_version};
 use crate::shelf::{KeptFlush, Shelf};
 use cell_store::{OwnerCells, Owners};
@@ -76,6 +81,23 @@ fn name_life(
     end
 }
 
+// The second in which the last find of the name at a place ends, or the latest one that a sweep can note. It is 0 if there is no name.
+pub(crate) fn last_end(owners: &Owners, kept: &[KeptFlush], place: usize) -> u64
+    ensures { result ≡ min (life_at None kept.now owners.now.entries place) latest }
+{
+    match owners.get_index(place) {
+        Some((name, cells)) => noted(name_life(name, cells, &None, kept)),
+        None => 0,
+    }
+}
+
+// A second, or the latest one that a sweep can note.
+fn noted(end: u128) -> u64
+    ensures { result ≡ min end latest }
+{
+    end.min(u128::from(u64::MAX)) as u64
+}
+
 // The name at a place, if a find of it is alive at a moment.
 fn name_if_alive<'a>(
     owners: &'a Owners,
@@ -106,7 +128,7 @@ impl Candidate<'_> {
         ensures no { result ≡ false → IsSooner other.now.end other.now.name.now self.now.end self.now.name.now }
     {
         if self.end == other.end {
-            self.name.cmp(other.name).is_le()
+            is_not_after(self.name, other.name)
         } else {
             self.end < other.end
         }
@@ -178,12 +200,13 @@ fn is_enough(
         return own.end < end;
     }
     match owners.get_index(place) {
-        Some((name, _)) => own.name.cmp(name).is_le(),
+        Some((name, _)) => is_not_after(own.name, name),
         None => false,
     }
 }
 
-// The first of a candidate and the name at a place, if that has a find alive at a moment. It reads the cells only if the name may be the first.
+// The first of a candidate and the name at a place, if that has a find alive at a moment. It reads the cells only if the name may be
+// the first.
 #[tactic(auto, using(crate::proofs::FirstLaws::enough))]
 fn first_at<'a>(
     owners: &'a Owners,
@@ -250,12 +273,79 @@ fn first_below<'a>(
     first_at(owners, settling, kept, ends, moment, node, third)
 }
 
+// Whether a sweep has visited each name since it changed, and no permanent flush is left to reach names.
+fn is_visited(settling: &Option<Settling>, ends: &WinnerTree) -> bool
+    ensures { result ≡ true → AreVisited settling.now ends.now }
+{
+    settling.is_none() && 0 < ends.least(0)
+}
+
+// The name at a place, if it ends in the second that its last visit noted, and a find of it is alive at a moment.
+fn name_if_noted<'a>(
+    owners: &'a Owners,
+    settling: &Option<Settling>,
+    kept: &[KeptFlush],
+    lasts: &Lasts,
+    moment: u64,
+    place: usize,
+) -> Option<Candidate<'a>>
+    ensures { IfSome result (IsNoted settling.now kept.now owners.now.entries lasts.now.ends.items moment place) }
+{
+    let own = match name_if_alive(owners, settling, kept, moment, place) {
+        Some(own) => own,
+        None => return None,
+    };
+    if own.end == u128::from(last_at(&lasts.ends, place)) {
+        Some(own)
+    } else {
+        None
+    }
+}
+
+// The name that ends first by the seconds that the last visits noted, if a sweep has visited each name since it changed, and that name
+// ends then.
+fn first_noted<'a>(
+    owners: &'a Owners,
+    settling: &Option<Settling>,
+    kept: &[KeptFlush],
+    ends: &Ends,
+    moment: u64,
+) -> Option<Candidate<'a>>
+    requires { AreEnds kept.now owners.now.entries ends.now }
+    ensures { IfSome result (λ own. IsFirst settling.now kept.now owners.now.entries moment (IsBelow 0) None (Some own)) }
+{
+    if is_visited(settling, &ends.moments) {
+        if let Some(place) = ends.lasts.first() {
+            return name_if_noted(owners, settling, kept, &ends.lasts, moment, place);
+        }
+    }
+    None
+}
+
+// The name that ends first, of those that have a find alive at a moment.
+fn first_of_all<'a>(
+    owners: &'a Owners,
+    settling: &Option<Settling>,
+    kept: &[KeptFlush],
+    ends: &Ends,
+    moment: u64,
+) -> Option<Candidate<'a>>
+    requires ends { AreEnds kept.now owners.now.entries ends.now }
+    requires bounds { AreBounds settling.now kept.now owners.now.entries ends.now.moments }
+    ensures { IsFirst settling.now kept.now owners.now.entries moment (IsBelow 0) None result }
+{
+    match first_noted(owners, settling, kept, ends, moment) {
+        Some(own) => Some(own),
+        None => first_below(owners, settling, kept, &ends.moments, moment, 0, None),
+    }
+}
+
 impl Shelf {
     ghost use Rattle.shelf.specs.Oldest.{IsNoneAlive, IsOldest};
 
-    /// The name to forget first when the cache is full: the one whose last find ends first, of the names that have a find alive at the moment,
-    /// whatever choice of the kept flushes is in force. Of names whose last finds end in the same second it is the first in the order of names.
-    /// It takes no memory.
+    /// The name to forget first when the cache is full: the one whose last find ends first, of the names that have a find alive at the
+    /// moment, whatever choice of the kept flushes is in force. Of names whose last finds end in the same second it is the first in the
+    /// order of names. It takes no memory. After a sweep it reads the cells of one name; before it, it may read those of many.
     pub fn oldest(&self, moment: u64) -> Option<&Name>
         requires whole { IsShelf self.now }
         ensures some { IfSome result (λ name. IsOldest self.now moment name.now) }
@@ -263,16 +353,7 @@ impl Shelf {
     {
         // `len` is called for its clause that the names differ, which the proof cites.
         let _ = self.owners.len();
-        let ends = &self.ends.moments;
-        let first = first_below(
-            &self.owners,
-            &self.settling,
-            &self.kept,
-            ends,
-            moment,
-            0,
-            None,
-        );
+        let first = first_of_all(&self.owners, &self.settling, &self.kept, &self.ends, moment);
         match first {
             Some(own) => Some(own.name),
             None => None,
@@ -289,13 +370,18 @@ mod tests {
     use std::process::Abort;
     use std::test::Fail;
 
-    /// The address of a name, which lives for some seconds.
-    fn address(alloc: Global, owner: &[u8], ttl: u32) -> Result<SharedFind, Fail> {
-        let record = read_record(alloc, b"a.test A 192.0.2.1")?;
+    /// The data of a record's text for a name, which live for some seconds.
+    fn find(alloc: Global, owner: &[u8], text: &[u8], ttl: u32) -> Result<SharedFind, Fail> {
+        let record = read_record(alloc, text)?;
         let data = Items::new(vec![in alloc; record.body]?);
         let owner = Name::from_text(alloc, owner)?;
         let find = Find::new(owner, record.kind, Rank::Answer, ttl, data).ok_or("a find")?;
         Ok(SharedFind::new(alloc, find)?)
+    }
+
+    /// The address of a name, which lives for some seconds.
+    fn address(alloc: Global, owner: &[u8], ttl: u32) -> Result<SharedFind, Fail> {
+        find(alloc, owner, b"a.test A 192.0.2.1", ttl)
     }
 
     fn is_oldest(shelf: &Shelf, moment: u64, owner: &Name) -> bool
@@ -354,5 +440,96 @@ mod tests {
     #[test]
     fn names_in_the_order_of_their_ends(rt: HostRuntime) -> Result<(), Fail> {
         in_order(&rt, rt.alloc(), &mut Shelf::new(rt.alloc(), 3))
+    }
+
+    fn in_one_second<R: Abort>(rt: &R, alloc: Global, shelf: &mut Shelf) -> Result<(), Fail>
+        requires { IsShelf shelf.old }
+    {
+        let first = Name::from_text(alloc, b"a.test")?;
+        let second = Name::from_text(alloc, b"b.test")?;
+        let third = Name::from_text(alloc, b"c.test")?;
+        shelf.admit(address(alloc, b"d.test", 60)?, 0)?;
+        shelf.admit(address(alloc, b"b.test", 60)?, 0)?;
+        shelf.admit(address(alloc, b"e.test", 60)?, 0)?;
+        shelf.admit(address(alloc, b"a.test", 60)?, 0)?;
+        shelf.admit(address(alloc, b"c.test", 60)?, 0)?;
+        shelf.sweep(0);
+        assert!(rt; is_oldest(shelf, 0, &first));
+        shelf.forget(&first);
+        assert!(rt; is_oldest(shelf, 0, &second));
+        shelf.admit(address(alloc, b"b.test", 90)?, 0)?;
+        assert!(rt; is_oldest(shelf, 0, &third));
+        shelf.sweep(0);
+        assert!(rt; is_oldest(shelf, 0, &third));
+        shelf.sweep(60);
+        assert!(rt; is_oldest(shelf, 60, &second));
+        Ok(())
+    }
+
+    /// Names that end in the same second go in their order, also once a sweep has noted the second.
+    #[test]
+    fn names_that_end_in_one_second(rt: HostRuntime) -> Result<(), Fail> {
+        in_one_second(&rt, rt.alloc(), &mut Shelf::new(rt.alloc(), 5))
+    }
+
+    fn short_and_long<R: Abort>(rt: &R, alloc: Global, shelf: &mut Shelf) -> Result<(), Fail>
+        requires { IsShelf shelf.old }
+    {
+        let both = Name::from_text(alloc, b"a.test")?;
+        let one = Name::from_text(alloc, b"b.test")?;
+        shelf.admit(address(alloc, b"a.test", 60)?, 0)?;
+        shelf.admit(find(alloc, b"a.test", b"a.test AAAA 2001:db8::1", 600)?, 0)?;
+        shelf.admit(address(alloc, b"b.test", 300)?, 0)?;
+        assert!(rt; is_oldest(shelf, 0, &one));
+        shelf.sweep(0);
+        assert!(rt; is_oldest(shelf, 0, &one));
+        assert!(rt; is_oldest(shelf, 300, &both));
+        shelf.admit(address(alloc, b"b.test", 900)?, 0)?;
+        assert!(rt; is_oldest(shelf, 0, &both));
+        shelf.sweep(60);
+        assert!(rt; is_oldest(shelf, 60, &both));
+        shelf.forget(&both);
+        assert!(rt; is_oldest(shelf, 60, &one));
+        Ok(())
+    }
+
+    /// The last find of a name counts, whatever else it has that ends sooner.
+    #[test]
+    fn short_and_long_data_of_one_name(rt: HostRuntime) -> Result<(), Fail> {
+        short_and_long(&rt, rt.alloc(), &mut Shelf::new(rt.alloc(), 3))
+    }
+
+    fn flushed_and_undone<R: Abort>(rt: &R, alloc: Global, shelf: &mut Shelf) -> Result<(), Fail>
+        requires whole { IsShelf shelf.old }
+        requires newest { shelf.old.top < 1 }
+    {
+        let flushed = Name::from_text(alloc, b"a.test")?;
+        let other = Name::from_text(alloc, b"b.test")?;
+        shelf.admit(address(alloc, b"a.test", 900)?, 0)?;
+        shelf.admit(address(alloc, b"b.test", 300)?, 0)?;
+        shelf.sweep(0);
+        let flush = Flush {
+            name: flushed.clone()?,
+            reach: Reach::Zone,
+        };
+        shelf.open_flush(flush, 1)?;
+        shelf.sweep(0);
+        assert!(rt; is_oldest(shelf, 0, &other));
+        shelf.hide(1);
+        assert!(rt; is_oldest(shelf, 0, &other));
+        shelf.unhide(1);
+        shelf.settle(1);
+        assert!(rt; is_oldest(shelf, 0, &other));
+        assert!(rt; shelf.oldest(300).is_none());
+        shelf.sweep(0);
+        assert!(rt; is_oldest(shelf, 0, &other));
+        assert!(rt; shelf.oldest(300).is_none());
+        Ok(())
+    }
+
+    /// A flush that can be undone leaves the find that it hides alive. Once it is permanent, the find is gone.
+    #[test]
+    fn a_name_that_is_flushed_for_good(rt: HostRuntime) -> Result<(), Fail> {
+        flushed_and_undone(&rt, rt.alloc(), &mut Shelf::new(rt.alloc(), 2))
     }
 }

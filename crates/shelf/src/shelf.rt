@@ -282,6 +282,7 @@ impl Shelf {
             self.top,
         );
         fit(&self.owners, &mut self.ends);
+        self.ends.lasts.follow(&self.owners);
         result?;
         self.reach_names();
         Ok(())
@@ -362,8 +363,9 @@ impl Shelf {
         // Fewer places are counted, if a find of the name was alive, whatever choice of the kept flushes was in force.
         ensures fewer { (t end : ℕ) → IsEnding self.old t owner.now end → self.new.stored < self.old.stored }
     {
-        drop_end(&self.owners, &mut self.ends, owner);
+        let place = drop_end(&self.owners, &mut self.ends, owner);
         forget(&mut self.owners, &mut self.stored, owner);
+        self.ends.lasts.remove(&self.owners, place);
         fit_place(&self.owners, &mut self.settling);
     }
 

@@ -10,9 +10,11 @@ ghost use Rattle.cell_store.specs.declared.owner.OwnerCells.{OwnerCells};
 ghost use Rattle.cell_store.specs.declared.seed.NameSeed.{NameSeed};
 ghost use Rattle.cell_store.specs.Sweep.{alive_at};
 ghost use Rattle.shelf.specs.Clean.{AreEnds};
+ghost use Rattle.shelf.specs.Lasts.{IsShaped};
 ghost use Rattle.shelf.specs.Sweep.{count_ended, numbers_of, AreAlive, AreLessened, IsSwept, IsSweptAt, IsUnderway};
 
 use crate::ends::{Ends, drop_at, end_all, put};
+use crate::oldest::last_end;
 use crate::settling::{is_reaching, reach_all};
 use crate::shelf::{KeptFlush, Shelf};
 use cell_store::{OwnerCells, Owners, drop_if_uncounted};
@@ -92,6 +94,7 @@ fn visit(
 )
     requires low { (place < length owners.old.entries) × (length ends.old.moments ≡ length owners.old.entries) }
     requires flags { length ends.old.mixed.items ≡ length ends.old.moments }
+    requires lasts { (length ends.old.lasts.ends.items ≡ length owners.old.entries) × IsShaped ends.old.lasts }
     requires room { length kept.now ≤ vec_capacity numbers.old }
     requires counted { stored.old ≡ stored_in owners.old }
     ensures on { (asked most : ℕ) (first : IndexMap Labels OwnerCells NameSeed) → asked ≤ moment → asked < latest →
@@ -104,8 +107,11 @@ fn visit(
     let (end, mixed) = sweep_at(owners, stored, kept, numbers, place, moment);
     if drop_if_uncounted(owners, place) {
         drop_at(ends, place);
+        ends.lasts.swap_remove(owners, place);
     } else {
         put(ends, place, end, mixed);
+        let last = last_end(owners, kept, place);
+        ends.lasts.set(owners, place, last);
     }
 }
 
@@ -167,7 +173,7 @@ pub(crate) fn sweep_few(
 }
 
 // Sweeps the names that need it at a moment. It takes no memory.
-#[tactic(auto, using(crate::proofs::VisitLaws::start, crate::proofs::VisitLaws::start_all))]
+#[tactic(auto, using(crate::proofs::VisitLaws::start))]
 pub(crate) fn sweep_all(
     owners: &mut Owners,
     ends: &mut Ends,

@@ -1,4 +1,4 @@
-use Rattle.std.proofs.Common.{Bool, List, ap, ◌∙◌}
+use Rattle.std.proofs.Common.{ap, ◌∙◌}
 use Rattle.std.proofs.Math.ListN.{set}
 use Rattle.shelf.specs.Clean.{evens_of}
 use Rattle.shelf.proofs.EvenLaws.{evens_put}

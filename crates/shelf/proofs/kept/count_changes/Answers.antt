@@ -1,5 +1,4 @@
-use Rattle.std.proofs.Common.{◌≡◌, ℕ, ◌+◌, ◌<◌, Bool, true, false, take, sym, ap, ◌∙◌, subst, length, arith}
-use Rattle.std.proofs.lemmas.Grind.{common_steps}
+use Rattle.std.proofs.Common.{◌≡◌, ◌+◌, ◌<◌, true, false, take, sym, ◌∙◌, subst, length, arith}
 use Rattle.ranked.specs.Flush.{covers}
 use Rattle.cell_store.specs.Same.{same_cell}
 use Rattle.shelf.specs.Settling.{settled_cell}

@@ -6,6 +6,7 @@ use Rattle.cell_store.specs.declared.owner.OwnerCells.{OwnerCells}
 use Rattle.cell_store.specs.declared.seed.NameSeed.{NameSeed}
 use Rattle.shelf.specs.Clean.{AreEnds, HaveEnds}
 use Rattle.shelf.proofs.EndLaws.{ends_put}
+use Rattle.shelf.proofs.WinnerLaws.{alike}
 use Rattle.shelf.proofs.SettlingLaws.{reach_more, reach_none, same_length}
 use Rattle.shelf.proofs.settling.reach.Goals as goal
 
@@ -56,8 +57,8 @@ loop-place-preserved-then-settle_at c =
       counted = c.settle_at.ensures.counted.0;
       fewer = omega (arith, was.fewer, c.settle_at.ensures.counted.1);
       pairs = λ pair has. was.pairs pair (c.settle_at.ensures.pairs pair has);
-      ends = λ kept is. ends_put kept olds news c.loop-place.ends c.put.new.ends place (was.ends kept is) c.settle_at.ensures.entries.others size low
-          (record { moments = c.put.ensures.moments; unmixed = c.put.ensures.unmixed; flags = c.put.ensures.flags });
+      ends = λ kept is. ends_put kept olds news c.loop-place.ends c.put.new.ends place (was.ends kept is) c.settle_at.ensures.entries.others names low
+          (record { moments = c.put.ensures.moments; unmixed = c.put.ensures.unmixed; flags = c.put.ensures.flags; lasts = alike c.put.new.ends.lasts c.loop-place.ends.lasts c.put.ensures.lasts });
       size = (ap length c.put.ensures.moments ∙ (length-set c.loop-place.ends.moments place 0 ∙ (was.size.0 ∙ sym size)), c.put.ensures.flags);
       names = names ∙ was.names;
     }

@@ -14,3 +14,6 @@ returns-clause-alive c =
     let none : c.first_ended.result ≡ None = grind (arith, common_steps) in
     let later = later_zero c.loop-place.ends.moments c.args.asked (when_none c.first_ended.result none c.first_ended.ensures.none) in
     all_alive c.args.kept.now c.args.moment c.loop-place.owners (each_clean c.args.kept.now c.args.moment c.args.asked c.loop-place.owners.entries c.loop-place.ends.moments c.loop-place.invariant.underway.due later)
+
+pub visit-requires-clause-lasts : goal.visit-requires-clause-lasts
+visit-requires-clause-lasts c = let winners = c.loop-place.invariant.underway.ends.winners in (winners.size, winners.shape)

@@ -14,3 +14,6 @@ loop-left-preserved c =
       underway = c.visit.ensures.on c.args.moment c.args.stored.now c.args.owners.now (omega arith) small c.loop-left.invariant.underway;
       capacity = c.visit.ensures.capacity ∙ c.loop-left.invariant.capacity;
     }
+
+pub visit-requires-clause-lasts : goal.visit-requires-clause-lasts
+visit-requires-clause-lasts c = let winners = c.loop-left.invariant.underway.ends.winners in (winners.size, winners.shape)

@@ -1,6 +1,9 @@
-use Rattle.std.proofs.Common.{ℕ, List, ◌<◌, length, true, false, sym, subst, arith}
+use Rattle.std.proofs.Common.{ℕ, List, ◌<◌, length, true, false, sym, ap, subst, arith}
 use Rattle.cell_store.specs.Store.{IsDroppedAt}
 use Rattle.shelf.specs.Sweep.{count_ended}
+use Rattle.shelf.specs.declared.lasts.Lasts.{Lasts}
+use Rattle.shelf.specs.Lasts.{IsShaped}
+use Rattle.shelf.proofs.WinnerLaws.{shaped_same}
 use Rattle.shelf.proofs.VisitLaws.{ended_gone, ended_set, later_of, on_gone, on_kept}
 use Rattle.shelf.proofs.sweep.visit.Goals as goal
 
@@ -10,13 +13,25 @@ drop_at-requires c = record { low = omega (arith, c.requires.low.0, c.requires.l
 pub put-requires : goal.put-requires
 put-requires c = record { low = omega (arith, c.requires.low.0, c.requires.low.1); flags = c.requires.flags }
 
+pub swap_remove-requires : goal.swap_remove-requires
+swap_remove-requires c = record {
+  shape = shaped_same c.args.ends.now.lasts c.drop_at.new.ends.lasts c.drop_at.ensures.lasts c.requires.lasts.1;
+  low = omega (arith, ap length c.drop_at.ensures.lasts.0, c.requires.lasts.0, c.requires.low.0);
+}
+
+pub set-requires : goal.set-requires
+set-requires c = record {
+  shape = subst (λ (l : Lasts). IsShaped l) (sym c.put.ensures.lasts) c.requires.lasts.1;
+  low = omega (arith, ap (λ (l : Lasts). length l.ends.items) c.put.ensures.lasts, c.requires.lasts.0, c.requires.low.0);
+}
+
 pub returns-then-drop_if_uncounted-clause-on : goal.returns-then-drop_if_uncounted-clause-on
 returns-then-drop_if_uncounted-clause-on c = λ asked most first before small is.
     let gone : IsDroppedAt c.args.place c.sweep_at-end.new.owners.entries c.drop_if_uncounted.new.owners.entries true =
     subst (λ b. IsDroppedAt c.args.place c.sweep_at-end.new.owners.entries c.drop_if_uncounted.new.owners.entries b) c.if-drop_if_uncounted.true c.drop_if_uncounted.ensures.entries in
     on_gone c.args.kept.now c.args.moment c.args.place c.sweep_at-end.result.0 c.sweep_at-end.result.1 c.args.owners.now c.sweep_at-end.new.owners c.drop_if_uncounted.new.owners c.args.ends.now c.drop_at.new.ends c.args.stored.now c.sweep_at-end.new.stored
     c.requires.low.0 c.requires.low.1 c.sweep_at-end.ensures.swept c.sweep_at-end.ensures.counted c.sweep_at-end.ensures.fewer c.drop_if_uncounted.ensures.cells c.drop_if_uncounted.ensures.left c.drop_if_uncounted.ensures.counted
-    c.drop_at.ensures gone.0 gone.1 asked most first is
+    c.drop_at.ensures gone.0 gone.1 c.swap_remove.new.self c.swap_remove.ensures.ends c.swap_remove.ensures.winners asked most first is
 
 pub returns-then-drop_if_uncounted-clause-ended : goal.returns-then-drop_if_uncounted-clause-ended
 returns-then-drop_if_uncounted-clause-ended c = λ asked before small is.
@@ -29,7 +44,7 @@ returns-else-drop_if_uncounted-clause-on c = λ asked most first before small is
     subst (λ b. IsDroppedAt c.args.place c.sweep_at-end.new.owners.entries c.drop_if_uncounted.new.owners.entries b) c.if-drop_if_uncounted.false c.drop_if_uncounted.ensures.entries in
     on_kept c.args.kept.now c.args.moment c.args.place c.sweep_at-end.result.0 c.sweep_at-end.result.1 c.args.owners.now c.sweep_at-end.new.owners c.drop_if_uncounted.new.owners c.args.ends.now c.put.new.ends c.args.stored.now c.sweep_at-end.new.stored
     c.requires.low.0 c.requires.low.1 c.sweep_at-end.ensures.swept c.sweep_at-end.ensures.counted c.sweep_at-end.ensures.fewer c.drop_if_uncounted.ensures.cells c.drop_if_uncounted.ensures.left c.drop_if_uncounted.ensures.counted
-    c.put.ensures.moments c.put.ensures.unmixed c.put.ensures.flags stays.0 stays.1 asked most first before small is
+    c.put.ensures.moments c.put.ensures.unmixed c.put.ensures.flags c.put.ensures.lasts stays.0 stays.1 c.set.new.self c.last_end-last.result c.last_end-last.ensures c.set.ensures.ends c.set.ensures.winners asked most first before small is
 
 pub returns-else-drop_if_uncounted-clause-ended : goal.returns-else-drop_if_uncounted-clause-ended
 returns-else-drop_if_uncounted-clause-ended c = λ asked before small is.

@@ -1,11 +1,9 @@
-use Rattle.std.proofs.Common.{ℕ, List, length, sym, subst, arith}
-use Rattle.std.specs.Prelude.{position}
-use Rattle.std.specs.Map.{keys_of}
-use Rattle.indexmap.specs.IndexMap.{swap_remove_entry}
+use Rattle.std.proofs.Common.{List, length, sym, subst, arith}
 use Rattle.dns_name.specs.Labels.{Labels}
 use Rattle.cell_store.specs.declared.owner.OwnerCells.{OwnerCells}
-use Rattle.shelf.specs.Clean.{dropped, AreEnds}
-use Rattle.shelf.proofs.EndLaws.{ends_by, keyed_dropped}
+use Rattle.shelf.specs.Clean.{AreEnds}
+use Rattle.shelf.specs.Lasts.{AreWinners}
+use Rattle.shelf.proofs.EndLaws.{gone_ends, gone_low, gone_winners}
 use Rattle.shelf.specs.Told.{chosen_version}
 use Rattle.dns_name.specs.Order.{name_eq}
 use Rattle.shelf.proofs.AboutLaws.{about_forgot}
@@ -14,11 +12,19 @@ use Rattle.shelf.proofs.FaceLaws.{settles_each}
 use Rattle.shelf.proofs.SettlingLaws.{forgot_face, forgot_settling}
 use Rattle.shelf.proofs.shelf.Shelf.forget.Goals as goal
 
-pub drop_end-requires : goal.drop_end-requires
-drop_end-requires c = record { size = c.requires.whole.ends.now.size; flags = c.requires.whole.ends.flags }
+pub drop_end-place-requires : goal.drop_end-place-requires
+drop_end-place-requires c = record { size = c.requires.whole.ends.now.size; flags = c.requires.whole.ends.flags }
 
 pub forget-requires : goal.forget-requires
 forget-requires c = record { counted = c.requires.whole.counted }
+
+pub remove-requires : goal.remove-requires
+remove-requires c =
+    let self = c.args.self.now in
+    record {
+      shape = (gone_winners self.kept.items c.args.owner.now self.owners.entries self.ends c.drop_end-place.new.ends c.requires.whole.ends c.drop_end-place.ensures.ends).shape;
+      low = gone_low self.kept.items c.args.owner.now self.owners.entries self.ends c.drop_end-place.new.ends c.requires.whole.ends c.drop_end-place.ensures.ends c.drop_end-place.result c.drop_end-place.ensures.low;
+    }
 
 pub returns-clause-faces : goal.returns-clause-faces
 returns-clause-faces c = λ chosen q.
@@ -39,9 +45,11 @@ returns-clause-whole c =
       few = omega (arith, c.forget.ensures.fewer.0, whole.few);
       small = whole.small;
       room = whole.room;
-      ends = subst (λ (l : List (Labels × OwnerCells)). AreEnds self.kept.items l c.drop_end.new.ends) (sym c.forget.ensures.gone.1)
-          (ends_by self.kept.items self.owners.entries (swap_remove_entry (name_eq c.args.owner.now) self.owners.entries) (dropped (position (name_eq c.args.owner.now) (keys_of self.owners.entries))) self.ends c.drop_end.new.ends
-          (λ P start l keyed. keyed_dropped P (name_eq c.args.owner.now) self.owners.entries l keyed) c.drop_end.ensures whole.ends);
+      ends = subst (λ (l : List (Labels × OwnerCells)). AreEnds self.kept.items l (record { moments = c.drop_end-place.new.ends.moments; mixed = c.drop_end-place.new.ends.mixed; lasts = c.remove.new.self })) (sym c.forget.ensures.gone.1)
+          (gone_ends self.kept.items c.args.owner.now self.owners.entries self.ends c.drop_end-place.new.ends whole.ends c.drop_end-place.ensures.ends c.drop_end-place.result c.remove.new.self c.drop_end-place.ensures.place c.remove.ensures.ends
+          (subst (λ (l : List (Labels × OwnerCells)). AreWinners l c.remove.new.self) c.forget.ensures.gone.1
+          (c.remove.ensures.winners self.owners.entries c.args.owner.now c.drop_end-place.ensures.place c.forget.ensures.gone.1
+          (gone_winners self.kept.items c.args.owner.now self.owners.entries self.ends c.drop_end-place.new.ends whole.ends c.drop_end-place.ensures.ends))));
       settling = forgot_settling self.top self.owners c.forget.new.owners c.args.owner.now c.forget.ensures.cells c.forget.ensures.gone.1 self.settling c.fit_place.new.settling c.fit_place.ensures whole.settling;
     }
 

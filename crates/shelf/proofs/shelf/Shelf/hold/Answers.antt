@@ -9,7 +9,9 @@ use Rattle.shelf.specs.Told.{cell_at, only, chosen_version, is_version}
 use Rattle.shelf.specs.Told.Told.{admitted}
 use Rattle.std.specs.Prelude.{not, Ok}
 use Rattle.cell_store.specs.Count.{has_place_for, one_if}
-use Rattle.shelf.proofs.EndLaws.{ends_by, held_about, held_ends, held_ok}
+use Rattle.shelf.proofs.EndLaws.{ends_same, held_about, held_ends, held_ok, held_room, held_shape}
+use Rattle.shelf.specs.declared.lasts.Lasts.{Lasts}
+use Rattle.shelf.specs.Lasts.{HaveRoom}
 use Rattle.shelf.proofs.AboutLaws.{about_admitted}
 use Rattle.shelf.proofs.ShelfLaws.{told_more}
 use Rattle.shelf.proofs.ShelfLaws as shelf
@@ -22,6 +24,17 @@ touch-requires c = record { size = c.requires.whole.ends.now.size; flags = c.req
 
 pub fit-requires : goal.fit-requires
 fit-requires c = record { flags = c.in_ok-touch.ensures.ok.flags }
+
+pub follow-requires : goal.follow-requires
+follow-requires c =
+    let self = c.args.self.now in
+    record {
+      shape = held_shape self c.admit-result.new.owners c.args.find c.find-2.result.now c.touch.new.ends c.fit.new.ends c.requires.whole.ends c.admit-result.ensures.bound.2 c.find-2.ensures c.in_ok-touch.ensures.ok c.fit.ensures.ends;
+      room = λ more.
+          subst (λ (l : Lasts). HaveRoom l) (sym c.fit.ensures.lasts)
+          (held_room self c.admit-result.new.owners c.args.find c.find-2.result.now c.touch.new.ends c.fit.new.ends c.requires.whole.ends c.admit-result.ensures.bound.2 c.find-2.ensures c.in_ok-touch.ensures.ok c.fit.ensures.ends
+          (HaveRoom c.touch.new.ends.lasts) c.in_ok-touch.ensures.room more);
+    }
 
 pub admit-result-requires : goal.admit-result-requires
 admit-result-requires c = record { index = record { upto = c.requires.whole.upto; counted = c.requires.whole.counted; few = omega (arith, c.requires.whole.few, c.requires.whole.small) } }
@@ -42,7 +55,7 @@ reach_names-requires c =
         few = omega (arith, c.admit-result.ensures.bound.0, c.requires.room);
         small = c.requires.whole.small;
         room = c.requires.whole.room;
-        ends = held_ends self c.admit-result.new.owners c.args.find c.find-2.result.now c.touch.new.ends c.fit.new.ends c.requires.whole.ends c.admit-result.ensures.bound.2 c.find-2.ensures c.in_ok-touch.ensures.ok c.fit.ensures;
+        ends = held_ends self c.admit-result.new.owners c.args.find c.find-2.result.now c.touch.new.ends c.fit.new.ends c.requires.whole.ends c.admit-result.ensures.bound.2 c.find-2.ensures c.in_ok-touch.ensures.ok c.fit.ensures.ends c.follow.new.self c.follow.ensures.ends c.follow.ensures.winners;
         settling = admitted_settling self.top self.owners c.admit-result.new.owners c.args.find.owner c.admit-result.ensures.bound.2.names (size_more self.owners.entries c.admit-result.new.owners.entries c.args.find.owner c.admit-result.ensures.bound.2.size)
             c.args.find c.args.moment cells self.settling c.requires.whole.settling;
       };
@@ -91,7 +104,7 @@ returns-in_err-result-clause-whole c =
       few = omega (arith, c.admit-result.ensures.bound.0, c.requires.room);
       small = c.requires.whole.small;
       room = c.requires.whole.room;
-      ends = held_ends self c.admit-result.new.owners c.args.find c.find-2.result.now c.touch.new.ends c.fit.new.ends c.requires.whole.ends c.admit-result.ensures.bound.2 c.find-2.ensures c.in_ok-touch.ensures.ok c.fit.ensures;
+      ends = held_ends self c.admit-result.new.owners c.args.find c.find-2.result.now c.touch.new.ends c.fit.new.ends c.requires.whole.ends c.admit-result.ensures.bound.2 c.find-2.ensures c.in_ok-touch.ensures.ok c.fit.ensures.ends c.follow.new.self c.follow.ensures.ends c.follow.ensures.winners;
       settling = held_settling self.owners c.admit-result.new.owners c.args.find c.args.moment self.top self.stored c.admit-result.new.stored c.admit-result.result c.admit-result.ensures.cells c.admit-result.ensures.err c.admit-result.ensures.bound.2.names
           (size_more self.owners.entries c.admit-result.new.owners.entries c.args.find.owner c.admit-result.ensures.bound.2.size) self.settling c.requires.whole.settling;
     }
@@ -110,6 +123,6 @@ returns-in_err-touch-clause-whole c =
       few = whole.few;
       small = whole.small;
       room = whole.room;
-      ends = ends_by self.kept.items self.owners.entries self.owners.entries (λ l. l) self.ends c.touch.new.ends (λ P start l keyed. keyed) c.in_err-touch.ensures.err whole.ends;
+      ends = ends_same self.kept.items self.owners.entries self.ends c.touch.new.ends c.in_err-touch.ensures.err whole.ends;
       settling = whole.settling;
     }

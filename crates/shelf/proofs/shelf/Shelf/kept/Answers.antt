@@ -1,4 +1,4 @@
-use Rattle.std.proofs.Common.{◌≡◌, ◌≤◌, length, List, ap, subst, arith}
+use Rattle.std.proofs.Common.{◌≡◌, length, List, subst, arith}
 use Rattle.cell_store.specs.Same.{same_cell}
 use Rattle.shelf.specs.Settling.{settled_cell}
 use Rattle.shelf.specs.declared.shelf.KeptFlush.{KeptFlush}

@@ -1,5 +1,5 @@
 use Rattle.shelf.proofs.EndLaws.{ends_mixed}
-use Rattle.std.proofs.Common.{◌≤◌, ℕ, List, sym, ap, ◌∙◌, subst, length, arith}
+use Rattle.std.proofs.Common.{◌≤◌, List, sym, ap, ◌∙◌, subst, length, arith}
 use Rattle.std.specs.List.{AllByRecursion}
 use Rattle.shelf.specs.declared.shelf.KeptFlush.{KeptFlush}
 use Rattle.shelf.specs.Told.{cell_at, chosen_version, IsAscending, CanSettleFlush}

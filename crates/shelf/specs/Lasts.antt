@@ -1,0 +1,77 @@
+-- The places of the index by the seconds in which the last finds of their names end, and the tree that finds the first.
+use Rattle.std.specs.Prelude.{◌≡◌, ◌⊎◌, ◌<◌, ◌≤◌, ◌+◌, ◌*◌, ℕ, List, Option, None, length, slice_index_or, vec_capacity}
+use Rattle.dns_name.specs.Labels.{Labels}
+use Rattle.cell_store.specs.declared.owner.OwnerCells.{OwnerCells}
+use Rattle.winner_tree.specs.Tree.{moment_at, IsBelow}
+use Rattle.shelf.specs.declared.lasts.Lasts.{Lasts}
+use Rattle.shelf.specs.declared.oldest.Candidate.{Candidate}
+use Rattle.shelf.specs.declared.settling.Settling.{Settling}
+use Rattle.shelf.specs.declared.shelf.KeptFlush.{KeptFlush}
+use Rattle.shelf.specs.First.{life_at, name_at, IsCandidate, IsSooner}
+
+-- the second of a place; 0 if it is not there
+abbrev pub last_at : List ℕ → ℕ → ℕ
+last_at lasts place = slice_index_or lasts place 0
+
+-- the winner of a node
+abbrev pub winner_at : List ℕ → ℕ → ℕ
+winner_at winners node = slice_index_or winners node 0
+
+-- A place does not come after another: its second is sooner, or it is the same and the name at the place does not come after the other.
+abbrev pub Leads : List (Labels × OwnerCells) → List ℕ → ℕ → ℕ → Type 0
+Leads entries lasts a b = IsSooner (last_at lasts a) (name_at entries a) (last_at lasts b) (name_at entries b)
+
+-- A place does not come after a node, nor after the winners of its children.
+pub record IsWinner (entries : List (Labels × OwnerCells)) (lasts winners : List ℕ) (node place : ℕ) : Type 0 where
+  pub own : Leads entries lasts place node
+  pub left : 2 * node + 1 < length winners → Leads entries lasts place (winner_at winners (2 * node + 1))
+  pub right : 2 * node + 2 < length winners → Leads entries lasts place (winner_at winners (2 * node + 2))
+
+-- One of a place and the winner of a child, which does not come after the other.
+pub record IsFirstOf (entries : List (Labels × OwnerCells)) (lasts winners : List ℕ) (place child first : ℕ) : Type 0 where
+  pub one : (first ≡ place) ⊎ ((child < length winners) × (first ≡ winner_at winners child))
+  pub own : Leads entries lasts first place
+  pub other : child < length winners → Leads entries lasts first (winner_at winners child)
+
+-- The winner of a node is right, by those of its children.
+abbrev pub IsRight : List (Labels × OwnerCells) → List ℕ → List ℕ → ℕ → Type 0
+IsRight entries lasts winners node = IsWinner entries lasts winners node (winner_at winners node)
+
+-- Each winner is at or below its node.
+abbrev pub AreWithin : List ℕ → Type 0
+AreWithin winners = (i : ℕ) → i < length winners → IsBelow i (winner_at winners i)
+
+-- Each of some nodes is right, and each other one if it was.
+abbrev pub AreMended : (ℕ → Type 0) → List (Labels × OwnerCells) → List ℕ → List ℕ → List ℕ → Type 0
+AreMended Some entries lasts old new = (i : ℕ) → i < length old → ((Some i → ⊥) → IsRight entries lasts old i) → IsRight entries lasts new i
+
+-- There is a winner for each place, at or below it.
+abbrev pub IsShaped : Lasts → Type 0
+IsShaped lasts = (length lasts.winners.items ≡ length lasts.ends.items) × AreWithin lasts.winners.items
+
+-- There is a place for each name, and each winner is right.
+pub record AreWinners (entries : List (Labels × OwnerCells)) (lasts : Lasts) : Type 0 where
+  pub size : length lasts.ends.items ≡ length entries
+  pub shape : IsShaped lasts
+  pub right : (i : ℕ) → i < length lasts.winners.items → IsRight entries lasts.ends.items lasts.winners.items i
+
+-- There is room for one place more.
+abbrev pub HaveRoom : Lasts → Type 0
+HaveRoom lasts = (length lasts.ends.items < vec_capacity lasts.ends) × (length lasts.winners.items < vec_capacity lasts.winners)
+
+-- The places have the same seconds and winners.
+abbrev pub AreSameLasts : Lasts → Lasts → Type 0
+AreSameLasts old new = (new.ends.items ≡ old.ends.items) × (new.winners.items ≡ old.winners.items)
+
+-- It is the name at a place, a find of it is alive at a moment, and its last find ends in the second of the place.
+abbrev pub IsNoted : Option Settling → List KeptFlush → List (Labels × OwnerCells) → List ℕ → ℕ → ℕ → Candidate → Type 0
+IsNoted settling kept entries lasts t place own =
+    (own.place ≡ place) × IsCandidate settling kept entries t own × (own.end ≡ last_at lasts place)
+
+-- A sweep has visited each name since it changed, and no permanent flush is left to reach names.
+abbrev pub AreVisited : Option Settling → List ℕ → Type 0
+AreVisited settling moments = (settling ≡ None) × ((i : ℕ) → IsBelow 0 i → i < length moments → 0 < moment_at moments i)
+
+-- The last find of a name does not end before the second of its place, unless the next sweep is to visit the name.
+abbrev pub AreLow : List KeptFlush → List (Labels × OwnerCells) → List ℕ → List ℕ → Type 0
+AreLow kept entries moments lasts = (i : ℕ) → 0 < slice_index_or moments i 0 → last_at lasts i ≤ life_at None kept entries i
