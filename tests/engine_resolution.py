@@ -22,8 +22,8 @@ from lib.programs import PLAY, TOP, run
 from lib.rows import came, query_words, rows_in
 
 FOLDER = os.path.join(TOP, "tests/resolution")
-OWN_LINES = ("port", "hints", "ask", "refuse", "confuse", "lie", "at")
-BOOK_LINES = ("look ", "servers ", "admit ", "told ")
+OWN_LINES = ("port", "cells", "hints", "ask", "refuse", "confuse", "lie", "at")
+BOOK_LINES = ("look ", "servers ", "admit ", "sweep ", "oldest ", "forget ", "told ")
 
 
 def given(lines):

@@ -19,7 +19,7 @@ COUNTERS = [
     "total.num.queries", "total.num.cachehits", "total.num.cachemiss", "total.num.dropped", "total.requestlist.exceeded",
     "total.requestlist.current.all", "num.query.tcp", *(f"num.answer.rcode.{word}" for word in RCODES), "num.query.udpout",
     "num.query.tcpout", "num.exchange.answered", "num.exchange.unanswered", "num.exchange.current", "cache.cells", "cache.full",
-    "local.zones", "local.records", "stubs", "commands.done", "commands.undone",
+    "cache.forgotten", "local.zones", "local.records", "stubs", "commands.done", "commands.undone",
 ]
 
 
@@ -48,7 +48,7 @@ def check_fresh(checks):
         checks.equal("fresh: stats", told, {**dict.fromkeys(COUNTERS, 0), **others})
         status = service.obey("status")[0]
         wanted = (
-            r"version: \d+\.\d+\.\d+ / uptime: \d seconds / workers: 2 over UDP, 3 over TCP / cells: 0 of 77 / zones: 0 / records: 0"
+            r"version: \d+\.\d+\.\d+ / uptime: \d seconds / workers: 2 over UDP, 3 over TCP / cells: 0 of 77 / forgotten: 0 / zones: 0 / records: 0"
             r" / stubs: 0 / commands: 0 done, 0 undone, 5 at most / ticket: 0 / queries: 0 under way / end"
         )
         checks.check("fresh: status", None if re.fullmatch(wanted, status) else status)
@@ -195,15 +195,19 @@ def check_book(checks):
 
 
 def check_cells(checks):
-    """A cache with room for two: the cells that are held, and the admissions that found it full."""
-    zone = {f"n{place}.test. A": f"aa | answer n{place}.test. 2 A 192.0.2.1" for place in range(5)}
+    """A cache with room for two: for each name more, the one that ends first is forgotten, and each admission that found no room counts."""
+    zone = {f"n{place}.test. A": f"aa | answer n{place}.test. {20 - 4 * place} A 192.0.2.1" for place in range(5)}
     with NameServers({HOST: zone}) as servers, Service([f"{HOST}@{servers.port}"], "--cells", "2") as service:
         for place in range(5):
             service.ask(f"n{place}.test.")
         told = service.figures()
-        checks.equal("cells", [told[word] for word in ("cache.cells", "cache.cells.max", "cache.full")], [2, 2, 3])
-        checks.equal("cells: status", "/ cells: 2 of 2 /" in service.obey("status")[0], True)
-        checks.equal("cells: a sweep removes what expired", until(lambda: service.figures()["cache.cells"] == 0), True)
+        words = ("cache.cells", "cache.cells.max", "cache.full", "cache.forgotten")
+        # A new name is admitted in vain before the sweep, and again after it.
+        checks.equal("cells", [told[word] for word in words], [2, 2, 6, 3])
+        checks.equal("cells: status", "/ cells: 2 of 2 / forgotten: 3 /" in service.obey("status")[0], True)
+        held = [service.obey(f"look n{place}.test. A")[0].split()[0] for place in range(5)]
+        checks.equal("cells: the names that end first are gone", held, ["found", "unknown", "unknown", "unknown", "found"])
+        checks.equal("cells: a sweep removes what expired", until(lambda: service.figures()["cache.cells"] == 1), True)
 
 
 def check_lines(checks):
@@ -216,9 +220,9 @@ def check_lines(checks):
         ]:
             checks.equal(f"line {line[:20]!r}", service.obey(line), [wanted])
         lines = len(service.obey("status" + " " * 1_018)[0].split(" / "))
-        checks.equal("the longest line", lines, 11)
+        checks.equal("the longest line", lines, 12)
         for text in (b"\tstatus \r\n", b"status", b"#status\n\nstatus\n", b"status\r\n\r\n"):
-            checks.equal(f"alone: {text}", told_at_once(service, text).count(b"\n"), 11)
+            checks.equal(f"alone: {text}", told_at_once(service, text).count(b"\n"), 12)
         text = b"list_stubs\nstats\nlook a. A\nstatus\nstatus\nat 5\nstats x\nundo"
         told = told_at_once(service, text).split(b"\n")
         marks = [line.partition(b"=")[0].partition(b":")[0] for line in told]
@@ -237,7 +241,7 @@ def check_lines(checks):
         service.obey("status", "stats", "undo")
         checks.equal("lines: counted", service.figures()["control.lines"], before + 4)
         done = run([RESOLVER, "control", f"{HOST}@{service.control_port}", "status"])
-        checks.equal("resolver control", (done.status, done.out.count(b"\n"), done.err), (0, 11, b""))
+        checks.equal("resolver control", (done.status, done.out.count(b"\n"), done.err), (0, 12, b""))
         done = run([RESOLVER, "control", f"{HOST}@{service.control_port}"], b"stats\nstatus x\nundo\n")
         checks.equal("resolver control, three lines", (done.status, done.out.split(b"\n")[-3:-1]), (1, [b"error bad_data", b"error nothing_to_undo"]))
         checks.equal("lines: stopped", told_at_once(service, b"status\nstop\nstatus\n").split(b"\n")[-3:], [b"end", b"ok stopping", b""])

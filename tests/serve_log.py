@@ -85,7 +85,7 @@ def check_many_texts(checks):
 def check_full(checks):
     """One line when the cells are full, however often they are found full, and one when they are not any more."""
     zone = {f"n{place}.test. A": f"aa | answer n{place}.test. 4 A 192.0.2.1" for place in range(40)}
-    full = b"resolver: the cache is full: 3 cells are in use, and new names are not cached"
+    full = b"resolver: the cache is full: 3 cells are in use, and for new names others are forgotten"
     free = re.compile(rb"resolver: the cache is not full any more: [0-2] of 3 cells are in use")
     with NameServers({HOST: zone}) as servers, Service([f"{HOST}@{servers.port}"], "--cells", "3") as service:
         for place in range(3):

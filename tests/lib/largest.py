@@ -150,6 +150,9 @@ def packed(text):
     return bytes(int(part) for part in text.split("."))
 
 
+# The most sets that one response brings to the cache.
+MOST_SETS = 64
+
 # A question and as many addresses of its name make a message of 65,535 octets.
 NAME = "messages.test."
 QUESTION = question_octets(NAME, "A")
@@ -235,7 +238,10 @@ def largest_referral(expected):
     sent = [f"{HINTS[0]} udp deep.far. A", f"{places[0]} udp deep.far. A"]
     reply = header(QR | RD | RA, 1, 1) + question + answer
     expected.add(f"udp {(header(RD, 1) + question).hex()}", *sent, f"reply {reply.hex()}")
-    expected.script([("at 190", "ok"), ("servers deep.far.", " ".join(["servers far. cache", *places]))])
+    # The cache has the names of all, and the addresses of the first ones.
+    kept = MOST_SETS - 1
+    shown = ["servers far. cache", *places[:kept], "|", *(f"ns{place}.far." for place, *_ in servers[kept:])]
+    expected.script([("at 190", "ok"), ("servers deep.far.", " ".join(shown))])
 
 
 # ---- workers

@@ -1,9 +1,8 @@
 -- What a response that was heard gives.
-use Rattle.std.proofs.Common.{◌≡◌, ℕ, ◌+◌, ◌-◌, ◌<◌, ◌≤◌, ◌⊎◌, inl, inr, List, [], ◌∷◌, ◌++◌, length, map, drop, get_or, slice_index_or, false, None, Option, sym, ap, ◌∙◌, subst, refl, append_assoc, arith}
-use Rattle.std.specs.Global.{Box}
+use Rattle.std.proofs.Common.{◌≡◌, ℕ, ◌+◌, ◌<◌, ◌≤◌, ◌⊎◌, inl, inr, List, [], ◌∷◌, ◌++◌, length, drop, get_or, slice_index_or, false, Option, sym, ap, ◌∙◌, subst, refl, append_assoc, arith}
 use Rattle.std.specs.List.{AllByRecursion, Contains}
 use Rattle.std.specs.Option.{option_map}
-use Rattle.std.proofs.lemmas.List.{append-nil, length-map, get_or-map, length-drop, get_or-drop}
+use Rattle.std.proofs.lemmas.List.{append-nil, length-drop, get_or-drop}
 use Rattle.dns_name.specs.Labels.{Labels}
 use Rattle.dns_name.specs.ListLaws.{all_weaker}
 use Rattle.dns_text.specs.declared.addr.Addr.{Addr}
@@ -15,37 +14,28 @@ use Rattle.dns_query.specs.declared.verdict.Heard.{Heard}
 use Rattle.dns_query.specs.declared.verdict.Referral.{Referral}
 use Rattle.dns_query.specs.declared.verdict.Says.{Says}
 use Rattle.dns_query.specs.declared.verdict.Says.TheVariants.{Answers, Denies, Refers}
-use Rattle.neg_rule.specs.Negative.{Said, said_by}
-use Rattle.rand_core.specs.Stream.{Stream}
 use Rattle.ranked.specs.declared.find.Find.{Find}
-use Rattle.history.specs.declared.event.Event.TheVariants.{Admit}
 use Rattle.history.specs.declared.servers.Servers.{Servers}
-use Rattle.iterate.specs.declared.answer.Answer.TheVariants.{Reply as Replies}
 use Rattle.iterate.specs.declared.path.Path.{Path}
-use Rattle.iterate.specs.declared.phase.Phase.TheVariants.{Admitting, Ended}
+use Rattle.iterate.specs.declared.phase.Phase.TheVariants.{Ended}
 use Rattle.iterate.specs.declared.search.Nested.{Nested}
 use Rattle.iterate.specs.declared.search.Hunt.{Hunt}
 use Rattle.iterate.specs.declared.search.Search.{Search}
-use Rattle.iterate.specs.declared.want.Input.{Input}
-use Rattle.iterate.specs.declared.want.Want.TheVariants.{Book, Finish}
-use Rattle.iterate.specs.Exchanges.{Exchange, exchange, Adds, is_send}
+use Rattle.iterate.specs.Exchanges.{Exchange, Adds, is_send}
 use Rattle.iterate.specs.Judged.{IsAddressOf}
 use Rattle.iterate.specs.Following.{IsHarvestOf}
 use Rattle.iterate.specs.Hunting.{AllServe, IsReached, IsSmaller}
 use Rattle.iterate.specs.declared.answer.AnswerSet.{AnswerSet}
 use Rattle.iterate.specs.Known.{Fact, Known, Had, Responds, servers_referred}
 use Rattle.iterate.specs.Measure.{top, hunts_left, left_in, left_of_search, left_of_hearing, left_of_path}
-use Rattle.iterate.specs.Phase.{Goes, IsHearing, idle}
-use Rattle.iterate.specs.Resolved.{IsDenied, IsOneOf, Fails, ReachedFor}
+use Rattle.iterate.specs.Phase.{IsHearing}
+use Rattle.iterate.specs.Resolved.{IsDenied, IsOneOf, ReachedFor}
 use Rattle.iterate.specs.Searching.{IsPath, IsNext, AreFrames, IsSearch, Turn, hunt_behind, hunt_of, question_behind, question_of}
-use Rattle.iterate.specs.Shown.{IsMisanswered}
 use Rattle.iterate.specs.Told.{soa_whole, IsAddressIn}
-use Rattle.iterate.specs.Wanted.{IsHarvested}
-use Rattle.iterate.proofs.PathTurns.{failing}
 use Rattle.iterate.proofs.Coming.{inner, below}
 use Rattle.iterate.proofs.Falling.{few_is, less_than, coming_falls, looks_fall, ended_falls, path_digits}
 use Rattle.iterate.proofs.Hunts.{search_digits}
-use Rattle.iterate.proofs.Growing.{path_more, search_looked, happened_last}
+use Rattle.iterate.proofs.Growing.{search_looked}
 use Rattle.iterate.proofs.Once.{all_looked, quiet_more}
 
 -- ---- what is known
@@ -84,44 +74,12 @@ hearing_more {port} {y = y} {searching = searching} h a is = record {
   quiet = quiet_more h.since y h.quiet is;
 }
 
-mapped : (finds : List Find) (find : Find) → Contains finds find → Contains (map said_by finds) (said_by find)
-mapped finds find among =
-    (among.0, omega (arith, among.1, length-map finds said_by), get_or-map said_by finds among.0 find (said_by find) among.1 ∙ ap said_by among.2)
-
--- A find of the harvest may be handed to a book.
-harvested : {port : ℕ} {question : Question} {log : List Exchange} {searching : Search} {heard : Heard} → IsHearing port question log searching heard → (find : Find) → Contains heard.harvest.finds find → IsHarvested port log find
-harvested {searching = searching} {heard = heard} h find among = record {
-  zone = (hunt_of searching).servers.zone;
-  question = question_of searching;
-  message = h.message;
-  responds = responding h;
-  among = subst (λ (xs : List Said). Contains xs (said_by find)) h.finds (mapped heard.harvest.finds find among);
-}
-
 -- ---- the book
-
-pub admitting : (port : ℕ) (question : Question) (log : List Exchange) (moment : ℕ) (id : Stream) (left : ℕ) (searching : Box Search) (heard : Box Heard) (next : ℕ) (find : Find) → IsHearing port question log searching.value heard.value
-    → next < length heard.value.harvest.finds → Contains heard.value.harvest.finds find → left_of_hearing searching.value.path (length heard.value.harvest.finds - next) < left
-    → Goes port question log moment (idle id) left (Admitting searching heard next) (Book (Admit moment find))
-admitting port question log moment id left searching heard next find h within among less = record {
-  wants = (refl, harvested h find among);
-  drawn = refl;
-  fits = (h, within, record { moment = moment; find = find; wanted = refl });
-  falls = less;
-}
 
 pub ended_hearing : {port : ℕ} {question : Question} {log : List Exchange} (path : Path) (finds : ℕ) → IsPath port question log path → left_in Ended < left_of_hearing path finds
 ended_hearing path finds p = ended_falls path 0 1 0 finds p.short
 
--- A book replied to an admission what it may not.
-pub failing_admission : (port : ℕ) (question : Question) (before log : List Exchange) (m moment : ℕ) (id : Stream) (finds : ℕ) (find : Find) (input : Input) (path : Path) → IsPath port question before path
-    → Adds before (exchange (Book (Admit m find)) input) log → IsMisanswered (Admit m find) input
-    → Goes port question log moment (idle id) (left_of_hearing path finds) Ended (Finish (Replies 2 false [] None None))
-failing_admission port question before log m moment id finds find input path p adds bad =
-    let later = path_more p adds refl in
-    failing path (ended_hearing path finds later) later (Fails.misanswered {event = Admit m find} {input = input} (happened_last adds) bad)
-
--- One find less is left.
+-- One attempt less is left.
 pub find_less : (path : Path) (finds more : ℕ) → finds ≤ top → finds < more → left_of_hearing path finds < left_of_hearing path more
 find_less path finds more few less = looks_fall path path 0 0 1 0 finds more refl refl refl less (path_digits path 0 1 0 finds (omega arith) (omega arith) few)
 

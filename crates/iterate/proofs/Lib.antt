@@ -10,6 +10,7 @@ pub mod FollowTurns
 pub mod DueLaws
 pub mod Coming
 pub mod Hearing
+pub mod Handing
 pub mod Stepping
 pub mod Hunts
 pub mod Asking

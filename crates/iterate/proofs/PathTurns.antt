@@ -13,7 +13,7 @@ use Rattle.history.specs.declared.event.Ask.TheVariants.{Answer as Asked, Server
 use Rattle.history.specs.declared.event.Event.TheVariants.{Look}
 use Rattle.history.specs.declared.event.Reply.TheVariants.{Taken, Outranked, Seen, Swept, Forgotten, Done, Refused as RefusedCommand, Undone, Redone, NothingToUndo, NothingToRedo}
 use Rattle.history.specs.declared.event.Seen.{Seen as SeenValue}
-use Rattle.history.specs.declared.event.Seen.TheVariants.{Unknown, Held, Local as LocalSeen, Zones, Records, Stubs, Commands, Servers}
+use Rattle.history.specs.declared.event.Seen.TheVariants.{Unknown, Held, Local as LocalSeen, Zones, Records, Stubs, Commands, Servers, Oldest}
 use Rattle.iterate.specs.declared.answer.Answer.{Answer}
 use Rattle.iterate.specs.declared.answer.Answer.TheVariants.{Reply as Replies}
 use Rattle.iterate.specs.declared.answer.Soa.{Soa}
@@ -185,6 +185,7 @@ set_known port m question input before log (Records records) told r set adds = a
 set_known port m question input before log (Stubs stubs) told r set adds = absurd set
 set_known port m question input before log (Commands commands) told r set adds = absurd set
 set_known port m question input before log (Servers servers) told r set adds = absurd set
+set_known port m question input before log (Oldest name) told r set adds = absurd set
 
 -- ---- the first look
 
@@ -223,6 +224,7 @@ no_answer m question (Reply (Seen (Records records))) bad = tt
 no_answer m question (Reply (Seen (Stubs stubs))) bad = tt
 no_answer m question (Reply (Seen (Commands commands))) bad = tt
 no_answer m question (Reply (Seen (Servers servers))) bad = tt
+no_answer m question (Reply (Seen (Oldest name))) bad = tt
 no_answer m question (Reply Taken) bad = tt
 no_answer m question (Reply Outranked) bad = tt
 no_answer m question (Reply Swept) bad = tt

@@ -15,11 +15,13 @@ use Rattle.iterate.specs.declared.want.Want.TheVariants.{Finish}
 use Rattle.iterate.specs.Exchanges.{Exchange, exchange, exchanges_behind, exchanges_of, last_behind, Stands, Adds, sends, is_send, wants_send, count_sends, sent_in}
 use Rattle.iterate.specs.Measure.{left_in}
 use Rattle.iterate.specs.Phase.{Remembers, Goes, IsDue, Suits, Drawing}
+use Rattle.iterate.specs.Room.{AsksOn}
 use Rattle.iterate.specs.Searching.{IsPath}
 use Rattle.iterate.specs.Task.{IsTask, IsDueAt, IsKept, StepsOn}
 use Rattle.iterate.specs.Told.{IsFit}
 use Rattle.iterate.specs.Wanted.{MayWant, id_drawn, stream_behind}
 use Rattle.iterate.proofs.FitLaws.{resolved_is_fit}
+use Rattle.iterate.proofs.Handing.{handing_unsent}
 
 abbrev pub step_of : Input → Want → Step
 step_of input want = record { input = input; want = want }
@@ -95,7 +97,7 @@ few_open port question log want (Following path harvest) f = none_open log want 
 few_open port question log want (Listing path) f = none_open log want (ap sends f.1.wanted) (path_few f.0.is_path)
 few_open port question log want (Seeking hunting target stage) f = none_open log want (ap sends f.1.wanted) (path_few f.0.is_search.path)
 few_open port question log want (Sent hunting server id over) f = one_open log want (ap sends f.wanted) (omega (arith, f.is_search.path.counted, f.some))
-few_open port question log want (Admitting hunting heard next) f = none_open log want (ap sends f.2.wanted) (path_few f.0.is_search.path)
+few_open port question log want (Admitting hunting heard next tried) f = none_open log want (handing_unsent f.1) (path_few f.0.is_search.path)
 few_open port question log want Ended f = none_open log want (ap sends f.1) f.2
 
 -- ---- a step
@@ -112,7 +114,7 @@ task_of port question (Following path harvest) s f = record { log = _; want = _;
 task_of port question (Listing path) s f = record { log = _; want = _; stands = s; fits = f }
 task_of port question (Seeking hunting target stage) s f = record { log = _; want = _; stands = s; fits = f }
 task_of port question (Sent hunting server id over) s f = record { log = _; want = _; stands = s; fits = f }
-task_of port question (Admitting hunting heard next) s f = record { log = _; want = _; stands = s; fits = f }
+task_of port question (Admitting hunting heard next tried) s f = record { log = _; want = _; stands = s; fits = f }
 task_of port question Ended s f = record { log = _; want = _; stands = s; fits = f }
 
 -- A step is well made.
@@ -161,7 +163,7 @@ stepping port question steps moment id input (Following path harvest) after want
 stepping port question steps moment id input (Listing path) after want t due goes fresh broken = step_next t.stands (goes t.log _ t.want t.fits (stands_due t.stands input due) (record { adds = refl }))
 stepping port question steps moment id input (Seeking hunting target stage) after want t due goes fresh broken = step_next t.stands (goes t.log _ t.want t.fits (stands_due t.stands input due) (record { adds = refl }))
 stepping port question steps moment id input (Sent hunting server i over) after want t due goes fresh broken = step_next t.stands (goes t.log _ t.want t.fits (stands_due t.stands input due) (record { adds = refl }))
-stepping port question steps moment id input (Admitting hunting heard next) after want t due goes fresh broken = step_next t.stands (goes t.log _ t.want t.fits (stands_due t.stands input due) (record { adds = refl }))
+stepping port question steps moment id input (Admitting hunting heard next tried) after want t due goes fresh broken = step_next t.stands (goes t.log _ t.want t.fits (stands_due t.stands input due) (record { adds = refl }))
 stepping port question steps moment id input Ended after want t due goes fresh broken = step_next t.stands (goes t.log _ t.want t.fits (stands_due t.stands input due) (record { adds = refl }))
 
 -- An answer that may be wanted can be written.
@@ -174,13 +176,14 @@ pub kept_task : {moment left : ℕ} {id : Drawing} {input : Input} {want : Want}
 kept_task before after next made k =
     subst (λ (p : Phase). IsTask before.port before.question after.steps.items p) (sym k.phase) (subst (λ (xs : List Step). IsTask before.port before.question xs next.phase) (sym k.steps) made.task)
 
-pub kept_steps : {moment : ℕ} {id : Drawing} {input : Input} {was : Phase} {want : Want} (before after : State) (next : Advance) → was ≡ before.phase
+pub kept_steps : {moment : ℕ} {id : Drawing} {input : Input} {was : Phase} {want : Want} (before after : State) (next : Advance) → was ≡ before.phase → AsksOn was moment input next.want
     → IsStep before.port before.question before.steps.items moment id (left_in was) input next.phase next.want → IsKept before input next after want → StepsOn before input moment id after want
-kept_steps {moment} {id} {input} {was} {want} before after next same made k =
+kept_steps {moment} {id} {input} {was} {want} before after next same asks made k =
     subst (λ (w : Want). StepsOn before input moment id after w) (sym k.wanted) (record {
       steps = k.steps;
       wants = subst (λ (xs : List Step). MayWant before.port before.question (exchanges_of xs) moment (id_drawn id.before) next.want) (sym k.steps) made.wants;
       drawn = made.drawn;
+      room = subst (λ (p : Phase). AsksOn p moment input next.want) same asks;
       fit = wanted_is_fit before.port before.question _ moment _ next.want made.wants;
       left = subst (λ (p : Phase). left_in p < left_in before.phase) (sym k.phase) (subst (λ (p : Phase). left_in next.phase < left_in p) same made.falls);
       few = subst (λ (xs : List Step). sent_in xs ≤ 64) (sym k.steps) made.few;

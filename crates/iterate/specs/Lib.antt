@@ -4,6 +4,7 @@ pub mod Told
 pub mod Shown
 pub mod Known
 pub mod Served
+pub mod Room
 pub mod Resolved
 pub mod Wanted
 -- What its code remembers, and how far it is.

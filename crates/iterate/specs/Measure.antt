@@ -1,7 +1,9 @@
 -- How much is left of a task: digits, the weightiest first. With each step one falls; those before it stay, and those after it may be any.
 use Rattle.std.specs.Prelude.{ℕ, ◌+◌, ◌-◌, ◌*◌, ◌^◌, ◌<◌, ◌≡◌, List, [], ◌∷◌, length}
-use Rattle.iterate.specs.declared.limits.TheConstants.{MOST_ALIASES, MOST_BEGUN, MOST_SENDS}
+use Rattle.iterate.specs.declared.limits.TheConstants.{MOST_ALIASES, MOST_BEGUN, MOST_FINDS, MOST_SENDS}
 use Rattle.iterate.specs.declared.path.Path.{Path}
+use Rattle.iterate.specs.declared.phase.Attempt.{Attempt}
+use Rattle.iterate.specs.declared.phase.Attempt.TheVariants as attempt
 use Rattle.iterate.specs.declared.phase.Phase.{Phase}
 use Rattle.iterate.specs.declared.phase.Phase.TheVariants.{Fresh, First, Aliasing, Looking, Following, Listing, Seeking, Sent, Admitting, Ended, Broken}
 use Rattle.iterate.specs.declared.phase.Stage.{Stage}
@@ -9,7 +11,6 @@ use Rattle.iterate.specs.declared.phase.Stage.TheVariants.{Address, Alias, Serve
 use Rattle.iterate.specs.declared.search.Nested.{Nested}
 use Rattle.iterate.specs.declared.search.Hunt.{Hunt}
 use Rattle.iterate.specs.declared.search.Search.{Search}
-use Rattle.dns_query.specs.declared.verdict.Heard.{Heard}
 
 -- above every digit
 abbrev pub top : ℕ
@@ -52,6 +53,19 @@ digits_of_seek search Address = digits_of_search search 3
 digits_of_seek search Alias = digits_of_path search.path 0 2 0 0
 digits_of_seek search Servers = digits_of_path search.path 0 1 0 0
 
+-- the attempts for a find, this one among them
+abbrev pub attempts_of : Attempt → ℕ
+attempts_of attempt.Admit = 6
+attempts_of attempt.Sweep = 5
+attempts_of attempt.Again = 4
+attempts_of attempt.Oldest = 3
+attempts_of attempt.Forget = 2
+attempts_of attempt.Last = 1
+
+-- the attempts for the find at this place, and those for the finds behind it that may be handed over
+abbrev pub attempts_left : ℕ → Attempt → ℕ
+attempts_left next tried = 6 * (MOST_FINDS - (next + 1)) + attempts_of tried
+
 -- what is left in each phase, as digits
 abbrev pub digits_in : Phase → List ℕ
 digits_in Fresh = 66 ∷ 0 ∷ 0 ∷ 0 ∷ 0 ∷ 0 ∷ []
@@ -62,7 +76,7 @@ digits_in (Aliasing path) = digits_of_path path 0 0 top 2
 digits_in (Listing path) = digits_of_path path 0 0 top 1
 digits_in (Seeking search target stage) = digits_of_seek search.value stage
 digits_in (Sent search server id over) = digits_of_path search.value.path 1 2 0 0
-digits_in (Admitting search heard next) = digits_of_path search.value.path 0 1 0 (length heard.value.harvest.finds - next)
+digits_in (Admitting search heard next tried) = digits_of_path search.value.path 0 1 0 (attempts_left next tried)
 digits_in Ended = 0 ∷ 0 ∷ 0 ∷ 0 ∷ 0 ∷ 0 ∷ []
 digits_in Broken = 0 ∷ 0 ∷ 0 ∷ 0 ∷ 0 ∷ 0 ∷ []
 
@@ -86,10 +100,10 @@ left_of_seek search stage = weight (digits_of_seek search stage)
 abbrev pub left_of_sending : Path → ℕ
 left_of_sending path = weight (digits_of_path path 1 2 0 0)
 
--- how much is left where a response is heard, of which so many finds were not yet handed to the book
+-- how much is left where a response is heard, for whose finds a book may be asked so often
 abbrev pub left_of_hearing : Path → ℕ → ℕ
-left_of_hearing path finds = weight (digits_of_path path 0 1 0 finds)
+left_of_hearing path attempts = weight (digits_of_path path 0 1 0 attempts)
 
--- how much is left where the finds of a response from this place on were not yet handed to the book
-abbrev pub left_of_finds : Path → Heard → ℕ → ℕ
-left_of_finds path heard next = left_of_hearing path (length heard.harvest.finds - next)
+-- how much is left where the find at this place is being handed over
+abbrev pub left_of_finds : Path → ℕ → Attempt → ℕ
+left_of_finds path next tried = left_of_hearing path (attempts_left next tried)

@@ -12,13 +12,13 @@ use Rattle.harvest.specs.Harvest.{finds_in, passing_in}
 use Rattle.harvest.specs.Learnt.{set_of}
 use Rattle.neg_rule.specs.Negative.{said_by}
 use Rattle.rand_core.specs.Stream.{Stream}
-use Rattle.ranked.specs.declared.find.Find.{Find}
 use Rattle.history.specs.declared.event.Ask.{Ask}
 use Rattle.history.specs.declared.event.Ask.TheVariants.{Answer as Asked, Servers as ServersFor}
-use Rattle.history.specs.declared.event.Event.TheVariants.{Admit, Look}
+use Rattle.history.specs.declared.event.Event.TheVariants.{Look}
 use Rattle.iterate.specs.declared.answer.Answer.{Answer}
 use Rattle.iterate.specs.declared.limits.TheConstants.{MOST_DEPTH, MOST_SENDS, MOST_TARGETS}
 use Rattle.iterate.specs.declared.phase.Advance.{Advance}
+use Rattle.iterate.specs.declared.phase.Attempt.{Attempt}
 use Rattle.iterate.specs.declared.phase.Phase.{Phase}
 use Rattle.iterate.specs.declared.phase.Phase.TheVariants.{Fresh, First, Aliasing, Looking, Following, Listing, Seeking, Sent, Admitting, Ended, Broken}
 use Rattle.iterate.specs.declared.phase.Stage.{Stage}
@@ -33,6 +33,7 @@ use Rattle.iterate.specs.Exchanges.{Exchange, exchange, Adds, Happened, last_beh
 use Rattle.iterate.specs.Following.{IsHarvestOf}
 use Rattle.iterate.specs.Known.{Known, Responds, WasUnknown}
 use Rattle.iterate.specs.Measure.{left_in}
+use Rattle.iterate.specs.Room.{IsHanding}
 use Rattle.iterate.specs.Searching.{IsPath, IsAskable, IsSearch, IsNext, IsNextServer, Turn, IsOrderly, IsOther, hunt_of, question_of, turn_of}
 use Rattle.iterate.specs.Served.{served_name}
 use Rattle.iterate.specs.Wanted.{MayWant, id_drawn, stream_behind}
@@ -59,12 +60,6 @@ IsDue (step ∷ steps) input = Suits (last_behind step.want steps) input
 pub record IsLook (want : Want) (ask : Ask) : Type 0 where
   pub moment : ℕ
   pub wanted : want ≡ Book (Look moment ask)
-
--- An admission is open.
-pub record IsAdmission (want : Want) : Type 0 where
-  pub moment : ℕ
-  pub find : Find
-  pub wanted : want ≡ Book (Admit moment find)
 
 -- what is asked of a book about a server without an address
 abbrev pub ask_at : Stage → Labels → Ask
@@ -123,6 +118,15 @@ pub record IsHearing (port : ℕ) (question : Question) (log : List Exchange) (s
   pub orderly : IsOrderly port log search Turn.heard
   pub quiet : (x : Exchange) → Happened since x → is_send x ≡ false
 
+-- A response was heard, its find at this place was being handed over in this attempt, and this came of it.
+pub record IsTold (port : ℕ) (question : Question) (log : List Exchange) (search : Search) (heard : Heard) (next : ℕ) (tried : Attempt) (input : Input) : Type 0 where
+  pub before : List Exchange
+  pub want : Want
+  pub hearing : IsHearing port question before search heard
+  pub handing : IsHanding heard.harvest.finds next tried before want
+  pub suits : Suits want input
+  pub adds : Adds before (exchange want input) log
+
 -- what is remembered where this is open
 abbrev pub Remembers : ℕ → Question → List Exchange → Want → Phase → Type 0
 Remembers port question log want Fresh = ⊥
@@ -134,7 +138,7 @@ Remembers port question log want (Following path harvest) =
 Remembers port question log want (Listing path) = IsAskable port question log path × IsLook want (ServersFor (served_name path.last))
 Remembers port question log want (Seeking search target stage) = IsSeeking port question log search.value target stage × IsLook want (ask_at stage target)
 Remembers port question log want (Sent search server id over) = IsWaiting port question log want search.value server id over
-Remembers port question log want (Admitting search heard next) = IsHearing port question log search.value heard.value × (next < length heard.value.harvest.finds) × IsAdmission want
+Remembers port question log want (Admitting search heard next tried) = IsHearing port question log search.value heard.value × IsHanding heard.value.harvest.finds next tried log want
 Remembers port question log want Ended = (answer : Answer) × (want ≡ Finish answer) × (count_sends log ≤ MOST_SENDS)
 Remembers port question log want Broken = ⊥
 

@@ -15,13 +15,13 @@ use Rattle.ranked.specs.declared.cell.Shown.{Shown}
 use Rattle.ranked.specs.declared.find.Body.TheVariants.{NoData, NoName}
 use Rattle.ranked.specs.declared.find.Find.{Find}
 use Rattle.history.specs.declared.event.Ask.{Ask}
-use Rattle.history.specs.declared.event.Ask.TheVariants.{Answer as Asked, Servers as ServersFor}
+use Rattle.history.specs.declared.event.Ask.TheVariants.{Answer as Asked, Oldest, Servers as ServersFor}
 use Rattle.history.specs.declared.event.Event.{Event}
-use Rattle.history.specs.declared.event.Event.TheVariants.{Admit, Look}
+use Rattle.history.specs.declared.event.Event.TheVariants.{Admit, Forget, Look, Sweep}
 use Rattle.history.specs.declared.event.Reply.{Reply as BookReply}
-use Rattle.history.specs.declared.event.Reply.TheVariants.{Taken, Outranked, Seen}
+use Rattle.history.specs.declared.event.Reply.TheVariants.{Taken, Outranked, Seen, Swept, Forgotten}
 use Rattle.history.specs.declared.event.Seen.{Seen as SeenValue}
-use Rattle.history.specs.declared.event.Seen.TheVariants.{Unknown, Held, Local as LocalSeen, Servers as SeenServers}
+use Rattle.history.specs.declared.event.Seen.TheVariants.{Unknown, Held, Local as LocalSeen, Oldest as SeenOldest, Servers as SeenServers}
 use Rattle.iterate.specs.declared.answer.Soa.{Soa}
 use Rattle.iterate.specs.declared.answer.Soa.TheVariants.{Find as FindSoa, Local as LocalSoa}
 use Rattle.iterate.specs.declared.answer.AnswerSet.{AnswerSet}
@@ -74,6 +74,8 @@ IsLookReply (Asked question) (Seen (LocalSeen answer)) = IsLocalFor question ans
 IsLookReply (Asked question) reply = ⊥
 IsLookReply (ServersFor name) (Seen (SeenServers servers)) = IsAtOrBelow name servers.zone
 IsLookReply (ServersFor name) reply = ⊥
+IsLookReply Oldest (Seen (SeenOldest name)) = Unit {0}
+IsLookReply Oldest reply = ⊥
 IsLookReply ask reply = Unit {0}
 
 -- What may be replied to an admission.
@@ -82,11 +84,14 @@ IsAdmitted Taken = Unit {0}
 IsAdmitted Outranked = Unit {0}
 IsAdmitted reply = ⊥
 
--- A look got a fault, or an event got a reply that it may not get. (A fault of an admission is passed over.)
+-- A look got a fault, or an event got a reply that it may not get. (A fault is passed over where a find is handed over, and where room is made for it.)
 abbrev pub IsMisanswered : Event → Input → Type 0
+IsMisanswered (Look moment Oldest) (Refused fault) = ⊥
 IsMisanswered (Look moment ask) (Refused fault) = Unit {0}
 IsMisanswered (Look moment ask) (Reply reply) = ¬ (IsLookReply ask reply)
 IsMisanswered (Admit moment find) (Reply reply) = ¬ (IsAdmitted reply)
+IsMisanswered (Sweep moment) (Reply reply) = ¬ (reply ≡ Swept)
+IsMisanswered (Forget moment owner) (Reply reply) = ¬ (reply ≡ Forgotten)
 IsMisanswered event input = ⊥
 
 -- ---- what a look says of a question

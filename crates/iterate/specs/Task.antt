@@ -14,6 +14,7 @@ use Rattle.iterate.specs.declared.want.Want.TheVariants.{Finish}
 use Rattle.iterate.specs.Exchanges.{Exchange, Stands, exchanges_of, sent_in}
 use Rattle.iterate.specs.Measure.{left_in}
 use Rattle.iterate.specs.Phase.{Drawing, Remembers, IsDue}
+use Rattle.iterate.specs.Room.{AsksOn}
 use Rattle.iterate.specs.Told.{IsFit}
 use Rattle.iterate.specs.Wanted.{MayWant, id_drawn, stream_behind}
 
@@ -56,6 +57,8 @@ pub record StepsOn (before : State) (input : Input) (moment : ℕ) (ids : Drawin
   pub wants : MayWant before.port before.question (exchanges_of after.steps.items) moment (id_drawn ids.before) want
   -- A query takes one word of the generator, and nothing else takes any.
   pub drawn : ids.after ≡ stream_behind want ids.before
+  -- Where the book was full, room is made for the find that was handed to it.
+  pub room : AsksOn before.phase moment input want
   -- The answer can be written.
   pub fit : (answer : Answer) → want ≡ Finish answer → IsFit answer
   -- It ends.

@@ -14,27 +14,28 @@ use Rattle.harvest.specs.Harvest.{finds_in}
 use Rattle.neg_rule.specs.Negative.{said_by}
 use Rattle.rand_core.specs.Stream.{Stream, next_u32}
 use Rattle.ranked.specs.declared.find.Find.{Find}
-use Rattle.history.specs.declared.event.Ask.TheVariants.{Answer as Asked, Servers as ServersFor}
+use Rattle.history.specs.declared.event.Ask.TheVariants.{Answer as Asked, Oldest, Servers as ServersFor}
 use Rattle.history.specs.declared.event.Event.{Event}
-use Rattle.history.specs.declared.event.Event.TheVariants.{Admit, Look}
+use Rattle.history.specs.declared.event.Event.TheVariants.{Admit, Forget, Look, Sweep}
 use Rattle.history.specs.declared.servers.Servers.{Servers}
 use Rattle.iterate.specs.declared.answer.AnswerSet.{AnswerSet}
-use Rattle.iterate.specs.declared.limits.TheConstants.{MOST_TARGETS}
+use Rattle.iterate.specs.declared.limits.TheConstants.{MOST_FINDS, MOST_TARGETS}
 use Rattle.iterate.specs.declared.want.Input.TheVariants.{Came}
 use Rattle.iterate.specs.declared.want.Want.{Want}
 use Rattle.iterate.specs.declared.want.Want.TheVariants.{Book, Send, Finish}
 use Rattle.iterate.specs.Exchanges.{Exchange, exchange, Happened}
 use Rattle.iterate.specs.Known.{Known, Listed, Serves, Responds, WasUnknown}
 use Rattle.iterate.specs.Resolved.{IsResolved, Chain, IsOneOf, ReachedFor, question_at}
+use Rattle.iterate.specs.Room.{IsFull, IsFullAgain, IsNamed, MayHand}
 use Rattle.iterate.specs.Served.{served_name}
 
--- A find is in the harvest of a response.
+-- A find is among the first in the harvest of a response.
 pub record IsHarvested (port : ℕ) (log : List Exchange) (find : Find) : Type 0 where
   pub zone : Labels
   pub question : Question
   pub message : Message
   pub responds : Known port log (Responds zone question message)
-  pub among : Contains (finds_in message question zone) (said_by find)
+  pub among : Contains (take MOST_FINDS (finds_in message question zone)) (said_by find)
 
 -- The server was asked the question over UDP, and its response was truncated.
 pub record WasTruncated (log : List Exchange) (server : Addr) (question : Question) : Type 0 where
@@ -97,10 +98,15 @@ pub record IsListedFor (port : ℕ) (log : List Exchange) (whole : Question) (na
   pub serves : name ≡ served_name question
 
 -- An event with the moment that was handed in: a look at a question or for servers, or an admission of what was harvested.
+-- A book is swept only if it was full for a find, is asked for the name to forget first only if it was full for it after that,
+-- and forgets only the name that it then gave.
 abbrev pub MayCall : ℕ → Question → List Exchange → ℕ → Event → Type 0
 MayCall port whole log moment (Look m (Asked question)) = m ≡ moment
 MayCall port whole log moment (Look m (ServersFor name)) = (m ≡ moment) × IsListedFor port log whole name
-MayCall port whole log moment (Admit m find) = (m ≡ moment) × IsHarvested port log find
+MayCall port whole log moment (Look m Oldest) = (m ≡ moment) × ((find : Find) × IsFullAgain find log)
+MayCall port whole log moment (Admit m find) = (m ≡ moment) × IsHarvested port log find × MayHand find log
+MayCall port whole log moment (Sweep m) = (m ≡ moment) × ((find : Find) × IsFull find log)
+MayCall port whole log moment (Forget m owner) = (m ≡ moment) × ((find : Find) × IsNamed find owner log)
 MayCall port whole log moment event = ⊥
 
 -- What may be wanted after these exchanges, at this moment, by a task that draws this identifier.

@@ -1,37 +1,72 @@
-//! The finds of a response, handed to the book one by one.
+//! The finds of a response, handed to the book one by one. A book that is full makes room for a find: it sweeps, and then it forgets
+//! the name whose data end first.
 
-ghost use Rattle.std.specs.Prelude.{◌≡◌, ◌<◌, ◌≤◌, ◌^◌, ℕ, false, List, IfOk, length};
+ghost use Rattle.std.specs.Prelude.{◌≡◌, ◌+◌, ◌<◌, ◌≤◌, ◌↔◌, ℕ, true, false, List, Some, IfOk, IsTrue, MatchOption, length};
+ghost use Rattle.dns_name.specs.Labels.{Labels};
 ghost use Rattle.dns_text.specs.declared.record.Question.{Question};
 ghost use Rattle.ranked.specs.declared.find.Find.{Find};
-ghost use Rattle.history.specs.declared.event.Event.TheVariants.{Admit};
-ghost use Rattle.iterate.specs.declared.want.Want.{Want};
+ghost use Rattle.history.specs.declared.event.Ask.TheVariants.{Oldest as AskedOldest};
+ghost use Rattle.history.specs.declared.event.Event.TheVariants.{Admit, Forget, Look, Sweep};
+ghost use Rattle.history.specs.declared.event.Reply.TheVariants.{Seen as SeenReply, Swept, Forgotten};
+ghost use Rattle.history.specs.declared.event.Seen.TheVariants.{Oldest as SeenOldest};
+ghost use Rattle.iterate.specs.declared.want.Input.TheVariants.{Reply as Replied};
 ghost use Rattle.iterate.specs.declared.want.Want.TheVariants.{Book};
-ghost use Rattle.iterate.specs.Exchanges.{Exchange, exchange, Adds};
+ghost use Rattle.iterate.specs.Exchanges.{Exchange};
 ghost use Rattle.iterate.specs.Measure.{left_of_finds, left_of_hearing};
-ghost use Rattle.iterate.specs.Phase.{Advances, IsAdmission, IsHearing, Suits, drawing};
+ghost use Rattle.iterate.specs.Phase.{Advances, IsHearing, IsTold, Suits, drawing};
+ghost use Rattle.iterate.specs.Resolved.{Fails};
+ghost use Rattle.iterate.specs.Room.{AsksNext, IsHanded, IsHandedBy, IsNoneOldest, MadeRoom, SaysFull};
 ghost use Rattle.iterate.specs.Shown.{IsMisanswered};
 
 use crate::concluding::conclude;
 use crate::finishing::failed;
-use crate::phase::{Advance, Phase};
+use crate::limits::MOST_FINDS;
+use crate::phase::{Advance, Attempt, Phase};
 use crate::search::Search;
 use crate::want::{Input, Want};
-use dns_name::NoMemory;
+use dns_name::{Name, NoMemory};
 use dns_query::Heard;
-use history::{Event, Reply};
+use history::{Ask, DeskFault, Event, Reply, Seen, StepFault};
 use rand_core::Rng;
+use ranked::SharedFind;
 use std::alloc::Global;
 
-/// The number of finds in a response.
-fn count_finds(heard: &Heard) -> usize
-    ensures value { result ≡ length heard.now.harvest.finds }
-    ensures range { result < 2 ^ 64 }
+/// The find at this place of a response, if it is one of the first ones.
+fn find_at(heard: &Heard, next: usize) -> Result<Option<SharedFind>, NoMemory>
+    ensures { IfOk result (λ found. MatchOption found ((find : Find) → ¬ (IsHanded heard.now.harvest.finds next find))
+        (IsHanded heard.now.harvest.finds next)) }
 {
-    heard.harvest.finds.as_slice().len()
+    let finds = heard.harvest.finds.as_slice();
+    if next < MOST_FINDS && next < finds.len() {
+        return Ok(Some(finds[next].share()?));
+    }
+    Ok(None)
 }
 
-/// Hands the find at this place to the book. After the last one, acts on the response.
-pub(crate) fn admit<R: Rng>(
+/// Asks the book for this on behalf of the find at this place.
+fn ask_book(
+    search: Box<Search>,
+    heard: Box<Heard>,
+    next: usize,
+    attempt: Attempt,
+    event: Event,
+) -> Advance
+    ensures phase { result.phase ≡ Phase.Admitting search heard next attempt }
+    ensures want { result.want ≡ Book event }
+{
+    Advance {
+        phase: Phase::Admitting {
+            search,
+            heard,
+            next,
+            attempt,
+        },
+        want: Want::Book(event),
+    }
+}
+
+/// Hands the find at this place to the book, in this attempt. Behind the last find it acts on the response.
+fn hand<R: Rng>(
     alloc: Global,
     port: u16,
     moment: u64,
@@ -39,25 +74,88 @@ pub(crate) fn admit<R: Rng>(
     search: Box<Search>,
     heard: Box<Heard>,
     next: usize,
+    attempt: Attempt,
 ) -> Result<Advance, NoMemory>
-    ensures { (question : Question) (log : List Exchange) (left : ℕ) → IsHearing port question log search.value heard.value
-        → left_of_hearing search.value.path 1 ≤ left
-        → (length heard.value.harvest.finds < 2 ^ 64 → left_of_finds search.value.path heard.value next < left)
+    ensures hands { (find : Find) → IsHanded heard.value.harvest.finds next find
+        → IfOk result (λ told. told.want ≡ Book (Admit moment find)) }
+    ensures goes { (question : Question) (log : List Exchange) (left : ℕ) → IsHearing port question log search.value heard.value
+        → ((find : Find) → IsHanded heard.value.harvest.finds next find → IsHandedBy attempt find log)
+        → left_of_hearing search.value.path 1 ≤ left → (next < MOST_FINDS → left_of_finds search.value.path next attempt < left)
         → IfOk result (Advances port question log moment (drawing (R.stream ids.old) (R.stream ids.new)) left) }
 {
-    if next >= count_finds(&heard) {
-        let search = Box::into_inner(search);
-        return conclude(alloc, port, moment, ids, search, Box::into_inner(heard));
+    match find_at(&heard, next)? {
+        Some(find) => Ok(ask_book(search, heard, next, attempt, Event::Admit { moment, find })),
+        None => {
+            let search = Box::into_inner(search);
+            conclude(alloc, port, moment, ids, search, Box::into_inner(heard))
+        }
     }
-    let find = heard.harvest.finds.as_slice()[next].share()?;
-    Ok(Advance {
-        phase: Phase::Admitting {
-            search,
-            heard,
-            next,
-        },
-        want: Want::Book(Event::Admit { moment, find }),
-    })
+}
+
+/// Hands the first find to the book. If there is none, acts on the response.
+pub(crate) fn admit<R: Rng>(
+    alloc: Global,
+    port: u16,
+    moment: u64,
+    ids: &mut R,
+    search: Box<Search>,
+    heard: Box<Heard>,
+) -> Result<Advance, NoMemory>
+    ensures hands { (find : Find) → IsHanded heard.value.harvest.finds 0 find
+        → IfOk result (λ told. told.want ≡ Book (Admit moment find)) }
+    ensures goes { (question : Question) (log : List Exchange) (left : ℕ) → IsHearing port question log search.value heard.value
+        → ¬ (MadeRoom log)
+        → left_of_hearing search.value.path 1 ≤ left → left_of_finds search.value.path 0 Attempt.Admit < left
+        → IfOk result (Advances port question log moment (drawing (R.stream ids.old) (R.stream ids.new)) left) }
+{
+    hand(alloc, port, moment, ids, search, heard, 0, Attempt::Admit)
+}
+
+/// Continues with the next find, if the book may reply so; else fails the question.
+fn pass<R: Rng>(
+    alloc: Global,
+    port: u16,
+    moment: u64,
+    ids: &mut R,
+    search: Box<Search>,
+    heard: Box<Heard>,
+    next: usize,
+    lawful: bool,
+) -> Result<Advance, NoMemory>
+    ensures hands { (find : Find) → lawful ≡ true → IsHanded heard.value.harvest.finds (next + 1) find
+        → IfOk result (λ told. told.want ≡ Book (Admit moment find)) }
+    ensures goes { (question : Question) (log : List Exchange) (attempt : Attempt) → IsHearing port question log search.value heard.value
+        → next < MOST_FINDS → ¬ (MadeRoom log)
+        → (lawful ≡ false → Fails port log search.value.path.last (length search.value.path.sets.items))
+        → IfOk result (Advances port question log moment (drawing (R.stream ids.old) (R.stream ids.new))
+        (left_of_finds search.value.path next attempt)) }
+{
+    if !lawful {
+        return Ok(failed(alloc));
+    }
+    let after = next.saturating_add(1);
+    hand(
+        alloc,
+        port,
+        moment,
+        ids,
+        search,
+        heard,
+        after,
+        Attempt::Admit,
+    )
+}
+
+// ---- replies
+
+/// Whether the book was full.
+fn is_full(input: &Input) -> bool
+    ensures { IsTrue result ↔ SaysFull input.now }
+{
+    matches!(
+        input,
+        Input::Refused(DeskFault::Step(StepFault::Full { .. }))
+    )
 }
 
 /// Whether a book may reply this to an admission. A fault of the book is ignored.
@@ -70,8 +168,62 @@ fn is_passed(input: &Input) -> bool
     )
 }
 
-/// Continues with the book's reply to an admission.
-pub(crate) fn admitted<R: Rng>(
+/// Whether the book was swept.
+fn is_swept(input: &Input) -> bool
+    ensures { IsTrue result ↔ (input.now ≡ Replied Swept) }
+{
+    matches!(input, Input::Reply(Reply::Swept))
+}
+
+/// Whether the book forgot a name.
+fn is_forgotten(input: &Input) -> bool
+    ensures { IsTrue result ↔ (input.now ≡ Replied Forgotten) }
+{
+    matches!(input, Input::Reply(Reply::Forgotten))
+}
+
+/// Whether a book may reply this to a sweep. A fault of the book is ignored.
+fn is_sweep_passed(input: &Input) -> bool
+    ensures { result ≡ false → (m : ℕ) → Suits (Book (Sweep m)) input.now → IsMisanswered (Sweep m) input.now }
+{
+    matches!(input, Input::Refused(_) | Input::Reply(Reply::Swept))
+}
+
+/// Whether a book may reply this to a look for the name to forget first. A fault of the book is ignored.
+fn is_look_passed(input: &Input) -> bool
+    ensures { result ≡ false → (m : ℕ) → Suits (Book (Look m AskedOldest)) input.now → IsMisanswered (Look m AskedOldest) input.now }
+{
+    matches!(
+        input,
+        Input::Refused(_) | Input::Reply(Reply::Seen(Seen::Oldest(_)))
+    )
+}
+
+/// Whether a book may reply this to the forgetting of a name. A fault of the book is ignored.
+fn is_forget_passed(input: &Input) -> bool
+    ensures { result ≡ false → (m : ℕ) (owner : Labels) → Suits (Book (Forget m owner)) input.now
+        → IsMisanswered (Forget m owner) input.now }
+{
+    matches!(input, Input::Refused(_) | Input::Reply(Reply::Forgotten))
+}
+
+/// The name to forget first, if the book gave one.
+fn oldest_in(input: &Input) -> Option<&Name>
+    ensures { MatchOption result (IsNoneOldest input.now) (λ name. input.now ≡ Replied (SeenReply (SeenOldest (Some name.now)))) }
+{
+    match input {
+        Input::Reply(Reply::Seen(Seen::Oldest(found))) => match found {
+            Some(name) => Some(name),
+            None => None,
+        },
+        _ => None,
+    }
+}
+
+// ---- the attempts for a find
+
+/// Continues with the reply to the first admission of a find. If the book was full, it is swept.
+fn handed<R: Rng>(
     alloc: Global,
     port: u16,
     moment: u64,
@@ -81,22 +233,197 @@ pub(crate) fn admitted<R: Rng>(
     next: usize,
     input: &Input,
 ) -> Result<Advance, NoMemory>
-    ensures { (question : Question) (before log : List Exchange) (want : Want)
-        → IsHearing port question before search.value heard.value → next < length heard.value.harvest.finds
-        → IsAdmission want → Suits want input.now → Adds before (exchange want input.now) log
+    ensures asks { (find : Find) → IsHanded heard.value.harvest.finds next find
+        → IfOk result (λ told. AsksNext Attempt.Admit find moment input.now told.want) }
+    ensures goes { (question : Question) (log : List Exchange)
+        → IsTold port question log search.value heard.value next Attempt.Admit input.now
         → IfOk result (Advances port question log moment (drawing (R.stream ids.old) (R.stream ids.new))
-        (left_of_finds search.value.path heard.value next)) }
+        (left_of_finds search.value.path next Attempt.Admit)) }
 {
-    if !is_passed(input) {
-        return Ok(failed(alloc));
+    if is_full(input) {
+        return Ok(ask_book(search, heard, next, Attempt::Sweep, Event::Sweep { moment }));
     }
-    admit(
-        alloc,
-        port,
-        moment,
-        ids,
-        search,
-        heard,
-        next.saturating_add(1),
-    )
+    let lawful = is_passed(input);
+    pass(alloc, port, moment, ids, search, heard, next, lawful)
+}
+
+/// Continues with the reply to a sweep: hands the find over again.
+fn swept<R: Rng>(
+    alloc: Global,
+    port: u16,
+    moment: u64,
+    ids: &mut R,
+    search: Box<Search>,
+    heard: Box<Heard>,
+    next: usize,
+    input: &Input,
+) -> Result<Advance, NoMemory>
+    ensures asks { (find : Find) → IsHanded heard.value.harvest.finds next find
+        → IfOk result (λ told. AsksNext Attempt.Sweep find moment input.now told.want) }
+    ensures goes { (question : Question) (log : List Exchange)
+        → IsTold port question log search.value heard.value next Attempt.Sweep input.now
+        → IfOk result (Advances port question log moment (drawing (R.stream ids.old) (R.stream ids.new))
+        (left_of_finds search.value.path next Attempt.Sweep)) }
+{
+    if is_swept(input) {
+        return hand(
+            alloc,
+            port,
+            moment,
+            ids,
+            search,
+            heard,
+            next,
+            Attempt::Again,
+        );
+    }
+    let lawful = is_sweep_passed(input);
+    pass(alloc, port, moment, ids, search, heard, next, lawful)
+}
+
+/// Continues with the reply to the admission behind a sweep. If the book was full again, it is asked for the name to forget first.
+fn handed_again<R: Rng>(
+    alloc: Global,
+    port: u16,
+    moment: u64,
+    ids: &mut R,
+    search: Box<Search>,
+    heard: Box<Heard>,
+    next: usize,
+    input: &Input,
+) -> Result<Advance, NoMemory>
+    ensures asks { (find : Find) → IsHanded heard.value.harvest.finds next find
+        → IfOk result (λ told. AsksNext Attempt.Again find moment input.now told.want) }
+    ensures goes { (question : Question) (log : List Exchange)
+        → IsTold port question log search.value heard.value next Attempt.Again input.now
+        → IfOk result (Advances port question log moment (drawing (R.stream ids.old) (R.stream ids.new))
+        (left_of_finds search.value.path next Attempt.Again)) }
+{
+    if is_full(input) {
+        let ask = Ask::Oldest;
+        return Ok(ask_book(
+            search,
+            heard,
+            next,
+            Attempt::Oldest,
+            Event::Look { moment, ask },
+        ));
+    }
+    let lawful = is_passed(input);
+    pass(alloc, port, moment, ids, search, heard, next, lawful)
+}
+
+/// Continues with the name to forget first: it is forgotten. If there is none, the find is passed over.
+fn oldest_came<R: Rng>(
+    alloc: Global,
+    port: u16,
+    moment: u64,
+    ids: &mut R,
+    search: Box<Search>,
+    heard: Box<Heard>,
+    next: usize,
+    input: &Input,
+) -> Result<Advance, NoMemory>
+    ensures asks { (find : Find) → IfOk result (λ told. AsksNext Attempt.Oldest find moment input.now told.want) }
+    ensures goes { (question : Question) (log : List Exchange)
+        → IsTold port question log search.value heard.value next Attempt.Oldest input.now
+        → IfOk result (Advances port question log moment (drawing (R.stream ids.old) (R.stream ids.new))
+        (left_of_finds search.value.path next Attempt.Oldest)) }
+{
+    match oldest_in(input) {
+        Some(name) => {
+            let owner = name.clone()?;
+            Ok(ask_book(
+                search,
+                heard,
+                next,
+                Attempt::Forget,
+                Event::Forget { moment, owner },
+            ))
+        }
+        None => pass(
+            alloc,
+            port,
+            moment,
+            ids,
+            search,
+            heard,
+            next,
+            is_look_passed(input),
+        ),
+    }
+}
+
+/// Continues with the reply to the forgetting of a name: hands the find over a last time.
+fn forgotten<R: Rng>(
+    alloc: Global,
+    port: u16,
+    moment: u64,
+    ids: &mut R,
+    search: Box<Search>,
+    heard: Box<Heard>,
+    next: usize,
+    input: &Input,
+) -> Result<Advance, NoMemory>
+    ensures asks { (find : Find) → IsHanded heard.value.harvest.finds next find
+        → IfOk result (λ told. AsksNext Attempt.Forget find moment input.now told.want) }
+    ensures goes { (question : Question) (log : List Exchange)
+        → IsTold port question log search.value heard.value next Attempt.Forget input.now
+        → IfOk result (Advances port question log moment (drawing (R.stream ids.old) (R.stream ids.new))
+        (left_of_finds search.value.path next Attempt.Forget)) }
+{
+    if is_forgotten(input) {
+        return hand(alloc, port, moment, ids, search, heard, next, Attempt::Last);
+    }
+    let lawful = is_forget_passed(input);
+    pass(alloc, port, moment, ids, search, heard, next, lawful)
+}
+
+/// Continues with the reply to the last admission of a find.
+fn handed_last<R: Rng>(
+    alloc: Global,
+    port: u16,
+    moment: u64,
+    ids: &mut R,
+    search: Box<Search>,
+    heard: Box<Heard>,
+    next: usize,
+    input: &Input,
+) -> Result<Advance, NoMemory>
+    ensures { (question : Question) (log : List Exchange)
+        → IsTold port question log search.value heard.value next Attempt.Last input.now
+        → IfOk result (Advances port question log moment (drawing (R.stream ids.old) (R.stream ids.new))
+        (left_of_finds search.value.path next Attempt.Last)) }
+{
+    let lawful = is_passed(input);
+    pass(alloc, port, moment, ids, search, heard, next, lawful)
+}
+
+/// Continues with the book's reply to what it was asked for the find at this place.
+pub(crate) fn admitted<R: Rng>(
+    alloc: Global,
+    port: u16,
+    moment: u64,
+    ids: &mut R,
+    search: Box<Search>,
+    heard: Box<Heard>,
+    next: usize,
+    attempt: Attempt,
+    input: &Input,
+) -> Result<Advance, NoMemory>
+    ensures asks { (find : Find) → IsHanded heard.value.harvest.finds next find
+        → IfOk result (λ told. AsksNext attempt find moment input.now told.want) }
+    ensures goes { (question : Question) (log : List Exchange)
+        → IsTold port question log search.value heard.value next attempt input.now
+        → IfOk result (Advances port question log moment (drawing (R.stream ids.old) (R.stream ids.new))
+        (left_of_finds search.value.path next attempt)) }
+{
+    match attempt {
+        Attempt::Admit => handed(alloc, port, moment, ids, search, heard, next, input),
+        Attempt::Sweep => swept(alloc, port, moment, ids, search, heard, next, input),
+        Attempt::Again => handed_again(alloc, port, moment, ids, search, heard, next, input),
+        Attempt::Oldest => oldest_came(alloc, port, moment, ids, search, heard, next, input),
+        Attempt::Forget => forgotten(alloc, port, moment, ids, search, heard, next, input),
+        Attempt::Last => handed_last(alloc, port, moment, ids, search, heard, next, input),
+    }
 }

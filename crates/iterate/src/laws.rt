@@ -16,7 +16,7 @@ ghost use Rattle.iterate.specs.Resolved.{Began, IsNoAnswer, IsResolved};
 ghost use Rattle.iterate.specs.Task.{IsDueAt};
 ghost use Rattle.iterate.specs.Told.{IsFit};
 
-use crate::limits::{MOST_ALIASES, MOST_BEGUN, MOST_DEPTH, MOST_SENDS, MOST_TARGETS};
+use crate::limits::{MOST_ALIASES, MOST_BEGUN, MOST_DEPTH, MOST_FINDS, MOST_SENDS, MOST_TARGETS};
 
 /// An answer that resolves a question can be written.
 #[tactic(auto, using(crate::proofs::FitLaws::resolved_is_fit))]
@@ -42,11 +42,12 @@ pub fn servfail_law()
 {}
 
 /// The limits of a task: 16 aliases, 64 queries, 64 questions for addresses of servers, 8 of them open at once, and for the first
-/// 5 servers of a list alone.
+/// 5 servers of a list alone, and 64 finds of a response for the book.
 pub fn limits_law()
     ensures aliases { MOST_ALIASES ≡ 16 }
     ensures queries { MOST_SENDS ≡ 64 }
     ensures begun { MOST_BEGUN ≡ 64 }
     ensures depth { MOST_DEPTH ≡ 8 }
     ensures targets { MOST_TARGETS ≡ 5 }
+    ensures finds { MOST_FINDS ≡ 64 }
 {}

@@ -17,3 +17,8 @@ pub const MOST_TARGETS: usize = 5;
 
 /// The most questions for addresses of servers that are open inside one another.
 pub const MOST_DEPTH: usize = 8;
+
+/// The number of finds of one response that are handed to the book: the first ones. A response of 64 KiB can name 2,600 owners, and
+/// whoever controls a zone could fill the cache with them. It is more than a referral with 13 servers and two addresses each has,
+/// or a chain of as many aliases as are followed. The answer, the aliases and the referral are taken from the whole response.
+pub const MOST_FINDS: usize = 64;

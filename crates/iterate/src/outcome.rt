@@ -149,7 +149,7 @@ pub(crate) fn came<R: Rng>(
         Verdict::Heard(heard) => {
             let search = Box::new(alloc, search.counted())?;
             let heard = Box::new(alloc, heard)?;
-            admit(alloc, port, moment, ids, search, heard, 0)
+            admit(alloc, port, moment, ids, search, heard)
         }
     }
 }

@@ -5,6 +5,7 @@ ghost use Rattle.iterate.specs.declared.want.Want.{Want};
 ghost use Rattle.iterate.specs.Exchanges.{Exchange, exchange, Adds};
 ghost use Rattle.iterate.specs.Measure.{left_in};
 ghost use Rattle.iterate.specs.Phase.{Remembers, Advances, Suits, drawing};
+ghost use Rattle.iterate.specs.Room.{AsksOn};
 
 use crate::admitting::admitted;
 use crate::first_lookup::{begin, looked_first};
@@ -31,6 +32,23 @@ pub enum Stage {
     Alias,
     /// That of the servers to ask about it.
     Servers,
+}
+
+/// What the book is asked for a find that it may have no room for.
+#[derive(Clone, Copy, PartialEq, Eq)]
+pub enum Attempt {
+    /// To admit it.
+    Admit,
+    /// To sweep: it was full.
+    Sweep,
+    /// To admit it again.
+    Again,
+    /// Which name to forget first: it was full again.
+    Oldest,
+    /// To forget that name.
+    Forget,
+    /// To admit it a last time.
+    Last,
 }
 
 /// The phase of a task. The parts that only a search needs are boxed, so the other steps move little.
@@ -70,11 +88,12 @@ pub enum Phase {
         id: u16,
         over: Over,
     },
-    /// It hands the finds of a response to the book, now the one at this place.
+    /// It hands the finds of a response to the book, now the one at this place, in this attempt.
     Admitting {
         search: Box<Search>,
         heard: Box<Heard>,
         next: usize,
+        attempt: Attempt,
     },
     /// It has answered.
     Ended,
@@ -103,6 +122,7 @@ pub(crate) fn step_on<R: Rng>(
         → IfOk result (Advances port question.now log moment (drawing (R.stream ids.old) (R.stream ids.new)) (left_in phase)) }
     ensures fresh { phase ≡ Phase.Fresh
         → IfOk result (Advances port question.now [] moment (drawing (R.stream ids.old) (R.stream ids.new)) (left_in phase)) }
+    ensures asks { IfOk result (λ next. AsksOn phase moment input.now next.want) }
     ensures broken { phase ≡ Phase.Broken → IsErr result }
 {
     match phase {
@@ -133,7 +153,10 @@ pub(crate) fn step_on<R: Rng>(
             search,
             heard,
             next,
-        } => admitted(alloc, port, moment, ids, search, heard, next, input),
+            attempt,
+        } => admitted(
+            alloc, port, moment, ids, search, heard, next, attempt, input,
+        ),
         Phase::Ended => Err(AllocError),
         Phase::Broken => Err(AllocError),
     }

@@ -12,11 +12,19 @@ use undo_book::PlainBook;
 /// Where servers listen whose addresses come from records (RFC 1035, section 4.2), unless a line says otherwise.
 pub const DNS_PORT: u16 = 53;
 
-/// An empty book whose root has these servers, and the port of servers whose addresses come from records.
-pub fn book_with(alloc: Global, hints: Vec<Addr>, port: u16) -> Result<PlainBook, Stop> {
+/// The most sets and negative answers that the cache holds, unless a line says otherwise.
+pub const CELLS: usize = 100_000;
+
+/// An empty book whose root has these servers, the port of servers whose addresses come from records, and the limit of cells.
+pub fn book_with(
+    alloc: Global,
+    hints: Vec<Addr>,
+    port: u16,
+    cells: usize,
+) -> Result<PlainBook, Stop> {
     let settings = Settings {
         journal: 64,
-        cells: 100_000,
+        cells,
         hints: Items::new(hints),
         server_port: port,
     };
@@ -32,8 +40,9 @@ pub fn begin_book(
     book: &mut PlainBook,
     hints: Vec<Addr>,
     port: u16,
+    cells: usize,
 ) -> Result<(), Stop> {
-    let new = book_with(alloc, hints, port)?;
+    let new = book_with(alloc, hints, port, cells)?;
     drop(mem::replace(book, new));
     Ok(())
 }

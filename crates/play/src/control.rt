@@ -6,7 +6,7 @@
 pub mod behind; // a desk that is behind
 pub mod seconds; // a clock that is a second later at each reading
 
-use crate::books::{DNS_PORT, book_with};
+use crate::books::{CELLS, DNS_PORT, book_with};
 use crate::control::behind::Late;
 use crate::control::seconds::Seconds;
 use crate::stop::Stop;
@@ -31,7 +31,7 @@ pub fn play_control(rt: &HostRuntime, words: &[String]) -> Result<u8, Stop> {
     if !words.is_empty() {
         return Ok(serve(rt, &mut Late));
     }
-    let mut book = book_with(rt.alloc(), Vec::new(rt.alloc()), DNS_PORT)?;
+    let mut book = book_with(rt.alloc(), Vec::new(rt.alloc()), DNS_PORT, CELLS)?;
     let status = serve(rt, &mut book);
     drop(book);
     Ok(status)

@@ -3,6 +3,7 @@
 //! | Line | What it does |
 //! |---|---|
 //! | `port N` | where servers listen whose addresses come from records, from the next `hints` on; else 53 |
+//! | `cells N` | the most sets and negative answers that the cache holds, from the next `hints` on; else 100,000 |
 //! | `hints ADDR..` | begins with an empty book, whose root has these servers |
 //! | `at N` | the moment from here on, in seconds |
 //! | `refuse N` | the Nth event that the next task gives the book is refused, as without memory |

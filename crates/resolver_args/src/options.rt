@@ -54,8 +54,8 @@ pub const VERSION: &str = "0.1.0";
 
 /// The last part of the help on `serve`.
 const SERVE_HELP: &str = "\
-This service is for trials, not for production. A cache that is full of live data takes no new names until some of it
-expires. The line `stop` on the control socket ends the service.";
+This service is for trials, not for production: there is no access list, and a few clients can hold all TCP workers.
+The line `stop` on the control socket ends the service.";
 
 /// The default of `--journal`.
 pub const DEFAULT_JOURNAL: u32 = 64;

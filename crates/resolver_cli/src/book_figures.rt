@@ -18,6 +18,8 @@ pub(crate) struct BookFigures {
     pub most_cells: u64,
     /// The admissions that found all cells full.
     pub full: AtomicU64,
+    /// The names that were forgotten to make room.
+    pub forgotten: AtomicU64,
     /// The local zones, their records, and the stubs.
     pub zones: AtomicU64,
     pub records: AtomicU64,
@@ -47,6 +49,7 @@ impl BookFigures {
             cells: AtomicU64::new(0),
             most_cells: settings.cells as u64,
             full: AtomicU64::new(0),
+            forgotten: AtomicU64::new(0),
             zones: AtomicU64::new(0),
             records: AtomicU64::new(0),
             stubs: AtomicU64::new(0),
@@ -94,8 +97,12 @@ impl BookFigures {
     fn note<B: Book>(&self, book: &B, replied: &Result<Reply, StepFault>) {
         match replied {
             Ok(Reply::Seen(_)) => {}
-            Ok(Reply::Taken) | Ok(Reply::Outranked) | Ok(Reply::Swept) | Ok(Reply::Forgotten) => {
+            Ok(Reply::Taken) | Ok(Reply::Outranked) | Ok(Reply::Swept) => {
                 set(&self.cells, book.stored() as u64);
+            }
+            Ok(Reply::Forgotten) => {
+                set(&self.cells, book.stored() as u64);
+                let _ = self.forgotten.fetch_add(1, Ordering::SeqCst);
             }
             Ok(reply) => {
                 set(&self.cells, book.stored() as u64);

@@ -85,11 +85,12 @@ fn exchanges_of(sums: &Sums) -> [(&'static str, u64); 5] {
 }
 
 /// The figures of a book.
-fn figures_of(book: &BookFigures) -> [(&'static str, u64); 8] {
+fn figures_of(book: &BookFigures) -> [(&'static str, u64); 9] {
     [
         ("cache.cells", read(&book.cells)),
         ("cache.cells.max", book.most_cells),
         ("cache.full", read(&book.full)),
+        ("cache.forgotten", read(&book.forgotten)),
         ("local.zones", read(&book.zones)),
         ("local.records", read(&book.records)),
         ("stubs", read(&book.stubs)),
@@ -134,10 +135,14 @@ impl Gauges {
     fn holdings(&self, alloc: Global) -> Result<String, AllocError> {
         let book = self.book.get();
         let cells = read(&book.cells);
+        let forgotten = read(&book.forgotten);
         let zones = read(&book.zones);
         let records = read(&book.records);
         let stubs = read(&book.stubs);
-        let mut out = format!(in alloc; "cells: {cells} of {}\n", book.most_cells)?;
+        let mut out = format!(in alloc;
+            "cells: {cells} of {}\nforgotten: {forgotten}\n",
+            book.most_cells
+        )?;
         out.push_str(format!(in alloc;
             "zones: {zones}\nrecords: {records}\nstubs: {stubs}\n"
         )?.as_str())?;

@@ -77,6 +77,8 @@ struct Room {
     is_full: bool,
     /// The admissions that had found no room by then.
     seen: u64,
+    /// The names that had been forgotten when the cache was last said not to be full.
+    forgotten: u64,
 }
 
 impl Room {
@@ -85,6 +87,7 @@ impl Room {
         Room {
             is_full: false,
             seen: 0,
+            forgotten: 0,
         }
     }
 
@@ -97,11 +100,14 @@ impl Room {
             self.seen = full;
             if !self.is_full {
                 self.is_full = true;
-                warn!(rt; "resolver: the cache is full: {most} cells are in use, and new names are not cached");
+                warn!(rt; "resolver: the cache is full: {most} cells are in use, and for new names others are forgotten");
             }
         } else if self.is_full && cells < most {
             self.is_full = false;
-            info!(rt; "resolver: the cache is not full any more: {cells} of {most} cells are in use");
+            let forgotten = read(&book.forgotten);
+            let names = forgotten.saturating_sub(self.forgotten);
+            self.forgotten = forgotten;
+            info!(rt; "resolver: the cache is not full any more: {cells} of {most} cells are in use, {names} names were forgotten");
         }
     }
 }

@@ -1,6 +1,6 @@
 //! A book that numbers its calls.
 
-use crate::books::{DNS_PORT, begin_book, book_with, obey_line};
+use crate::books::{CELLS, DNS_PORT, begin_book, book_with, obey_line};
 use crate::stop::Stop;
 use dns_text::Addr;
 use flight::Numbered;
@@ -28,7 +28,7 @@ impl NumberedBook {
     /// An empty book whose root has no servers.
     pub fn new(alloc: Global) -> Result<NumberedBook, Stop> {
         Ok(NumberedBook {
-            book: book_with(alloc, Vec::new(alloc), DNS_PORT)?,
+            book: book_with(alloc, Vec::new(alloc), DNS_PORT, CELLS)?,
             calls: 0,
         })
     }
@@ -53,7 +53,7 @@ impl Numbered for NumberedBook {
 
 impl LineDesk for NumberedBook {
     fn begin(&mut self, alloc: Global, hints: Vec<Addr>) -> Result<(), Stop> {
-        begin_book(alloc, &mut self.book, hints, DNS_PORT)
+        begin_book(alloc, &mut self.book, hints, DNS_PORT, CELLS)
     }
 
     fn obey(&mut self, rt: &HostRuntime, moment: u64, line: &[u8]) -> Result<(), Stop> {

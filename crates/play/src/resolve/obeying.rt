@@ -19,6 +19,14 @@ fn port_in(text: &[u8]) -> Result<u16, Stop> {
     }
 }
 
+/// A limit of cells. No cache has room for none.
+fn cells_in(text: &[u8]) -> Result<usize, Stop> {
+    match usize::try_from(number_in(text)?) {
+        Ok(cells) if cells > 0 => Ok(cells),
+        _ => Err(Stop::Device),
+    }
+}
+
 /// Which event is lied to, and what it is told.
 fn obey_lie(rt: &HostRuntime, world: &mut World, text: &[u8]) -> Result<(), Stop> {
     let (nth, line) = number_and_rest(text)?;
@@ -31,7 +39,7 @@ fn obey_lie(rt: &HostRuntime, world: &mut World, text: &[u8]) -> Result<(), Stop
 /// Begins with an empty book.
 fn begin(rt: &HostRuntime, world: &mut World, text: &[u8]) -> Result<(), Stop> {
     let hints = addrs_in(rt.alloc(), text)?;
-    begin_book(rt.alloc(), &mut world.book, hints, world.port)?;
+    begin_book(rt.alloc(), &mut world.book, hints, world.port, world.cells)?;
     world.moment = 0;
     Ok(())
 }
@@ -42,6 +50,8 @@ fn is_set(rt: &HostRuntime, world: &mut World, line: &[u8]) -> Result<bool, Stop
         begin(rt, world, rest)?;
     } else if let Some(rest) = line.strip_prefix(b"port ") {
         world.port = port_in(rest)?;
+    } else if let Some(rest) = line.strip_prefix(b"cells ") {
+        world.cells = cells_in(rest)?;
     } else if let Some(rest) = line.strip_prefix(b"at ") {
         world.moment = number_in(rest)?;
     } else if let Some(rest) = line.strip_prefix(b"refuse ") {

@@ -2,7 +2,7 @@
 
 use crate::resolve::listing::{push_find, push_soa, push_told};
 use command_text::reply_text;
-use dns_name::NoMemory;
+use dns_name::{Name, NoMemory};
 use dns_text::push_type;
 use history::{Ask, Event};
 use iterate::{Answer, Input};
@@ -23,7 +23,7 @@ fn admission_words(alloc: Global, find: &Find) -> Result<Vec<u8>, NoMemory> {
     Ok(out)
 }
 
-/// `look NAME TYPE` or `servers NAME`.
+/// `look NAME TYPE`, `servers NAME` or `oldest`.
 fn ask_words(alloc: Global, ask: &Ask) -> Result<Vec<u8>, NoMemory> {
     let mut out = Vec::new(alloc);
     match ask {
@@ -37,8 +37,16 @@ fn ask_words(alloc: Global, ask: &Ask) -> Result<Vec<u8>, NoMemory> {
             out.extend_from_slice(b"servers ")?;
             name.push_text(&mut out)?;
         }
+        Ask::Oldest => out.extend_from_slice(b"oldest")?,
         _ => out.extend_from_slice(b"another look")?,
     }
+    Ok(out)
+}
+
+/// `forget NAME`.
+fn forget_words(alloc: Global, owner: &Name) -> Result<Vec<u8>, NoMemory> {
+    let mut out = Vec::from_slice(alloc, b"forget ")?;
+    owner.push_text(&mut out)?;
     Ok(out)
 }
 
@@ -48,6 +56,8 @@ pub fn event_words(alloc: Global, event: &Event) -> Result<Vec<u8>, NoMemory> {
     let mut out = match event {
         Event::Look { ask, .. } => ask_words(alloc, ask)?,
         Event::Admit { find, .. } => admission_words(alloc, find.find())?,
+        Event::Sweep { .. } => Vec::from_slice(alloc, b"sweep")?,
+        Event::Forget { owner, .. } => forget_words(alloc, owner)?,
         _ => Vec::from_slice(alloc, b"another event")?,
     };
     out.extend_from_slice(format!(in alloc; " at {moment}")?.as_bytes())?;

@@ -3,7 +3,7 @@
 ghost use Rattle.iterate.specs.Phase.{Suits};
 ghost use Rattle.iterate.specs.declared.want.Want.TheVariants.{Book as BookWant};
 
-use crate::books::{DNS_PORT, book_with};
+use crate::books::{CELLS, DNS_PORT, book_with};
 use crate::stop::Stop;
 use history::{Desk, DeskFault, Event, Reply, StepFault};
 use iterate::Input;
@@ -18,6 +18,8 @@ pub struct World {
     pub book: PlainBook,
     /// Where servers listen whose addresses come from records.
     pub port: u16,
+    /// The most sets and negative answers that the cache holds.
+    pub cells: usize,
     /// In seconds.
     pub moment: u64,
     pub ids: Pcg32,
@@ -35,8 +37,9 @@ pub struct World {
 impl World {
     pub fn new(alloc: Global) -> Result<World, Stop> {
         Ok(World {
-            book: book_with(alloc, Vec::new(alloc), DNS_PORT)?,
+            book: book_with(alloc, Vec::new(alloc), DNS_PORT, CELLS)?,
             port: DNS_PORT,
+            cells: CELLS,
             moment: 0,
             ids: Pcg32::new(1, 1),
             calls: 0,

@@ -1,6 +1,6 @@
 //! A line is obeyed.
 
-use crate::books::{DNS_PORT, begin_book, obey_line};
+use crate::books::{CELLS, DNS_PORT, begin_book, obey_line};
 use crate::said::said_in;
 use crate::serve::serving::{serve, serve_pieces, work};
 use crate::serve::world::World;
@@ -14,7 +14,7 @@ use std::sync::Wait;
 /// Begins with an empty book.
 fn begin(alloc: Global, world: &mut World, text: &[u8]) -> Result<(), Stop> {
     let hints = addrs_in(alloc, text)?;
-    begin_book(alloc, &mut world.book, hints, DNS_PORT)?;
+    begin_book(alloc, &mut world.book, hints, DNS_PORT, CELLS)?;
     world.tools.clock.moment = 0;
     world.forget();
     Ok(())

@@ -2,7 +2,7 @@
 
 ghost use Rattle.std.specs.Prelude.{◌≡◌};
 
-use crate::books::{DNS_PORT, book_with};
+use crate::books::{CELLS, DNS_PORT, book_with};
 use crate::serve::exchange::Servers;
 use crate::stop::Stop;
 use command_text::Clock;
@@ -54,7 +54,7 @@ pub struct World {
 impl World {
     pub fn new(alloc: Global) -> Result<World, Stop> {
         Ok(World {
-            book: book_with(alloc, Vec::new(alloc), DNS_PORT)?,
+            book: book_with(alloc, Vec::new(alloc), DNS_PORT, CELLS)?,
             tools: new_tools(alloc),
             read: 0,
             write: 0,

@@ -1,24 +1,38 @@
-use Rattle.std.proofs.Common.{◌-◌, length, subst, refl, arith}
-use Rattle.iterate.specs.declared.want.Want.{Want}
-use Rattle.iterate.specs.Exchanges.{exchange, Adds}
-use Rattle.iterate.specs.Measure.{left_of_hearing}
-use Rattle.iterate.specs.Phase.{Suits}
-use Rattle.iterate.proofs.PathTurns.{turned}
-use Rattle.iterate.proofs.Hearing.{failing_admission, hearing_more, find_less, finds_at_least}
+use Rattle.iterate.proofs.Handing.{each_ok}
 use Rattle.iterate.proofs.admitting.admitted.Goals as goal
 
-pub returns-then-not-is_passed : goal.returns-then-not-is_passed
-returns-then-not-is_passed g c = λ question before log want h within a suits adds.
-    let input = c.args.input.now in
-    let here = subst (λ (v : Want). Adds before (exchange v input) log) a.wanted adds in
-    let suited = subst (λ (v : Want). Suits v input) a.wanted suits in
-    turned c.failed.ensures.phase c.failed.ensures.want
-    (failing_admission c.args.port question before log a.moment c.args.moment _ (length c.args.heard.value.harvest.finds - c.args.next) a.find input c.args.search.value.path h.is_search.path here
-    (c.is_passed.ensures c.if-not-is_passed.true a.moment a.find suited))
+pub returns-in-Admit-clause-asks : goal.returns-in-Admit-clause-asks
+returns-in-Admit-clause-asks g c = rw c.in-Admit.is (λ find handed. c.handed.ensures.asks find handed)
 
-pub returns : goal.returns
-returns g c = λ question before log want h within a suits adds.
-    let here = subst (λ (v : Want). Adds before (exchange v c.args.input.now) log) a.wanted adds in
-    let count = length c.args.heard.value.harvest.finds in
-    c.admit.ensures question log (left_of_hearing c.args.search.value.path (count - c.args.next)) (hearing_more h here refl) (finds_at_least c.args.search.value.path (count - c.args.next) (omega (arith, within)))
-    (λ few. find_less c.args.search.value.path (count - c.saturating_add.result) (count - c.args.next) (omega (arith, few)) (omega (arith, within, few, c.saturating_add.ensures)))
+pub returns-in-Admit-clause-goes : goal.returns-in-Admit-clause-goes
+returns-in-Admit-clause-goes g c = rw c.in-Admit.is (λ question log t. c.handed.ensures.goes question log t)
+
+pub returns-in-Sweep-clause-asks : goal.returns-in-Sweep-clause-asks
+returns-in-Sweep-clause-asks g c = rw c.in-Sweep.is (λ find handed. c.swept.ensures.asks find handed)
+
+pub returns-in-Sweep-clause-goes : goal.returns-in-Sweep-clause-goes
+returns-in-Sweep-clause-goes g c = rw c.in-Sweep.is (λ question log t. c.swept.ensures.goes question log t)
+
+pub returns-in-Again-clause-asks : goal.returns-in-Again-clause-asks
+returns-in-Again-clause-asks g c = rw c.in-Again.is (λ find handed. c.handed_again.ensures.asks find handed)
+
+pub returns-in-Again-clause-goes : goal.returns-in-Again-clause-goes
+returns-in-Again-clause-goes g c = rw c.in-Again.is (λ question log t. c.handed_again.ensures.goes question log t)
+
+pub returns-in-Oldest-clause-asks : goal.returns-in-Oldest-clause-asks
+returns-in-Oldest-clause-asks g c = rw c.in-Oldest.is (λ find handed. c.oldest_came.ensures.asks find)
+
+pub returns-in-Oldest-clause-goes : goal.returns-in-Oldest-clause-goes
+returns-in-Oldest-clause-goes g c = rw c.in-Oldest.is (λ question log t. c.oldest_came.ensures.goes question log t)
+
+pub returns-in-Forget-clause-asks : goal.returns-in-Forget-clause-asks
+returns-in-Forget-clause-asks g c = rw c.in-Forget.is (λ find handed. c.forgotten.ensures.asks find handed)
+
+pub returns-in-Forget-clause-goes : goal.returns-in-Forget-clause-goes
+returns-in-Forget-clause-goes g c = rw c.in-Forget.is (λ question log t. c.forgotten.ensures.goes question log t)
+
+pub returns-in-Last-clause-asks : goal.returns-in-Last-clause-asks
+returns-in-Last-clause-asks g c = rw c.in-Last.is (λ find handed. each_ok c.handed_last.result _ (λ told. tt))
+
+pub returns-in-Last-clause-goes : goal.returns-in-Last-clause-goes
+returns-in-Last-clause-goes g c = rw c.in-Last.is (λ question log t. c.handed_last.ensures question log t)

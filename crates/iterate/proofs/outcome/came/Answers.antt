@@ -1,14 +1,16 @@
-use Rattle.std.proofs.Common.{◌≡◌, ◌-◌, length, sym, ap, ◌∙◌, subst, arith}
+use Rattle.std.proofs.Common.{◌≡◌, sym, ap, ◌∙◌, subst, arith}
 use Rattle.std.proofs.lemmas.Result.{IfOk-weaker}
 use Rattle.dns_query.specs.declared.verdict.Heard.{Heard}
 use Rattle.iterate.specs.declared.search.Hunt.{Hunt}
 use Rattle.iterate.specs.declared.search.Search.{Search}
 use Rattle.iterate.specs.declared.want.Want.{Want}
-use Rattle.iterate.specs.Measure.{left_of_sending}
+use Rattle.iterate.specs.declared.phase.Attempt.TheVariants as attempt
+use Rattle.iterate.specs.Measure.{attempts_left, left_of_sending}
 use Rattle.iterate.specs.Phase.{IsHearing, Suits}
 use Rattle.iterate.specs.Searching.{hunt_of, question_of}
 use Rattle.history.specs.declared.servers.Servers.{Servers}
 use Rattle.iterate.proofs.Coming.{counted, asked_once, orderly_heard, orderly_cut, cut_udp, same_next, meant, useless, vain, was_truncated, from_less, below, going_less, again_less, ended_less, hearing_less, hearing}
+use Rattle.iterate.proofs.Handing.{sent_no_room}
 use Rattle.iterate.proofs.outcome.came.Goals as goal
 
 pub returns-in-Struck : goal.returns-in-Struck
@@ -45,11 +47,11 @@ returns g c = λ question before log want w suits adds.
     let zone : c.get.result.now.zone ≡ (hunt_of search_in).servers.zone = ap (λ (s : Servers). s.zone) c.get.ensures ∙ ap (λ (h : Hunt). h.servers.zone) c.hunt.ensures in
     let judged = meant c.args.port c.args.over c.args.id c.args.input.now _ zone c.in_ok-question.ensures (rw c.in-Heard.is at (c.in_ok-judged.ensures c.args.server w.bytes here)) in
     let after = c.in_ok-search-in-Heard.search.value in
-    let heard = c.in_ok-heard-in-Heard.heard.value in
     let same : after ≡ counted search_in = c.in_ok-search-in-Heard.ensures.ok ∙ c.counted-in-Heard.ensures (omega (arith, w.some)) in
     let path = ap (λ (x : Search). x.path) same in
-    c.admit.ensures question log (left_of_sending search_in.path)
+    c.admit.ensures.goes question log (left_of_sending search_in.path)
     (subst (λ (h : Heard). IsHearing c.args.port question log after h) (sym c.in_ok-heard-in-Heard.ensures.ok)
     (hearing c.args.port question before log want search_in c.args.server c.args.id c.args.over c.args.input.now after c.in-Heard.heard same w adds judged c.one_meaning.ensures.message))
+    (sent_no_room w.wanted adds)
     (below _ _ (hearing_less search_in.path after.path 1 path (omega arith)))
-    (λ few. hearing_less search_in.path after.path (length heard.harvest.finds - 0) path (omega (arith, few)))
+    (hearing_less search_in.path after.path (attempts_left 0 attempt.Admit) path (omega arith))

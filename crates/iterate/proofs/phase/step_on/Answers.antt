@@ -1,11 +1,20 @@
-use Rattle.std.proofs.Common.{List, [], sym, ap, subst}
+use Rattle.std.proofs.Common.{List, [], Result, Ok, Err, IfOk, sym, ap, subst}
+use Rattle.ranked.specs.declared.find.Find.{Find}
+use Rattle.iterate.specs.declared.phase.Advance.{Advance}
 use Rattle.iterate.specs.declared.search.Search.{Search}
 use Rattle.iterate.specs.declared.want.Want.{Want}
 use Rattle.iterate.specs.Exchanges.{Exchange, exchange, Adds}
 use Rattle.iterate.specs.Measure.{left_of_seek, left_of_sending}
 use Rattle.iterate.specs.Phase.{IsSeeking, IsWaiting, Suits}
+use Rattle.iterate.specs.Room.{AsksNext, IsHanded}
 use Rattle.iterate.proofs.Asking.{left_same}
+use Rattle.iterate.proofs.Handing.{each_ok}
 use Rattle.iterate.proofs.phase.step_on.Goals as goal
+
+-- What holds of a result for each value holds for each value of the result.
+ok_for_each : {A E X : Type 0} (H : X → Type 0) (P : X → A → Type 0) (r : Result A E) → ((x : X) → H x → IfOk r (P x)) → IfOk r (λ a. (x : X) → H x → P x a)
+ok_for_each H P (Ok a) all = all
+ok_for_each H P (Err e) all = tt
 
 pub returns-in-First-clause-goes : goal.returns-in-First-clause-goes
 returns-in-First-clause-goes g c = rw c.in-First.is (λ before log want f suits adds.
@@ -52,4 +61,32 @@ returns-in-Sent-clause-goes g c = rw c.in-Sent.is (λ before log want f suits ad
 
 pub returns-in-Admitting-clause-goes : goal.returns-in-Admitting-clause-goes
 returns-in-Admitting-clause-goes g c = rw c.in-Admitting.is (λ before log want f suits adds.
-    c.admitted.ensures c.args.question.now before log want f.0 f.1 f.2 suits adds)
+    c.admitted.ensures.goes c.args.question.now log (record { before = before; want = want; hearing = f.0; handing = f.1; suits = suits; adds = adds }))
+
+pub returns-in-Admitting-clause-asks : goal.returns-in-Admitting-clause-asks
+returns-in-Admitting-clause-asks g c = rw c.in-Admitting.is (ok_for_each (IsHanded c.in-Admitting.heard.value.harvest.finds c.in-Admitting.next)
+    (λ (find : Find) (next : Advance). AsksNext c.in-Admitting.attempt find c.args.moment c.args.input.now next.want) c.admitted.result (λ find handed. c.admitted.ensures.asks find handed))
+
+pub returns-in-Fresh-clause-asks : goal.returns-in-Fresh-clause-asks
+returns-in-Fresh-clause-asks g c = rw c.in-Fresh.is (each_ok c.begin.result _ (λ next. tt))
+
+pub returns-in-First-clause-asks : goal.returns-in-First-clause-asks
+returns-in-First-clause-asks g c = rw c.in-First.is (each_ok c.looked_first.result _ (λ next. tt))
+
+pub returns-in-Aliasing-clause-asks : goal.returns-in-Aliasing-clause-asks
+returns-in-Aliasing-clause-asks g c = rw c.in-Aliasing.is (each_ok c.aliased.result _ (λ next. tt))
+
+pub returns-in-Looking-clause-asks : goal.returns-in-Looking-clause-asks
+returns-in-Looking-clause-asks g c = rw c.in-Looking.is (each_ok c.looked_on.result _ (λ next. tt))
+
+pub returns-in-Following-clause-asks : goal.returns-in-Following-clause-asks
+returns-in-Following-clause-asks g c = rw c.in-Following.is (each_ok c.followed.result _ (λ next. tt))
+
+pub returns-in-Listing-clause-asks : goal.returns-in-Listing-clause-asks
+returns-in-Listing-clause-asks g c = rw c.in-Listing.is (each_ok c.listed.result _ (λ next. tt))
+
+pub returns-in-Seeking-clause-asks : goal.returns-in-Seeking-clause-asks
+returns-in-Seeking-clause-asks g c = rw c.in-Seeking.is (each_ok c.sought.result _ (λ next. tt))
+
+pub returns-in-Sent-clause-asks : goal.returns-in-Sent-clause-asks
+returns-in-Sent-clause-asks g c = rw c.in-Sent.is (each_ok c.came.result _ (λ next. tt))

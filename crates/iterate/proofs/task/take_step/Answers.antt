@@ -26,7 +26,7 @@ returns g c =
       task = subst (λ (n : ℕ). IsTask n after.question after.steps.items after.phase) (sym same.port)
           (subst (λ (q : Question). IsTask state.port q after.steps.items after.phase) (sym same.question) (kept_task state after next made kept));
       same = record { question = same.question; port = same.port };
-      ok = kept_steps state after next was made kept;
+      ok = kept_steps state after next was c.in_ok-next.ensures.asks made kept;
       err = search rules;
       broken = λ broken. let t = c.in_ok-next.ensures.broken (was ∙ broken) in let e : ⊥ = cc in absurd e;
     }

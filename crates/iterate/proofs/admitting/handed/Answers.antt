@@ -1,0 +1,24 @@
+use Rattle.std.proofs.Common.{refl}
+use Rattle.history.specs.declared.event.Event.TheVariants.{Admit}
+use Rattle.iterate.specs.declared.phase.Attempt.TheVariants as attempt
+use Rattle.iterate.proofs.PathTurns.{turned}
+use Rattle.iterate.proofs.Handing.{came_as, each_ok, full_first, heard_on, misanswered, no_room, not_full_first, sweeping}
+use Rattle.iterate.proofs.admitting.handed.Goals as goal
+
+pub returns-then-is_full-clause-asks : goal.returns-then-is_full-clause-asks
+returns-then-is_full-clause-asks g c = λ find handed. full_first find c.args.moment c.args.input.now _ (c.is_full.ensures.0 c.if-is_full.true) c.ask_book.ensures.want
+
+pub returns-then-is_full-clause-goes : goal.returns-then-is_full-clause-goes
+returns-then-is_full-clause-goes g c = λ question log t.
+    turned c.ask_book.ensures.phase c.ask_book.ensures.want
+    (sweeping c.args.port question log c.args.moment _ c.args.search c.args.heard c.args.next c.args.input.now t (c.is_full.ensures.0 c.if-is_full.true))
+
+pub returns-clause-asks : goal.returns-clause-asks
+returns-clause-asks g c = λ find handed.
+    each_ok c.pass.result _ (λ told. not_full_first find c.args.moment c.args.input.now told.want (λ says. let full = c.is_full.ensures.1 says in let e : ⊥ = cc in e))
+
+pub returns-clause-goes : goal.returns-clause-goes
+returns-clause-goes g c = λ question log t.
+    let asked = t.handing.trying.1 in
+    c.pass.ensures.goes question log attempt.Admit (heard_on t) t.handing.handed.early (no_room (came_as t.adds asked.wanted refl) refl)
+    (λ bad. misanswered (Admit asked.moment t.handing.find) t.adds asked.wanted t.suits (λ suits. c.is_passed-lawful.ensures bad asked.moment t.handing.find suits))

@@ -1,0 +1,34 @@
+use Rattle.std.proofs.Common.{◌≡◌, Some, sym, ap, ◌∙◌, subst, refl}
+use Rattle.dns_name.specs.Labels.{Labels}
+use Rattle.history.specs.declared.event.Ask.TheVariants.{Oldest}
+use Rattle.history.specs.declared.event.Event.TheVariants.{Forget, Look}
+use Rattle.history.specs.declared.event.Reply.TheVariants.{Seen}
+use Rattle.history.specs.declared.event.Seen.TheVariants.{Oldest as SeenOldest}
+use Rattle.iterate.specs.declared.phase.Attempt.TheVariants as attempt
+use Rattle.iterate.specs.declared.want.Input.{Input}
+use Rattle.iterate.specs.declared.want.Input.TheVariants.{Reply}
+use Rattle.iterate.specs.declared.want.Want.TheVariants.{Book}
+use Rattle.iterate.specs.Room.{AsksNext}
+use Rattle.iterate.proofs.PathTurns.{turned}
+use Rattle.iterate.proofs.Handing.{came_as, each_ok, forgetting, heard_on, misanswered, no_room, none_oldest_asks}
+use Rattle.iterate.proofs.admitting.oldest_came.Goals as goal
+
+pub returns-in_ok-owner-in-Some-clause-asks : goal.returns-in_ok-owner-in-Some-clause-asks
+returns-in_ok-owner-in-Some-clause-asks g c = λ find.
+    subst (λ (i : Input). AsksNext attempt.Oldest find c.args.moment i c.ask_book.result.want) (sym c.in-Some.ensures)
+    (c.ask_book.ensures.want ∙ ap (λ (n : Labels). Book (Forget c.args.moment n)) c.in_ok-owner-in-Some.ensures)
+
+pub returns-in_ok-owner-in-Some-clause-goes : goal.returns-in_ok-owner-in-Some-clause-goes
+returns-in_ok-owner-in-Some-clause-goes g c = λ question log t.
+    let named = subst (λ (n : Labels). c.args.input.now ≡ Reply (Seen (SeenOldest (Some n)))) (sym c.in_ok-owner-in-Some.ensures) c.in-Some.ensures in
+    turned c.ask_book.ensures.phase c.ask_book.ensures.want
+    (forgetting c.args.port question log c.args.moment _ c.args.search c.args.heard c.args.next c.args.input.now c.in_ok-owner-in-Some.owner t named)
+
+pub returns-in-None-clause-asks : goal.returns-in-None-clause-asks
+returns-in-None-clause-asks g c = λ find. each_ok c.pass.result _ (λ told. none_oldest_asks find c.args.moment c.args.input.now told.want c.in-None.ensures)
+
+pub returns-in-None-clause-goes : goal.returns-in-None-clause-goes
+returns-in-None-clause-goes g c = λ question log t.
+    let asked = t.handing.trying.1 in
+    c.pass.ensures.goes question log attempt.Oldest (heard_on t) t.handing.handed.early (no_room (came_as t.adds asked.wanted refl) refl)
+    (λ bad. misanswered (Look asked.moment Oldest) t.adds asked.wanted t.suits (λ suits. c.is_look_passed.ensures bad asked.moment suits))

@@ -1,0 +1,142 @@
+-- How a book that is full makes room for a find: it is swept, and then the name is forgotten whose data end first.
+use Rattle.std.specs.Prelude.{◌≡◌, ℕ, ◌<◌, Bool, true, false, List, ◌∷◌, Some, drop}
+use Rattle.dns_name.specs.Labels.{Labels}
+use Rattle.ranked.specs.declared.find.Find.{Find}
+use Rattle.history.specs.declared.book.StepFault.TheVariants.{Full}
+use Rattle.history.specs.declared.desk.DeskFault.TheVariants.{Step}
+use Rattle.history.specs.declared.event.Ask.TheVariants.{Oldest}
+use Rattle.history.specs.declared.event.Event.{Event}
+use Rattle.history.specs.declared.event.Event.TheVariants.{Admit, Look, Sweep, Forget}
+use Rattle.history.specs.declared.event.Reply.TheVariants.{Seen, Swept, Forgotten}
+use Rattle.history.specs.declared.event.Seen.TheVariants.{Oldest as SeenOldest}
+use Rattle.iterate.specs.declared.limits.TheConstants.{MOST_FINDS}
+use Rattle.iterate.specs.declared.phase.Attempt.{Attempt}
+use Rattle.iterate.specs.declared.phase.Attempt.TheVariants as attempt
+use Rattle.iterate.specs.declared.phase.Phase.{Phase}
+use Rattle.iterate.specs.declared.phase.Phase.TheVariants.{Admitting}
+use Rattle.iterate.specs.declared.want.Input.{Input}
+use Rattle.iterate.specs.declared.want.Input.TheVariants.{Reply, Refused}
+use Rattle.iterate.specs.declared.want.Want.{Want}
+use Rattle.iterate.specs.declared.want.Want.TheVariants.{Book}
+use Rattle.iterate.specs.Exchanges.{Exchange, exchange, Adds, AddsLook}
+
+-- ---- the last exchanges
+
+-- whether what came of a want is room
+abbrev pub is_room : Want → Input → Bool
+is_room (Book (Sweep moment)) (Reply Swept) = true
+is_room (Book (Forget moment owner)) (Reply Forgotten) = true
+is_room want input = false
+
+-- Room was made just now: the book was swept, or forgot a name.
+pub record MadeRoom (log : List Exchange) : Type 0 where
+  pub before : List Exchange
+  pub want : Want
+  pub input : Input
+  pub adds : Adds before (exchange want input) log
+  pub room : is_room want input ≡ true
+
+-- A find was handed over just now, and the book was full.
+pub record FoundFull (before : List Exchange) (find : Find) (log : List Exchange) : Type 0 where
+  pub moment : ℕ
+  pub stored : ℕ
+  pub refused : Adds before (exchange (Book (Admit moment find)) (Refused (Step (Full stored)))) log
+
+-- The book was full, and no room was made for the find so far.
+pub record IsFull (find : Find) (log : List Exchange) : Type 0 where
+  pub before : List Exchange
+  pub anew : ¬ (MadeRoom before)
+  pub full : FoundFull before find log
+
+-- Then it was swept.
+pub record IsSwept (find : Find) (log : List Exchange) : Type 0 where
+  pub before : List Exchange
+  pub full : IsFull find before
+  pub moment : ℕ
+  pub swept : Adds before (exchange (Book (Sweep moment)) (Reply Swept)) log
+
+-- Then it was full again.
+pub record IsFullAgain (find : Find) (log : List Exchange) : Type 0 where
+  pub before : List Exchange
+  pub swept : IsSwept find before
+  pub full : FoundFull before find log
+
+-- Then it gave this name as the one to forget first.
+pub record IsNamed (find : Find) (owner : Labels) (log : List Exchange) : Type 0 where
+  pub before : List Exchange
+  pub full : IsFullAgain find before
+  pub moment : ℕ
+  pub named : AddsLook before moment Oldest (Reply (Seen (SeenOldest (Some owner)))) log
+
+-- Then it forgot that name.
+pub record IsForgotten (find : Find) (log : List Exchange) : Type 0 where
+  pub before : List Exchange
+  pub owner : Labels
+  pub named : IsNamed find owner before
+  pub moment : ℕ
+  pub forgotten : Adds before (exchange (Book (Forget moment owner)) (Reply Forgotten)) log
+
+-- A find is handed over anew, or again right behind what made room for it.
+pub data MayHand (find : Find) (log : List Exchange) : Type 0 where
+  anew : ¬ (MadeRoom log) → MayHand find log
+  swept : IsSwept find log → MayHand find log
+  forgotten : IsForgotten find log → MayHand find log
+
+-- ---- the attempts
+
+-- A find is at this place of a harvest, and is among the first ones, which are handed to a book.
+pub record IsHanded (finds : List Find) (next : ℕ) (find : Find) : Type 0 where
+  pub early : next < MOST_FINDS
+  pub rest : List Find
+  pub at : drop next finds ≡ find ∷ rest
+
+-- A book is asked this, at some moment.
+pub record IsAsked (want : Want) (event : ℕ → Event) : Type 0 where
+  pub moment : ℕ
+  pub wanted : want ≡ Book (event moment)
+
+-- what the last exchanges are where a find is handed over
+abbrev pub IsHandedBy : Attempt → Find → List Exchange → Type 0
+IsHandedBy attempt.Admit find log = ¬ (MadeRoom log)
+IsHandedBy attempt.Again find log = IsSwept find log
+IsHandedBy attempt.Last find log = IsForgotten find log
+IsHandedBy tried find log = ⊥
+
+-- what is asked for a find in each attempt, and what the last exchanges are then
+abbrev pub IsTrying : Attempt → Find → List Exchange → Want → Type 0
+IsTrying attempt.Admit find log want = (¬ (MadeRoom log)) × IsAsked want (λ moment. Admit moment find)
+IsTrying attempt.Sweep find log want = IsFull find log × IsAsked want (λ moment. Sweep moment)
+IsTrying attempt.Again find log want = IsSwept find log × IsAsked want (λ moment. Admit moment find)
+IsTrying attempt.Oldest find log want = IsFullAgain find log × IsAsked want (λ moment. Look moment Oldest)
+IsTrying attempt.Forget find log want = (owner : Labels) × IsNamed find owner log × IsAsked want (λ moment. Forget moment owner)
+IsTrying attempt.Last find log want = IsForgotten find log × IsAsked want (λ moment. Admit moment find)
+
+-- The find at this place is being handed over, in this attempt.
+pub record IsHanding (finds : List Find) (next : ℕ) (tried : Attempt) (log : List Exchange) (want : Want) : Type 0 where
+  pub find : Find
+  pub handed : IsHanded finds next find
+  pub trying : IsTrying tried find log want
+
+-- what is asked next for a find, where the book is full and where room was made
+abbrev pub AsksNext : Attempt → Find → ℕ → Input → Want → Type 0
+AsksNext attempt.Admit find moment (Refused (Step (Full stored))) want = want ≡ Book (Sweep moment)
+AsksNext attempt.Sweep find moment (Reply Swept) want = want ≡ Book (Admit moment find)
+AsksNext attempt.Again find moment (Refused (Step (Full stored))) want = want ≡ Book (Look moment Oldest)
+AsksNext attempt.Oldest find moment (Reply (Seen (SeenOldest (Some owner)))) want = want ≡ Book (Forget moment owner)
+AsksNext attempt.Forget find moment (Reply Forgotten) want = want ≡ Book (Admit moment find)
+AsksNext tried find moment input want = Unit {0}
+
+-- So it is with the next want of a task in this phase, for the find that is being handed over.
+abbrev pub AsksOn : Phase → ℕ → Input → Want → Type 0
+AsksOn (Admitting search heard next tried) moment input want = (find : Find) → IsHanded heard.value.harvest.finds next find → AsksNext tried find moment input want
+AsksOn phase moment input want = Unit {0}
+
+-- what came of a look for the name to forget first names none
+abbrev pub IsNoneOldest : Input → Type 0
+IsNoneOldest (Reply (Seen (SeenOldest (Some owner)))) = ⊥
+IsNoneOldest input = Unit {0}
+
+-- What came is that the book was full.
+abbrev pub SaysFull : Input → Type 0
+SaysFull (Refused (Step (Full stored))) = Unit {0}
+SaysFull input = ⊥
