@@ -4,13 +4,16 @@ use Rattle.std.specs.Global.{Box}
 use Rattle.std.specs.List.{Contains}
 use Rattle.std.proofs.lemmas.List.{take_all, length-drop, length-take, get_or-drop, get_or-take}
 use Rattle.std.proofs.lemmas.List.Elements.{All-from_recursion, All-drop, All-same, All-head}
+use Rattle.std.proofs.lemmas.Result.{IfOk-weaker}
 use Rattle.dns_name.specs.Labels.{Labels}
 use Rattle.dns_text.specs.declared.addr.Addr.{Addr}
 use Rattle.dns_text.specs.declared.record.Question.{Question}
 use Rattle.dns_query.specs.declared.over.Over.{Over}
-use Rattle.dns_query.specs.Query.{IsQuery, address_question}
+use Rattle.dns_query.specs.declared.over.Over.TheVariants.{Udp}
+use Rattle.dns_query.specs.Query.{IsQuery}
 use Rattle.rand_core.specs.Stream.{Stream, next_u32}
 use Rattle.history.specs.declared.event.Event.TheVariants.{Look}
+use Rattle.history.specs.declared.servers.Servers.{Servers}
 use Rattle.iterate.specs.declared.answer.Answer.TheVariants.{Reply as Replies}
 use Rattle.iterate.specs.declared.path.Path.{Path}
 use Rattle.iterate.specs.declared.phase.Phase.{Phase}
@@ -24,17 +27,19 @@ use Rattle.iterate.specs.declared.search.Search.{Search}
 use Rattle.iterate.specs.declared.want.Want.{Want}
 use Rattle.iterate.specs.declared.want.Want.TheVariants.{Book, Send, Finish}
 use Rattle.iterate.specs.Exchanges.{Exchange}
-use Rattle.iterate.specs.Hunting.{AsksOver, IsSmaller}
+use Rattle.iterate.specs.Hunting.{AreReferred, AsksOver, AsksOneOf, IsFresh, IsSmaller}
 use Rattle.iterate.specs.Known.{Known, Serves, WasUnknown}
 use Rattle.iterate.specs.Measure.{hunts_left, left_in, left_of_search, left_of_seek, left_of_sending}
 use Rattle.iterate.specs.Phase.{Goes, IsSeeking, IsWaiting, ask_at, Drawing, idle}
 use Rattle.iterate.specs.Resolved.{ResolvedAs, Fails, Exhausted}
-use Rattle.iterate.specs.Searching.{IsPath, IsHunt, IsBase, AreFrames, IsSearch, IsOrderly, Turn, turn_of, hunt_behind, hunt_of, question_behind, question_of}
-use Rattle.iterate.specs.Wanted.{IsAskedFor, MayCall, MayGo, id_drawn}
+use Rattle.iterate.specs.Searching.{IsPath, IsHunt, IsBase, AreFrames, IsSearch, IsNextServer, IsOrderly, Turn, turn_of, hunt_behind, hunt_of, question_behind, question_of}
+use Rattle.iterate.specs.Wanted.{IsAskedFor, IsListedFor, MayCall, MayGo, id_drawn}
 use Rattle.iterate.proofs.Falling.{few_is, less_than, less_twice, begun_falls, sending_falls, coming_falls, looks_fall, ended_falls, path_digits}
 use Rattle.iterate.proofs.Growing.{last_asked, unknown_since, sought_as}
 use Rattle.iterate.proofs.Once.{first_asked}
+use Rattle.iterate.proofs.Arriving.{yet_since}
 use Rattle.iterate.proofs.Hunts.{search_digits}
+use Rattle.iterate.proofs.Lists.{none_within}
 
 -- A turn is what its phase and its want are.
 pub turned : {port : ℕ} {question : Question} {log : List Exchange} {moment : ℕ} {id : Drawing} {left : ℕ} {phase phase' : Phase} {want want' : Want}
@@ -192,9 +197,11 @@ may_look : (port : ℕ) (question : Question) (log : List Exchange) (moment : �
     → MayCall port question log moment (Look moment (ask_at then target))
 may_look port question log moment search target stage.Address s = refl
 may_look port question log moment search target stage.Alias s = refl
-may_look port question log moment search target stage.Servers s =
-    let asked = IsAskedFor.of_server (innermost_hunt search s.is_search).listed (early_within (hunt_of search).sought (hunt_of search).servers.missing target s.next.rest s.next.next s.early) in
-    (refl, record { question = address_question target; asked = asked; serves = refl })
+may_look port question log moment search target stage.Servers s = (
+  refl,
+  IsListedFor.of_server (innermost_hunt search s.is_search).listed (early_within (hunt_of search).sought (hunt_of search).servers.missing target s.next.rest s.next.next s.early)
+      (yet_since s.is_search.base.reached s.unknown),
+)
 
 pub seeking : (port : ℕ) (question : Question) (log : List Exchange) (moment : ℕ) (id : Stream) (left : ℕ) (search : Search) (target : Labels) (then : Stage) → IsSeeking port question log search target then
     → left_of_seek search then < left → (kept : Box Search) → kept.value ≡ search → Goes port question log moment (idle id) left (Seeking kept target then) (Book (Look moment (ask_at then target)))
@@ -256,3 +263,22 @@ same_first {server} e = ap (λ (xs : List Addr). get_or xs 0 server) e
 -- The server that is asked is this one.
 pub asks_same : {E : Type 0} {server other : Addr} (over : Over) (r : Result Advance E) → server ≡ other → IfOk r (λ t. AsksOver server over t.want) → IfOk r (λ t. AsksOver other over t.want)
 asks_same over r same h = subst (λ (a : Addr). IfOk r (λ t. AsksOver a over t.want)) same h
+
+-- One of the servers that were just reached is asked.
+one_asked : {E : Type 0} (given xs : List Addr) (r : Result Advance E) → ((addr : Addr) → Contains given addr → Contains xs addr) → ((addr : Addr) → Contains xs addr → Contains given addr)
+    → ((server : Addr) (rest : List Addr) → xs ≡ server ∷ rest → IfOk r (λ t. AsksOver server Udp t.want)) → IfOk r (λ t. AsksOneOf given t.want)
+one_asked [] xs (Ok t) all only asks = tt
+one_asked [] xs (Err e) all only asks = tt
+one_asked (addr ∷ addrs) [] r all only asks = absurd (none_within [] addr refl (all addr (0, omega arith, refl)))
+one_asked (addr ∷ addrs) (x ∷ xs) r all only asks = IfOk-weaker r _ _ (λ t asked. (x, only x (0, omega arith, refl), asked)) (asks x xs refl)
+
+pub asks_fresh : {E : Type 0} (list : Servers) (search : Search) (r : Result Advance E) → IsFresh list (hunt_of search)
+    → ((server : Addr) (rest : List Addr) → IsNextServer search server rest → IfOk r (λ t. AsksOver server Udp t.want)) → IfOk r (λ t. AsksOneOf list.addrs t.want)
+asks_fresh list search r f asks =
+    one_asked list.addrs (hunt_of search).addrs.items r f.all f.only
+    (λ server rest is. asks server rest (ap (λ (n : ℕ). drop n (hunt_of search).addrs.items) f.asked ∙ is))
+
+pub referred_hunt : (fs gs : List Nested) (list : Servers) (base : Hunt) → AreReferred fs list gs → IsFresh list (hunt_behind gs base)
+referred_hunt [] gs list base r = absurd r
+referred_hunt (f ∷ fs) [] list base r = absurd r
+referred_hunt (f ∷ fs) (g ∷ gs) list base r = r.1

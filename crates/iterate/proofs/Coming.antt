@@ -1,5 +1,8 @@
 -- What came of a query.
-use Rattle.std.proofs.Common.{◌≡◌, ℕ, ◌+◌, ◌<◌, ◌≤◌, inl, inr, List, [], ◌∷◌, ◌++◌, length, take, drop, get_or, slice_index_or, sym, ap, ◌∙◌, subst, refl, arith}
+use Rattle.std.proofs.Common.{◌≡◌, ℕ, ◌+◌, ◌<◌, ◌≤◌, inl, inr, List, [], ◌∷◌, ◌++◌, length, take, drop, get_or, slice_index_or, Result, Ok, Err, IfOk, sym, ap, ◌∙◌, subst, refl, arith}
+use Rattle.iterate.specs.Room.{IsHanded}
+use Rattle.ranked.specs.declared.find.Find.{Find}
+use Rattle.history.specs.declared.event.Event.TheVariants.{Admit}
 use Rattle.std.specs.List.{Contains, remove, insert}
 use Rattle.std.proofs.lemmas.List.{length-drop, take_more, get_or-drop}
 use Rattle.std.proofs.lemmas.List.Elements.{Contains-push_cases, All-from_recursion, All-drop, All-same, All-head}
@@ -23,14 +26,14 @@ use Rattle.iterate.specs.declared.search.Search.{Search}
 use Rattle.iterate.specs.declared.want.Input.{Input}
 use Rattle.iterate.specs.declared.want.Input.TheVariants.{Begin, Reply, Refused, Came, Failed}
 use Rattle.iterate.specs.declared.want.Want.{Want}
-use Rattle.iterate.specs.declared.want.Want.TheVariants.{Send}
+use Rattle.iterate.specs.declared.want.Want.TheVariants.{Send, Book}
 use Rattle.iterate.specs.Exchanges.{Exchange, exchange, Adds}
 use Rattle.iterate.specs.Judged.{IsJudged}
 use Rattle.iterate.specs.Known.{Known, Serves}
 use Rattle.iterate.specs.Measure.{top, hunts_left, left_in, left_of_search, left_of_sending, left_of_hearing}
 use Rattle.iterate.specs.Phase.{Goes, IsWaiting, IsHearing, Drawing}
 use Rattle.iterate.specs.Resolved.{CameUseless, Struck}
-use Rattle.iterate.specs.Searching.{IsPath, IsHunt, IsBase, AreFrames, IsSearch, IsOrderly, AllAskOnce, Turn, WasAsked, turn_of, hunt_behind, hunt_of, question_behind, question_of}
+use Rattle.iterate.specs.Searching.{IsPath, IsHunt, IsBase, AreFrames, IsSearch, IsNextServer, IsOrderly, AllAskOnce, Turn, WasAsked, turn_of, hunt_behind, hunt_of, question_behind, question_of}
 use Rattle.iterate.specs.Wanted.{WasTruncated}
 use Rattle.iterate.proofs.Falling.{coming_falls, sending_falls, ended_falls, path_digits}
 use Rattle.iterate.proofs.Hunts.{search_digits}
@@ -39,7 +42,10 @@ use Rattle.iterate.proofs.PathTurns.{less_left}
 use Rattle.iterate.proofs.Growing.{path_sent, base_more, frames_more, happened_last, search_sent}
 use Rattle.iterate.proofs.Once.{nothing_sent, all_sent, struck_first}
 use Rattle.dns_wire.specs.Read.Decoding.{SpelledOnce}
-use Rattle.dns_query.specs.declared.over.Over.TheVariants.{Udp}
+use Rattle.dns_query.specs.declared.over.Over.TheVariants.{Udp, Tcp}
+use Rattle.iterate.specs.declared.phase.Advance.{Advance}
+use Rattle.iterate.specs.Hunting.{ActsOn, AsksOver, one_vain}
+use Rattle.iterate.proofs.Lists.{drop_next}
 
 -- what is less is no more
 pub below : (a b : ℕ) → a < b → a ≤ b
@@ -341,6 +347,9 @@ hearing port question before log want searching server id over (Came octets) aft
       over = over;
       bytes = w.bytes;
       octets = octets;
+      id = id;
+      query = w.query;
+      response = h.response;
       came = here;
       split = here.adds;
       responds = Known.responded here (unknown_innermost searching w.is_search) (next_serves searching w.is_search w.next) w.query (innermost_hunt searching w.is_search).zone h.response (record { whole = h.whole; says = tells heard.says h.says });
@@ -354,3 +363,43 @@ hearing port question before log want searching server id over Failed after hear
 hearing port question before log want searching server id over Begin after heard same w adds h once = absurd h
 hearing port question before log want searching server id over (Reply reply) after heard same w adds h once = absurd h
 hearing port question before log want searching server id over (Refused fault) after heard same w adds h once = absurd h
+
+-- ---- what came is acted on
+
+pub acts_struck : {E : Type 0} (port : ℕ) (search : Search) (server : Addr) (id : ℕ) (over : Over) (input : Input) (r : Result Advance E) → IsJudged port over (hunt_of search).servers.zone id (question_of search) input StruckVerdict
+    → ((other : Addr) (rest : List Addr) → IsNextServer search server (other ∷ rest) → IfOk r (λ t. AsksOver other Udp t.want)) → IfOk r (λ t. ActsOn port search server id over input t.want)
+acts_struck port search server id over input (Ok t) judged asks = record { verdict = StruckVerdict; judged = judged; fits = asks }
+acts_struck port search server id over input (Err e) judged asks = tt
+
+pub acts_cut : {E : Type 0} (port : ℕ) (search : Search) (server : Addr) (id : ℕ) (over : Over) (input : Input) (r : Result Advance E) → IsJudged port over (hunt_of search).servers.zone id (question_of search) input Cut
+    → IfOk r (λ t. AsksOver server Tcp t.want) → IfOk r (λ t. ActsOn port search server id over input t.want)
+acts_cut port search server id over input (Ok t) judged asks = record { verdict = Cut; judged = judged; fits = asks }
+acts_cut port search server id over input (Err e) judged asks = tt
+
+pub acts_heard : {E : Type 0} (port : ℕ) (search : Search) (server : Addr) (id : ℕ) (over : Over) (input : Input) (moment : ℕ) (r : Result Advance E) (heard : Heard)
+    → IsJudged port over (hunt_of search).servers.zone id (question_of search) input (HeardVerdict heard)
+    → ((find : Find) → IsHanded heard.harvest.finds 0 find → IfOk r (λ t. t.want ≡ Book (Admit moment find))) → IfOk r (λ t. ActsOn port search server id over input t.want)
+acts_heard port search server id over input moment (Ok t) heard judged hands = record { verdict = HeardVerdict heard; judged = judged; fits = λ find is. (moment, hands find is) }
+acts_heard port search server id over input moment (Err e) heard judged hands = tt
+
+-- The next server is the one after the server that was asked in vain.
+pub next_after : (before after : Search) (server other : Addr) (rest : List Addr) → hunt_of after ≡ one_vain (hunt_of before) → IsNextServer before server (other ∷ rest) → IsNextServer after other rest
+next_after before after server other rest same is =
+    subst (λ (h : Hunt). drop h.asked h.addrs.items ≡ other ∷ rest) (sym same) (drop_next (hunt_of before).asked (hunt_of before).addrs.items server (other ∷ rest) is)
+
+pub vain_last : (frames : List Nested) (base hunt : Hunt) → frames ≡ [] → (base.asked < length base.addrs.items → hunt ≡ struck_hunt base)
+    → (hunt_behind frames base).asked < length (hunt_behind frames base).addrs.items → hunt_behind frames hunt ≡ one_vain (hunt_behind frames base)
+vain_last [] base hunt none becomes some = becomes some
+vain_last (f ∷ fs) base hunt none becomes some = let e : ⊥ = cc in absurd e
+
+pub vain_inner : (searching after : Search) (removed : Nested) (hunt : Hunt) → 0 < length searching.frames.items → removed ≡ slice_index_or searching.frames.items 0 removed
+    → after.frames.items ≡ insert (remove searching.frames.items 0) 0 (record { target = removed.target; hunt = hunt }) → (removed.hunt.asked < length removed.hunt.addrs.items → hunt ≡ struck_hunt removed.hunt)
+    → (hunt_of searching).asked < length (hunt_of searching).addrs.items → hunt_of after ≡ one_vain (hunt_of searching)
+vain_inner searching after removed hunt some is are becomes left =
+    let i = inner searching.frames.items some in
+    let first : removed ≡ i.first = subst (λ (fs : List Nested). removed ≡ slice_index_or fs 0 removed) i.are is in
+    let asked : hunt_of searching ≡ removed.hunt = ap (λ (fs : List Nested). hunt_behind fs searching.base) i.are ∙ ap (λ (f : Nested). f.hunt) (sym first) in
+    let same : hunt ≡ struck_hunt removed.hunt = becomes (subst (λ (h : Hunt). h.asked < length h.addrs.items) asked left) in
+    let back : after.frames.items ≡ record { target = removed.target; hunt = hunt } ∷ i.rest =
+    subst (λ (fs : List Nested). after.frames.items ≡ insert (remove fs 0) 0 (record { target = removed.target; hunt = hunt })) i.are are in
+    ap (λ (fs : List Nested). hunt_behind fs after.base) back ∙ same ∙ ap (λ (h : Hunt). one_vain h) (sym asked)

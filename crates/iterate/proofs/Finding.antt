@@ -1,8 +1,8 @@
 -- Servers without an address are looked for, and servers are named.
-use Rattle.std.proofs.Common.{◌≡◌, ◌∙◌, ℕ, ◌<◌, List, [], ◌∷◌, ◌++◌, take, drop, true, false, Option, Some, None, ◌==◌, if◌then◌else◌, unwrap_or, sym, ap, subst, refl, arith}
+use Rattle.std.proofs.Common.{◌≡◌, ◌∙◌, ℕ, ◌<◌, List, [], ◌∷◌, ◌++◌, length, take, drop, inl, inr, true, false, Option, Some, None, ◌==◌, if◌then◌else◌, unwrap_or, sym, ap, subst, refl, arith}
 use Rattle.std.specs.List.{AllByRecursion, Contains}
 use Rattle.std.proofs.lemmas.List.{take-append-drop}
-use Rattle.std.proofs.lemmas.List.Elements.{Contains-append_right}
+use Rattle.std.proofs.lemmas.List.Elements.{Contains-append_right, Contains-append_cases}
 use Rattle.dns_name.specs.Labels.{Labels, IsAtOrBelow, parent_of}
 use Rattle.dns_text.specs.declared.addr.Addr.{Addr}
 use Rattle.dns_text.specs.declared.record.Question.{Question}
@@ -23,25 +23,29 @@ use Rattle.iterate.specs.declared.path.Path.{Path}
 use Rattle.iterate.specs.declared.phase.Phase.TheVariants.{Ended}
 use Rattle.iterate.specs.declared.phase.Stage.{Stage}
 use Rattle.iterate.specs.declared.phase.Stage.TheVariants as stage
+use Rattle.iterate.specs.declared.search.Hunt.{Hunt}
+use Rattle.iterate.specs.declared.search.Nested.{Nested}
 use Rattle.iterate.specs.declared.search.Search.{Search}
 use Rattle.iterate.specs.declared.want.Input.{Input}
 use Rattle.iterate.specs.declared.want.Input.TheVariants.{Reply}
 use Rattle.iterate.specs.declared.want.Want.TheVariants.{Book, Finish}
-use Rattle.iterate.specs.Exchanges.{Exchange, exchange, Adds, Happened}
-use Rattle.iterate.specs.Hunting.{AllServe, IsReached, IsTried, IsAddressSeen}
-use Rattle.iterate.specs.Known.{Known, Had, Listed, WasUnknown}
+use Rattle.iterate.specs.Exchanges.{Exchange, exchange, Adds}
+use Rattle.iterate.specs.Hunting.{AllServe, AreSpent, AreSupplied, IsReached, IsSupplied, IsTried, IsAddressSeen, Names}
+use Rattle.iterate.specs.Known.{Known, Had, Listed, WasUnknown, IsUnknownYet}
 use Rattle.iterate.specs.Looked.{IsSetSeen}
 use Rattle.iterate.specs.Measure.{top, left_of_path, left_of_seek}
 use Rattle.iterate.specs.Phase.{Goes, IsSeeking, Suits, ask_at, idle}
 use Rattle.iterate.specs.Resolved.{Fails, IsOneOf, IsShown, ReachedFor, Sought}
 use Rattle.iterate.specs.Served.{served_name}
 use Rattle.iterate.specs.declared.served.TheConstants.{DS}
-use Rattle.iterate.specs.Searching.{IsPath, IsAskable, IsSearch, Turn, hunt_of}
+use Rattle.iterate.specs.Searching.{IsPath, IsAskable, IsSearch, Turn, hunt_behind, hunt_of}
 use Rattle.iterate.specs.Shown.{IsLookReply, IsMisanswered, EndsQuestion}
 use Rattle.iterate.specs.declared.answer.Soa.{Soa}
-use Rattle.iterate.proofs.Growing.{happened_last, path_more, askable_more, base_more, frames_more, search_looked, since_more, sought_more, unknown_more}
+use Rattle.iterate.proofs.Growing.{happened_last, path_more, askable_more, base_more, frames_more, search_looked, since_more, sought_more}
+use Rattle.iterate.proofs.Arriving.{yet_now, yet_more}
 use Rattle.iterate.proofs.Falling.{ended_falls}
 use Rattle.iterate.proofs.Asking.{failing, ended_seek, innermost_hunt}
+use Rattle.iterate.proofs.Lists.{first_of, next_among, next_new}
 use Rattle.iterate.proofs.Once.{all_looked, nothing_sent}
 
 -- ---- servers are named
@@ -74,6 +78,14 @@ named_reached port before log m question list below a = record {
   above = below_served question list.zone below;
   quiet = nothing_sent;
 }
+
+-- what is named, if anything is
+abbrev listed_in : Servers → Input → Servers
+listed_in other (Reply (Seen (SeenServers list))) = list
+listed_in other input = other
+
+pub named_same : {name : Labels} {input : Input} {list other : Servers} → Names name input list → Names name input other → list ≡ other
+named_same {list = list} n m = ap (λ (i : Input). listed_in list i) (sym n.replied ∙ m.replied)
 
 pub listed_named : (port : ℕ) (before log : List Exchange) (m : ℕ) (name : Labels) (list : Servers)
     → Adds before (exchange (Book (Look m (ServersFor name))) (Reply (Seen (SeenServers list)))) log → Known port log (Listed list)
@@ -177,11 +189,9 @@ seeking_unknown port m question before log search target seen none k a early = r
   is_search = after_look m (Asked (address_question target)) (Reply (Seen seen)) search k.is_search a;
   shallow = k.shallow;
   next = k.next;
-  unknown = record {
-    moment = m;
-    looked = subst (λ (v : SeenValue). Happened (k.is_search.since ++ exchange (Book (Look m (Asked (address_question target)))) (Reply (Seen seen)) ∷ []) (exchange (Book (Look m (Asked (address_question target)))) (Reply (Seen v)))) none
-        (happened_last (since_more k.is_search.since _));
-  };
+  unknown = yet_now {m = m} {before = k.is_search.since}
+      (subst (λ (v : SeenValue). Adds k.is_search.since (exchange (Book (Look m (Asked (address_question target)))) (Reply (Seen v))) (k.is_search.since ++ exchange (Book (Look m (Asked (address_question target)))) (Reply (Seen seen)) ∷ [])) none
+      (since_more k.is_search.since _));
   early = early;
   orderly = all_looked port search.base search.path.last Turn.unasked search.frames.items a refl k.orderly;
   other = k.other;
@@ -189,12 +199,12 @@ seeking_unknown port m question before log search target seen none k a early = r
 
 -- It is looked for further still.
 pub seeking_more : (port m : ℕ) (question : Question) (before log : List Exchange) (search : Search) (target : Labels) (first : Stage) (input : Input) → (k : IsSeeking port question before search target first)
-    → WasUnknown k.is_search.since (address_question target) → (hunt_of search).sought < 5 → Adds before (exchange (Book (Look m (ask_at first target))) input) log → IsSeeking port question log search target stage.Servers
+    → IsUnknownYet k.is_search.since (address_question target) → (hunt_of search).sought < 5 → Adds before (exchange (Book (Look m (ask_at first target))) input) log → IsSeeking port question log search target stage.Servers
 seeking_more port m question before log search target first input k u early a = record {
   is_search = after_look m (ask_at first target) input search k.is_search a;
   shallow = k.shallow;
   next = k.next;
-  unknown = unknown_more u (since_more k.is_search.since _);
+  unknown = yet_more u (since_more k.is_search.since _) refl;
   early = early;
   orderly = all_looked port search.base search.path.last Turn.unasked search.frames.items a refl k.orderly;
   other = k.other;
@@ -250,3 +260,33 @@ pub serving : (port m : ℕ) (question : Question) (before log : List Exchange) 
 serving port m question before log search target seen found k a lawful all =
     let hunt = innermost_hunt search (search_looked k.is_search a refl) in
     each_serves port m before log (hunt_of search).servers target seen found a lawful hunt.listed (contains_next (hunt_of search).sought (hunt_of search).servers.missing target k.next.rest k.next.next) all
+
+-- ---- one of them is asked
+
+pub supplied_inner : (fs gs : List Nested) (base next : Hunt) (found : List Addr) → AreSupplied fs base found gs next → IsSupplied (hunt_behind fs base) found (hunt_behind gs next)
+supplied_inner [] [] base next found i = i
+supplied_inner [] (g ∷ gs) base next found i = absurd i
+supplied_inner (f ∷ fs) [] base next found i = absurd i
+supplied_inner (f ∷ fs) (g ∷ gs) base next found i = i.1
+
+-- Where each address was asked, the next one is a new one.
+pub spent_next : (before after : Hunt) (found : List Addr) → IsSupplied before found after → AreSpent before → (addr : Addr) → Contains found addr → ¬ (Contains before.addrs.items addr)
+    → (server : Addr) × (rest : List Addr) × (drop after.asked after.addrs.items ≡ server ∷ rest) × Contains found server
+spent_next before after found i spent addr is new =
+    let long = length before.addrs.items in
+    let split : after.addrs.items ≡ before.addrs.items ++ drop long after.addrs.items = sym (take-append-drop long after.addrs.items) ∙ ap (λ (xs : List Addr). xs ++ drop long after.addrs.items) i.first in
+    let among : Contains (before.addrs.items ++ drop long after.addrs.items) addr = subst (λ (xs : List Addr). Contains xs addr) split (i.all addr is) in
+    let later : Contains (drop long after.addrs.items) addr = elim (Contains-append_cases before.addrs.items (drop long after.addrs.items) addr among) [
+      | inl old ↦ absurd (new old)
+      | inr later ↦ later
+    ] in
+    let first = first_of (drop long after.addrs.items) addr later in
+    let asked : drop after.asked after.addrs.items ≡ first.0 ∷ first.1 = ap (λ (n : ℕ). drop n after.addrs.items) (i.asked ∙ spent.asked) ∙ first.2 in (
+      first.0,
+      first.1,
+      asked,
+      elim (i.only first.0 (next_among long after.addrs.items first.0 first.1 first.2)) [
+        | inl old ↦ absurd (next_new long after.addrs.items first.0 first.1 (i.distinct spent.distinct) first.2 (subst (λ (xs : List Addr). Contains xs first.0) (sym i.first) old))
+        | inr found ↦ found
+      ],
+    )

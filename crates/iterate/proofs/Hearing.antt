@@ -1,5 +1,5 @@
 -- What a response that was heard gives.
-use Rattle.std.proofs.Common.{◌≡◌, ℕ, ◌+◌, ◌<◌, ◌≤◌, ◌⊎◌, inl, inr, List, [], ◌∷◌, ◌++◌, length, drop, get_or, slice_index_or, false, Option, sym, ap, ◌∙◌, subst, refl, append_assoc, arith}
+use Rattle.std.proofs.Common.{◌≡◌, ℕ, ◌+◌, ◌<◌, ◌≤◌, ◌⊎◌, inl, inr, List, [], ◌∷◌, ◌++◌, length, drop, get_or, slice_index_or, false, Option, sym, ap, ◌∙◌, subst, refl, append_assoc, arith, map}
 use Rattle.std.specs.List.{AllByRecursion, Contains}
 use Rattle.std.specs.Option.{option_map}
 use Rattle.std.proofs.lemmas.List.{append-nil, length-drop, get_or-drop}
@@ -7,13 +7,23 @@ use Rattle.dns_name.specs.Labels.{Labels}
 use Rattle.dns_name.specs.ListLaws.{all_weaker}
 use Rattle.dns_text.specs.declared.addr.Addr.{Addr}
 use Rattle.dns_text.specs.declared.record.Question.{Question}
-use Rattle.dns_query.specs.Query.{address_question}
+use Rattle.dns_wire.specs.declared.message.Message.{Message}
+use Rattle.dns_query.specs.declared.sets.Believed.{Believed}
+use Rattle.dns_query.specs.declared.sets.Believed.TheVariants.{Find as FindSet, Passing}
+use Rattle.dns_query.specs.Believed.{HasSet, HasSetAmong, HarvestHasSet, IsBelieved}
+use Rattle.dns_query.specs.BelievedLaws.{first_contained}
+use Rattle.dns_query.specs.Query.{address_question, alias_question}
+use Rattle.harvest.specs.Harvest.{finds_in, passing_in}
+use Rattle.harvest.specs.Learnt.{set_of}
+use Rattle.harvest.specs.Sets.{Set}
+use Rattle.harvest.specs.declared.harvest_type.Harvest.{Harvest}
 use Rattle.dns_query.specs.Referral.{IsReferral}
 use Rattle.dns_query.specs.Verdict.{IsSaid}
 use Rattle.dns_query.specs.declared.verdict.Heard.{Heard}
 use Rattle.dns_query.specs.declared.verdict.Referral.{Referral}
 use Rattle.dns_query.specs.declared.verdict.Says.{Says}
 use Rattle.dns_query.specs.declared.verdict.Says.TheVariants.{Answers, Denies, Refers}
+use Rattle.neg_rule.specs.Negative.{Said, said_by}
 use Rattle.ranked.specs.declared.find.Find.{Find}
 use Rattle.history.specs.declared.servers.Servers.{Servers}
 use Rattle.iterate.specs.declared.path.Path.{Path}
@@ -23,7 +33,8 @@ use Rattle.iterate.specs.declared.search.Hunt.{Hunt}
 use Rattle.iterate.specs.declared.search.Search.{Search}
 use Rattle.iterate.specs.Exchanges.{Exchange, Adds, is_send}
 use Rattle.iterate.specs.Judged.{IsAddressOf}
-use Rattle.iterate.specs.Following.{IsHarvestOf}
+use Rattle.iterate.specs.Come.{GaveAlias, IsGiven}
+use Rattle.iterate.specs.Following.{IsHarvestOf, IsToldBy, IsAnswering, told_by}
 use Rattle.iterate.specs.Hunting.{AllServe, IsReached, IsSmaller}
 use Rattle.iterate.specs.declared.answer.AnswerSet.{AnswerSet}
 use Rattle.iterate.specs.Known.{Fact, Known, Had, Responds, servers_referred}
@@ -64,6 +75,9 @@ hearing_more {port} {y = y} {searching = searching} h a is = record {
   over = h.over;
   bytes = h.bytes;
   octets = h.octets;
+  id = h.id;
+  query = h.query;
+  response = h.response;
   came = h.came;
   split = a.adds ∙ ap (λ (xs : List Exchange). xs ++ y ∷ []) h.split ∙ append_assoc h.before (_ ∷ h.since) (y ∷ []);
   responds = h.responds;
@@ -184,6 +198,60 @@ harvest_heard {searching = searching} h = record {
   passing = h.passing;
 }
 
+-- ---- a response that answers the last question
+
+given_by : (zone : Labels) (asked : Question) (message : Message) (harvest : Harvest) (question : Question) (set : Believed) → map said_by harvest.finds ≡ finds_in message asked zone
+    → map set_of harvest.passing ≡ passing_in message asked zone → IsBelieved (map said_by harvest.finds) (map set_of harvest.passing) question set → IsGiven zone asked message question (told_by set)
+given_by zone asked message harvest question (FindSet find) finds passing first =
+    IsGiven.find (subst (λ (xs : List Said). Contains xs (said_by find.now)) finds (first_contained _ _ _ first)) first.holds
+given_by zone asked message harvest question (Passing set) finds passing first =
+    IsGiven.passing (subst (λ (xs : List Set). Contains xs (set_of set.now)) passing (first_contained _ _ _ first.1)) first.1.holds
+
+-- Its alias is that of the response.
+gave : {port : ℕ} {question : Question} {log : List Exchange} {searching : Search} {heard : Heard} → (h : IsHearing port question log searching heard)
+    → (told : AnswerSet) → IsToldBy heard.harvest (alias_question (question_of searching).owner) told → GaveAlias log (question_of searching) told
+gave {searching = searching} {heard = heard} h told t = record {
+  before = h.before;
+  since = h.since;
+  server = h.server;
+  over = h.over;
+  bytes = h.bytes;
+  octets = h.octets;
+  id = h.id;
+  zone = (hunt_of searching).servers.zone;
+  message = h.message;
+  split = h.split;
+  quiet = h.quiet;
+  query = h.query;
+  response = h.response;
+  given = subst (λ (s : AnswerSet). IsGiven (hunt_of searching).servers.zone (question_of searching) h.message (alias_question (question_of searching).owner) s) (sym t.is)
+      (given_by (hunt_of searching).servers.zone (question_of searching) h.message heard.harvest (alias_question (question_of searching).owner) t.set h.finds h.passing t.believed);
+}
+
+-- The harvest has what the response has.
+harvest_has : (zone : Labels) (asked : Question) (message : Message) (harvest : Harvest) (question : Question) → map said_by harvest.finds ≡ finds_in message asked zone
+    → map set_of harvest.passing ≡ passing_in message asked zone → HasSet message asked zone question → HarvestHasSet harvest question
+harvest_has zone asked message harvest question finds passing has =
+    subst (λ (xs : List Said). HasSetAmong xs (map set_of harvest.passing) question) (sym finds) (subst (λ (xs : List Set). HasSetAmong (finds_in message asked zone) xs question) (sym passing) has)
+
+answering_here : {port : ℕ} {question : Question} {log : List Exchange} {searching : Search} {heard : Heard} → (h : IsHearing port question log searching heard) → heard.says ≡ Answers
+    → IsAnswering port log (question_of searching) heard.harvest
+answering_here {port} {searching = searching} {heard = heard} h is =
+    let zone = (hunt_of searching).servers.zone in
+    let said : IsSaid port zone (question_of searching) h.message Answers = subst (λ (s : Says). IsSaid port zone (question_of searching) h.message s) is h.says in
+    record {
+      heard = harvest_heard h;
+      answers = elim said [
+        | inl set ↦ inl (harvest_has zone (question_of searching) h.message heard.harvest (question_of searching) h.finds h.passing set)
+        | inr alias ↦ inr (harvest_has zone (question_of searching) h.message heard.harvest (alias_question (question_of searching).owner) h.finds h.passing alias)
+      ];
+      gives = gave h;
+    }
+
+pub answering_last : {port : ℕ} {question : Question} {log : List Exchange} {searching : Search} {heard : Heard} → IsHearing port question log searching heard → searching.frames.items ≡ [] → heard.says ≡ Answers
+    → IsAnswering port log searching.path.last heard.harvest
+answering_last {port} {log = log} {searching = searching} {heard = heard} h none is = subst (λ (q : Question). IsAnswering port log q heard.harvest) (question_last searching none) (answering_here h is)
+
 -- The addresses in a set that is known are those of the server.
 pub addresses_known : (port : ℕ) (log : List Exchange) (question : Question) (told : AnswerSet) (target : Labels) → Known port log (Had question told) → question ≡ address_question target
     → (addrs : List Addr) → AllByRecursion (IsAddressIn port told) addrs → AllByRecursion (IsAddressOf port log target) addrs
@@ -210,3 +278,16 @@ referral_in other (Denies rcode negative) = other
 
 pub refers_same : {referral other : Referral} → Refers referral ≡ Refers other → referral ≡ other
 refers_same {referral} e = ap (referral_in referral) e
+
+abbrev rcode_in : ℕ → Says → ℕ
+rcode_in other (Denies rcode negative) = rcode
+rcode_in other Answers = other
+rcode_in other (Refers referral) = other
+
+abbrev negative_of : Option Find → Says → Option Find
+negative_of other (Denies rcode negative) = negative
+negative_of other Answers = other
+negative_of other (Refers referral) = other
+
+pub denies_same : {rcode other : ℕ} {negative also : Option Find} → Denies rcode negative ≡ Denies other also → (rcode ≡ other) × (negative ≡ also)
+denies_same {rcode} {other} {negative} {also} e = (ap (rcode_in rcode) e, ap (negative_of negative) e)

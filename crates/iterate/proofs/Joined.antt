@@ -13,7 +13,7 @@ use Rattle.dns_text.specs.declared.addr.Addr.{Addr}
 use Rattle.dns_text.specs.declared.addr.Ip.{Ip}
 use Rattle.dns_text.specs.declared.addr.Ip.TheVariants.{V4, V6}
 use Rattle.iterate.specs.declared.joining.AddrSet.{AddrSet}
-use Rattle.iterate.specs.Joining.{AreAmong, has_addr, has_ip, port_cmp}
+use Rattle.iterate.specs.Joining.{AreAmong, Notes, has_addr, has_ip, port_cmp}
 
 port_exact : CmpEqualImpliesEq port_cmp
 port_exact = exact_pairs nat_cmp (slice_cmp nat_cmp) exact_unsigned exact_bytes
@@ -92,11 +92,7 @@ of_parts addr other ips ports =
     let whole : Ip → ℕ → Addr = λ ip port. record { ip = ip; port = port } in
     ap (λ (ip : Ip). whole ip addr.port) ips ∙ ap (λ (port : ℕ). whole other.ip port) ports
 
--- the set has one address more at most
-abbrev pub Noted : AddrSet → AddrSet → Addr → Type 0
-Noted old new addr = (other : Addr) → (has_addr new other ≡ true) ↔ ((has_addr old other ≡ true) ⊎ (addr ≡ other))
-
-pub note_v4 : (old new : AddrSet) (addr : Addr) (octets : List ℕ) → addr.ip ≡ V4 octets → new.v6 ≡ old.v6 → Updates port_cmp old.v4 new.v4 (addr.port, octets) true → Noted old new addr
+pub note_v4 : (old new : AddrSet) (addr : Addr) (octets : List ℕ) → addr.ip ≡ V4 octets → new.v6 ≡ old.v6 → Updates port_cmp old.v4 new.v4 (addr.port, octets) true → Notes old new addr
 note_v4 old new addr octets ip same updates other =
     let both = noted_v4 old new addr.port octets same updates other.port other.ip in (
       λ has. elim (both.0 has) [
@@ -109,7 +105,7 @@ note_v4 old new addr octets ip same updates other =
       ]),
     )
 
-pub note_v6 : (old new : AddrSet) (addr : Addr) (octets : List ℕ) → addr.ip ≡ V6 octets → new.v4 ≡ old.v4 → Updates port_cmp old.v6 new.v6 (addr.port, octets) true → Noted old new addr
+pub note_v6 : (old new : AddrSet) (addr : Addr) (octets : List ℕ) → addr.ip ≡ V6 octets → new.v4 ≡ old.v4 → Updates port_cmp old.v6 new.v6 (addr.port, octets) true → Notes old new addr
 note_v6 old new addr octets ip same updates other =
     let both = noted_v6 old new addr.port octets same updates other.port other.ip in (
       λ has. elim (both.0 has) [
@@ -125,7 +121,7 @@ note_v6 old new addr octets ip same updates other =
 -- ---- beside a list
 
 -- The list has the address too.
-pub noted_new : (old new : AddrSet) (addrs : List Addr) (addr : Addr) → AreAmong old addrs → Noted old new addr → AreAmong new (addrs ++ addr ∷ [])
+pub noted_new : (old new : AddrSet) (addrs : List Addr) (addr : Addr) → AreAmong old addrs → Notes old new addr → AreAmong new (addrs ++ addr ∷ [])
 noted_new old new addrs addr among noted other = (
   λ has. elim ((noted other).0 has) [
     | inl before ↦ Contains-append_left addrs (addr ∷ []) other ((among other).0 before)
@@ -138,7 +134,7 @@ noted_new old new addrs addr among noted other = (
 )
 
 -- The list had it.
-pub noted_old : (old new : AddrSet) (addrs : List Addr) (addr : Addr) → has_addr old addr ≡ true → AreAmong old addrs → Noted old new addr → AreAmong new addrs
+pub noted_old : (old new : AddrSet) (addrs : List Addr) (addr : Addr) → has_addr old addr ≡ true → AreAmong old addrs → Notes old new addr → AreAmong new addrs
 noted_old old new addrs addr had among noted other = (
   λ has. elim ((noted other).0 has) [
     | inl before ↦ (among other).0 before

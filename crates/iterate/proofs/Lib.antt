@@ -1,6 +1,7 @@
 pub mod Lists
 pub mod Growing
 pub mod Once
+pub mod Arriving
 pub mod Opened
 pub mod FailLaws
 pub mod Falling

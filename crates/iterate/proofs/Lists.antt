@@ -3,7 +3,7 @@ use Rattle.std.proofs.Common.{suc, ◌≡◌, ℕ, ◌+◌, ◌-◌, ◌<◌, �
 use Rattle.std.specs.List.{AllByRecursion, Contains}
 use Rattle.std.proofs.lemmas.List.{length-drop, length-take, take-append-drop, take-append-le}
 use Rattle.std.proofs.lemmas.List.Elements.{All-from_recursion, All-contains, Contains-append_left, Contains-append_right, Contains-append_cases, Contains-push_cases}
-use Rattle.std.proofs.Math.Seq.{take-append-add}
+use Rattle.std.proofs.Math.Seq.{drop-append-add, take-append-add}
 use Rattle.dns_text.specs.declared.addr.Addr.{Addr}
 use Rattle.iterate.specs.Searching.{AreDistinct}
 
@@ -36,6 +36,19 @@ take_next n xs x rest next =
     let long : length (take n xs) ≡ n = length-take n xs ∙ omega (arith, within) in
     let split : xs ≡ take n xs ++ x ∷ rest = sym (take-append-drop n xs) ∙ ap (λ (zs : List _). take n xs ++ zs) next in
     ap (λ (zs : List _). take (n + 1) zs) split ∙ ap (λ (k : ℕ). take (k + 1) (take n xs ++ x ∷ rest)) (sym long) ∙ take-append-add (take n xs) (x ∷ rest) 1
+
+-- what comes after it
+pub drop_next : {X : Type 0} (n : ℕ) (xs : List X) (x : X) (rest : List X) → drop n xs ≡ x ∷ rest → drop (n + 1) xs ≡ rest
+drop_next n xs x rest next =
+    let within = next_within n xs x rest next in
+    let long : length (take n xs) ≡ n = length-take n xs ∙ omega (arith, within) in
+    let split : xs ≡ take n xs ++ x ∷ rest = sym (take-append-drop n xs) ∙ ap (λ (zs : List _). take n xs ++ zs) next in
+    ap (λ (zs : List _). drop (n + 1) zs) split ∙ ap (λ (k : ℕ). drop (k + 1) (take n xs ++ x ∷ rest)) (sym long) ∙ drop-append-add (take n xs) (x ∷ rest) 1
+
+-- the first of some
+pub first_of : {X : Type 0} (xs : List X) (x : X) → Contains xs x → (first : X) × (rest : List X) × (xs ≡ first ∷ rest)
+first_of [] x is = absurd (omega (arith, is.1))
+first_of (y ∷ ys) x is = (y, ys, refl)
 
 pub next_among : {X : Type 0} (n : ℕ) (xs : List X) (x : X) (rest : List X) → drop n xs ≡ x ∷ rest → Contains xs x
 next_among n xs x rest next =

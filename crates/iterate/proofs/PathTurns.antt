@@ -3,6 +3,8 @@ use Rattle.std.proofs.Common.{◌≡◌, ℕ, ◌+◌, ◌-◌, ◌<◌, ◌≤�
 use Rattle.std.proofs.lemmas.List.{length-append}
 use Rattle.dns_name.specs.Labels.{Labels}
 use Rattle.dns_query.specs.Query.{alias_question}
+use Rattle.dns_text.specs.declared.record.Data.{Data}
+use Rattle.dns_text.specs.declared.record.Data.TheVariants.{A, Aaaa, One, Mx, Soa as SoaData, Txt, Srv, Opaque}
 use Rattle.dns_text.specs.declared.record.Question.{Question}
 use Rattle.dns_text.specs.declared.record.Record.{Record}
 use Rattle.local_zone.specs.declared.local_answer.Local.{Local as LocalAnswer}
@@ -25,18 +27,20 @@ use Rattle.iterate.specs.declared.want.Input.{Input}
 use Rattle.iterate.specs.declared.want.Input.TheVariants.{Begin, Reply, Refused, Came, Failed}
 use Rattle.iterate.specs.declared.want.Want.{Want}
 use Rattle.iterate.specs.declared.want.Want.TheVariants.{Book, Finish}
+use Rattle.iterate.specs.Come.{HasCome}
 use Rattle.iterate.specs.Exchanges.{Exchange, exchange, Adds, Happened, count_sends}
 use Rattle.iterate.specs.Known.{Known, Had, WasUnknown}
 use Rattle.iterate.specs.Looked.{IsReplied, IsSetSeen}
 use Rattle.iterate.specs.Measure.{top, Falls, left_in, left_of_path, digits_of_path}
 use Rattle.iterate.specs.Phase.{Goes, Drawing, idle}
 use Rattle.iterate.specs.Resolved.{Began, BeganUnanswered, IsNoAnswer, is_local, Chain, IsDenied, Fails, IsBarred, ResolvedAs, IsResolved, question_at}
-use Rattle.iterate.specs.Searching.{IsPath, IsAskable, IsLonger}
+use Rattle.iterate.specs.Searching.{IsPath, IsAskable, IsUnasked, IsBehind, IsLonger}
 use Rattle.iterate.specs.Served.{served_name}
 use Rattle.iterate.specs.Shown.{EndsQuestion, IsMisanswered}
-use Rattle.iterate.specs.Told.{IsTarget}
+use Rattle.iterate.specs.Told.{IsFirstTarget, IsTarget}
+use Rattle.iterate.specs.Wanted.{IsListedFor}
 use Rattle.iterate.proofs.Falling.{Digits, weight_falls, path_digits, looks_fall, alias_falls, ended_falls}
-use Rattle.iterate.proofs.Growing.{happened_last, last_asked, path_more, sends_same}
+use Rattle.iterate.proofs.Growing.{happened_last, path_more, sends_same}
 
 -- A turn is what its phase and its want are.
 pub turned : {port : ℕ} {question : Question} {log : List Exchange} {moment : ℕ} {id : Drawing} {left : ℕ} {phase phase' : Phase} {want want' : Want}
@@ -165,6 +169,27 @@ longer_some {path} {next} {told} {to} l =
     let longer : length next.sets.items ≡ length path.sets.items + 1 = ap (λ (xs : List AnswerSet). length xs) l.sets ∙ length-append path.sets.items (told ∷ []) in
     omega (arith, longer)
 
+-- A set of aliases has one first target.
+pub same_target : {to other : Labels} (data_given : List Data) → IsFirstTarget data_given to → IsFirstTarget data_given other → to ≡ other
+same_target [] is also = absurd is
+same_target (One name ∷ ds) is also = is ∙ sym also
+same_target (A octets ∷ ds) is also = absurd is
+same_target (Aaaa octets ∷ ds) is also = absurd is
+same_target (Mx preference exchange ∷ ds) is also = absurd is
+same_target (SoaData primary mailbox serial refresh retry expire minimum ∷ ds) is also = absurd is
+same_target (Txt strings ∷ ds) is also = absurd is
+same_target (Srv priority weight port target ∷ ds) is also = absurd is
+same_target (Opaque octets ∷ ds) is also = absurd is
+
+-- It is looked at behind the alias.
+pub longer_behind : {port : ℕ} {question : Question} {log : List Exchange} {path next : Path} {told : AnswerSet} {to : Labels} → IsAskable port question log path → Known port log (Had (alias_question path.last.owner) told)
+    → IsTarget told to → HasCome port question log to → IsLonger path told to next → IsBehind port question log next
+longer_behind {port} {question} {log} a known target come l = record {
+  is_path = longer_path a known target l;
+  some = longer_some l;
+  come = subst (λ (q : Question). HasCome port question log q.owner) (sym l.last) come;
+}
+
 -- The set that a look showed is known.
 pub set_known : (port m : ℕ) (question : Question) (input : Input) (before log : List Exchange) (seen : SeenValue) (told : AnswerSet) → IsReplied question input seen → IsSetSeen seen told
     → Adds before (exchange (Book (Look m (Asked question))) input) log → Known port log (Had question told)
@@ -277,11 +302,15 @@ barred_refused IsBarred.dropped not_dropped = absurd (not_dropped refl)
 -- ---- servers
 
 -- The servers that are asked about the last question are looked for.
-pub listing : (port : ℕ) (question : Question) (log : List Exchange) (moment : ℕ) (id : Stream) (path : Path) (name : Labels) → name ≡ served_name path.last → IsAskable port question log path
+pub listing : (port : ℕ) (question : Question) (log : List Exchange) (moment : ℕ) (id : Stream) (path : Path) (name : Labels) → name ≡ served_name path.last → IsUnasked port question log path
     → Goes port question log moment (idle id) (left_of_path path 2) (Listing path) (Book (Look moment (ServersFor name)))
-listing port question log moment id path name same p = record {
-  wants = (refl, record { question = path.last; asked = last_asked p.is_path; serves = same });
+listing port question log moment id path name same u = record {
+  wants = (
+    refl,
+    subst (λ (n : Labels). IsListedFor port log question n) (sym same)
+        (subst (λ (k : ℕ). IsListedFor port log question (served_name (record { owner = path.last.owner; kind = k }))) (sym u.askable.is_path.kind) (IsListedFor.of_name u.askable.is_path.chain u.come)),
+  );
   drawn = refl;
-  fits = (p, record { moment = moment; wanted = ap (λ (n : Labels). Book (Look moment (ServersFor n))) same });
+  fits = (u.askable, record { moment = moment; wanted = ap (λ (n : Labels). Book (Look moment (ServersFor n))) same });
   falls = looks_less path 1 2 (omega arith) (omega arith);
 }

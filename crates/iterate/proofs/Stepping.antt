@@ -91,9 +91,9 @@ few_open : (port : ℕ) (question : Question) (log : List Exchange) (want : Want
 few_open port question log want Fresh f = absurd f
 few_open port question log want Broken f = absurd f
 few_open port question log want First f = none_open log want (ap sends f.1.wanted) (omega (arith, ap count_sends f.0))
-few_open port question log want (Aliasing path) f = none_open log want (ap sends f.1.wanted) (path_few f.0.is_path)
-few_open port question log want (Looking path) f = none_open log want (ap sends f.2.wanted) (path_few f.0)
-few_open port question log want (Following path harvest) f = none_open log want (ap sends f.3.wanted) (path_few f.0)
+few_open port question log want (Aliasing path) f = none_open log want (ap sends f.1.wanted) (path_few f.0.askable.is_path)
+few_open port question log want (Looking path) f = none_open log want (ap sends f.1.wanted) (path_few f.0.is_path)
+few_open port question log want (Following path harvest) f = none_open log want (ap sends f.2.wanted) (path_few f.0.is_path)
 few_open port question log want (Listing path) f = none_open log want (ap sends f.1.wanted) (path_few f.0.is_path)
 few_open port question log want (Seeking hunting target stage) f = none_open log want (ap sends f.1.wanted) (path_few f.0.is_search.path)
 few_open port question log want (Sent hunting server id over) f = one_open log want (ap sends f.wanted) (omega (arith, f.is_search.path.counted, f.some))

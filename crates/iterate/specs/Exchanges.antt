@@ -62,6 +62,10 @@ sends want = false
 abbrev pub is_send : Exchange → Bool
 is_send x = sends x.want
 
+-- No query is among them.
+abbrev pub AreQuiet : List Exchange → Type 0
+AreQuiet log = (x : Exchange) → Happened log x → is_send x ≡ false
+
 -- how many queries were sent, and got something or nothing
 abbrev pub count_sends : List Exchange → ℕ
 count_sends log = count_by is_send log

@@ -1,5 +1,7 @@
 -- What becomes of the servers that are asked: they are reached, asked in turn, and given the addresses that were found.
 use Rattle.std.specs.Prelude.{Bool, true, false, ◌≡◌, ℕ, ◌+◌, ◌^◌, ◌<◌, ◌≤◌, ◌⊎◌, List, [], ◌∷◌, length, take, drop}
+use Rattle.iterate.specs.Room.{IsHanded}
+use Rattle.ranked.specs.declared.find.Find.{Find}
 use Rattle.std.specs.List.{AllByRecursion, Contains, flat_map}
 use Rattle.dns_name.specs.Labels.{Labels}
 use Rattle.dns_text.specs.declared.addr.Addr.{Addr}
@@ -13,20 +15,21 @@ use Rattle.iterate.specs.declared.search.Hunt.{Hunt}
 use Rattle.iterate.specs.declared.search.Move.{Move}
 use Rattle.iterate.specs.declared.search.Move.TheVariants.{Ask, Seek, Pass, Close}
 use Rattle.iterate.specs.declared.search.Search.{Search}
-use Rattle.iterate.specs.Exchanges.{Exchange, Happened, is_send}
+use Rattle.iterate.specs.Exchanges.{Exchange, AreQuiet}
 use Rattle.iterate.specs.Known.{Known, Listed}
 use Rattle.iterate.specs.Measure.{left_of_search}
 use Rattle.iterate.specs.Resolved.{IsOneOf, MaySeek, ReachedFor, Sought}
-use Rattle.iterate.specs.Searching.{IsSearch, IsNext, Turn, IsOrderly, IsOther, AreDistinct, hunt_of}
+use Rattle.iterate.specs.Searching.{IsSearch, IsNext, IsNextServer, Turn, IsOrderly, IsOther, AreDistinct, hunt_of, question_of}
 use Rattle.dns_name.specs.Labels.{IsAtOrBelow}
 use Rattle.dns_query.specs.Believed.{HarvestHasSet}
 use Rattle.harvest.specs.declared.harvest_type.Harvest.{Harvest}
 use Rattle.iterate.specs.Following.{IsToldBy}
+use Rattle.iterate.specs.Judged.{IsJudged}
 use Rattle.local_zone.specs.declared.local_answer.Local.TheVariants.{Data as LocalData}
 use Rattle.ranked.specs.declared.find.Body.{Body}
 use Rattle.ranked.specs.declared.find.Body.TheVariants.{Set}
 use Rattle.history.specs.declared.event.Ask.TheVariants.{Servers as ServersFor}
-use Rattle.history.specs.declared.event.Event.TheVariants.{Look}
+use Rattle.history.specs.declared.event.Event.TheVariants.{Look, Admit}
 use Rattle.history.specs.declared.event.Reply.TheVariants.{Seen}
 use Rattle.history.specs.declared.event.Seen.{Seen as SeenValue}
 use Rattle.history.specs.declared.event.Seen.TheVariants.{Held, Local as LocalSeen, Servers as SeenServers}
@@ -35,6 +38,9 @@ use Rattle.iterate.specs.declared.want.Input.TheVariants.{Reply}
 use Rattle.iterate.specs.declared.want.Want.{Want}
 use Rattle.iterate.specs.declared.want.Want.TheVariants.{Book, Send}
 use Rattle.dns_query.specs.declared.over.Over.{Over}
+use Rattle.dns_query.specs.declared.over.Over.TheVariants.{Udp, Tcp}
+use Rattle.dns_query.specs.declared.verdict.Verdict.{Verdict}
+use Rattle.dns_query.specs.declared.verdict.Verdict.TheVariants.{Struck, Cut, Heard}
 use Rattle.dns_query.specs.Query.{address_question}
 use Rattle.iterate.specs.Phase.{Suits}
 use Rattle.iterate.specs.Shown.{IsMisanswered}
@@ -69,7 +75,7 @@ pub record IsReached (port : ℕ) (log : List Exchange) (question : Question) (s
   pub listed : Known port log (Listed servers)
   pub reached : ReachedFor port log question servers since
   pub above : IsAtOrBelow question.owner servers.zone
-  pub quiet : (x : Exchange) → Happened since x → is_send x ≡ false
+  pub quiet : AreQuiet since
 
 -- Of these servers none was asked.
 pub record IsFresh (list : Servers) (hunt : Hunt) : Type 0 where
@@ -96,6 +102,11 @@ pub record IsSupplied (before : Hunt) (found : List Addr) (after : Hunt) : Type 
 abbrev pub AreReferred : List Nested → Servers → List Nested → Type 0
 AreReferred (frame ∷ frames) list (f ∷ fs) = (f.target ≡ frame.target) × IsFresh list f.hunt × (fs ≡ frames)
 AreReferred frames list fs = ⊥
+
+-- A question for the address of this server is opened, among these servers, of which none was asked. All else stays.
+abbrev pub AreOpened : List Nested → Labels → Servers → List Nested → Type 0
+AreOpened frames target list (f ∷ fs) = (f.target ≡ target) × IsFresh list f.hunt × (fs ≡ frames)
+AreOpened frames target list [] = ⊥
 
 -- So it is with the innermost question.
 abbrev pub AreSupplied : List Nested → Hunt → List Addr → List Nested → Hunt → Type 0
@@ -129,6 +140,21 @@ IsAt {X} xs place x = (rest : List X) × (drop place xs ≡ x ∷ rest)
 abbrev pub AsksOver : Addr → Over → Want → Type 0
 AsksOver server over want = (bytes : List ℕ) × (want ≡ Send server over bytes)
 
+-- If there are addresses, one of them is asked over UDP.
+abbrev pub AsksOneOf : List Addr → Want → Type 0
+AsksOneOf [] want = Unit {0}
+AsksOneOf (addr ∷ addrs) want = (server : Addr) × Contains (addr ∷ addrs) server × AsksOver server Udp want
+
+-- the servers, one more of them asked in vain
+abbrev pub one_vain : Hunt → Hunt
+one_vain hunt = record hunt { asked = hunt.asked + 1 }
+
+-- A server without an address may be looked for now: not too many questions are open, it does not lie in the zone, and no open question is for its address.
+pub record MayBeSought (search : Search) (target : Labels) : Type 0 where
+  pub shallow : length search.frames.items < MOST_DEPTH
+  pub outside : ¬ (IsAtOrBelow target (hunt_of search).servers.zone)
+  pub other : IsOther (address_question target) search.frames.items search.path.last
+
 -- Each address was asked.
 abbrev pub AreAllAsked : Hunt → Type 0
 AreAllAsked hunt = length hunt.addrs.items ≤ hunt.asked
@@ -136,10 +162,8 @@ AreAllAsked hunt = length hunt.addrs.items ≤ hunt.asked
 -- What comes next for the innermost question.
 abbrev pub IsNextStep : Search → Move → Type 0
 IsNextStep search (Ask server) = (rest : List Addr) × (drop (hunt_of search).asked (hunt_of search).addrs.items ≡ server ∷ rest)
-IsNextStep search (Seek target) =
-    IsNext (hunt_of search) target × (length search.frames.items < MOST_DEPTH) × IsOther (address_question target) search.frames.items search.path.last × AreAllAsked (hunt_of search)
-IsNextStep search Pass =
-    (target : Labels) × IsNext (hunt_of search) target × (search.frames.items ≡ [] → ¬ (MaySeek search.path.last search.base.servers target)) × AreAllAsked (hunt_of search)
+IsNextStep search (Seek target) = IsNext (hunt_of search) target × MayBeSought search target × AreAllAsked (hunt_of search)
+IsNextStep search Pass = (target : Labels) × IsNext (hunt_of search) target × (¬ (MayBeSought search target)) × AreAllAsked (hunt_of search)
 IsNextStep search Close = AreAllAsked (hunt_of search) × (length (hunt_of search).servers.missing ≤ (hunt_of search).sought)
 
 -- ---- what a book said of servers
@@ -174,3 +198,27 @@ pub record IsAddressSeen (port : ℕ) (seen : SeenValue) (addr : Addr) : Type 0 
   pub told : AnswerSet
   pub is_set : IsSetSeen seen told
   pub among : IsAddressIn port told addr
+
+-- Each address was asked, and stands once.
+pub record AreSpent (hunt : Hunt) : Type 0 where
+  pub asked : hunt.asked ≡ length hunt.addrs.items
+  pub distinct : AreDistinct hunt.addrs.items
+
+-- An address that a look saw is asked over UDP.
+abbrev pub AsksSeen : ℕ → SeenValue → Want → Type 0
+AsksSeen port seen want = (server : Addr) × IsAddressSeen port seen server × AsksOver server Udp want
+
+-- ---- what came of a query
+
+-- After a useless response the next server is asked over UDP, and after a truncated one the same server over TCP. Of a response that is
+-- heard the first find is handed to the book.
+abbrev pub FitsVerdict : Search → Addr → Verdict → Want → Type 0
+FitsVerdict search server Struck want = (other : Addr) (rest : List Addr) → IsNextServer search server (other ∷ rest) → AsksOver other Udp want
+FitsVerdict search server Cut want = AsksOver server Tcp want
+FitsVerdict search server (Heard heard) want = (find : Find) → IsHanded heard.harvest.finds 0 find → (moment : ℕ) × (want ≡ Book (Admit moment find))
+
+-- A verdict on what came is acted on.
+pub record ActsOn (port : ℕ) (search : Search) (server : Addr) (id : ℕ) (over : Over) (input : Input) (want : Want) : Type 0 where
+  pub verdict : Verdict
+  pub judged : IsJudged port over (hunt_of search).servers.zone id (question_of search) input verdict
+  pub fits : FitsVerdict search server verdict want

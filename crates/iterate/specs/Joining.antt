@@ -1,5 +1,5 @@
 -- A set of addresses beside a list of them. (Of the code.)
-use Rattle.std.specs.Prelude.{◌≡◌, ◌↔◌, ℕ, Bool, true, List}
+use Rattle.std.specs.Prelude.{◌≡◌, ◌↔◌, ◌⊎◌, ℕ, Bool, true, List}
 use Rattle.std.specs.BTreeSet.{contains}
 use Rattle.std.specs.Cmp.Lexicographic.{slice_cmp}
 use Rattle.std.specs.List.{Contains}
@@ -26,3 +26,7 @@ has_addr seen addr = has_ip seen addr.port addr.ip
 -- The set has just these addresses.
 abbrev pub AreAmong : AddrSet → List Addr → Type 0
 AreAmong seen addrs = (addr : Addr) → (has_addr seen addr ≡ true) ↔ Contains addrs addr
+
+-- The set has this address, and else what it had.
+abbrev pub Notes : AddrSet → AddrSet → Addr → Type 0
+Notes old new addr = (other : Addr) → (has_addr new other ≡ true) ↔ ((has_addr old other ≡ true) ⊎ (addr ≡ other))

@@ -1,5 +1,5 @@
 -- What may be believed after some exchanges, and why.
-use Rattle.std.specs.Prelude.{ℕ, List}
+use Rattle.std.specs.Prelude.{◌≡◌, ℕ, List, ◌∷◌, ◌++◌}
 use Rattle.std.specs.List.{Contains}
 use Rattle.dns_name.specs.Labels.{Labels, IsAtOrBelow}
 use Rattle.dns_text.specs.declared.addr.Addr.{Addr}
@@ -30,7 +30,7 @@ use Rattle.iterate.specs.declared.answer.AnswerSet.{AnswerSet}
 use Rattle.iterate.specs.declared.answer.AnswerSet.TheVariants.{Local as LocalTold, Passing as PassingTold}
 use Rattle.iterate.specs.declared.want.Input.TheVariants.{Reply, Came}
 use Rattle.iterate.specs.declared.want.Want.TheVariants.{Book, Send}
-use Rattle.iterate.specs.Exchanges.{Exchange, exchange, Adds, Happened}
+use Rattle.iterate.specs.Exchanges.{Exchange, exchange, Adds, AreQuiet, Happened}
 use Rattle.iterate.specs.Shown.{IsSetShown, IsLocalSet}
 use Rattle.iterate.specs.Told.{told_of, told_whole, IsAddressIn}
 
@@ -45,6 +45,14 @@ pub data Fact : Type 0 where
 pub record WasUnknown (log : List Exchange) (question : Question) : Type 0 where
   pub moment : ℕ
   pub looked : Happened log (exchange (Book (Look moment (Asked question))) (Reply (Seen Unknown)))
+
+-- A look at the question found nothing, and no query was sent since.
+pub record IsUnknownYet (log : List Exchange) (question : Question) : Type 0 where
+  pub moment : ℕ
+  pub before : List Exchange
+  pub since : List Exchange
+  pub looked : log ≡ before ++ exchange (Book (Look moment (Asked question))) (Reply (Seen Unknown)) ∷ since
+  pub quiet : AreQuiet since
 
 -- the servers to which a response refers
 abbrev pub servers_referred : Referral → Servers

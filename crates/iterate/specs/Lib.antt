@@ -6,6 +6,7 @@ pub mod Known
 pub mod Served
 pub mod Room
 pub mod Resolved
+pub mod Come
 pub mod Wanted
 -- What its code remembers, and how far it is.
 pub mod Looked

@@ -1,5 +1,5 @@
 -- Where a task is: what is remembered in each phase, and what a step has to bring.
-use Rattle.std.specs.Prelude.{◌≡◌, ℕ, ◌<◌, ◌≤◌, false, List, [], ◌∷◌, ◌++◌, length, map}
+use Rattle.std.specs.Prelude.{◌≡◌, ℕ, ◌<◌, ◌≤◌, List, [], ◌∷◌, ◌++◌, length, map}
 use Rattle.dns_name.specs.Labels.{Labels}
 use Rattle.dns_text.specs.declared.addr.Addr.{Addr}
 use Rattle.dns_text.specs.declared.record.Question.{Question}
@@ -7,6 +7,7 @@ use Rattle.dns_wire.specs.declared.message.Message.{Message}
 use Rattle.dns_query.specs.declared.over.Over.{Over}
 use Rattle.dns_query.specs.declared.verdict.Heard.{Heard}
 use Rattle.dns_query.specs.Query.{IsQuery, address_question, alias_question}
+use Rattle.dns_query.specs.Response.{IsResponse}
 use Rattle.dns_query.specs.Verdict.{IsSaid}
 use Rattle.harvest.specs.Harvest.{finds_in, passing_in}
 use Rattle.harvest.specs.Learnt.{set_of}
@@ -17,6 +18,7 @@ use Rattle.history.specs.declared.event.Ask.TheVariants.{Answer as Asked, Server
 use Rattle.history.specs.declared.event.Event.TheVariants.{Look}
 use Rattle.iterate.specs.declared.answer.Answer.{Answer}
 use Rattle.iterate.specs.declared.limits.TheConstants.{MOST_DEPTH, MOST_SENDS, MOST_TARGETS}
+use Rattle.iterate.specs.declared.path.Path.{Path}
 use Rattle.iterate.specs.declared.phase.Advance.{Advance}
 use Rattle.iterate.specs.declared.phase.Attempt.{Attempt}
 use Rattle.iterate.specs.declared.phase.Phase.{Phase}
@@ -29,12 +31,12 @@ use Rattle.iterate.specs.declared.want.Input.TheVariants.{Begin, Reply, Refused,
 use Rattle.iterate.specs.declared.want.Step.{Step}
 use Rattle.iterate.specs.declared.want.Want.{Want}
 use Rattle.iterate.specs.declared.want.Want.TheVariants.{Book, Send, Finish}
-use Rattle.iterate.specs.Exchanges.{Exchange, exchange, Adds, Happened, last_behind, count_sends, is_send}
+use Rattle.iterate.specs.Exchanges.{Exchange, exchange, Adds, AreQuiet, last_behind, count_sends}
 use Rattle.iterate.specs.Following.{IsHarvestOf}
-use Rattle.iterate.specs.Known.{Known, Responds, WasUnknown}
+use Rattle.iterate.specs.Known.{Known, Responds, IsUnknownYet}
 use Rattle.iterate.specs.Measure.{left_in}
 use Rattle.iterate.specs.Room.{IsHanding}
-use Rattle.iterate.specs.Searching.{IsPath, IsAskable, IsSearch, IsNext, IsNextServer, Turn, IsOrderly, IsOther, hunt_of, question_of, turn_of}
+use Rattle.iterate.specs.Searching.{IsAskable, IsUnasked, IsBehind, IsSearch, IsNext, IsNextServer, Turn, IsOrderly, IsOther, hunt_of, question_of, turn_of}
 use Rattle.iterate.specs.Served.{served_name}
 use Rattle.iterate.specs.Wanted.{MayWant, id_drawn, stream_behind}
 
@@ -67,10 +69,10 @@ ask_at Address target = Asked (address_question target)
 ask_at Alias target = Asked (alias_question target)
 ask_at Servers target = ServersFor target
 
--- Behind the look for the address of the next server, that look found nothing.
+-- Behind the look for the address of the next server, that look found nothing, and no query was sent since.
 abbrev pub IsUnknownAt : Stage → List Exchange → Labels → Type 0
 IsUnknownAt Address since target = Unit {0}
-IsUnknownAt stage since target = WasUnknown since (address_question target)
+IsUnknownAt stage since target = IsUnknownYet since (address_question target)
 
 -- Behind that look, a server is looked for further only if it is among the first of its list.
 abbrev pub IsEarlyAt : Stage → ℕ → Type 0
@@ -109,6 +111,9 @@ pub record IsHearing (port : ℕ) (question : Question) (log : List Exchange) (s
   pub over : Over
   pub bytes : List ℕ
   pub octets : List ℕ
+  pub id : ℕ
+  pub query : IsQuery bytes id (question_of search)
+  pub response : IsResponse id (question_of search) octets message
   pub came : Adds before (exchange (Send server over bytes) (Came octets)) upto
   pub split : log ≡ before ++ exchange (Send server over bytes) (Came octets) ∷ since
   pub responds : Known port upto (Responds (hunt_of search).servers.zone (question_of search) message)
@@ -116,7 +121,7 @@ pub record IsHearing (port : ℕ) (question : Question) (log : List Exchange) (s
   pub passing : map set_of heard.harvest.passing ≡ passing_in message (question_of search) (hunt_of search).servers.zone
   pub says : IsSaid port (hunt_of search).servers.zone (question_of search) message heard.says
   pub orderly : IsOrderly port log search Turn.heard
-  pub quiet : (x : Exchange) → Happened since x → is_send x ≡ false
+  pub quiet : AreQuiet since
 
 -- A response was heard, its find at this place was being handed over in this attempt, and this came of it.
 pub record IsTold (port : ℕ) (question : Question) (log : List Exchange) (search : Search) (heard : Heard) (next : ℕ) (tried : Attempt) (input : Input) : Type 0 where
@@ -131,10 +136,9 @@ pub record IsTold (port : ℕ) (question : Question) (log : List Exchange) (sear
 abbrev pub Remembers : ℕ → Question → List Exchange → Want → Phase → Type 0
 Remembers port question log want Fresh = ⊥
 Remembers port question log want First = (log ≡ []) × IsLook want (Asked question)
-Remembers port question log want (Aliasing path) = IsAskable port question log path × IsLook want (Asked (alias_question path.last.owner))
-Remembers port question log want (Looking path) = IsPath port question log path × (1 ≤ length path.sets.items) × IsLook want (Asked path.last)
-Remembers port question log want (Following path harvest) =
-    IsPath port question log path × (1 ≤ length path.sets.items) × IsHarvestOf port log harvest.value × IsLook want (Asked path.last)
+Remembers port question log want (Aliasing path) = IsUnasked port question log path × IsLook want (Asked (alias_question path.last.owner))
+Remembers port question log want (Looking path) = IsBehind port question log path × IsLook want (Asked path.last)
+Remembers port question log want (Following path harvest) = IsBehind port question log path × IsHarvestOf port log harvest.value × IsLook want (Asked path.last)
 Remembers port question log want (Listing path) = IsAskable port question log path × IsLook want (ServersFor (served_name path.last))
 Remembers port question log want (Seeking search target stage) = IsSeeking port question log search.value target stage × IsLook want (ask_at stage target)
 Remembers port question log want (Sent search server id over) = IsWaiting port question log want search.value server id over
@@ -165,3 +169,7 @@ pub record Goes (port : ℕ) (question : Question) (log : List Exchange) (moment
 -- So does what a step hands over.
 abbrev pub Advances : ℕ → Question → List Exchange → ℕ → Drawing → ℕ → Advance → Type 0
 Advances port question log moment ids left next = Goes port question log moment ids left next.phase next.want
+
+-- The question of this name is looked up next, of the type that the path asks for.
+abbrev pub LooksAt : Path → Labels → ℕ → Advance → Type 0
+LooksAt path to moment next = next.want ≡ Book (Look moment (Asked (record { owner = to; kind = path.last.kind })))

@@ -15,6 +15,7 @@ use Rattle.iterate.specs.declared.search.Hunt.{Hunt}
 use Rattle.iterate.specs.declared.search.Search.{Search}
 use Rattle.iterate.specs.declared.want.Input.{Input}
 use Rattle.iterate.specs.declared.want.Want.TheVariants.{Send}
+use Rattle.iterate.specs.Come.{HasCome}
 use Rattle.iterate.specs.Exchanges.{Exchange, exchange, Happened, count_sends}
 use Rattle.iterate.specs.Known.{WasUnknown, Known, Listed, Serves}
 use Rattle.iterate.specs.Resolved.{BeganUnanswered, Chain, IsOneOf, ReachedFor, Struck, MaySeek, Sought}
@@ -32,6 +33,17 @@ pub record IsPath (port : ℕ) (question : Question) (log : List Exchange) (path
 pub record IsAskable (port : ℕ) (question : Question) (log : List Exchange) (path : Path) : Type 0 where
   pub is_path : IsPath port question log path
   pub unknown : WasUnknown log path.last
+
+-- A path whose last question may be asked, and for which no query was sent since it came to the name.
+pub record IsUnasked (port : ℕ) (question : Question) (log : List Exchange) (path : Path) : Type 0 where
+  pub askable : IsAskable port question log path
+  pub come : HasCome port question log path.last.owner
+
+-- A path that came along an alias to the name that is looked up now.
+pub record IsBehind (port : ℕ) (question : Question) (log : List Exchange) (path : Path) : Type 0 where
+  pub is_path : IsPath port question log path
+  pub some : 1 ≤ length path.sets.items
+  pub come : HasCome port question log path.last.owner
 
 -- A path with one alias more, which leads to this name.
 pub record IsLonger (path : Path) (told : AnswerSet) (to : Labels) (next : Path) : Type 0 where

@@ -24,7 +24,8 @@ use Rattle.iterate.specs.declared.want.Input.TheVariants.{Came}
 use Rattle.iterate.specs.declared.want.Want.{Want}
 use Rattle.iterate.specs.declared.want.Want.TheVariants.{Book, Send, Finish}
 use Rattle.iterate.specs.Exchanges.{Exchange, exchange, Happened}
-use Rattle.iterate.specs.Known.{Known, Listed, Serves, Responds, WasUnknown}
+use Rattle.iterate.specs.Come.{HasCome}
+use Rattle.iterate.specs.Known.{Known, Listed, Serves, Responds, WasUnknown, IsUnknownYet}
 use Rattle.iterate.specs.Resolved.{IsResolved, Chain, IsOneOf, ReachedFor, question_at}
 use Rattle.iterate.specs.Room.{IsFull, IsFullAgain, IsNamed, MayHand}
 use Rattle.iterate.specs.Served.{served_name}
@@ -68,7 +69,7 @@ pub record IsFirstAsk (port : ℕ) (log : List Exchange) (question : Question) (
 
 -- A query with this identifier asks a server of a zone in which its name lies. An earlier look at its question found nothing:
 -- what is cached, blocked or set by the operator is never asked for, neither as the question itself nor behind an alias.
--- No two queries are alike since a list of servers was reached.
+-- No two queries are alike since a list of servers was reached, and a list is looked for before the first of them alone (`IsListedFor`).
 pub record AsksZone (port : ℕ) (whole : Question) (log : List Exchange) (id : ℕ) (server : Addr) (over : Over) (bytes : List ℕ) : Type 0 where
   pub question : Question
   pub asked : IsAskedFor port log whole question
@@ -91,11 +92,13 @@ stream_behind want stream = stream
 abbrev pub id_drawn : Stream → ℕ
 id_drawn stream = (next_u32 stream).0 % 2 ^ 16
 
--- A look for servers is for those that are asked about a question that may be asked.
-pub record IsListedFor (port : ℕ) (log : List Exchange) (whole : Question) (name : Labels) : Type 0 where
-  pub question : Question
-  pub asked : IsAskedFor port log whole question
-  pub serves : name ≡ served_name question
+-- A look for servers is for those that are asked about a question that may be asked, before the first query for it: since a task came to the
+-- name, or since the look for the address of the server, no query was sent. So no list is reached anew to ask the same servers again.
+pub data IsListedFor (port : ℕ) (log : List Exchange) (whole : Question) : Labels → Type 0 where
+  of_name : {name : Labels} {front : List AnswerSet} → Chain port log whole front name → HasCome port whole log name
+      → IsListedFor port log whole (served_name (question_at whole name))
+  of_server : {servers : Servers} {target : Labels} → Known port log (Listed servers) → Contains (take MOST_TARGETS servers.missing) target
+      → IsUnknownYet log (address_question target) → IsListedFor port log whole (served_name (address_question target))
 
 -- An event with the moment that was handed in: a look at a question or for servers, or an admission of what was harvested.
 -- A book is swept only if it was full for a find, is asked for the name to forget first only if it was full for it after that,

@@ -1,13 +1,14 @@
 //! The answer, denial or referral of a response, acted on.
 
-ghost use Rattle.std.specs.Prelude.{◌≡◌, ◌<◌, [], ℕ, List, IfOk, length};
+ghost use Rattle.std.specs.Prelude.{◌≡◌, ◌<◌, [], ℕ, List, Option, IfOk, length};
 ghost use Rattle.std.specs.List.{AllByRecursion};
 ghost use Rattle.dns_text.specs.declared.record.Question.{Question};
 ghost use Rattle.dns_query.specs.declared.verdict.Referral.{Referral as ReferralValue};
 ghost use Rattle.dns_query.specs.Query.{address_question};
+ghost use Rattle.ranked.specs.declared.find.Find.{Find};
 ghost use Rattle.iterate.specs.Exchanges.{Exchange};
-ghost use Rattle.iterate.specs.Following.{IsHarvestOf};
-ghost use Rattle.iterate.specs.Hunting.{AreReferred, IsSmaller, Supplies};
+ghost use Rattle.iterate.specs.Following.{FollowsHarvest, IsHarvestOf, TellsDenial};
+ghost use Rattle.iterate.specs.Hunting.{AreReferred, AsksOneOf, IsSmaller, Supplies};
 ghost use Rattle.iterate.specs.Judged.{IsAddressOf};
 ghost use Rattle.iterate.specs.Known.{servers_referred};
 ghost use Rattle.iterate.specs.Measure.{left_of_hearing};
@@ -16,8 +17,9 @@ ghost use Rattle.iterate.specs.Searching.{hunt_of, question_of};
 
 use crate::addresses::addresses;
 use crate::finishing::denied;
-use crate::following::{follow_in, harvested};
+use crate::following::{follow_answer, harvested};
 use crate::innermost::address_question;
+use crate::limits::MOST_SENDS;
 use crate::phase::Advance;
 use crate::search::{Search, close, go_on, refer_base, refer_frame};
 use dns_name::{Name, NoMemory};
@@ -74,14 +76,19 @@ fn conclude_last<R: Rng>(
     heard: Heard,
 ) -> Result<Advance, NoMemory>
     requires { search.frames.items ≡ [] }
-    ensures { (port : ℕ) (question : Question) (log : List Exchange) → IsHearing port question log search heard
+    ensures answers { heard.says ≡ Says.Answers → IfOk result (λ next. FollowsHarvest heard.harvest search.path moment next.want) }
+    ensures denies { (rcode : ℕ) (negative : Option Find) → heard.says ≡ Says.Denies rcode negative
+        → IfOk result (λ next. TellsDenial search.path rcode negative next.want) }
+    ensures refers { (referral : ReferralValue) → heard.says ≡ Says.Refers referral → search.path.sent < MOST_SENDS
+        → IfOk result (λ next. AsksOneOf referral.addrs next.want) }
+    ensures goes { (port : ℕ) (question : Question) (log : List Exchange) → IsHearing port question log search heard
         → IfOk result (Advances port question log moment (drawing (R.stream ids.old) (R.stream ids.new)) (left_of_hearing search.path 1)) }
 {
     let Heard { harvest, says } = heard;
     match says {
         Says::Answers => {
             let harvest = Box::new(alloc, harvest)?;
-            follow_in(alloc, search.path, harvest, moment)
+            follow_answer(alloc, search.path, harvest, moment)
         }
         Says::Denies { rcode, negative } => Ok(denied(search.path, rcode, negative)),
         Says::Refers(referral) => {
@@ -99,6 +106,7 @@ fn search_behind(alloc: Global, port: u16, search: Search, heard: Heard) -> Resu
         → IfOk result (λ after. Supplies port heard.harvest (question_of search) (hunt_of after).addrs.items) }
     ensures refers { (referral : ReferralValue) → heard.says ≡ Says.Refers referral
         → IfOk result (λ after. AreReferred search.frames.items (servers_referred referral) after.frames.items) }
+    ensures path { IfOk result (λ after. after.path ≡ search.path) }
     ensures smaller { (question : Question) (log : List Exchange) → IsHearing port question log search heard
         → IfOk result (IsSmaller port question log (left_of_hearing search.path 1)) }
 {
@@ -126,7 +134,9 @@ fn conclude_frame<R: Rng>(
     heard: Heard,
 ) -> Result<Advance, NoMemory>
     requires { 0 < length search.frames.items }
-    ensures { (question : Question) (log : List Exchange) → IsHearing port question log search heard
+    ensures refers { (referral : ReferralValue) → heard.says ≡ Says.Refers referral → search.path.sent < MOST_SENDS
+        → IfOk result (λ next. AsksOneOf referral.addrs next.want) }
+    ensures goes { (question : Question) (log : List Exchange) → IsHearing port question log search heard
         → IfOk result (Advances port question log moment (drawing (R.stream ids.old) (R.stream ids.new))
         (left_of_hearing search.path 1)) }
 {

@@ -88,7 +88,8 @@ pub(crate) fn refusal(alloc: Global) -> Answer
 
 /// Ends the path with a set.
 pub(crate) fn found(path: Path, told: AnswerSet) -> Advance
-    ensures { (port moment : ℕ) (ids : Stream) (left : ℕ) (question : Question) (log : List Exchange)
+    ensures want { result.want ≡ Want.Finish (Answer.Reply 0 false path.sets.items (Some told) None) }
+    ensures goes { (port moment : ℕ) (ids : Stream) (left : ℕ) (question : Question) (log : List Exchange)
         → left_in Phase.Ended < left → IsAskable port question log path → Known port log (Had path.last told)
         → Advances port question log moment (idle ids) left result }
 {
@@ -111,7 +112,8 @@ fn soa_told(negative: Option<SharedFind>) -> Option<Soa>
 
 /// Ends the path with the negative answer of a response.
 pub(crate) fn denied(path: Path, rcode: Rcode, negative: Option<SharedFind>) -> Advance
-    ensures { (port moment : ℕ) (ids : Stream) (left : ℕ) (question : Question) (log : List Exchange)
+    ensures want { result.want ≡ Want.Finish (Answer.Reply rcode false path.sets.items None (option_map soa_whole negative)) }
+    ensures goes { (port moment : ℕ) (ids : Stream) (left : ℕ) (question : Question) (log : List Exchange)
         → left_in Phase.Ended < left → IsPath port question log path
         → IsDenied port log path.last rcode (option_map soa_whole negative)
         → Advances port question log moment (idle ids) left result }

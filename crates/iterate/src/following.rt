@@ -1,22 +1,27 @@
 //! Aliases inside a response.
 
-ghost use Rattle.std.specs.Prelude.{◌≡◌, ◌≤◌, ℕ, List, length, IfOk};
+ghost use Rattle.std.specs.Prelude.{◌≡◌, ◌<◌, ◌≤◌, ℕ, List, length, IfOk};
+ghost use Rattle.dns_name.specs.Labels.{Labels};
 ghost use Rattle.dns_query.specs.Query.{alias_question};
+ghost use Rattle.harvest.specs.declared.harvest_type.Harvest.{Harvest as HarvestValue};
 ghost use Rattle.history.specs.declared.event.Ask.TheVariants.{Answer as Asked};
 ghost use Rattle.history.specs.declared.event.Event.TheVariants.{Look};
 ghost use Rattle.iterate.specs.declared.want.Input.{Input as InputValue};
 ghost use Rattle.iterate.specs.declared.want.Want.TheVariants.{Book};
+ghost use Rattle.iterate.specs.Come.{HasCome};
 ghost use Rattle.iterate.specs.Exchanges.{Exchange, AddsLook};
-ghost use Rattle.iterate.specs.Following.{told_by, IsHarvestOf, IsHadIfSome, HasTold, HarvestLeads};
-ghost use Rattle.iterate.specs.Known.{Known, Had};
+ghost use Rattle.iterate.specs.Following.{told_by, IsHarvestOf, IsHadIfSome, IsToldBy, HasTold};
+ghost use Rattle.iterate.specs.Following.{IsAliasHop, IsHop, IsAnswering, FollowsHarvest};
+ghost use Rattle.iterate.specs.Told.{IsTarget};
 ghost use Rattle.iterate.specs.Looked.{seen_of, IsReplied};
-ghost use Rattle.iterate.specs.Measure.{left_of_path};
-ghost use Rattle.iterate.specs.Phase.{Advances, Suits, idle};
-ghost use Rattle.iterate.specs.Searching.{IsPath, IsAskable};
+ghost use Rattle.iterate.specs.Measure.{left_of_hearing, left_of_path};
+ghost use Rattle.iterate.specs.Phase.{Advances, LooksAt, Suits, idle};
+ghost use Rattle.iterate.specs.Searching.{IsAskable, IsBehind, IsUnasked};
 ghost use Rattle.rand_core.specs.Stream.{Stream};
 
 use crate::answer::AnswerSet;
 use crate::finishing::{failed, found};
+use crate::limits::MOST_ALIASES;
 use crate::lookup_reply::{Looked, first_target, replied};
 use crate::path::{Path, alias, follow, seen_on};
 use crate::phase::{Advance, Phase};
@@ -67,8 +72,7 @@ pub(crate) fn harvested(
 }
 
 fn harvested_alias(harvest: &Harvest, name: &Name) -> Result<Option<AnswerSet>, NoMemory>
-    ensures { (port : ℕ) (log : List Exchange) → IsHarvestOf port log harvest.now
-        → IfOk result (IsHadIfSome port log (alias_question name.now)) }
+    ensures { IfOk result (HasTold harvest.now (alias_question name.now)) }
 {
     let owner = name.clone()?;
     harvested(harvest, &Question { owner, kind: CNAME })
@@ -76,8 +80,8 @@ fn harvested_alias(harvest: &Harvest, name: &Name) -> Result<Option<AnswerSet>, 
 
 /// The hop along a set of aliases.
 fn hop_by(told: AnswerSet) -> Result<Hop, NoMemory>
-    ensures { (port : ℕ) (log : List Exchange) (last : Question) → Known port log (Had (alias_question last.owner) told)
-        → IfOk result (HarvestLeads port log last) }
+    ensures { (harvest : HarvestValue) (name : Labels) → IsToldBy harvest (alias_question name) told
+        → IfOk result (IsAliasHop harvest name) }
 {
     match first_target(&told)? {
         Some(to) => Ok(Hop::Alias(told, to)),
@@ -85,10 +89,10 @@ fn hop_by(told: AnswerSet) -> Result<Hop, NoMemory>
     }
 }
 
-fn alias_hop(harvest: &Harvest, last: &Question) -> Result<Hop, NoMemory>
-    ensures { (port : ℕ) (log : List Exchange) → IsHarvestOf port log harvest.now → IfOk result (HarvestLeads port log last.now) }
+fn alias_hop(harvest: &Harvest, name: &Name) -> Result<Hop, NoMemory>
+    ensures { IfOk result (IsAliasHop harvest.now name.now) }
 {
-    match harvested_alias(harvest, &last.owner)? {
+    match harvested_alias(harvest, name)? {
         Some(told) => hop_by(told),
         None => Ok(Hop::Nowhere),
     }
@@ -96,19 +100,19 @@ fn alias_hop(harvest: &Harvest, last: &Question) -> Result<Hop, NoMemory>
 
 /// The next hop from a question inside a harvest. A set of the question is preferred to an alias of its name.
 fn next_hop(harvest: &Harvest, last: &Question) -> Result<Hop, NoMemory>
-    ensures { (port : ℕ) (log : List Exchange) → IsHarvestOf port log harvest.now → IfOk result (HarvestLeads port log last.now) }
+    ensures { IfOk result (IsHop harvest.now last.now) }
 {
     match harvested(harvest, last)? {
         Some(told) => Ok(Hop::Set(told)),
-        None => alias_hop(harvest, last),
+        None => alias_hop(harvest, &last.owner),
     }
 }
 
 /// Looks up the question behind an alias of a response. What else the response has is kept until then.
 fn look_behind(path: Path, harvest: Box<Harvest>, moment: u64) -> Result<Advance, NoMemory>
-    ensures { (port : ℕ) (ids : Stream) (question : Question) (log : List Exchange) → IsHarvestOf port log harvest.value
-        → IsPath port question log path → 1 ≤ length path.sets.items
-        → IfOk result (Advances port question log moment (idle ids) (left_of_path path 5)) }
+    ensures want { IfOk result (λ next. next.want ≡ Book (Look moment (Asked path.last))) }
+    ensures goes { (port : ℕ) (ids : Stream) (question : Question) (log : List Exchange) → IsHarvestOf port log harvest.value
+        → IsBehind port question log path → IfOk result (Advances port question log moment (idle ids) (left_of_path path 5)) }
 {
     let owner = path.last.owner.clone()?;
     let kind = path.last.kind;
@@ -121,25 +125,62 @@ fn look_behind(path: Path, harvest: Box<Harvest>, moment: u64) -> Result<Advance
     })
 }
 
+/// Follows an alias of a response. The question behind it is looked up first, so the operator's local zones and the cache come
+/// before the response.
+fn follow_alias(
+    alloc: Global,
+    path: Path,
+    harvest: Box<Harvest>,
+    told: AnswerSet,
+    to: Name,
+    moment: u64,
+) -> Result<Advance, NoMemory>
+    ensures looks { length path.sets.items < MOST_ALIASES → IfOk result (LooksAt path to moment) }
+    ensures goes { (port : ℕ) (ids : Stream) (left : ℕ) (question : Question) (log : List Exchange) → left_of_path path 4 ≤ left
+        → IsHarvestOf port log harvest.value → IsAskable port question log path
+        → IsToldBy harvest.value (alias_question path.last.owner) told → IsTarget told to → HasCome port question log to → IfOk result (Advances port question log moment (idle ids) left) }
+{
+    match follow(path, told, to)? {
+        Some(next) => look_behind(next, harvest, moment),
+        None => Ok(failed(alloc)),
+    }
+}
+
 /// Follows a response from the last question, which a lookup did not find: to the set of the question, or along an alias of its
-/// name. The question behind the alias is looked up first, so the operator's local zones and the cache come before the response.
-pub(crate) fn follow_in(
+/// name. If the response has neither, looks up an alias.
+fn follow_in(
     alloc: Global,
     path: Path,
     harvest: Box<Harvest>,
     moment: u64,
 ) -> Result<Advance, NoMemory>
-    ensures { (port : ℕ) (ids : Stream) (left : ℕ) (question : Question) (log : List Exchange) → left_of_path path 4 ≤ left
-        → IsHarvestOf port log harvest.value → IsAskable port question log path
-        → IfOk result (Advances port question log moment (idle ids) left) }
+    ensures follows { IfOk result (λ next. FollowsHarvest harvest.value path moment next.want) }
+    ensures goes { (port : ℕ) (ids : Stream) (question : Question) (log : List Exchange) → IsHarvestOf port log harvest.value
+        → IsUnasked port question log path → IfOk result (Advances port question log moment (idle ids) (left_of_path path 4)) }
 {
     match next_hop(&harvest, &path.last)? {
         Hop::Set(told) => Ok(found(path, told)),
-        Hop::Alias(told, to) => match follow(path, told, to)? {
-            Some(next) => look_behind(next, harvest, moment),
-            None => Ok(failed(alloc)),
-        },
+        Hop::Alias(told, to) => follow_alias(alloc, path, harvest, told, to, moment),
         Hop::Nowhere => alias(alloc, path, moment),
+    }
+}
+
+/// Follows the response to a query for the last question, which answers it: to the set, or along the alias.
+pub(crate) fn follow_answer(
+    alloc: Global,
+    path: Path,
+    harvest: Box<Harvest>,
+    moment: u64,
+) -> Result<Advance, NoMemory>
+    ensures follows { IfOk result (λ next. FollowsHarvest harvest.value path moment next.want) }
+    ensures goes { (port : ℕ) (ids : Stream) (question : Question) (log : List Exchange) → IsAnswering port log path.last harvest.value
+        → IsAskable port question log path → IfOk result (Advances port question log moment (idle ids) (left_of_hearing path 1)) }
+{
+    match next_hop(&harvest, &path.last)? {
+        Hop::Set(told) => Ok(found(path, told)),
+        Hop::Alias(told, to) => follow_alias(alloc, path, harvest, told, to, moment),
+        // Never: a response that answers has one of them.
+        Hop::Nowhere => Ok(failed(alloc)),
     }
 }
 
@@ -152,7 +193,7 @@ fn seen_behind(
     what: Looked<'_>,
 ) -> Result<Advance, NoMemory>
     ensures { (port m : ℕ) (ids : Stream) (question : Question) (input : InputValue) (before log : List Exchange)
-        → IsPath port question before path → 1 ≤ length path.sets.items → IsHarvestOf port before harvest.value
+        → IsBehind port question before path → IsHarvestOf port before harvest.value
         → IsReplied path.last input (seen_of what.entry) → AddsLook before m (Asked path.last) input log
         → IfOk result (Advances port question log moment (idle ids) (left_of_path path 4)) }
 {
@@ -170,8 +211,8 @@ pub(crate) fn followed(
     moment: u64,
     input: &Input,
 ) -> Result<Advance, NoMemory>
-    ensures { (port m : ℕ) (ids : Stream) (question : Question) (before log : List Exchange) → IsPath port question before path
-        → 1 ≤ length path.sets.items → IsHarvestOf port before harvest.value → AddsLook before m (Asked path.last) input.now log
+    ensures { (port m : ℕ) (ids : Stream) (question : Question) (before log : List Exchange) → IsBehind port question before path
+        → IsHarvestOf port before harvest.value → AddsLook before m (Asked path.last) input.now log
         → Suits (Book (Look m (Asked path.last))) input.now
         → IfOk result (Advances port question log moment (idle ids) (left_of_path path 4)) }
 {

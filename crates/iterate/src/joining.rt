@@ -1,9 +1,9 @@
 //! Lists of addresses joined, each address once.
 
-ghost use Rattle.std.specs.Prelude.{◌≡◌, ◌⊎◌, ◌↔◌, true, not, IsTrue, IfOk, OnOk, length, take};
+ghost use Rattle.std.specs.Prelude.{◌≡◌, ◌⊎◌, ◌↔◌, not, IsTrue, IfOk, OnOk, length, take};
 ghost use Rattle.std.specs.List.{Contains};
 ghost use Rattle.dns_text.specs.declared.addr.Addr.{Addr};
-ghost use Rattle.iterate.specs.Joining.{has_addr, AreAmong};
+ghost use Rattle.iterate.specs.Joining.{has_addr, AreAmong, Notes};
 ghost use Rattle.iterate.specs.Searching.{AreDistinct};
 
 use dns_name::NoMemory;
@@ -74,7 +74,7 @@ struct AddrSet {
 /// Adds an address, and returns whether it is new.
 fn note(seen: &mut AddrSet, addr: &Addr) -> Result<bool, NoMemory>
     ensures told { IfOk result (λ added. added ≡ not (has_addr seen.old addr.now)) }
-    ensures adds { OnOk result ((other : Addr) → (has_addr seen.new other ≡ true) ↔ ((has_addr seen.old other ≡ true) ⊎ (addr.now ≡ other))) }
+    ensures adds { OnOk result (Notes seen.old seen.new addr.now) }
 {
     match addr.ip {
         Ip::V4(octets) => Ok(seen.v4.insert((addr.port, octets))?),

@@ -6,7 +6,7 @@ ghost use Rattle.dns_text.specs.declared.record.Question.{Question};
 ghost use Rattle.iterate.specs.declared.want.Want.{Want};
 ghost use Rattle.iterate.specs.declared.want.Want.TheVariants.{Send as SendWant};
 ghost use Rattle.iterate.specs.Exchanges.{Exchange, exchange, Adds};
-ghost use Rattle.iterate.specs.Hunting.{AsksOver};
+ghost use Rattle.iterate.specs.Hunting.{ActsOn, AsksOver, one_vain};
 ghost use Rattle.iterate.specs.Judged.{IsJudged};
 ghost use Rattle.iterate.specs.Measure.{left_in, left_of_sending};
 ghost use Rattle.iterate.specs.Phase.{Advances, IsWaiting, Suits, drawing};
@@ -73,6 +73,8 @@ fn asked_once_more(hunt: Hunt) -> Hunt
 /// Strikes the server that was asked last.
 fn strike(search: Search) -> Result<Search, NoMemory>
     ensures path { IfOk result (λ after. after.path ≡ search.path) }
+    ensures vain { (hunt_of search).asked < length (hunt_of search).addrs.items
+        → IfOk result (λ after. hunt_of after ≡ one_vain (hunt_of search)) }
     ensures further { (port : ℕ) (question : Question) (log : List Exchange) (server : Addr) (rest : List Addr)
         → (s : IsSearch port question log search) → IsNextServer search server rest
         → Struck port s.since (hunt_of search).servers.zone (question_of search) server
@@ -135,7 +137,9 @@ pub(crate) fn came<R: Rng>(
     over: Over,
     input: &Input,
 ) -> Result<Advance, NoMemory>
-    ensures { (question : Question) (before log : List Exchange) (want : Want)
+    ensures acts { (bytes : List ℕ) → Suits (SendWant server over bytes) input.now → search.path.sent + 1 < MOST_SENDS
+        → IfOk result (λ next. ActsOn port search server id over input.now next.want) }
+    ensures goes { (question : Question) (before log : List Exchange) (want : Want)
         → IsWaiting port question before want search server id over → Suits want input.now
         → Adds before (exchange want input.now) log
         → IfOk result (Advances port question log moment (drawing (R.stream ids.old) (R.stream ids.new)) (left_of_sending search.path)) }

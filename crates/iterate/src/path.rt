@@ -1,6 +1,7 @@
 //! The aliases so far, and the question to which they lead.
 
-ghost use Rattle.std.specs.Prelude.{◌≤◌, ℕ, List, length, IfOk, MatchOption};
+ghost use Rattle.std.specs.Prelude.{◌≡◌, ◌<◌, ◌≤◌, ℕ, List, length, IfOk, MatchOption};
+ghost use Rattle.dns_name.specs.Labels.{Labels};
 ghost use Rattle.history.specs.declared.event.Ask.TheVariants.{Answer as Asked};
 ghost use Rattle.history.specs.declared.event.Event.TheVariants.{Look};
 ghost use Rattle.history.specs.declared.event.Reply.TheVariants.{Seen as SeenReply};
@@ -13,8 +14,8 @@ ghost use Rattle.iterate.specs.Exchanges.{Exchange, AddsLook};
 ghost use Rattle.iterate.specs.Known.{Known, Had};
 ghost use Rattle.iterate.specs.Looked.{seen_of, IsReplied};
 ghost use Rattle.iterate.specs.Measure.{left_of_path};
-ghost use Rattle.iterate.specs.Phase.{Advances, Suits, idle};
-ghost use Rattle.iterate.specs.Searching.{IsPath, IsAskable, IsLonger};
+ghost use Rattle.iterate.specs.Phase.{Advances, LooksAt, Suits, idle};
+ghost use Rattle.iterate.specs.Searching.{IsBehind, IsUnasked, IsLonger};
 ghost use Rattle.iterate.specs.Shown.{IsLocalFor};
 ghost use Rattle.iterate.specs.Told.{IsTarget};
 ghost use Rattle.rand_core.specs.Stream.{Stream};
@@ -48,7 +49,7 @@ pub struct Path {
 
 /// Looks up the servers that are asked about the last question.
 pub(crate) fn list(alloc: Global, path: Path, moment: u64) -> Result<Advance, NoMemory>
-    ensures { (port : ℕ) (ids : Stream) (question : Question) (log : List Exchange) → IsAskable port question log path
+    ensures { (port : ℕ) (ids : Stream) (question : Question) (log : List Exchange) → IsUnasked port question log path
         → IfOk result (Advances port question log moment (idle ids) (left_of_path path 2)) }
 {
     let name = served_name(alloc, &path.last)?;
@@ -63,7 +64,7 @@ pub(crate) fn list(alloc: Global, path: Path, moment: u64) -> Result<Advance, No
 
 /// Looks up an alias of the last name, unless the question asks for CNAME records.
 pub(crate) fn alias(alloc: Global, path: Path, moment: u64) -> Result<Advance, NoMemory>
-    ensures { (port : ℕ) (ids : Stream) (question : Question) (log : List Exchange) → IsAskable port question log path
+    ensures { (port : ℕ) (ids : Stream) (question : Question) (log : List Exchange) → IsUnasked port question log path
         → IfOk result (Advances port question log moment (idle ids) (left_of_path path 3)) }
 {
     if path.last.kind == CNAME {
@@ -81,8 +82,9 @@ pub(crate) fn alias(alloc: Global, path: Path, moment: u64) -> Result<Advance, N
 
 /// Looks up the question behind an alias.
 pub(crate) fn look_on(path: Path, moment: u64) -> Result<Advance, NoMemory>
-    ensures { (port : ℕ) (ids : Stream) (question : Question) (log : List Exchange) → IsPath port question log path
-        → 1 ≤ length path.sets.items → IfOk result (Advances port question log moment (idle ids) (left_of_path path 4)) }
+    ensures want { IfOk result (λ next. next.want ≡ Book (Look moment (Asked path.last))) }
+    ensures goes { (port : ℕ) (ids : Stream) (question : Question) (log : List Exchange) → IsBehind port question log path
+        → IfOk result (Advances port question log moment (idle ids) (left_of_path path 4)) }
 {
     let owner = path.last.owner.clone()?;
     let kind = path.last.kind;
@@ -128,7 +130,8 @@ fn go_behind(
     to: Name,
     moment: u64,
 ) -> Result<Advance, NoMemory>
-    ensures { (port : ℕ) (ids : Stream) (question : Question) (log : List Exchange) → IsAskable port question log path
+    ensures looks { length path.sets.items < MOST_ALIASES → IfOk result (LooksAt path to moment) }
+    ensures goes { (port : ℕ) (ids : Stream) (question : Question) (log : List Exchange) → IsUnasked port question log path
         → Known port log (Had (alias_question path.last.owner) told) → IsTarget told to
         → IfOk result (Advances port question log moment (idle ids) (left_of_path path 2)) }
 {
@@ -140,7 +143,8 @@ fn go_behind(
 
 /// Continues after a set of aliases.
 fn alias_told(alloc: Global, path: Path, told: AnswerSet, moment: u64) -> Result<Advance, NoMemory>
-    ensures { (port : ℕ) (ids : Stream) (question : Question) (log : List Exchange) → IsAskable port question log path
+    ensures looks { (to : Labels) → IsTarget told to → length path.sets.items < MOST_ALIASES → IfOk result (LooksAt path to moment) }
+    ensures goes { (port : ℕ) (ids : Stream) (question : Question) (log : List Exchange) → IsUnasked port question log path
         → Known port log (Had (alias_question path.last.owner) told)
         → IfOk result (Advances port question log moment (idle ids) (left_of_path path 2)) }
 {
@@ -153,7 +157,7 @@ fn alias_told(alloc: Global, path: Path, told: AnswerSet, moment: u64) -> Result
 /// Continues with what the lookup of an alias found.
 fn alias_seen(alloc: Global, path: Path, moment: u64, what: Looked<'_>) -> Result<Advance, NoMemory>
     ensures { (port m : ℕ) (ids : Stream) (question : Question) (input : InputValue) (before log : List Exchange)
-        → IsAskable port question before path → IsReplied (alias_question path.last.owner) input (seen_of what.entry)
+        → IsUnasked port question before path → IsReplied (alias_question path.last.owner) input (seen_of what.entry)
         → AddsLook before m (Asked (alias_question path.last.owner)) input log
         → IfOk result (Advances port question log moment (idle ids) (left_of_path path 2)) }
 {
@@ -170,7 +174,7 @@ pub(crate) fn aliased(
     moment: u64,
     input: &Input,
 ) -> Result<Advance, NoMemory>
-    ensures { (port m : ℕ) (ids : Stream) (question : Question) (before log : List Exchange) → IsAskable port question before path
+    ensures { (port m : ℕ) (ids : Stream) (question : Question) (before log : List Exchange) → IsUnasked port question before path
         → AddsLook before m (Asked (alias_question path.last.owner)) input.now log
         → Suits (Book (Look m (Asked (alias_question path.last.owner)))) input.now
         → IfOk result (Advances port question log moment (idle ids) (left_of_path path 2)) }
@@ -188,7 +192,7 @@ fn local_on(
     answer: &Local<Items<SeenRecord>, LocalRecord>,
 ) -> Result<Advance, NoMemory>
     ensures { (port m moment : ℕ) (ids : Stream) (question : Question) (before log : List Exchange)
-        → IsPath port question before path → 1 ≤ length path.sets.items → IsLocalFor path.last answer.now
+        → IsBehind port question before path → IsLocalFor path.last answer.now
         → AddsLook before m (Asked path.last) (Replied (SeenReply (SeenLocal answer.now))) log
         → IfOk result (Advances port question log moment (idle ids) (left_of_path path 3)) }
 {
@@ -206,7 +210,7 @@ pub(crate) fn seen_on(
     what: Looked<'_>,
 ) -> Result<Advance, NoMemory>
     ensures { (port m : ℕ) (ids : Stream) (question : Question) (input : InputValue) (before log : List Exchange)
-        → IsPath port question before path → 1 ≤ length path.sets.items → IsReplied path.last input (seen_of what.entry)
+        → IsBehind port question before path → IsReplied path.last input (seen_of what.entry)
         → AddsLook before m (Asked path.last) input log
         → IfOk result (Advances port question log moment (idle ids) (left_of_path path 3)) }
 {
@@ -225,7 +229,7 @@ pub(crate) fn looked_on(
     input: &Input,
 ) -> Result<Advance, NoMemory>
     ensures { (port m : ℕ) (ids : Stream) (question : Question) (before log : List Exchange)
-        → IsPath port question before path → 1 ≤ length path.sets.items → AddsLook before m (Asked path.last) input.now log
+        → IsBehind port question before path → AddsLook before m (Asked path.last) input.now log
         → Suits (Book (Look m (Asked path.last))) input.now
         → IfOk result (Advances port question log moment (idle ids) (left_of_path path 3)) }
 {

@@ -8,10 +8,10 @@ ghost use Rattle.dns_query.specs.declared.over.Over.TheVariants.{Udp};
 ghost use Rattle.dns_query.specs.Query.{address_question};
 ghost use Rattle.iterate.specs.declared.limits.TheConstants.{MOST_SENDS};
 ghost use Rattle.iterate.specs.Exchanges.{Exchange};
-ghost use Rattle.iterate.specs.Hunting.{AllServe, IsReached, IsFresh, AreReferred, IsSupplied, AreSupplied, IsTried, IsSmaller, IsAt, IsNextStep, AsksOver};
+ghost use Rattle.iterate.specs.Hunting.{AllServe, IsReached, IsFresh, AreReferred, IsSupplied, AreSupplied, IsTried, IsSmaller};
+ghost use Rattle.iterate.specs.Hunting.{IsAt, IsNextStep, AreOpened, MayBeSought, AsksOver};
 ghost use Rattle.iterate.specs.Measure.{hunts_left, left_of_path, left_of_search, left_of_seek, left_of_hearing};
 ghost use Rattle.iterate.specs.Phase.{Advances, IsSeeking, drawing};
-ghost use Rattle.iterate.specs.Resolved.{MaySeek};
 ghost use Rattle.iterate.specs.Searching.{IsAskable, IsSearch, IsNextServer, IsOrderly, IsOther, Turn, hunt_of, hunt_behind, question_of};
 
 use crate::finishing::failed;
@@ -142,7 +142,10 @@ pub(crate) fn open(
     target: Name,
     servers: Shared<Servers>,
 ) -> Result<Search, NoMemory>
-    ensures { (port : ℕ) (question : Question) (log since : List Exchange)
+    ensures path { IfOk result (λ after. after.path ≡ search.path) }
+    ensures base { IfOk result (λ after. after.base ≡ search.base) }
+    ensures opened { IfOk result (λ after. AreOpened search.frames.items target servers after.frames.items) }
+    ensures reached { (port : ℕ) (question : Question) (log since : List Exchange)
         → IsSeeking port question log search target Stage.Servers → IsReached port log (address_question target) since servers
         → IfOk result (IsSmaller port question log (left_of_seek search Stage.Servers)) }
 {
@@ -252,9 +255,8 @@ fn asks_address(question: &Question, target: &Name) -> bool
 
 /// Whether one of these questions is for the address of this server.
 fn is_open(frames: &[Nested], target: &Name) -> bool
-    ensures none { IsTrue result → 0 < length frames.now }
-    ensures other { result ≡ false → (last : Question) → ¬ (address_question target.now ≡ last)
-        → IsOther (address_question target.now) frames.now last }
+    ensures { (last : Question) → ¬ (address_question target.now ≡ last)
+        → (result ≡ false) ↔ IsOther (address_question target.now) frames.now last }
 {
     for frame in frames {
         if is_name(&frame.target, target) {
@@ -266,8 +268,7 @@ fn is_open(frames: &[Nested], target: &Name) -> bool
 
 /// Whether the address of a server is asked for already.
 fn is_sought(search: &Search, target: &Name) -> bool
-    ensures last { IsTrue result → search.now.frames.items ≡ [] → address_question target.now ≡ search.now.path.last }
-    ensures other { result ≡ false → IsOther (address_question target.now) search.now.frames.items search.now.path.last }
+    ensures { (result ≡ false) ↔ IsOther (address_question target.now) search.now.frames.items search.now.path.last }
 {
     if is_open(search.frames.as_slice(), target) {
         return true;
@@ -275,11 +276,10 @@ fn is_sought(search: &Search, target: &Name) -> bool
     asks_address(&search.path.last, target)
 }
 
-/// Whether a server without an address may be looked up: it does not lie in the zone, and is not asked for already.
+/// Whether a server without an address may be looked up: not too many questions are open, it does not lie in the zone, and its
+/// address is not asked for already.
 fn may_seek(search: &Search, target: &Name) -> bool
-    ensures shallow { IsTrue result → length search.now.frames.items < MOST_DEPTH }
-    ensures other { IsTrue result → IsOther (address_question target.now) search.now.frames.items search.now.path.last }
-    ensures passes { search.now.frames.items ≡ [] → MaySeek search.now.path.last search.now.base.servers target.now → IsTrue result }
+    ensures { IsTrue result ↔ MayBeSought search.now target.now }
 {
     let zone = &search.hunt().servers.get().zone;
     search.frames.len() < MOST_DEPTH && !target.at_or_below(zone) && !is_sought(search, target)

@@ -7,12 +7,13 @@ ghost use Rattle.dns_text.specs.declared.record.Question.{Question};
 ghost use Rattle.dns_query.specs.Query.{address_question, alias_question};
 ghost use Rattle.history.specs.declared.event.Ask.TheVariants.{Answer as Asked, Servers as ServersFor};
 ghost use Rattle.history.specs.declared.event.Seen.{Seen as SeenValue};
+ghost use Rattle.history.specs.declared.servers.Servers.{Servers as ServersValue};
 ghost use Rattle.history.specs.declared.event.Event.TheVariants.{Look};
 ghost use Rattle.history.specs.declared.event.Reply.TheVariants.{Seen as SeenReply};
 ghost use Rattle.iterate.specs.declared.want.Input.TheVariants.{Reply as Replied};
 ghost use Rattle.iterate.specs.declared.want.Want.TheVariants.{Book};
 ghost use Rattle.iterate.specs.Exchanges.{Exchange, AddsLook};
-ghost use Rattle.iterate.specs.Hunting.{IsAddressSeen, IsTried, is_set_seen};
+ghost use Rattle.iterate.specs.Hunting.{AreSpent, AsksOneOf, AsksSeen, IsAddressSeen, IsTried, Names, is_set_seen};
 ghost use Rattle.iterate.specs.Looked.{seen_of};
 ghost use Rattle.iterate.specs.Measure.{left_of_search, left_of_seek};
 ghost use Rattle.iterate.specs.Phase.{Advances, Suits, IsSeeking, ask_at, drawing, idle};
@@ -22,7 +23,7 @@ ghost use Rattle.rand_core.specs.Stream.{Stream};
 
 use crate::addresses::addresses;
 use crate::finishing::failed;
-use crate::limits::{MOST_BEGUN, MOST_TARGETS};
+use crate::limits::{MOST_BEGUN, MOST_SENDS, MOST_TARGETS};
 use crate::listing::servers_for;
 use crate::lookup_reply::{Looked, replied, set_in};
 use crate::phase::{Advance, Phase, Stage};
@@ -123,7 +124,9 @@ fn address_seen<R: Rng>(
     target: Name,
     what: Looked<'_>,
 ) -> Result<Advance, NoMemory>
-    ensures { (m : ℕ) (question : Question) (before log : List Exchange) → IsSeeking port question before search target Stage.Address
+    ensures asks { (addr : AddrValue) → IsAddressSeen port (seen_of what.entry) addr → ¬ (Contains (hunt_of search).addrs.items addr)
+        → AreSpent (hunt_of search) → search.path.sent < MOST_SENDS → IfOk result (λ next. AsksSeen port (seen_of what.entry) next.want) }
+    ensures goes { (m : ℕ) (question : Question) (before log : List Exchange) → IsSeeking port question before search target Stage.Address
         → AddsLook before m (Asked (address_question target)) (Replied (SeenReply (seen_of what.entry))) log
         → IsLookReply (Asked (address_question target)) (SeenReply (seen_of what.entry))
         → IfOk result (Advances port question log moment (drawing (R.stream ids.old) (R.stream ids.new)) (left_of_search search 3)) }
@@ -181,9 +184,12 @@ fn alias_came<R: Rng>(
     ensures asks { (seen : SeenValue) → input.now ≡ Replied (SeenReply seen)
         → IsLookReply (Asked (alias_question target)) (SeenReply seen) → is_set_seen seen ≡ false
         → IfOk result (λ next. next.want ≡ Book (Look moment (ServersFor target))) }
-    ensures goes { (port m : ℕ) (question : Question) (before log : List Exchange) → IsSeeking port question before search target Stage.Alias
-        → AddsLook before m (ask_at Stage.Alias target) input.now log → Suits (Book (Look m (ask_at Stage.Alias target))) input.now
-        → IfOk result (Advances port question log moment (drawing (R.stream ids.old) (R.stream ids.new)) (left_of_seek search Stage.Alias)) }
+    ensures goes { (port m : ℕ) (question : Question) (before log : List Exchange)
+        → IsSeeking port question before search target Stage.Alias
+        → AddsLook before m (ask_at Stage.Alias target) input.now log
+        → Suits (Book (Look m (ask_at Stage.Alias target))) input.now
+        → IfOk result (Advances port question log moment (drawing (R.stream ids.old) (R.stream ids.new))
+        (left_of_seek search Stage.Alias)) }
 {
     match replied(input, &target, CNAME) {
         Some(what) => {
@@ -207,7 +213,9 @@ fn servers_came<R: Rng>(
     target: Name,
     input: &Input,
 ) -> Result<Advance, NoMemory>
-    ensures { (port m : ℕ) (question : Question) (before log : List Exchange)
+    ensures asks { (list : ServersValue) → Names target input.now list → search.path.sent < MOST_SENDS
+        → IfOk result (λ next. AsksOneOf list.addrs next.want) }
+    ensures goes { (port m : ℕ) (question : Question) (before log : List Exchange)
         → IsSeeking port question before search target Stage.Servers
         → AddsLook before m (ask_at Stage.Servers target) input.now log
         → Suits (Book (Look m (ask_at Stage.Servers target))) input.now

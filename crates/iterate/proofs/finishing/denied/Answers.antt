@@ -5,7 +5,10 @@ use Rattle.iterate.specs.declared.want.Want.TheVariants.{Finish}
 use Rattle.iterate.proofs.PathTurns.{turned, denying}
 use Rattle.iterate.proofs.finishing.denied.Goals as goal
 
-pub returns : goal.returns
-returns c = λ port moment id left question log less p denied.
+pub returns-clause-want : goal.returns-clause-want
+returns-clause-want c = c.finished.ensures.want ∙ ap (λ (a : Option Soa). Finish (Reply c.args.rcode false c.args.path.sets.items None a)) c.soa_told.ensures
+
+pub returns-clause-goes : goal.returns-clause-goes
+returns-clause-goes c = λ port moment id left question log less p denied.
     turned c.finished.ensures.phase (c.finished.ensures.want ∙ ap (λ (a : Option Soa). Finish (Reply c.args.rcode false c.args.path.sets.items None a)) c.soa_told.ensures)
     (denying c.args.path c.args.rcode _ less p denied)

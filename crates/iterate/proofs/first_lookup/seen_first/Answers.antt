@@ -6,6 +6,7 @@ use Rattle.iterate.specs.declared.want.Input.{Input}
 use Rattle.iterate.specs.declared.want.Want.TheVariants.{Book}
 use Rattle.iterate.specs.Exchanges.{exchange, Adds}
 use Rattle.iterate.proofs.Falling.{few_is}
+use Rattle.iterate.proofs.Arriving.{first_come}
 use Rattle.iterate.proofs.PathTurns.{turned, less_left, start_less, first_path, first_unknown, first_answering}
 use Rattle.iterate.proofs.first_lookup.seen_first.Goals as goal
 
@@ -22,4 +23,7 @@ returns-in_ok-start-in-None c = λ port m id input log replied adds.
     let start = c.in_ok-start-in-None.ensures in
     let less = start_less path in
     IfOk-weaker c.alias.result _ _ (λ t g. less_left (few_is less) g)
-    (c.alias.ensures port id c.args.question.now log (record { is_path = first_path path knows start.last start.sets start.sent; unknown = first_unknown path knows start.last }))
+    (c.alias.ensures port id c.args.question.now log (record {
+      askable = record { is_path = first_path path knows start.last start.sets start.sent; unknown = first_unknown path knows start.last };
+      come = first_come path knows start.last;
+    }))

@@ -1,29 +1,40 @@
-use Rattle.std.proofs.Common.{sym, subst}
+use Rattle.std.proofs.Common.{subst, arith}
 use Rattle.std.proofs.lemmas.Result.{IfOk-weaker}
 use Rattle.harvest.specs.declared.harvest_type.Harvest.{Harvest}
-use Rattle.iterate.specs.Following.{IsHarvestOf}
-use Rattle.iterate.proofs.FollowTurns.{alias_within, longer_within, path_within}
-use Rattle.iterate.proofs.PathTurns.{turned, less_left, longer_path, longer_some, failing_long}
+use Rattle.dns_query.specs.Query.{alias_question}
+use Rattle.iterate.specs.Come.{HasCome}
+use Rattle.iterate.specs.Following.{IsHop}
+use Rattle.iterate.proofs.FollowTurns.{alias_within, told_known, follows_set, follows_alias_ok, follows_nowhere_ok}
+use Rattle.iterate.proofs.PathTurns.{less_left, path_some}
 use Rattle.iterate.proofs.following.follow_in.Goals as goal
 
-pub returns-in-Set : goal.returns-in-Set
-returns-in-Set c = λ port id left question log most h p.
-    let known = rw c.in-Set.is at (c.in_ok-told.ensures port log (subst (λ (x : Harvest). IsHarvestOf port log x) (sym c.deref.ensures) h)) in
-    c.found.ensures port c.args.moment id left question log (path_within p.is_path most) p known
+pub returns-in-Set-clause-follows : goal.returns-in-Set-clause-follows
+returns-in-Set-clause-follows c =
+    let hop = rw c.in-Set.is at (subst (λ (x : Harvest). IsHop x c.args.path.last c.in_ok-told.field-0) c.deref.ensures c.in_ok-told.ensures) in
+    follows_set hop c.found.ensures.want
 
-pub returns-in-Some : goal.returns-in-Some
-returns-in-Some c = λ port id left question log most h p.
-    let leads = rw c.in-Alias.is at (c.in_ok-told.ensures port log (subst (λ (x : Harvest). IsHarvestOf port log x) (sym c.deref.ensures) h)) in
-    let longer = rw c.in-Some.is at c.in_ok-next-in-Alias.ensures in
-    IfOk-weaker c.look_behind.result _ _ (λ t g. less_left (longer_within c.args.path c.in-Some.next c.in-Alias.told c.in-Alias.to longer most) g)
-    (c.look_behind.ensures port id question log h (longer_path p leads.0 leads.1 longer) (longer_some longer))
+pub returns-in-Alias-clause-follows : goal.returns-in-Alias-clause-follows
+returns-in-Alias-clause-follows c =
+    let hop = rw c.in-Alias.is at (subst (λ (x : Harvest). IsHop x c.args.path.last c.in_ok-told.field-0) c.deref.ensures c.in_ok-told.ensures) in
+    follows_alias_ok c.args.harvest.value c.args.path c.args.moment c.in-Alias.told c.in-Alias.to c.follow_alias.result hop.0 hop.1.0 hop.1.1 c.follow_alias.ensures.looks
 
-pub returns-in-None : goal.returns-in-None
-returns-in-None c = λ port id left question log most h p.
-    let leads = rw c.in-Alias.is at (c.in_ok-told.ensures port log (subst (λ (x : Harvest). IsHarvestOf port log x) (sym c.deref.ensures) h)) in
-    let long = rw c.in-None.is at c.in_ok-next-in-Alias.ensures in
-    turned c.failed.ensures.phase c.failed.ensures.want (failing_long c.args.path c.in-Alias.told c.in-Alias.to (path_within p.is_path most) p leads.0 leads.1 long)
+pub returns-in-Nowhere-clause-follows : goal.returns-in-Nowhere-clause-follows
+returns-in-Nowhere-clause-follows c =
+    let hop = rw c.in-Nowhere.is at (subst (λ (x : Harvest). IsHop x c.args.path.last c.in_ok-told.field-0) c.deref.ensures c.in_ok-told.ensures) in
+    follows_nowhere_ok c.args.harvest.value c.args.path c.args.moment c.alias.result hop.0 hop.1
 
-pub returns-in-Nowhere : goal.returns-in-Nowhere
-returns-in-Nowhere c = λ port id left question log most h p.
-    IfOk-weaker c.alias.result _ _ (λ t g. less_left (alias_within c.args.path most) g) (c.alias.ensures port id question log p)
+pub returns-in-Set-clause-goes : goal.returns-in-Set-clause-goes
+returns-in-Set-clause-goes c = λ port id question log h u.
+    let hop = rw c.in-Set.is at (subst (λ (x : Harvest). IsHop x c.args.path.last c.in_ok-told.field-0) c.deref.ensures c.in_ok-told.ensures) in
+    let known = told_known c.args.harvest.value c.args.path.last c.in-Set.told h hop in
+    c.found.ensures.goes port c.args.moment id _ question log (path_some 4 u.askable.is_path) u.askable known
+
+pub returns-in-Alias-clause-goes : goal.returns-in-Alias-clause-goes
+returns-in-Alias-clause-goes c = λ port id question log h u.
+    let hop = rw c.in-Alias.is at (subst (λ (x : Harvest). IsHop x c.args.path.last c.in_ok-told.field-0) c.deref.ensures c.in_ok-told.ensures) in
+    let known = told_known c.args.harvest.value (alias_question c.args.path.last.owner) c.in-Alias.told h hop.1.0 in
+    c.follow_alias.ensures.goes port id _ question log (omega arith) h u.askable hop.1.0 hop.1.1 (HasCome.along u.come known hop.1.1)
+
+pub returns-in-Nowhere-clause-goes : goal.returns-in-Nowhere-clause-goes
+returns-in-Nowhere-clause-goes c = λ port id question log h u.
+    IfOk-weaker c.alias.result _ _ (λ t g. less_left (alias_within c.args.path (omega arith)) g) (c.alias.ensures port id question log u)

@@ -1,4 +1,4 @@
-use Rattle.std.proofs.Common.{◌≡◌, false, List, [], sym, subst}
+use Rattle.std.proofs.Common.{◌≡◌, false, List, sym, subst}
 use Rattle.dns_text.specs.declared.addr.Addr.{Addr}
 use Rattle.iterate.specs.Joining.{has_addr}
 use Rattle.iterate.specs.Searching.{AreDistinct}

@@ -2,7 +2,7 @@ use Rattle.std.proofs.Common.{◌≡◌, ◌<◌, List, ◌∷◌, length, drop,
 use Rattle.std.specs.List.{insert, remove}
 use Rattle.std.proofs.lemmas.Bool.{eqb-true, eqb-false}
 use Rattle.iterate.specs.declared.search.Nested.{Nested}
-use Rattle.iterate.proofs.Coming.{no_frames, struck_base, struck_inner, orderly_inner, some_asked}
+use Rattle.iterate.proofs.Coming.{no_frames, struck_base, struck_inner, orderly_inner, some_asked, vain_inner, vain_last}
 use Rattle.iterate.proofs.Once.{struck_last}
 use Rattle.iterate.specs.Searching.{hunt_behind}
 use Rattle.iterate.proofs.outcome.strike.Goals as goal
@@ -36,3 +36,17 @@ returns-clause-orderly c = λ port log server rest next orderly.
     let items : c.insert.new.self.items ≡ insert (remove c.args.search.frames.items 0) 0 (record { target = removed.target; hunt = hunt }) =
     c.in_ok-insert.ensures.items ∙ ap (λ (fs : List Nested). insert fs 0 (record { target = removed.target; hunt = hunt })) c.remove-target.ensures.items in
     orderly_inner port log c.args.search (record c.args.search { frames = c.insert.new.self }) removed hunt some c.remove-target.ensures.value items c.asked_once_more-2.ensures refl refl next orderly
+
+pub returns-then-is_empty-clause-vain : goal.returns-then-is_empty-clause-vain
+returns-then-is_empty-clause-vain c = λ some.
+    let none = no_frames c.args.search (let e = eqb-true c.args.search.frames.len 0 (sym c.if-is_empty.ensures) in omega (arith, c.args.search.frames.ok.0)) in
+    vain_last c.args.search.frames.items c.args.search.base c.asked_once_more.result none c.asked_once_more.ensures some
+
+pub returns-clause-vain : goal.returns-clause-vain
+returns-clause-vain c = λ left.
+    let removed = c.remove-target.result in
+    let hunt = c.asked_once_more-2.result in
+    let some : 0 < length c.args.search.frames.items = let e = eqb-false c.args.search.frames.len 0 (sym c.if-is_empty.ensures) in omega (arith, c.args.search.frames.ok.0) in
+    let items : c.insert.new.self.items ≡ insert (remove c.args.search.frames.items 0) 0 (record { target = removed.target; hunt = hunt }) =
+    c.in_ok-insert.ensures.items ∙ ap (λ (fs : List Nested). insert fs 0 (record { target = removed.target; hunt = hunt })) c.remove-target.ensures.items in
+    vain_inner c.args.search (record c.args.search { frames = c.insert.new.self }) removed hunt some c.remove-target.ensures.value items c.asked_once_more-2.ensures left

@@ -10,4 +10,4 @@ returns-in-Some c = λ port m id question before log p adds suits.
 pub returns-in-None : goal.returns-in-None
 returns-in-None c = λ port m id question before log p adds suits.
     turned c.failed.ensures.phase c.failed.ensures.want
-    (failing_look c.args.path (Asked (alias_question c.args.path.last.owner)) c.args.input.now (path_some 2 p.is_path) p.is_path adds (c.in-None.ensures m suits))
+    (failing_look c.args.path (Asked (alias_question c.args.path.last.owner)) c.args.input.now (path_some 2 p.askable.is_path) p.askable.is_path adds (c.in-None.ensures m suits))

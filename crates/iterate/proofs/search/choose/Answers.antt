@@ -11,4 +11,4 @@ returns-in-Some c =
 pub returns-else-may_seek : goal.returns-else-may_seek
 returns-else-may_seek c =
     let at = subst (λ (h : Hunt). IsAt h.servers.missing h.sought c.in-Some-next_missing.name.now) c.hunt-hunt.ensures c.in-Some-next_missing.ensures in
-    (c.in-Some-next_missing.name.now, record { rest = at.0; next = at.1 }, λ none may. (let t = c.may_seek.ensures.passes none may in let e : ⊥ = cc in e), search rules)
+    (c.in-Some-next_missing.name.now, record { rest = at.0; next = at.1 }, λ may. (let t = c.may_seek.ensures.1 may in let e : ⊥ = cc in e), search rules)

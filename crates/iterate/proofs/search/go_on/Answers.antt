@@ -9,6 +9,7 @@ use Rattle.iterate.specs.Phase.{Goes, drawing}
 use Rattle.rand_core.specs.Stream.{Stream}
 use Rattle.iterate.proofs.Asking.{turned, at_most, from_more, from_more_ok, address_less, smaller_stays, giving_up, asks_same, same_first}
 use Rattle.iterate.proofs.Lists.{next_within}
+use Rattle.iterate.proofs.Opened.{may_be_sought}
 use Rattle.iterate.proofs.Supplying.{hunts_fall, asked_not}
 use Rattle.iterate.proofs.search.go_on.Goals as goal
 
@@ -28,7 +29,7 @@ returns-in-Seek-clause-goes g c = λ port question log s o.
     let stream = g.R.Rng.stream c.going.ids in
     let here : stream ≡ g.R.Rng.stream c.args.ids.now = cc in
     from_more_ok port question log c.args.moment c.seek.result (ap (λ (s : Stream). drawing s stream) here) (at_most (left_of_search c.args.search 4))
-    (c.seek.ensures.goes port stream (left_of_search c.args.search 4) question log record { is_search = at.0; shallow = next.1; next = next.0; unknown = tt; early = tt; orderly = at.2; other = next.2 } (address_less c.going.current (left_of_search c.args.search 4) at.0 at.1))
+    (c.seek.ensures.goes port stream (left_of_search c.args.search 4) question log record { is_search = at.0; shallow = next.1.shallow; next = next.0; unknown = tt; early = tt; orderly = at.2; other = next.1.other } (address_less c.going.current (left_of_search c.args.search 4) at.0 at.1))
 
 pub going-smaller-in-Pass : goal.going-smaller-in-Pass
 going-smaller-in-Pass g c =
@@ -44,7 +45,7 @@ going-preserved-in-Pass g c =
       first = λ server rest is. absurd (asked_not (hunt_of c.going.current) server rest (subst (λ (x : Search). IsNextServer x server rest) (sym (c.going.invariant.first server rest is)) is) next.3);
       going = λ port question log s o.
           let at = c.going.invariant.going port question log s o in
-          let tried : IsTried port question log c.going.current next.0 [] = record { is_search = at.0; next = next.1; orderly = at.2; tried = λ none may. absurd (next.2 none may) } in
+          let tried : IsTried port question log c.going.current next.0 [] = record { is_search = at.0; next = next.1; orderly = at.2; tried = λ none may. absurd (next.2 (may_be_sought c.going.current next.0 none may)) } in
           smaller_stays c.going.current c.in_ok-current-in-Pass.current (left_of_search c.args.search 4) at.0 (c.in_ok-current-in-Pass.ensures.further port question log next.0 tried tt) at.1;
     }
 
@@ -78,7 +79,7 @@ returns-in-Ask-clause-asks g c = λ server rest is few.
 pub returns-in-Seek-clause-asks : goal.returns-in-Seek-clause-asks
 returns-in-Seek-clause-asks g c = λ server rest is few.
     let next = subst (λ (n : Move). IsNextStep c.going.current n) c.in-Seek.is c.in_ok-server.ensures in
-    absurd (asked_not (hunt_of c.going.current) server rest (subst (λ (x : Search). IsNextServer x server rest) (sym (c.going.invariant.first server rest is)) is) next.3)
+    absurd (asked_not (hunt_of c.going.current) server rest (subst (λ (x : Search). IsNextServer x server rest) (sym (c.going.invariant.first server rest is)) is) next.2)
 
 pub returns-then-is_outermost-clause-asks : goal.returns-then-is_outermost-clause-asks
 returns-then-is_outermost-clause-asks g c = λ server rest is few.

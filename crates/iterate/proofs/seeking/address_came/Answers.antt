@@ -14,7 +14,7 @@ pub returns-in-Some : goal.returns-in-Some
 returns-in-Some g c = λ m question before log k adds suits.
     let replied = c.in-Some.ensures m suits in
     let here = subst (λ (i : Input). Adds before (exchange (Book (Look m (Asked (address_question c.args.target)))) i) log) replied.replied adds in
-    c.address_seen.ensures m question before log k here replied.lawful
+    c.address_seen.ensures.goes m question before log k here replied.lawful
 
 pub returns-in-None : goal.returns-in-None
 returns-in-None g c = λ m question before log k adds suits.

@@ -9,11 +9,12 @@ use Rattle.iterate.specs.declared.want.Input.{Input}
 use Rattle.iterate.specs.Looked.{seen_of, IsReplied}
 use Rattle.iterate.specs.Shown.{IsMisanswered}
 use Rattle.iterate.proofs.Finding.{failing_seeking, tried_more, seeking_more, seen_same, suited}
+use Rattle.iterate.proofs.Arriving.{was_unknown}
 use Rattle.iterate.proofs.seeking.alias_came.Goals as goal
 
 pub returns-in_ok-after-in-Some-clause-goes : goal.returns-in_ok-after-in-Some-clause-goes
 returns-in_ok-after-in-Some-clause-goes g c = λ port m question before log k adds suits.
-    let tried = tried_more port m question before log c.args.search c.args.target stage.Alias c.args.input.now k k.unknown adds in
+    let tried = tried_more port m question before log c.args.search c.args.target stage.Alias c.args.input.now k (was_unknown k.unknown) adds in
     let small = c.in_ok-after-in-Some.ensures.further port question log c.args.target tried tt in
     from_more_ok port question log c.args.moment c.go_on.result refl (alias_goes c.args.search c.in_ok-after-in-Some.after tried.is_search small) (c.go_on.ensures.goes port question log small.is_search small.orderly)
 

@@ -7,4 +7,4 @@ pub returns-in-Alias : goal.returns-in-Alias
 returns-in-Alias g c = rw c.in-Alias.is (λ m question before log k adds suits. c.alias_came.ensures.goes c.args.port m question before log k adds suits)
 
 pub returns-in-Servers : goal.returns-in-Servers
-returns-in-Servers g c = rw c.in-Servers.is (λ m question before log k adds suits. c.servers_came.ensures c.args.port m question before log k adds suits)
+returns-in-Servers g c = rw c.in-Servers.is (λ m question before log k adds suits. c.servers_came.ensures.goes c.args.port m question before log k adds suits)
