@@ -2,22 +2,26 @@
 use Rattle.std.proofs.Common.{◌≡◌, ◌≢◌, ◌∙◌, ◌⊎◌, ◌<◌, ◌≤◌, ◌+◌, ℕ, max, map, List, [], ◌∷◌, ◌++◌, Option, Some, None, ap, sym, arith, inl, inr}
 use Rattle.std.proofs.lemmas.Bool.{cases_eq}
 use Rattle.std.proofs.lemmas.List.{map-append}
+use Rattle.std.specs.Prelude.{slice_index_or}
 use Rattle.slab.specs.Slab.{Slab, get, slab_len, Updates}
 use Rattle.flight.specs.declared.table.Wait.{Wait}
 use Rattle.flight.proofs.Counting.{time_over, fewer_over_then}
-use Rattle.flight.specs.Waiting.{FlightState, UnderWay, Begins, EarlyGoOn, GoesOnOrBegins, WaitsFrom, outstanding, since_at, since_in, since_of}
+use Rattle.flight.specs.Waiting.{FlightState, UnderWay, Begins, EarlyGoOn, GoesOnOrBegins, WaitsFrom, exchange_at, outstanding, since_at, since_in, since_of}
 
--- An exchange begins under the key of a question that is kept.
+-- An exchange begins under the key of a question that is kept, and is watched under it.
 pub begins : (now : ℕ) (old new : FlightState) (before after : Slab UnderWay) (exchange : UnderWay) (since : ℕ)
     → before.slots ≡ old.exchanges → new.exchanges ≡ after.slots → get before before.vacant_key ≡ None → Updates before after before.vacant_key (Some exchange) → slab_len after ≡ slab_len before + 1
-    → exchange.since ≡ since → since ≡ max now old.latest → new.begun ≡ old.begun ++ since ∷ [] → new.latest ≡ since → new.limit ≡ old.limit → Begins now old new
-begins now old new before after exchange since same is vacant updates more began now_is begun latest limit =
+    → exchange.since ≡ since → exchange.key ≡ before.vacant_key → since ≡ max now old.latest → new.begun ≡ old.begun ++ since ∷ [] → new.latest ≡ since → new.limit ≡ old.limit → Begins now old new
+begins now old new before after exchange since same is vacant updates more began watched now_is begun latest limit =
     record {
       key = before.vacant_key;
       vacant = sym (ap (λ (list : List (Option UnderWay)). since_in list before.vacant_key) same) ∙ ap since_of vacant;
       begins = ap (λ (list : List (Option UnderWay)). since_in list before.vacant_key) is ∙ ap since_of updates.changed ∙ ap Some (began ∙ now_is);
+      watched = λ one here.
+          let there : Some one ≡ Some exchange = sym here ∙ ap (λ (list : List (Option UnderWay)). slice_index_or list before.vacant_key None) is ∙ updates.changed in
+          cc (there, watched);
       others = λ other differs.
-          ap (λ (list : List (Option UnderWay)). since_in list other) is ∙ ap since_of (updates.others other differs) ∙ ap (λ (list : List (Option UnderWay)). since_in list other) same;
+          ap (λ (list : List (Option UnderWay)). slice_index_or list other None) is ∙ updates.others other differs ∙ ap (λ (list : List (Option UnderWay)). slice_index_or list other None) same;
       one_more = rw (is, ← same) more;
       begun = rw (← now_is) begun;
       latest = latest ∙ now_is;
@@ -42,7 +46,7 @@ pub goes_on_under : (now : ℕ) (old new : FlightState) → WaitsFrom now old ne
 goes_on_under now old new waits key since here =
     elim waits [
       | inl same ↦ rw same here
-      | inr begins ↦ begins.others key (λ (same : key ≡ begins.key). absurd (cc (begins.vacant, ap (since_at old) same))) ∙ here
+      | inr begins ↦ ap since_of (begins.others key (λ (same : key ≡ begins.key). absurd (cc (begins.vacant, ap (since_at old) same)))) ∙ here
     ]
 
 -- One was taken out, and one begins or not: there are no more than before.
@@ -62,16 +66,25 @@ early_then patience now key due first old between new early was is_due others wa
     goes_on_under now between new waits at since (others at differs ∙ still)
 
 -- What is under way goes on or begins now: where all goes on as it was,
-pub as_it_was : (now : ℕ) (old new : FlightState) → ((key : ℕ) → since_at new key ≡ since_at old key) → new.latest ≡ old.latest → GoesOnOrBegins now old new
-as_it_was now old new same latest = record { under_way = λ key since here. inl (sym (same key) ∙ here); latest = inl latest }
+pub as_it_was : (now : ℕ) (old new : FlightState) → ((key : ℕ) → exchange_at new key ≡ exchange_at old key) → new.latest ≡ old.latest → GoesOnOrBegins now old new
+as_it_was now old new same latest =
+    record {
+      under_way = λ key since here. inl (ap since_of (sym (same key)) ∙ here);
+      watched = λ was key exchange here. was key exchange (sym (same key) ∙ here);
+      latest = inl latest;
+    }
 
 -- where one was taken out,
-pub taken_out : (now key : ℕ) (old new : FlightState) → since_at new key ≡ None → ((other : ℕ) → other ≢ key → since_at new other ≡ since_at old other) → new.latest ≡ old.latest → GoesOnOrBegins now old new
+pub taken_out : (now key : ℕ) (old new : FlightState) → exchange_at new key ≡ None → ((other : ℕ) → other ≢ key → exchange_at new other ≡ exchange_at old other) → new.latest ≡ old.latest → GoesOnOrBegins now old new
 taken_out now key old new none others latest =
     record {
       under_way = λ at since here. elim (cases_eq at key) [
-        | inl same ↦ absurd (cc (none, here, ap (since_at new) same))
-        | inr differs ↦ inl (sym (others at differs) ∙ here)
+        | inl same ↦ absurd (cc (none, here, same))
+        | inr differs ↦ inl (ap since_of (sym (others at differs)) ∙ here)
+      ];
+      watched = λ was at exchange here. elim (cases_eq at key) [
+        | inl same ↦ absurd (cc (none, here, ap (exchange_at new) same))
+        | inr differs ↦ was at exchange (sym (others at differs) ∙ here)
       ];
       latest = inl latest;
     }
@@ -82,7 +95,11 @@ begun_now now old new begins =
     record {
       under_way = λ at since here. elim (cases_eq at begins.key) [
         | inl same ↦ inr (cc (begins.begins, here, ap (since_at new) same))
-        | inr differs ↦ inl (sym (begins.others at differs) ∙ here)
+        | inr differs ↦ inl (ap since_of (sym (begins.others at differs)) ∙ here)
+      ];
+      watched = λ was at exchange here. elim (cases_eq at begins.key) [
+        | inl same ↦ begins.watched exchange (ap (exchange_at new) (sym same) ∙ here) ∙ sym same
+        | inr differs ↦ was at exchange (sym (begins.others at differs) ∙ here)
       ];
       latest = inr begins.latest;
     }
@@ -90,7 +107,7 @@ begun_now now old new begins =
 pub begun_or_not : (now : ℕ) (old new : FlightState) → WaitsFrom now old new → GoesOnOrBegins now old new
 begun_or_not now old new waits =
     elim waits [
-      | inl same ↦ as_it_was now old new (λ key. ap (λ (state : FlightState). since_at state key) same) (ap (λ (state : FlightState). state.latest) same)
+      | inl same ↦ as_it_was now old new (λ key. ap (λ (state : FlightState). exchange_at state key) same) (ap (λ (state : FlightState). state.latest) same)
       | inr begins ↦ begun_now now old new begins
     ]
 
@@ -106,6 +123,7 @@ on_or_begun_then now old between new first second =
         | inl was ↦ first.under_way key since was
         | inr begun ↦ inr (begun ∙ late)
       ];
+      watched = λ was. second.watched (first.watched was);
       latest = elim second.latest [
         | inl same ↦ elim first.latest [ inl before ↦ inl (same ∙ before) | inr begun ↦ inr (same ∙ begun) ]
         | inr begun ↦ inr (begun ∙ late)

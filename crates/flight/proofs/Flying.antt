@@ -1,5 +1,5 @@
 -- How a question goes on.
-use Rattle.std.proofs.Common.{◌≡◌, ◌∙◌, ℕ, List, [], ◌∷◌, ◌++◌, refl, sym, subst}
+use Rattle.std.proofs.Common.{◌≡◌, ◌∙◌, ℕ, Option, Some, None, List, [], ◌∷◌, ◌++◌, refl, sym, subst}
 use Rattle.dns_query.specs.declared.over.Over.{Over}
 use Rattle.dns_text.specs.declared.addr.Addr.{Addr}
 use Rattle.dns_text.specs.declared.record.Question.{Question}
@@ -30,7 +30,7 @@ pub suits : {D : Type 0} {calls : Calls D} {seen : D → ℕ} {hears : Hears} {n
 suits (replied known call is) = tt
 suits (refused known call is) = tt
 suits (came heard) = tt
-suits failed = tt
+suits (failed none) = tt
 
 module _ {D C : Type 0} {calls : Calls D} {seen : D → ℕ} {hears : Hears} {ticks : Ticks C} {since port : ℕ} {question : Question} where
   -- What comes next is due.
@@ -49,13 +49,13 @@ module _ {D C : Type 0} {calls : Calls D} {seen : D → ℕ} {hears : Hears} {ti
 
   -- A reply is heard.
   pub heard : {steps : List Step} {query : Sent} {n : ℕ} {octets : List ℕ}
-      → Awaits calls seen hears ticks since port question steps query n → hears query octets → Flies calls seen hears ticks since port question steps (Came octets) n
+      → Awaits calls seen hears ticks since port question steps query n → hears query (Some octets) → Flies calls seen hears ticks since port question steps (Came octets) n
   heard is may = flown is (came may)
 
   -- None is.
   pub missed : {steps : List Step} {query : Sent} {n : ℕ}
-      → Awaits calls seen hears ticks since port question steps query n → Flies calls seen hears ticks since port question steps Failed n
-  missed is = flown is failed
+      → Awaits calls seen hears ticks since port question steps query n → hears query None → Flies calls seen hears ticks since port question steps Failed n
+  missed is none = flown is (failed none)
 
   -- A step of the task: what it wants is open.
   pub open_on : {n : ℕ} {input : Input} {want wanted : Want} {after : List Step} {c c' : C} {words' : Stream}

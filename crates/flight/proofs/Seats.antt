@@ -71,7 +71,7 @@ module _ {D : Type 0} {B : Type 0} (stands_for : B → List Event → Type 0) (m
   never_falls n n' want input (refused {d = d} {d' = d'} {event = event} {fault = fault} known call is) =
       omega (arith, unseen stands_for made_with stored settings (pass d) (pass d') event fault call, known, is)
   never_falls n n' want input (came heard) = omega arith
-  never_falls n n' want input failed = omega arith
+  never_falls n n' want input (failed none) = omega arith
 
   -- No number falls below that with which the question began.
   flown_on : {C : Type 0} {ticks : Ticks C} {since port : ℕ} {question : Question} {steps : List Step} {input : Input} {n : ℕ} → Flies calls_by seen_by hears ticks since port question steps input n → since ≤ n

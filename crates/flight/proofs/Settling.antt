@@ -3,10 +3,11 @@ use Rattle.std.proofs.Common.{◌≡◌, ◌∙◌, ℕ, List, [], ◌∷◌, Op
 use Rattle.flight.specs.declared.counts.Counts.{Counts}
 use Rattle.flight.specs.Clients.{LosesNone, Settles, SettlesOrWaits}
 use Rattle.flight.specs.Counted.{CountsSettled}
-use Rattle.flight.specs.Leaving.{Leaves}
+use Rattle.std.specs.Prelude.{slice_index_or, None}
+use Rattle.flight.specs.Leaving.{End, Leaves}
 use Rattle.flight.specs.Told.{Keeps}
-use Rattle.flight.specs.Waiting.{FlightState, IsAccounted, UnderWay, count_with, outstanding, since_in}
-use Rattle.flight.proofs.Leaving.{one_left}
+use Rattle.flight.specs.Waiting.{FlightState, IsAccounted, UnderWay, count_with, exchange_at, outstanding}
+use Rattle.flight.proofs.Leaving.{none_ends, one_left}
 use Rattle.flight.proofs.Flights.{as_it_was, on_or_begun_then}
 use Rattle.flight.proofs.Places.{kept_fewer, kept_same, kept_then}
 
@@ -40,16 +41,17 @@ accounted_settled waiting old new settles =
     }
 
 -- It does not wait where nothing in flight has changed, and nothing was counted before.
-pub settled_there : {W O K : Type 0} {server_port : W → ℕ} {counts : W → Counts} {outbox : W → O} {posts : O → K → List ℕ → O → Type 0} {client : K} {reply : Option (List ℕ)}
+pub settled_there : {W O K : Type 0} {sends : K → List ℕ → Type 0} {server_port : W → ℕ} {counts : W → Counts} {outbox : W → O} {posts : O → K → List ℕ → O → Type 0} {client : K} {reply : Option (List ℕ)}
     (now : ℕ) (flight flight' : FlightState) (old mid new : W)
-    → Keeps server_port outbox old mid → counts mid ≡ counts old → flight' ≡ flight → Settles server_port counts outbox posts client reply mid new
-    → SettlesOrWaits server_port counts outbox posts now client flight old flight' new
-settled_there {counts = counts} {outbox = outbox} {posts = posts} {client = client} {reply = reply} now flight flight' old mid new keeps counted same settles =
+    → (octets : List ℕ) → sends client octets → Keeps server_port outbox old mid → counts mid ≡ counts old → flight' ≡ flight → Settles server_port counts outbox posts client reply mid new
+    → SettlesOrWaits sends server_port counts outbox posts now client flight old flight' new
+settled_there {sends = sends} {counts = counts} {outbox = outbox} {posts = posts} {client = client} {reply = reply} now flight flight' old mid new octets own keeps counted same settles =
+    let end : End sends = record { client = client; octets = octets; own = own; reply = reply } in
     record {
       port = settles.port ∙ keeps.port;
       ends = record {
-        ends = record { client = client; reply = reply } ∷ [];
-        left = one_left posts client reply (outbox old) (outbox mid) (outbox new) keeps.silent settles.left;
+        ends = end ∷ [];
+        left = one_left posts end (outbox old) (outbox mid) (outbox new) keeps.silent settles.left;
         count = omega (arith, ap outstanding same);
       };
       own = (refl, tt);
@@ -63,23 +65,24 @@ settled_there {counts = counts} {outbox = outbox} {posts = posts} {client = clie
     }
 
 -- The same of the same client.
-pub own_client : {W O K : Type 0} {server_port : W → ℕ} {counts : W → Counts} {outbox : W → O} {posts : O → K → List ℕ → O → Type 0} {client client' : K} {now : ℕ} {flight flight' : FlightState} {old new : W}
-    → client' ≡ client → SettlesOrWaits server_port counts outbox posts now client' flight old flight' new → SettlesOrWaits server_port counts outbox posts now client flight old flight' new
-own_client {K = K} {server_port = server_port} {counts = counts} {outbox = outbox} {posts = posts} {now = now} {flight = flight} {flight' = flight'} {old = old} {new = new} same is =
-    subst (λ (c : K). SettlesOrWaits server_port counts outbox posts now c flight old flight' new) same is
+pub own_client : {W O K : Type 0} {sends : K → List ℕ → Type 0} {server_port : W → ℕ} {counts : W → Counts} {outbox : W → O} {posts : O → K → List ℕ → O → Type 0} {client client' : K} {now : ℕ} {flight flight' : FlightState} {old new : W}
+    → client' ≡ client → SettlesOrWaits sends server_port counts outbox posts now client' flight old flight' new → SettlesOrWaits sends server_port counts outbox posts now client flight old flight' new
+own_client {K = K} {sends = sends} {server_port = server_port} {counts = counts} {outbox = outbox} {posts = posts} {now = now} {flight = flight} {flight' = flight'} {old = old} {new = new} same is =
+    subst (λ (c : K). SettlesOrWaits sends server_port counts outbox posts now c flight old flight' new) same is
 
 -- So it is where nothing happened before.
-pub settled_now : {W O K : Type 0} {server_port : W → ℕ} {counts : W → Counts} {outbox : W → O} {posts : O → K → List ℕ → O → Type 0} {client : K} {reply : Option (List ℕ)}
+pub settled_now : {W O K : Type 0} {sends : K → List ℕ → Type 0} {server_port : W → ℕ} {counts : W → Counts} {outbox : W → O} {posts : O → K → List ℕ → O → Type 0} {client : K} {reply : Option (List ℕ)}
     (now : ℕ) (flight flight' : FlightState) (old new : W)
-    → flight' ≡ flight → Settles server_port counts outbox posts client reply old new → SettlesOrWaits server_port counts outbox posts now client flight old flight' new
-settled_now now flight flight' old new same settles = settled_there now flight flight' old old new (record { port = refl; silent = refl }) refl same settles
+    → (octets : List ℕ) → sends client octets → flight' ≡ flight → Settles server_port counts outbox posts client reply old new → SettlesOrWaits sends server_port counts outbox posts now client flight old flight' new
+settled_now now flight flight' old new octets own same settles = settled_there now flight flight' old old new octets own (record { port = refl; silent = refl }) refl same settles
 
 -- A client is settled, where nothing was told or counted before.
 pub settles_behind : {W O K : Type 0} {server_port : W → ℕ} {counts : W → Counts} {outbox : W → O} {posts : O → K → List ℕ → O → Type 0} {client : K} {reply : Option (List ℕ)}
-    {old mid new : W} → Keeps server_port outbox old mid → counts mid ≡ counts old → Settles server_port counts outbox posts client reply mid new
-    → (reply : Option (List ℕ)) × Settles server_port counts outbox posts client reply old new
-settles_behind {O = O} {counts = counts} {outbox = outbox} {posts = posts} {client = client} {reply = reply} {new = new} keeps counted settles = (
+    {old mid new : W} (given : Option (List ℕ) → Type 0) → given reply → Keeps server_port outbox old mid → counts mid ≡ counts old → Settles server_port counts outbox posts client reply mid new
+    → (reply : Option (List ℕ)) × given reply × Settles server_port counts outbox posts client reply old new
+settles_behind {O = O} {counts = counts} {outbox = outbox} {posts = posts} {client = client} {reply = reply} {new = new} given is keeps counted settles = (
   reply,
+  is,
   record {
     port = settles.port ∙ keeps.port;
     settled = subst (λ (was : Counts). CountsSettled was (counts new)) counted settles.settled;
@@ -88,17 +91,35 @@ settles_behind {O = O} {counts = counts} {outbox = outbox} {posts = posts} {clie
 )
 
 -- None is lost if the same exchanges are under way, however many the queue names.
-pub loses_as_before : {W O K : Type 0} {server_port : W → ℕ} {counts : W → Counts} {outbox : W → O} {posts : O → K → List ℕ → O → Type 0} (now : ℕ) (first old new : FlightState) (before between : W)
-    → LosesNone server_port counts outbox posts now first before old between → new.exchanges ≡ old.exchanges → new.latest ≡ old.latest → new.limit ≡ old.limit
-    → LosesNone server_port counts outbox posts now first before new between
+pub loses_as_before : {W O K : Type 0} {sends : K → List ℕ → Type 0} {server_port : W → ℕ} {counts : W → Counts} {outbox : W → O} {posts : O → K → List ℕ → O → Type 0} (now : ℕ) (first old new : FlightState) (before between : W)
+    → LosesNone sends server_port counts outbox posts now first before old between → new.exchanges ≡ old.exchanges → new.latest ≡ old.latest → new.limit ≡ old.limit
+    → LosesNone sends server_port counts outbox posts now first before new between
 loses_as_before {counts = counts} now first old new before between so_far exchanges latest limit =
     let many : outstanding new ≡ outstanding old = ap (count_by is_some) exchanges in
     record {
       port = so_far.port;
       ends = record { ends = so_far.ends.ends; left = so_far.ends.left; count = omega (arith, many, so_far.ends.count) };
       accounted = subst (λ (waiting : ℕ). IsAccounted 0 (outstanding first) (counts before) waiting (counts between)) (sym many) so_far.accounted;
-      begins = on_or_begun_then now first old new so_far.begins (as_it_was now old new (λ key. ap (λ (list : List (Option UnderWay)). since_in list key) exchanges) latest);
+      begins = on_or_begun_then now first old new so_far.begins (as_it_was now old new (λ key. ap (λ (list : List (Option UnderWay)). slice_index_or list key None) exchanges) latest);
       no_more = omega (arith, many, so_far.no_more);
       places = kept_then first old new so_far.places (kept_fewer old new (λ server. omega (arith, ap (count_with server) exchanges))) (omega (arith, many)) limit;
       limit = limit ∙ so_far.limit;
+    }
+
+-- None is lost where nothing happens.
+pub none_lost : {W O K : Type 0} {sends : K → List ℕ → Type 0} {server_port : W → ℕ} {counts : W → Counts} {outbox : W → O} {posts : O → K → List ℕ → O → Type 0} (now : ℕ) (flight flight' : FlightState) (outside : W)
+    → flight' ≡ flight → LosesNone sends server_port counts outbox posts now flight outside flight' outside
+none_lost now flight flight' outside same =
+    let many : outstanding flight' ≡ outstanding flight = ap outstanding same in
+    record {
+      port = refl;
+      ends = none_ends 0 _ _ refl (omega (arith, many));
+      accounted = record {
+        never_fall = record { settled = omega arith; opened = omega arith; ended = omega arith; listened = omega arith; expired = omega arith };
+        add_up = inl (record { clients = omega (arith, many); exchanges = omega (arith, many) });
+      };
+      begins = as_it_was now flight flight' (λ key. ap (λ (state : FlightState). exchange_at state key) same) (ap (λ (state : FlightState). state.latest) same);
+      no_more = omega (arith, many);
+      places = kept_same flight flight' same;
+      limit = ap (λ (state : FlightState). state.limit) same;
     }

@@ -13,7 +13,7 @@ use Rattle.history.specs.declared.event.Event.TheVariants.{Look}
 use Rattle.front_workers.specs.Leads.{Calls, Ticks}
 use Rattle.flight.specs.declared.outside.Listened.{Listened}
 use Rattle.flight.specs.Flight.{Sent, Hears, Answered, Awaits}
-use Rattle.flight.specs.Told.{IsHeard}
+use Rattle.flight.specs.Told.{IsOutcome}
 
 -- The client may have sent these octets, they are this query, and the task is for its question.
 pub record IsAskedBy {K : Type 0} (sends : K → List ℕ → Type 0) (port : ℕ) (octets : List ℕ) (client : K) (query : Query) (task : State) : Type 0 where
@@ -29,8 +29,8 @@ pub record HasLooked {D C : Type 0} (calls : Calls D) (seen : D → ℕ) (hears 
   pub ticked : ticks clock moment clock'
   pub answered : Answered calls seen hears since (Book (Look moment (Asked question))) came n
 
--- A question waited for the reply to a query, and this was heard of it.
+-- A question waited for the reply to a query, its exchange has ended, and this was heard of it.
 pub record HasHeard {D C : Type 0} (calls : Calls D) (seen : D → ℕ) (hears : Hears) (ticks : Ticks C) (since port : ℕ) (question : Question) (steps : List Step) (heard : Listened) (n : ℕ) : Type 0 where
   pub query : Sent
   pub awaits : Awaits calls seen hears ticks since port question steps query n
-  pub came : IsHeard (hears query) heard
+  pub came : IsOutcome (hears query) heard

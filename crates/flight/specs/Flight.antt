@@ -1,5 +1,5 @@
 -- One question in flight: its calls of the desk and its exchanges with name servers, while other questions call between.
-use Rattle.std.specs.Prelude.{◌≡◌, ◌≤◌, ℕ, Ok, Err, List, []}
+use Rattle.std.specs.Prelude.{◌≡◌, ◌≤◌, ℕ, Ok, Err, Option, Some, None, List, []}
 use Rattle.dns_query.specs.declared.over.Over.{Over}
 use Rattle.dns_text.specs.declared.addr.Addr.{Addr}
 use Rattle.dns_text.specs.declared.record.Question.{Question}
@@ -24,16 +24,16 @@ pub record Sent : Type 0 where
 abbrev pub query_to : Addr → Over → List ℕ → Sent
 query_to server over query = record { server = server; over = over; query = query }
 
--- the octets that may come as the reply to a query
+-- what may come of a query: these octets as its reply, or None if its exchange could not begin, broke, or had no time left
 abbrev pub Hears : Type 1
-Hears = Sent → List ℕ → Type 0
+Hears = Sent → Option (List ℕ) → Type 0
 
 -- One call of the desk, or one exchange, answers what a question wants. The desk numbers its calls. The first number is that of the latest call that the desk knew of when this question last called it, or, before its first call, when the octets of its client were taken. The last number is the same afterwards. Calls of other questions may come between two calls of this one.
 pub data Answered {D : Type 0} (calls : Calls D) (seen : D → ℕ) (hears : Hears) : ℕ → Want → Input → ℕ → Type 0 where
   replied : {n n' : ℕ} {d d' : D} {event : Event} {reply : Reply} → n ≤ seen d → calls d event (Ok reply) d' → n' ≡ seen d' → Answered calls seen hears n (Book event) (Replied reply) n'
   refused : {n n' : ℕ} {d d' : D} {event : Event} {fault : DeskFault} → n ≤ seen d → calls d event (Err fault) d' → n' ≡ seen d' → Answered calls seen hears n (Book event) (Refused fault) n'
-  came : {n : ℕ} {server : Addr} {over : Over} {query octets : List ℕ} → hears (query_to server over query) octets → Answered calls seen hears n (Send server over query) (Came octets) n
-  failed : {n : ℕ} {server : Addr} {over : Over} {query : List ℕ} → Answered calls seen hears n (Send server over query) Failed n
+  came : {n : ℕ} {server : Addr} {over : Over} {query octets : List ℕ} → hears (query_to server over query) (Some octets) → Answered calls seen hears n (Send server over query) (Came octets) n
+  failed : {n : ℕ} {server : Addr} {over : Over} {query : List ℕ} → hears (query_to server over query) None → Answered calls seen hears n (Send server over query) Failed n
 
 -- The task of a question took these steps, since the desk knew of so many calls. Each step read the clock, each query has an identifier that the generator drew, and each step but the first had the answer to the want before it. This input comes next, and n is the number of the desk's latest call that the question knows of.
 pub data Flies {D C : Type 0} (calls : Calls D) (seen : D → ℕ) (hears : Hears) (ticks : Ticks C) (since port : ℕ) (question : Question) : List Step → Input → ℕ → Type 0 where

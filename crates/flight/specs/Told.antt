@@ -1,18 +1,19 @@
 -- The reply to a client over UDP.
-use Rattle.std.specs.Prelude.{◌≡◌, ℕ, Option, Bool, List}
+use Rattle.std.specs.Prelude.{◌≡◌, ◌≢◌, ◌⊎◌, ℕ, Option, Some, None, Bool, List}
 use Rattle.dns_query.specs.declared.over.Over.TheVariants.{Udp}
 use Rattle.dns_wire.specs.declared.server.query.Query.{Query}
 use Rattle.dns_wire.specs.declared.server.query.Asked.TheVariants.{Drop, Fault, Good}
 use Rattle.dns_wire.specs.Server.Asking.{AsksFor}
+use Rattle.iterate.specs.declared.answer.Answer.{Answer}
 use Rattle.iterate.specs.declared.answer.Answer.TheVariants.{Reply as Replies, Silent}
 use Rattle.iterate.specs.declared.answer.Soa.{Soa}
 use Rattle.iterate.specs.declared.answer.AnswerSet.{AnswerSet}
 use Rattle.front_workers.specs.Leads.{Calls, Ticks}
-use Rattle.front_workers.specs.Serves.{fault_octets, reply_told, Written}
+use Rattle.front_workers.specs.Serves.{fault_octets, reply_told, Tells, Written}
 use Rattle.flight.specs.declared.reply.ReplyOctets.{ReplyOctets}
 use Rattle.flight.specs.declared.reply.ReplyOctets.TheVariants.{Header, Message}
 use Rattle.flight.specs.declared.outside.Listened.{Listened}
-use Rattle.flight.specs.declared.outside.Listened.TheVariants.{Came}
+use Rattle.flight.specs.declared.outside.Listened.TheVariants.{Came, Broken, NoMemory}
 use Rattle.flight.specs.Flight.{Hears, Lands}
 
 -- The octets of a client may get this reply: the one that reports their fault, or the one that spells an answer in which their question ended. Its task began when the desk knew of so many calls.
@@ -28,10 +29,21 @@ pub data IsUntold {D C : Type 0} (calls : Calls D) (seen : D → ℕ) (hears : H
   dropped : AsksFor m Drop → IsUntold calls seen hears ticks since port m
   silent : {query : Query} → AsksFor m (Good query) → Lands calls seen hears ticks since port query.question Silent → IsUntold calls seen hears ticks since port m
 
--- If octets came, they are such.
-abbrev pub IsHeard : (List ℕ → Type 0) → Listened → Type 0
-IsHeard may (Came octets) = may octets
+-- If octets came, they may come. If the exchange broke, none may.
+abbrev pub IsHeard : (Option (List ℕ) → Type 0) → Listened → Type 0
+IsHeard may (Came octets) = may (Some octets)
+IsHeard may Broken = may None
 IsHeard may _ = Unit {0}
+
+-- The same of an exchange that has ended: if nothing was heard of it, its time was up, and no octets may come.
+abbrev pub IsOutcome : (Option (List ℕ) → Type 0) → Listened → Type 0
+IsOutcome may (Came octets) = may (Some octets)
+IsOutcome may NoMemory = Unit {0}
+IsOutcome may _ = may None
+
+-- An answer gives its question this reply. If there is no memory to write one, SERVFAIL goes out, but never for silence.
+abbrev pub IsGiven : List ℕ → Query → Answer → Option (List ℕ) → Type 0
+IsGiven m query answer reply = Tells Udp m query answer reply ⊎ ((answer ≢ Silent) × (reply ≡ Some (fault_octets m 2)))
 
 -- The octets of a reply.
 abbrev pub octets_of : ReplyOctets → List ℕ

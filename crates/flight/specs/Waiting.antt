@@ -10,6 +10,7 @@ use Rattle.flight.specs.Flight.{Sent}
 pub record UnderWay : Type 0 where
   pub since : ℕ  -- the moment, in milliseconds, at which it began
   pub asked : Sent  -- the query that went out
+  pub key : ℕ  -- the key under which it is watched
 
 -- the visible state of the questions in flight
 pub record FlightState : Type 0 where
@@ -30,6 +31,14 @@ since_of (Some exchange) = Some exchange.since
 -- of a list of exchanges, the moment at which the one under a key began
 abbrev pub since_in : List (Option UnderWay) → ℕ → Option ℕ
 since_in exchanges key = since_of (slice_index_or exchanges key None)
+
+-- the exchange under a key
+abbrev pub exchange_at : FlightState → ℕ → Option UnderWay
+exchange_at state key = slice_index_or state.exchanges key None
+
+-- Each exchange is watched under its own key, that of the question which waits for it.
+abbrev pub IsWatched : FlightState → Type 0
+IsWatched state = (key : ℕ) (exchange : UnderWay) → exchange_at state key ≡ Some exchange → exchange.key ≡ key
 
 -- the moment at which the exchange under a key began
 abbrev pub since_at : FlightState → ℕ → Option ℕ
@@ -58,12 +67,13 @@ pub record IsAccounted (more waiting : ℕ) (old : Counts) (waiting' : ℕ) (new
   pub never_fall : NeverFall old new
   pub add_up : AddUp more waiting old waiting' new ⊎ IsFull new
 
--- An exchange begins under a vacant key, no earlier than those before, and each other goes on.
+-- An exchange begins under a vacant key, no earlier than those before, and is watched under it. Each other goes on.
 pub record Begins (now : ℕ) (old new : FlightState) : Type 0 where
   pub key : ℕ
   pub vacant : since_at old key ≡ None
   pub begins : since_at new key ≡ Some (max now old.latest)
-  pub others : (other : ℕ) → other ≢ key → since_at new other ≡ since_at old other
+  pub watched : (exchange : UnderWay) → exchange_at new key ≡ Some exchange → exchange.key ≡ key
+  pub others : (other : ℕ) → other ≢ key → exchange_at new other ≡ exchange_at old other
   pub one_more : outstanding new ≡ outstanding old + 1
   pub begun : new.begun ≡ old.begun ++ max now old.latest ∷ []
   pub latest : new.latest ≡ max now old.latest
@@ -73,9 +83,10 @@ pub record Begins (now : ℕ) (old new : FlightState) : Type 0 where
 abbrev pub WaitsFrom : ℕ → FlightState → FlightState → Type 0
 WaitsFrom now old new = (new ≡ old) ⊎ Begins now old new
 
--- Each exchange under way was under way before, or begins now, no earlier than those before.
+-- Each exchange under way was under way before, or begins now, no earlier than those before. Each is watched under its own key.
 pub record GoesOnOrBegins (now : ℕ) (old new : FlightState) : Type 0 where
   pub under_way : (key since : ℕ) → since_at new key ≡ Some since → (since_at old key ≡ Some since) ⊎ (since ≡ max now old.latest)
+  pub watched : IsWatched old → IsWatched new
   pub latest : (new.latest ≡ old.latest) ⊎ (new.latest ≡ max now old.latest)
 
 -- Each exchange under another key goes on.

@@ -30,7 +30,7 @@ impl<D: Numbered, L: InFlight, C: Clock, G: Rng, K: Client> Flight<D, L, C, G, K
     )
         requires own { K.sent client octets.now }
         requires good { AsksFor octets.now (Good query) }
-        ensures { SettlesOrWaits O.server_port O.counts O.outbox O.posts now client self.old outside.old self.new outside.new }
+        ensures { SettlesOrWaits K.sent O.server_port O.counts O.outbox O.posts now client self.old outside.old self.new outside.new }
     {
         resolved_law();
         if desk.seen() < client.since() {
@@ -86,7 +86,7 @@ impl<D: Numbered, L: InFlight, C: Clock, G: Rng, K: Client> Flight<D, L, C, G, K
         requires good { AsksFor octets.now (Good query) }
         requires looked { HasLooked D.calls D.seen L.hears C.ticks (K.since client) query.question moment came seen }
         requires known { seen ≤ D.seen desk.old }
-        ensures { SettlesOrWaits O.server_port O.counts O.outbox O.posts now client self.old outside.old self.new outside.new }
+        ensures { SettlesOrWaits K.sent O.server_port O.counts O.outbox O.posts now client self.old outside.old self.new outside.new }
     {
         let port = outside.server_port();
         let Ok(question) = query.question.clone() else {

@@ -16,7 +16,7 @@ use crate::job::Job;
 use crate::line::InFlight;
 use crate::numbered::Numbered;
 use crate::outside::{Client, Listened, Outside, Unserved};
-use crate::telling::{refuse, tell};
+use crate::telling::{lack, refuse, tell};
 use command_text::Clock;
 use dns_text::Octets;
 use iterate::{Input, Want, due_law};
@@ -33,7 +33,7 @@ impl<D: Numbered, L: InFlight, C: Clock, G: Rng, K: Client> Flight<D, L, C, G, K
         job: Job<D, L, C, K>,
     )
         ensures port { O.server_port outside.new ≡ O.server_port outside.old }
-        ensures ends { Ends O.posts 0 (outstanding self.old + 1) (O.outbox outside.old) (outstanding self.new) (O.outbox outside.new) }
+        ensures ends { Ends K.sent O.posts 0 (outstanding self.old + 1) (O.outbox outside.old) (outstanding self.new) (O.outbox outside.new) }
         ensures accounted { IsAccounted 0 (outstanding self.old + 1) (O.counts outside.old) (outstanding self.new) (O.counts outside.new) }
         ensures heard { Rises (O.counts outside.old).listened (O.counts outside.new).listened }
         ensures waits { WaitsFrom now self.old self.new }
@@ -68,18 +68,26 @@ impl<D: Numbered, L: InFlight, C: Clock, G: Rng, K: Client> Flight<D, L, C, G, K
         requires asked { IsAskedBy K.sent asking.port octets asking.client asking.query asking.task }
         requires heard { HasHeard D.calls D.seen L.hears C.ticks (K.since asking.client) asking.port asking.query.question
             asking.task.steps.items heard asking.seen }
-        ensures { SettlesOrWaits O.server_port O.counts O.outbox O.posts now asking.client self.old outside.old self.new outside.new }
+        ensures { SettlesOrWaits K.sent O.server_port O.counts O.outbox O.posts now asking.client self.old outside.old self.new outside.new }
     {
         let input = match heard {
             Listened::Came(reply) => Input::Came(reply),
-            Listened::Nothing | Listened::Broken => Input::Failed,
+            Listened::Nothing => Input::Failed,
+            Listened::Broken => Input::Failed,
             Listened::NoMemory => {
-                refuse::<D, L, C, K, O>(outside, asking, octets.as_slice(), Unserved::NoMemory);
+                lack::<D, L, C, K, O>(outside, asking, octets.as_slice());
                 return;
             }
         };
         if desk.seen() < asking.seen || outside.server_port() != asking.port {
-            refuse::<D, L, C, K, O>(outside, asking, octets.as_slice(), Unserved::Elsewhere);
+            refuse::<D, L, C, K, O>(
+                outside,
+                desk,
+                &self.table,
+                asking,
+                octets.as_slice(),
+                Unserved::Elsewhere,
+            );
             return;
         }
         self.drive(desk, outside, now, asking, octets.as_slice(), input);
@@ -100,7 +108,7 @@ impl<D: Numbered, L: InFlight, C: Clock, G: Rng, K: Client> Flight<D, L, C, G, K
             asking.task.steps.items first asking.seen }
         requires port { asking.port ≡ O.server_port outside.old }
         requires known { asking.seen ≤ D.seen desk.old }
-        ensures { SettlesOrWaits O.server_port O.counts O.outbox O.posts now asking.client self.old outside.old self.new outside.new }
+        ensures { SettlesOrWaits K.sent O.server_port O.counts O.outbox O.posts now asking.client self.old outside.old self.new outside.new }
     {
         due_law();
         let mut asking = asking;
@@ -108,7 +116,7 @@ impl<D: Numbered, L: InFlight, C: Clock, G: Rng, K: Client> Flight<D, L, C, G, K
         loop {
             let moment = self.clock.now();
             let Ok(want) = asking.task.step(moment, &mut self.ids, input) else {
-                refuse::<D, L, C, K, O>(outside, asking, octets, Unserved::NoMemory);
+                lack::<D, L, C, K, O>(outside, asking, octets);
                 return;
             };
             match want {
@@ -135,7 +143,14 @@ impl<D: Numbered, L: InFlight, C: Clock, G: Rng, K: Client> Flight<D, L, C, G, K
                     let copy = match self.table.make_room(&server, octets) {
                         Ok(copy) => copy,
                         Err(why) => {
-                            refuse::<D, L, C, K, O>(outside, asking, octets, why);
+                            refuse::<D, L, C, K, O>(
+                                outside,
+                                desk,
+                                &self.table,
+                                asking,
+                                octets,
+                                why,
+                            );
                             return;
                         }
                     };

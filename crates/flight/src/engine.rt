@@ -83,7 +83,7 @@ impl<D: Numbered, L: InFlight, C: Clock, G: Rng, K: Client> Flight<D, L, C, G, K
         octets: &[u8],
     )
         requires own { K.sent client octets.now }
-        ensures { SettlesOrWaits O.server_port O.counts O.outbox O.posts now client self.old outside.old self.new outside.new }
+        ensures { SettlesOrWaits K.sent O.server_port O.counts O.outbox O.posts now client self.old outside.old self.new outside.new }
     {
         let Ok(asked) = read_question(self.alloc, octets) else {
             outside.fail(client, octets, Unserved::NoMemory);
@@ -112,7 +112,7 @@ impl<D: Numbered, L: InFlight, C: Clock, G: Rng, K: Client> Flight<D, L, C, G, K
         ensures hint { since_at self.old key ≡ None → (self.new ≡ self.old) × (outside.new ≡ outside.old) }
         ensures others { OthersGoOn key self.old self.new }
         ensures unexpired { (O.counts outside.new).expired ≡ (O.counts outside.old).expired }
-        ensures loses_none { LosesNone O.server_port O.counts O.outbox O.posts now self.old outside.old self.new outside.new }
+        ensures loses_none { LosesNone K.sent O.server_port O.counts O.outbox O.posts now self.old outside.old self.new outside.new }
     {
         let Some(job) = self.table.take(key) else {
             return;
@@ -145,7 +145,7 @@ impl<D: Numbered, L: InFlight, C: Clock, G: Rng, K: Client> Flight<D, L, C, G, K
     pub fn expire<O: Outside<D, L, C, K>>(&mut self, desk: &mut D, outside: &mut O, now: u64)
         ensures patient { IsPatient PATIENCE now self.new }
         ensures early { EarlyGoOn PATIENCE now self.old self.new }
-        ensures loses_none { LosesNone O.server_port O.counts O.outbox O.posts now self.old outside.old self.new outside.new }
+        ensures loses_none { LosesNone K.sent O.server_port O.counts O.outbox O.posts now self.old outside.old self.new outside.new }
     {
         while let Some(wait) = self.table.next_due(now) {
             if let Some(job) = self.table.pass(wait, now) {

@@ -29,7 +29,7 @@ impl<D: Numbered, L: InFlight, C: Clock, K: Client> Model for Job<D, L, C, K> {
 
     ghost Value = { UnderWay };
 
-    ghost view = { λ job. record { since = job.since; asked = L.asked job.line } };
+    ghost view = { λ job. record { since = job.since; asked = L.asked job.line; key = L.key job.line } };
 
     ghost invariant = { λ job. IsAskedBy K.sent job.asking.port job.octets job.asking.client job.asking.query job.asking.task
         × Awaits D.calls D.seen L.hears C.ticks (K.since job.asking.client) job.asking.port job.asking.query.question

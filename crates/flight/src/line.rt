@@ -1,6 +1,6 @@
 //! An exchange under way with a name server.
 
-ghost use Rattle.std.specs.Prelude.{◌≡◌, ℕ, List};
+ghost use Rattle.std.specs.Prelude.{◌≡◌, ℕ, List, Option};
 ghost use Rattle.flight.specs.Flight.{Sent};
 
 use dns_text::Addr;
@@ -10,8 +10,11 @@ pub trait InFlight: Drop {
     /// The query that went out.
     ghost asked: { Self → Sent };
 
-    /// The octets that may come as the reply to a query.
-    ghost hears: { Sent → List ℕ → Type 0 };
+    /// The key under which the exchange is watched.
+    ghost key: { Self → ℕ };
+
+    /// What may come of a query: these octets as its reply, or None if its exchange could not begin, broke, or had no time left.
+    ghost hears: { Sent → Option (List ℕ) → Type 0 };
 
     /// The server that is asked.
     fn server(&self) -> Addr

@@ -85,19 +85,23 @@ pub trait Outside<D: Numbered, L: InFlight, C: Clock, K: Client> {
     /// Begins an exchange, which is watched under the key. Returns `None` if it could not begin.
     fn open(&mut self, key: usize, server: &Addr, over: Over, query: Shared<Octets>) -> Option<L>
         ensures asked { IfSome result (λ line. L.asked line ≡ query_to server.now over query) }
+        ensures watched { IfSome result (λ line. L.key line ≡ key) }
         ensures opened { OnSome result (CountsOpened (counts self.old) (counts self.new)) }
         ensures unopened { IfNone result (counts self.new ≡ counts self.old) }
+        ensures failed { IfNone result (L.hears (query_to server.now over query) None) }
         ensures keeps { Keeps server_port outbox self.old self.new };
 
     /// Listens to an exchange, without waiting.
     fn hear(&mut self, line: &mut L) -> Listened
         ensures heard { IsHeard (L.hears (L.asked line.old)) result }
         ensures asked { L.asked line.new ≡ L.asked line.old }
+        ensures watched { L.key line.new ≡ L.key line.old }
         ensures listened { CountsListened result (counts self.old) (counts self.new) }
         ensures keeps { Keeps server_port outbox self.old self.new };
 
     /// Ends an exchange because its time is up.
     fn expire(&mut self, line: L)
+        ensures failed { L.hears (L.asked line) None }
         ensures expired { CountsExpired (counts self.old) (counts self.new) }
         ensures keeps { Keeps server_port outbox self.old self.new };
 

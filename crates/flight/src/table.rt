@@ -1,6 +1,6 @@
 //! The questions that wait, and when each began to.
 
-ghost use Rattle.std.specs.Prelude.{◌≡◌, ◌⊎◌, ◌<◌, ◌≤◌, ◌+◌, ◌∷◌, ◌++◌, ◌↔◌, [], ℕ, map, max, None, Some};
+ghost use Rattle.std.specs.Prelude.{◌≡◌, ◌≢◌, ◌⊎◌, ◌<◌, ◌≤◌, ◌+◌, ◌∷◌, ◌++◌, ◌↔◌, [], ℕ, map, max, None, Some};
 ghost use Rattle.std.specs.Prelude.{IfErr, IfOk, IfSome, IsTrue, OnOk, OnSome};
 ghost use Rattle.dns_text.specs.declared.addr.Addr.{Addr as Server};
 ghost use Rattle.slab.specs.Slab.{HasRoomFor, Updates, get, slab_len};
@@ -9,7 +9,7 @@ ghost use Rattle.flight.specs.Queue.{IsFirstDue, IsQueue, is_queued};
 ghost use Rattle.flight.specs.Places.{HasPlace};
 ghost use Rattle.flight.specs.Table.{FreesKey, OneMore};
 ghost use Rattle.flight.specs.Waiting.{count_with, since_in, time_left};
-ghost use Rattle.flight.specs.declared.outside.Unserved.TheVariants.{TooMany};
+ghost use Rattle.flight.specs.declared.outside.Unserved.TheVariants.{Elsewhere, TooMany};
 
 use crate::job::Job;
 use crate::line::InFlight;
@@ -98,7 +98,7 @@ impl<D: Numbered, L: InFlight, C: Clock, K: Client> Table<D, L, C, K> {
         ensures room { OnOk result (HasRoomFor self.new.jobs 1) }
         ensures queue_room { OnOk result (deque_len self.new.waits < deque_capacity self.new.waits) }
         ensures place { OnOk result (HasPlace server.now self.old.jobs.slots self.old.limit) }
-        ensures refused { IfErr result (λ why. why ≡ TooMany → ¬ (HasPlace server.now self.old.jobs.slots self.old.limit)) }
+        ensures refused { IfErr result (λ why. (why ≢ Elsewhere) × (why ≡ TooMany → ¬ (HasPlace server.now self.old.jobs.slots self.old.limit))) }
         ensures octets { IfOk result (λ copy. copy ≡ octets.now) }
         ensures jobs { self.new.jobs.slots ≡ self.old.jobs.slots }
         ensures waits { self.new.waits.items ≡ self.old.waits.items }
@@ -118,7 +118,9 @@ impl<D: Numbered, L: InFlight, C: Clock, K: Client> Table<D, L, C, K> {
     }
 
     /// The key that the next question gets.
-    pub(crate) fn vacant_key(&self) -> usize {
+    pub(crate) fn vacant_key(&self) -> usize
+        ensures { result ≡ self.now.jobs.vacant_key }
+    {
         self.jobs.vacant_key()
     }
 

@@ -1,19 +1,25 @@
 //! The reply to a client.
 
-ghost use Rattle.std.specs.Prelude.{◌≡◌, List, Option, Some, ℕ};
+ghost use Rattle.std.specs.Prelude.{◌≡◌, ◌≢◌, ◌⊎◌, ◌<◌, List, Option, Some, ℕ};
+ghost use Rattle.dns_text.specs.declared.addr.Addr.{Addr as Server};
 ghost use Rattle.dns_wire.specs.declared.server.query.Asked.TheVariants.{Fault, Good};
 ghost use Rattle.dns_wire.specs.Server.Asking.{AsksFor};
 ghost use Rattle.front_workers.specs.Serves.{fault_octets};
+ghost use Rattle.iterate.specs.declared.answer.Answer.TheVariants.{Silent};
 ghost use Rattle.iterate.specs.Told.{IsFit};
 ghost use Rattle.flight.specs.Asking.{IsAskedBy};
 ghost use Rattle.flight.specs.Clients.{Settles};
 ghost use Rattle.flight.specs.Flight.{Lands};
+ghost use Rattle.flight.specs.Places.{HasPlace};
+ghost use Rattle.flight.specs.Told.{IsGiven};
+ghost use Rattle.flight.specs.declared.outside.Unserved.TheVariants.{Elsewhere, TooMany};
 
 use crate::asking::Asking;
 use crate::line::InFlight;
 use crate::numbered::Numbered;
 use crate::outside::{Client, Outside, Unserved};
 use crate::reply::ReplyOctets;
+use crate::table::Table;
 use command_text::Clock;
 use dns_query::Over;
 use dns_wire::{Query, Rcode, fault_reply};
@@ -29,17 +35,58 @@ pub(crate) fn fault_of(octets: &[u8], rcode: Rcode) -> [u8; 12]
     fault_reply(octets, rcode).unwrap()
 }
 
-/// Sends a client SERVFAIL.
+/// Sends a client SERVFAIL for want of memory.
+pub(crate) fn lack<D: Numbered, L: InFlight, C: Clock, K: Client, O: Outside<D, L, C, K>>(
+    outside: &mut O,
+    asking: Asking<K>,
+    octets: &[u8],
+)
+    requires asked { IsAskedBy K.sent asking.port octets.now asking.client asking.query asking.task }
+    ensures { Settles O.server_port O.counts O.outbox O.posts asking.client (Some (fault_octets octets.now 2)) outside.old outside.new }
+{
+    outside.fail(asking.client, octets, Unserved::NoMemory);
+}
+
+/// Sends a client SERVFAIL, for a cause that the table, the desk or the outside shows. Only the want of memory shows nowhere.
 pub(crate) fn refuse<D: Numbered, L: InFlight, C: Clock, K: Client, O: Outside<D, L, C, K>>(
     outside: &mut O,
+    desk: &D,
+    table: &Table<D, L, C, K>,
     asking: Asking<K>,
     octets: &[u8],
     why: Unserved,
 )
     requires asked { IsAskedBy K.sent asking.port octets.now asking.client asking.query asking.task }
+    requires full { why ≡ TooMany → (server : Server) × ¬ (HasPlace server table.now.jobs.slots table.now.limit) }
+    requires elsewhere { why ≡ Elsewhere → (D.seen desk.now < asking.seen) ⊎ (asking.port ≢ O.server_port outside.old) }
     ensures { Settles O.server_port O.counts O.outbox O.posts asking.client (Some (fault_octets octets.now 2)) outside.old outside.new }
 {
     outside.fail(asking.client, octets, why);
+}
+
+/// Sends a client the answer to its question, which is no silence, or SERVFAIL if there is no memory to write it.
+fn tell_reply<D: Numbered, L: InFlight, C: Clock, K: Client, O: Outside<D, L, C, K>>(
+    alloc: Global,
+    outside: &mut O,
+    client: K,
+    query: &Query,
+    octets: &[u8],
+    answer: &Answer,
+)
+    requires own { K.sent client octets.now }
+    requires good { AsksFor octets.now (Good query.now) }
+    requires lands { Lands D.calls D.seen L.hears C.ticks (K.since client) (O.server_port outside.old) query.now.question answer.now }
+    requires fit { IsFit answer.now }
+    requires loud { answer.now ≢ Silent }
+    ensures { (reply : Option (List ℕ)) × IsGiven octets.now query.now answer.now reply
+        × Settles O.server_port O.counts O.outbox O.posts client reply outside.old outside.new }
+{
+    let buffer = outside.buffer();
+    match write_answer(alloc, buffer, Over::Udp, octets, query, answer) {
+        Ok(Some(reply)) => outside.give(client, octets, ReplyOctets::Message(reply)),
+        Ok(None) => outside.pass_over(client, octets),
+        Err(_) => outside.fail(client, octets, Unserved::NoMemory),
+    }
 }
 
 /// Sends a client the answer to its question, or nothing if the answer is silence.
@@ -55,12 +102,13 @@ pub(crate) fn tell<D: Numbered, L: InFlight, C: Clock, K: Client, O: Outside<D, 
     requires good { AsksFor octets.now (Good query.now) }
     requires lands { Lands D.calls D.seen L.hears C.ticks (K.since client) (O.server_port outside.old) query.now.question answer.now }
     requires fit { IsFit answer.now }
-    ensures { (reply : Option (List ℕ)) × Settles O.server_port O.counts O.outbox O.posts client reply outside.old outside.new }
+    ensures { (reply : Option (List ℕ)) × IsGiven octets.now query.now answer.now reply
+        × Settles O.server_port O.counts O.outbox O.posts client reply outside.old outside.new }
 {
-    let buffer = outside.buffer();
-    match write_answer(alloc, buffer, Over::Udp, octets, query, answer) {
-        Ok(Some(reply)) => outside.give(client, octets, ReplyOctets::Message(reply)),
-        Ok(None) => outside.pass_over(client, octets),
-        Err(_) => outside.fail(client, octets, Unserved::NoMemory),
+    match answer {
+        Answer::Silent => outside.pass_over(client, octets),
+        Answer::Reply { .. } => {
+            tell_reply::<D, L, C, K, O>(alloc, outside, client, query, octets, answer);
+        }
     }
 }

@@ -1,5 +1,5 @@
 -- How the counts of a worker go on.
-use Rattle.std.proofs.Common.{◌≡◌, ◌∙◌, ◌≤◌, ◌++◌, ℕ, ◌+◌, List, inl, inr, refl, subst, sym, arith}
+use Rattle.std.proofs.Common.{◌≡◌, ◌∙◌, ◌≤◌, ◌++◌, ℕ, ◌+◌, List, [], inl, inr, refl, subst, sym, arith}
 use Rattle.front_workers.specs.Counts.{Rises}
 use Rattle.front_workers.specs.Working.{HasFailed}
 use Rattle.flight.specs.declared.counts.Counts.{Counts}
@@ -7,8 +7,11 @@ use Rattle.flight.specs.Counted.{NeverFall, IsFull}
 use Rattle.flight.specs.Waiting.{FlightState, IsAccounted, outstanding}
 use Rattle.flight_sockets.specs.Accounts.{WorkerState, Accounts, GoesOn}
 use Rattle.flight_sockets.specs.Endings.{Endings}
-use Rattle.flight_sockets.specs.Outgoing.{Comes, Datagram, OutboxState, Posts, Sends}
-use Rattle.flight_sockets.proofs.Posting.{clients_then, endings_none, leaving_then, posts_none, posts_then}
+use Rattle.mio.specs.declared.event.event.Event.{Event}
+use Rattle.dns_sockets.specs.Moments.{ClockState}
+use Rattle.flight_sockets.specs.Moves.{AllMoved, Datagram, Moves}
+use Rattle.flight_sockets.specs.Outgoing.{OutboxState, Posts}
+use Rattle.flight_sockets.proofs.Posting.{clients_then, endings_none, leaving_then, posts_none, posts_taken, posts_then}
 
 none_fell : (old mid new : Counts) → NeverFall old mid → NeverFall mid new → NeverFall old new
 none_fell old mid new before after = record {
@@ -47,15 +50,16 @@ accounted_on w w' w'' old mid new before after = record {
 }
 
 -- the visible state of a worker, by its parts
-abbrev pub worker_of : {S : Type 0} → ℕ → ℕ → ℕ → OutboxState S → Counts → WorkerState S
-worker_of port taken failures outbox counts = record { server_port = port; taken = taken; failures = failures; outbox = outbox; counts = counts }
+abbrev pub worker_of : {S : Type 0} → ℕ → ℕ → ℕ → OutboxState S → Counts → ClockState → List Event → WorkerState S
+worker_of port taken failures outbox counts clock reported = record { server_port = port; taken = taken; failures = failures; outbox = outbox; counts = counts; clock = clock; reported = reported }
 
-module _ {S : Type 0} {comes : Comes} {sends : Sends S} where
+module _ {S : Type 0} {takes sends : Moves S} where
   -- What goes on is accounted for as a whole.
-  pub followed : (w w' w'' : ℕ) (old mid new : WorkerState S) → Accounts comes sends w old w' mid → Accounts comes sends w' mid w'' new → Accounts comes sends w old w'' new
+  pub followed : (w w' w'' : ℕ) (old mid new : WorkerState S) → Accounts takes sends w old w' mid → Accounts takes sends w' mid w'' new → Accounts takes sends w old w'' new
   followed w w' w'' old mid new before after = record {
+    came = before.came ++ after.came;
     ends = before.ends ++ after.ends;
-    left = subst (λ (list : List Datagram). Posts sends list old.outbox new.outbox) (sym (leaving_then before.ends after.ends)) (posts_then before.left after.left);
+    left = subst (λ (list : List Datagram). Posts takes sends (before.came ++ after.came) list old.outbox new.outbox) (sym (leaving_then before.ends after.ends)) (posts_then before.left after.left);
     once = elim after.once [
       | inl two ↦ elim before.once [
         | inl one ↦ inl (omega (arith, clients_then before.ends after.ends, one, two))
@@ -78,7 +82,7 @@ module _ {S : Type 0} {comes : Comes} {sends : Sends S} where
   }
 
   -- What goes on and on goes on.
-  pub gone_on : (a b c : FlightState) (old mid new : WorkerState S) → GoesOn comes sends a old b mid → GoesOn comes sends b mid c new → GoesOn comes sends a old c new
+  pub gone_on : (a b c : FlightState) (old mid new : WorkerState S) → GoesOn takes sends a old b mid → GoesOn takes sends b mid c new → GoesOn takes sends a old c new
   gone_on a b c old mid new before after = record {
     accounts = followed _ _ _ old mid new before.accounts after.accounts;
     within = λ few. omega (arith, after.within (omega (arith, before.within few, before.limit)), before.limit);
@@ -87,9 +91,10 @@ module _ {S : Type 0} {comes : Comes} {sends : Sends S} where
   }
 
   -- A query that was taken begins.
-  pub begun : (w w' : ℕ) (old new : WorkerState S) → Rises old.taken new.taken → IsAccounted 1 w old.counts w' new.counts → Endings comes sends 1 w old.outbox w' new.outbox
-      → Accounts comes sends w old w' new
+  pub begun : (w w' : ℕ) (old new : WorkerState S) → Rises old.taken new.taken → IsAccounted 1 w old.counts w' new.counts → Endings takes sends 1 w old.outbox w' new.outbox
+      → Accounts takes sends w old w' new
   begun w w' old new rises accounted ends = record {
+    came = [];
     ends = ends.ends;
     left = ends.left;
     once = elim rises [ inl one ↦ inl (omega (arith, ends.count, one)) | inr last ↦ inr (omega (arith, last.0, last.1)) ];
@@ -105,9 +110,10 @@ module _ {S : Type 0} {comes : Comes} {sends : Sends S} where
   }
 
   -- No query is taken, and those that wait go on.
-  pub went_on : (w w' : ℕ) (old new : WorkerState S) → new.taken ≡ old.taken → IsAccounted 0 w old.counts w' new.counts → Endings comes sends 0 w old.outbox w' new.outbox
-      → Accounts comes sends w old w' new
+  pub went_on : (w w' : ℕ) (old new : WorkerState S) → new.taken ≡ old.taken → IsAccounted 0 w old.counts w' new.counts → Endings takes sends 0 w old.outbox w' new.outbox
+      → Accounts takes sends w old w' new
   went_on w w' old new same accounted ends = record {
+    came = [];
     ends = ends.ends;
     left = ends.left;
     once = inl (omega (arith, ends.count, same));
@@ -120,13 +126,13 @@ module _ {S : Type 0} {comes : Comes} {sends : Sends S} where
   }
 
   -- Nothing has happened yet, and none waits.
-  pub none_yet : (w : ℕ) (old new : WorkerState S) → new ≡ old → w ≡ 0 → Accounts comes sends 0 old w new
-  none_yet w old new same none = subst (λ (state : WorkerState S). Accounts comes sends 0 old w state) (sym same)
-      (subst (λ (waiting : ℕ). Accounts comes sends 0 old waiting old) (sym none) (went_on 0 0 old old refl (same_counts 0 old.counts) (endings_none (posts_none refl) refl)))
+  pub none_yet : (w : ℕ) (old new : WorkerState S) → new ≡ old → w ≡ 0 → Accounts takes sends 0 old w new
+  none_yet w old new same none = subst (λ (state : WorkerState S). Accounts takes sends 0 old w state) (sym same)
+      (subst (λ (waiting : ℕ). Accounts takes sends 0 old waiting old) (sym none) (went_on 0 0 old old refl (same_counts 0 old.counts) (endings_none (posts_none refl) refl)))
 
   -- No query is taken, no exchange more is under way, and no turn fails.
   pub looked_on : (a b : FlightState) (old new : WorkerState S) → new.taken ≡ old.taken → IsAccounted 0 (outstanding a) old.counts (outstanding b) new.counts
-      → Endings comes sends 0 (outstanding a) old.outbox (outstanding b) new.outbox → outstanding b ≤ outstanding a → b.limit ≡ a.limit → new.failures ≡ old.failures → GoesOn comes sends a old b new
+      → Endings takes sends 0 (outstanding a) old.outbox (outstanding b) new.outbox → outstanding b ≤ outstanding a → b.limit ≡ a.limit → new.failures ≡ old.failures → GoesOn takes sends a old b new
   looked_on a b old new same accounted ends no_more limit failures = record {
     accounts = went_on _ _ old new same accounted ends;
     within = λ few. omega (arith, few, no_more);
@@ -135,8 +141,8 @@ module _ {S : Type 0} {comes : Comes} {sends : Sends S} where
   }
 
   -- Nothing goes on, but what waits may leave, or a datagram is refused.
-  pub stayed : (flight : FlightState) (old new : WorkerState S) → Endings comes sends 0 (outstanding flight) old.outbox (outstanding flight) new.outbox
-      → new.taken ≡ old.taken → new.counts ≡ old.counts → new.failures ≡ old.failures → GoesOn comes sends flight old flight new
+  pub stayed : (flight : FlightState) (old new : WorkerState S) → Endings takes sends 0 (outstanding flight) old.outbox (outstanding flight) new.outbox
+      → new.taken ≡ old.taken → new.counts ≡ old.counts → new.failures ≡ old.failures → GoesOn takes sends flight old flight new
   stayed flight old new ends taken counts failures = record {
     accounts = went_on _ _ old new taken (rw counts (same_counts (outstanding flight) old.counts)) ends;
     within = λ few. few;
@@ -144,10 +150,34 @@ module _ {S : Type 0} {comes : Comes} {sends : Sends S} where
     failures = failures;
   }
 
+  -- Datagrams are taken, and nothing else happens.
+  pub received : (flight : FlightState) (old new : WorkerState S) (list : List Datagram) → AllMoved takes list old.outbox.socket new.outbox.socket → new.outbox.waiting ≡ old.outbox.waiting
+      → new.taken ≡ old.taken → new.counts ≡ old.counts → new.failures ≡ old.failures → GoesOn takes sends flight old flight new
+  received flight old new list went waiting taken counts failures =
+      let same : IsAccounted 0 (outstanding flight) old.counts (outstanding flight) new.counts = rw counts (same_counts (outstanding flight) old.counts) in
+      record {
+        accounts = record {
+          came = list;
+          ends = [];
+          left = posts_taken list went waiting;
+          once = inl (omega (arith, taken));
+          taken = omega (arith, taken);
+          never_fall = same.never_fall;
+          add_up = elim same.add_up [
+            | inl all ↦ inl (record { clients = omega (arith, all.clients, taken); exchanges = all.exchanges })
+            | inr full ↦ inr (inl full)
+          ];
+        };
+        within = λ few. few;
+        limit = refl;
+        failures = failures;
+      }
+
   -- A failure changes nothing of it.
-  pub failed : (w w' : ℕ) (old mid new : WorkerState S) → Accounts comes sends w old w' mid → new.taken ≡ mid.taken → new.counts ≡ mid.counts → new.outbox ≡ mid.outbox
-      → Accounts comes sends w old w' new
+  pub failed : (w w' : ℕ) (old mid new : WorkerState S) → Accounts takes sends w old w' mid → new.taken ≡ mid.taken → new.counts ≡ mid.counts → new.outbox ≡ mid.outbox
+      → Accounts takes sends w old w' new
   failed w w' old mid new before taken counts outbox = record {
+    came = before.came;
     ends = before.ends;
     left = rw outbox before.left;
     once = elim before.once [ inl one ↦ inl (omega (arith, one, taken)) | inr many ↦ inr (omega (arith, many, taken)) ];

@@ -15,14 +15,14 @@ use Rattle.flight.specs.Told.{IsHeard}
 use Rattle.flight_sockets.specs.declared.transport.Way.{Way}
 use Rattle.flight_sockets.specs.declared.transport.Way.TheVariants.{Udp, Tcp, Closed}
 use Rattle.flight_sockets.specs.Exchanges.{ExchangeState, AsksOn, HasNoneYet, IsQuiet, IsUnderWay, OnUnbroken, WentOn}
-use Rattle.flight_sockets.specs.Replies.{IsReply, IsServerReply, IsWholeReply}
+use Rattle.flight_sockets.specs.Replies.{IfCame, IsReply, IsWholeReply, MayCome}
 
 -- The whole query has left and a message came after it, which may be its reply: so it is.
 pub heard_on : {S C : Type 0} (opened : S → SocketAddr → Type 0) (sent came : S → List ℕ → Type 0) (connected : C → SocketAddr → Type 0) (reported : C → Token → Type 0) (contents remaining : C → Option (List ℕ))
     (exchange : ExchangeState) (query : List ℕ) (old new : LineState C) (heard : Listened)
     → exchange.asked.query ≡ query → AsksOn connected reported contents remaining exchange old → new.asks ≡ old.asks
-    → OnUnbroken heard (WentOn contents remaining old new) → IsHeard (IsWholeReply query new) heard
-    → IsHeard (IsServerReply opened sent came connected contents remaining exchange.asked) heard
+    → OnUnbroken heard (WentOn contents remaining old new) → IfCame (IsWholeReply query new) heard
+    → IsHeard (MayCome opened sent came connected contents remaining exchange.asked) heard
 heard_on opened sent came connected reported contents remaining exchange query old new Nothing is line asks went heard = tt
 heard_on opened sent came connected reported contents remaining exchange query old new Broken is line asks went heard = tt
 heard_on opened sent came connected reported contents remaining exchange query old new NoMemory is line asks went heard = tt

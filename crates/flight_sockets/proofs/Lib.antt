@@ -2,5 +2,8 @@ mod Accounting
 mod Beginning
 mod Durations
 mod Hearing
+mod Moving
 mod Pausing
 mod Posting
+mod Reading
+mod Watching

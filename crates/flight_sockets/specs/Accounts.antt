@@ -1,10 +1,14 @@
 -- The balance of a worker's clients and exchanges.
 use Rattle.std.specs.Prelude.{◌≡◌, ◌⊎◌, ◌≤◌, ℕ, ◌+◌, ◌-◌, ◌^◌, [], List}
+use Rattle.std.specs.declared.time.Instant.{Instant}
+use Rattle.mio.specs.declared.event.event.Event.{Event}
+use Rattle.dns_sockets.specs.Moments.{ClockState}
 use Rattle.flight.specs.declared.counts.Counts.{Counts}
 use Rattle.flight.specs.Counted.{NeverFall, IsFull, no_counts}
 use Rattle.flight.specs.Waiting.{FlightState, outstanding}
 use Rattle.flight_sockets.specs.Endings.{Ending, clients_in, leaving_for}
-use Rattle.flight_sockets.specs.Outgoing.{Comes, OutboxState, Posts, Sends}
+use Rattle.flight_sockets.specs.Moves.{Datagram, Moves}
+use Rattle.flight_sockets.specs.Outgoing.{OutboxState, Posts}
 
 -- the visible state of a worker; each counter stops at 2^64 - 1
 pub record WorkerState (S : Type 0) : Type 0 where
@@ -13,10 +17,12 @@ pub record WorkerState (S : Type 0) : Type 0 where
   pub failures : ℕ  -- how many turns failed
   pub outbox : OutboxState S  -- the socket of the service, and the replies that wait to be sent by it
   pub counts : Counts  -- the counters of clients and exchanges
+  pub clock : ClockState  -- the clock by which exchanges are timed
+  pub reported : List Event  -- what the poll reported last
 
 -- a worker that has taken no query yet
-abbrev pub fresh_worker : {S : Type 0} → S → ℕ → WorkerState S
-fresh_worker socket port = record { server_port = port; taken = 0; failures = 0; outbox = record { socket = socket; waiting = [] }; counts = no_counts }
+abbrev pub fresh_worker : {S : Type 0} → S → ℕ → Instant → WorkerState S
+fresh_worker socket port start = record { server_port = port; taken = 0; failures = 0; outbox = record { socket = socket; waiting = [] }; counts = no_counts; clock = record { start = start; last = 0 }; reported = [] }
 
 -- Each query that waited, or was taken between two states of a worker, now waits or was settled once. Each exchange that began is under way for one of those that wait, or ended once.
 pub record AllAddUp {S : Type 0} (waiting : ℕ) (old : WorkerState S) (waiting' : ℕ) (new : WorkerState S) : Type 0 where
@@ -24,17 +30,18 @@ pub record AllAddUp {S : Type 0} (waiting : ℕ) (old : WorkerState S) (waiting'
   pub exchanges : waiting' + new.counts.ended + old.counts.opened ≡ waiting + old.counts.ended + new.counts.opened
 
 -- Just these ends of datagrams lie between two states of a worker, and nothing leaves but what leaves for them. Each query that waited or was taken now waits, or ends once, unless the count of those that were taken reached its last value. The counts add up, unless a counter did. Before, and after, so many clients wait.
-pub record Accounts {S : Type 0} (comes : Comes) (sends : Sends S) (waiting : ℕ) (old : WorkerState S) (waiting' : ℕ) (new : WorkerState S) : Type 0 where
-  pub ends : List (Ending comes)
-  pub left : Posts sends (leaving_for ends) old.outbox new.outbox
+pub record Accounts {S : Type 0} (takes sends : Moves S) (waiting : ℕ) (old : WorkerState S) (waiting' : ℕ) (new : WorkerState S) : Type 0 where
+  pub came : List Datagram
+  pub ends : List (Ending takes)
+  pub left : Posts takes sends came (leaving_for ends) old.outbox new.outbox
   pub once : (waiting' + clients_in ends + old.taken ≡ waiting + new.taken) ⊎ (2 ^ 64 - 1 ≤ new.taken)
   pub taken : old.taken ≤ new.taken
   pub never_fall : NeverFall old.counts new.counts
   pub add_up : AllAddUp waiting old waiting' new ⊎ (IsFull new.counts ⊎ (2 ^ 64 - 1 ≤ new.taken))
 
 -- A worker went on with its questions in flight: each is accounted for, the limit of exchanges is kept, and no turn failed.
-pub record GoesOn {S : Type 0} (comes : Comes) (sends : Sends S) (flight : FlightState) (old : WorkerState S) (flight' : FlightState) (new : WorkerState S) : Type 0 where
-  pub accounts : Accounts comes sends (outstanding flight) old (outstanding flight') new
+pub record GoesOn {S : Type 0} (takes sends : Moves S) (flight : FlightState) (old : WorkerState S) (flight' : FlightState) (new : WorkerState S) : Type 0 where
+  pub accounts : Accounts takes sends (outstanding flight) old (outstanding flight') new
   pub within : outstanding flight ≤ flight.limit → outstanding flight' ≤ flight.limit
   pub limit : flight'.limit ≡ flight.limit
   pub failures : new.failures ≡ old.failures

@@ -3,6 +3,8 @@ pub mod Begun
 pub mod Descriptors
 pub mod Endings
 pub mod Exchanges
+pub mod Looked
+pub mod Moves
 pub mod Outgoing
 pub mod Patience
 pub mod Pauses

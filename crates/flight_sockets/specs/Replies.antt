@@ -1,5 +1,5 @@
 -- The octets that may come as the reply of a name server.
-use Rattle.std.specs.Prelude.{◌≡◌, ◌≤◌, ℕ, Option, List, length}
+use Rattle.std.specs.Prelude.{◌≡◌, ◌≤◌, ℕ, Option, Some, None, List, length}
 use Rattle.std.specs.declared.net.SocketAddr.{SocketAddr}
 use Rattle.front_workers.specs.declared.limits.TheConstants.{MOST_MESSAGE}
 use Rattle.dns_sockets.specs.Asked.{IsAskedAt}
@@ -7,6 +7,8 @@ use Rattle.dns_sockets.specs.Fits.{Fits}
 use Rattle.dns_sockets.specs.Line.{LineState}
 use Rattle.dns_sockets.specs.Place.{IsPlaceOf}
 use Rattle.front_workers.specs.Framing.{framed}
+use Rattle.flight.specs.declared.outside.Listened.{Listened}
+use Rattle.flight.specs.declared.outside.Listened.TheVariants.{Came}
 use Rattle.flight.specs.Flight.{Sent}
 
 -- Octets that fit a query, and are no longer than a message may be.
@@ -22,3 +24,14 @@ abbrev pub IsServerReply : {S C : Type 0} → (S → SocketAddr → Type 0) → 
     → Sent → List ℕ → Type 0
 IsServerReply opened sent came connected contents remaining asked octets =
     IsReply asked.query octets × ((place : SocketAddr) × IsPlaceOf asked.server place × IsAskedAt opened sent came connected contents remaining asked.over place asked.query octets)
+
+-- What may come of a query: a reply of the server's. Of a query that got none nothing is said.
+abbrev pub MayCome : {S C : Type 0} → (S → SocketAddr → Type 0) → (S → List ℕ → Type 0) → (S → List ℕ → Type 0) → (C → SocketAddr → Type 0) → (C → Option (List ℕ)) → (C → Option (List ℕ))
+    → Sent → Option (List ℕ) → Type 0
+MayCome opened sent came connected contents remaining asked (Some octets) = IsServerReply opened sent came connected contents remaining asked octets
+MayCome opened sent came connected contents remaining asked None = Unit {0}
+
+-- If octets came, they are such.
+abbrev pub IfCame : (List ℕ → Type 0) → Listened → Type 0
+IfCame are (Came octets) = are octets
+IfCame are _ = Unit {0}

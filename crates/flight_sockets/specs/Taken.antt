@@ -10,7 +10,7 @@ use Rattle.flight_sockets.specs.declared.inbox.Arrival.{Arrival}
 use Rattle.flight_sockets.specs.declared.inbox.Arrival.TheVariants.{Passed, TooLong, Query}
 
 -- Of the datagram at the front of a room: it cannot be answered, or there is none; or it is too long, from this peer; or it makes this client, which was taken before the desk knew of any later call than so many.
-abbrev pub IsTakenFrom : List ℕ → Option Came → ℕ → Arrival → Type 0
+abbrev pub IsTakenFrom : {S : Type 0} → List ℕ → Option Came → ℕ → Arrival S → Type 0
 IsTakenFrom room came since Passed = IfSome came (λ c. ¬ (IsAnswerable c.peer c.count))
 IsTakenFrom room came since (TooLong peer) = (count : ℕ) × (MOST_DATAGRAM < count) × (came ≡ Some (record { peer = peer; count = count }))
 IsTakenFrom room came since (Query client) = (client.room.value ≡ room) × (client.since ≡ since) × IsAnswerable client.came.peer client.came.count × (came ≡ Some client.came)

@@ -1,27 +1,31 @@
 //! The client of a datagram, which waits for its reply.
 
-ghost use Rattle.std.specs.Prelude.{◌≡◌, ◌≤◌, take};
+ghost use Rattle.std.specs.Prelude.{◌≡◌, ◌≤◌};
 ghost use Rattle.front_workers.specs.declared.limits.TheConstants.{MOST_DATAGRAM};
 
+use crate::service_socket::ServiceSocket;
 use flight::{Client, Numbered};
 use front_workers::{Came, DATAGRAM_ROOM, MOST_DATAGRAM};
+use std::marker::PhantomData;
 use std::net::SocketAddr;
 use std::snapshot::Snapshot;
 
 /// The client of a datagram, which waits for its reply. A worker makes one client of each datagram.
 #[derive(Drop)]
-pub(crate) struct UdpClient {
+pub(crate) struct UdpClient<S> {
     came: Came,
     /// The room whose front the datagram filled.
     room: Snapshot<[u8; DATAGRAM_ROOM]>,
     /// The number of the latest call that the worker's desk knew of when this client was made.
     since: u64,
+    /// Its datagram came in at such a socket.
+    socket: PhantomData<S>,
     ghost within: { came.count ≤ MOST_DATAGRAM },
 }
 
-impl UdpClient {
+impl<S> UdpClient<S> {
     /// The client whose datagram fills the front of the room. The datagram came before this desk made a later call.
-    pub fn new<D: Numbered>(came: Came, room: &[u8; DATAGRAM_ROOM], desk: &D) -> UdpClient
+    pub fn new<D: Numbered>(came: Came, room: &[u8; DATAGRAM_ROOM], desk: &D) -> UdpClient<S>
         requires { came.count ≤ MOST_DATAGRAM }
         ensures came { result.came ≡ came }
         ensures room { result.room.value ≡ room.now }
@@ -31,6 +35,7 @@ impl UdpClient {
             came,
             room: Snapshot::of(room),
             since: desk.seen(),
+            socket: PhantomData,
         }
     }
 
@@ -50,9 +55,11 @@ impl UdpClient {
     }
 }
 
-impl Client for UdpClient {
-    // It sent the octets that its datagram put into the room.
-    ghost sent = { λ client octets. octets ≡ take client.came.count client.room.value };
+impl<S: ServiceSocket> Client for UdpClient<S> {
+    ghost use Rattle.flight_sockets.specs.Outgoing.{IsSentBy};
+
+    // It sent the octets that its datagram put into the room, and they came from its peer.
+    ghost sent = { IsSentBy S.takes };
 
     ghost since = { λ client. client.since };
 

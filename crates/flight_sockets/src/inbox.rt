@@ -1,9 +1,10 @@
 //! The datagrams that have come in.
 
-ghost use Rattle.std.specs.Prelude.{◌≡◌, ◌⊎◌, ◌≤◌, false, true, IfErr, IfOk, IfSome, IsSome, OnErr, take, vec_len};
+ghost use Rattle.std.specs.Prelude.{◌≡◌, ◌⊎◌, ◌≤◌, false, true, IfErr, IfOk, IfSome, IsSome, IsSomeAnd, OnErr, map, take, vec_len};
 ghost use Rattle.std.specs.IoError.{error_kind};
 ghost use Rattle.std.specs.List.{AllWithin};
 ghost use Rattle.flight_sockets.specs.declared.inbox.TheConstants.{BATCH};
+ghost use Rattle.flight_sockets.specs.Moves.{CameBy};
 ghost use Rattle.flight_sockets.specs.Taken.{IsTakenFrom, OnFault};
 
 use crate::client::UdpClient;
@@ -23,13 +24,13 @@ use std::net::SocketAddr;
 pub(crate) const BATCH: usize = 32;
 
 /// A datagram, sorted by what the worker does with it.
-pub(crate) enum Arrival {
+pub(crate) enum Arrival<S> {
     /// No reply can reach its sender, or it is empty.
     Passed,
     /// It is longer than a query may be. This is its sender.
     TooLong(SocketAddr),
     /// It is read whole, and may be answered.
-    Query(UdpClient),
+    Query(UdpClient<S>),
 }
 
 /// A room for one datagram.
@@ -39,7 +40,7 @@ pub(crate) struct Slot<S: ServiceSocket> {
     came: Option<Came>,
     pub(crate) room: [u8; DATAGRAM_ROOM],
     socket: PhantomData<S>,
-    ghost came_so: { ∥ IfSome came (λ c. S.came c.peer (take c.count room)) ∥₁ },
+    ghost came_so: { ∥ IfSome came (λ c. CameBy S.takes c.peer (take c.count room)) ∥₁ },
 }
 
 impl<S: ServiceSocket> Slot<S> {
@@ -53,8 +54,10 @@ impl<S: ServiceSocket> Slot<S> {
     }
 
     /// Takes the next datagram of a socket.
-    fn fill(&mut self, socket: &S) -> io::Result<()>
+    fn fill(&mut self, socket: &mut S) -> io::Result<()>
         ensures filled { IfOk result (λ _. IsSome self.new.came) }
+        ensures took { IfOk result (λ _. IsSomeAnd self.new.came (λ c. S.takes socket.old c.peer (take c.count self.new.room) socket.new)) }
+        ensures none { OnErr result (socket.new ≡ socket.old) }
         ensures drained { IfErr result (λ error. error_kind error ≡ ErrorKind.WouldBlock → S.drained) }
         ensures interrupted { IfErr result (λ error. error_kind error ≡ ErrorKind.Interrupted → S.interrupted) }
         ensures failed { IfErr result (OnFault S.failed) }
@@ -66,7 +69,7 @@ impl<S: ServiceSocket> Slot<S> {
     }
 
     /// Sorts the datagram that has come, before this desk makes a later call.
-    pub fn taken<D: Numbered>(&self, desk: &D) -> Arrival
+    pub fn taken<D: Numbered>(&self, desk: &D) -> Arrival<S>
         ensures { IsTakenFrom self.now.room self.now.came (D.seen desk.now) result }
     {
         let Some(came) = self.came else {
@@ -94,6 +97,9 @@ pub(crate) struct Inbox<S: ServiceSocket> {
 }
 
 impl<S: ServiceSocket> Inbox<S> {
+    ghost use Rattle.flight_sockets.specs.Begun.{arrived, fronts_of};
+    ghost use Rattle.flight_sockets.specs.Moves.{AllMoved};
+
     /// An empty inbox.
     pub fn new(alloc: Global) -> Result<Inbox<S>, NoMemory>
         ensures { IfOk result (λ inbox. inbox.filled ≡ 0) }
@@ -106,11 +112,13 @@ impl<S: ServiceSocket> Inbox<S> {
     }
 
     /// Takes datagrams of a socket until it has none, or the inbox is full. Returns whether the socket may have more.
-    pub fn fill(&mut self, socket: &S) -> io::Result<bool>
+    pub fn fill(&mut self, socket: &mut S) -> io::Result<bool>
+        requires empty { self.old.filled ≡ 0 }
+        ensures took { AllMoved S.takes (fronts_of (map (λ slot. arrived slot.came slot.room) (take self.new.filled self.new.slots.items)))
+            socket.old socket.new }
         ensures drained { IfOk result (λ more. more ≡ false → S.drained) }
         ensures full { IfOk result (λ more. more ≡ true → S.interrupted ⊎ (self.new.filled ≡ BATCH)) }
         ensures failed { OnErr result S.failed }
-        ensures keeps { self.old.filled ≤ self.new.filled }
     {
         while self.filled < BATCH {
             match self.slots[self.filled].fill(socket) {

@@ -2,7 +2,8 @@
 
 ghost use Rattle.std.specs.Prelude.{◌≡◌, [], ◌∷◌, map};
 ghost use Rattle.flight.specs.Told.{octets_of};
-ghost use Rattle.flight_sockets.specs.Outgoing.{AllSent, Posts, datagram_of, datagram_to};
+ghost use Rattle.flight_sockets.specs.Moves.{AllMoved, datagram_to};
+ghost use Rattle.flight_sockets.specs.Outgoing.{Posts, datagram_of};
 
 use crate::buffers::Buffers;
 use crate::fault_line::cause_of;
@@ -46,7 +47,7 @@ fn send_one<R: Log, S: ServiceSocket>(rt: &R, socket: &mut S, outgoing: &Outgoin
 
 /// Sends each reply, in order.
 fn send_each<R: Log, S: ServiceSocket>(rt: &R, socket: &mut S, waiting: &[Outgoing])
-    ensures { AllSent S.sends (map datagram_of waiting.now) socket.old socket.new }
+    ensures { AllMoved S.sends (map datagram_of waiting.now) socket.old socket.new }
 {
     for outgoing in waiting {
         send_one(rt, socket, outgoing);
@@ -75,7 +76,7 @@ impl<S: ServiceSocket> Outbox<S> {
     /// Sends each reply that waits, in order. Then none waits.
     pub fn flush<R: Log>(&mut self, rt: &R)
         ensures none { self.new.waiting ≡ [] }
-        ensures posts { Posts S.sends [] self.old self.new }
+        ensures posts { Posts S.takes S.sends [] [] self.old self.new }
     {
         send_each(rt, &mut self.socket, &self.waiting);
         self.buffers.keep_each(&mut self.waiting);
@@ -83,7 +84,7 @@ impl<S: ServiceSocket> Outbox<S> {
 
     /// Sends a reply with the next batch. If there is no memory for it to wait, those that wait leave at once, and it follows.
     pub fn post<R: Log>(&mut self, rt: &R, peer: SocketAddr, reply: ReplyOctets)
-        ensures { Posts S.sends (datagram_to peer (octets_of reply) ∷ []) self.old self.new }
+        ensures { Posts S.takes S.sends [] (datagram_to peer (octets_of reply) ∷ []) self.old self.new }
     {
         let Err(failed) = self.waiting.push(Outgoing { peer, reply }) else {
             return;

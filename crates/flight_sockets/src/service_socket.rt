@@ -1,6 +1,6 @@
 //! The socket of the service: queries come in at it, and replies go out by it.
 
-ghost use Rattle.std.specs.Prelude.{◌≡◌, ℕ, List, ◌≤◌, length, take, IfOk, IfErr};
+ghost use Rattle.std.specs.Prelude.{◌≡◌, ℕ, List, ◌≤◌, length, take, IfOk, IfErr, OnErr};
 ghost use Rattle.std.specs.IoError.{error_kind};
 ghost use Rattle.std.specs.declared.net.SocketAddr.{SocketAddr};
 ghost use Rattle.flight_sockets.specs.Taken.{OnFault};
@@ -12,8 +12,8 @@ use std::net::SocketAddr;
 
 /// The socket of the service. Its calls never wait: they return `WouldBlock` instead.
 pub trait ServiceSocket: Drop {
-    /// A datagram came from this peer.
-    ghost came: { SocketAddr → List ℕ → Type 0 };
+    /// Exactly one datagram was taken: the socket before, its peer, its octets, the socket after.
+    ghost takes: { Self → SocketAddr → List ℕ → Self → Type 0 };
 
     /// A call found no datagram.
     ghost drained: { Type 0 };
@@ -29,9 +29,10 @@ pub trait ServiceSocket: Drop {
 
     /// Takes the next datagram. Returns how many octets of the room it fills, and its sender. Octets that do not fit the room
     /// are lost.
-    fn take_datagram(&self, room: &mut [u8]) -> io::Result<(usize, SocketAddr)>
+    fn take_datagram(&mut self, room: &mut [u8]) -> io::Result<(usize, SocketAddr)>
         ensures within { IfOk result (λ r. r.0 ≤ length room.new) }
-        ensures came { IfOk result (λ r. came r.1 (take r.0 room.new)) }
+        ensures took { IfOk result (λ r. takes self.old r.1 (take r.0 room.new) self.new) }
+        ensures none { OnErr result (self.new ≡ self.old) }
         ensures drained { IfErr result (λ error. error_kind error ≡ ErrorKind.WouldBlock → drained) }
         ensures interrupted { IfErr result (λ error. error_kind error ≡ ErrorKind.Interrupted → interrupted) }
         ensures failed { IfErr result (OnFault failed) };
@@ -43,7 +44,7 @@ pub trait ServiceSocket: Drop {
 
 impl ServiceSocket for UdpSocket {
     // Nothing is known of what comes.
-    ghost came = { λ _ _. Unit {0} };
+    ghost takes = { λ _ _ _ _. Unit {0} };
 
     ghost drained = { Unit {0} };
 
@@ -54,7 +55,7 @@ impl ServiceSocket for UdpSocket {
     // Nor of what leaves.
     ghost sends = { λ _ _ _ _. Unit {0} };
 
-    fn take_datagram(&self, room: &mut [u8]) -> io::Result<(usize, SocketAddr)> {
+    fn take_datagram(&mut self, room: &mut [u8]) -> io::Result<(usize, SocketAddr)> {
         self.recv_from(room)
     }
 

@@ -4,17 +4,18 @@ ghost use Rattle.std.specs.Prelude.{◌≡◌, length, IfOk, OnErr, OnOk};
 ghost use Rattle.front_workers.specs.declared.limits.TheConstants.{MOST_MESSAGE};
 ghost use Rattle.dns_sockets.specs.Own.{MayAskServer};
 ghost use Rattle.flight.specs.declared.outside.Listened.TheVariants.{Nothing};
+ghost use Rattle.flight.specs.Counted.{CountsOpened};
 ghost use Rattle.flight.specs.Flight.{query_to};
 ghost use Rattle.flight.specs.Told.{IsHeard};
 ghost use Rattle.flight_sockets.specs.Exchanges.{IsNotToBeHad, IsQuiet};
-ghost use Rattle.flight_sockets.specs.Replies.{IsServerReply};
+ghost use Rattle.flight_sockets.specs.Replies.{MayCome};
 
 use crate::fault_line::log_exchange;
 use crate::transport::Way;
 use dns_query::Over;
 use dns_sockets::{ReadyNet, TcpLine, UdpLine, place_of};
 use dns_text::{Addr, Octets, Shared};
-use flight::{InFlight, Listened};
+use flight::{Counts, InFlight, Listened};
 use log::Log;
 use mio::{Registry, Token};
 use std::alloc::Global;
@@ -51,8 +52,12 @@ impl<R: ReadyNet> Model for SocketLine<R> {
 impl<R: ReadyNet> InFlight for SocketLine<R> {
     ghost asked = { λ line. line.asked };
 
-    // Octets that fit the query and came from the server's address, over the same transport, after the query.
-    ghost hears = { IsServerReply R.Datagrams.opened R.Datagrams.sent R.Datagrams.came
+    // The poll reports its socket under this key.
+    ghost key = { λ line. line.token.0 };
+
+    // Octets that fit the query and came from the server's address, over the same transport, after the query. Of a query that got
+    // no reply nothing is said.
+    ghost hears = { MayCome R.Datagrams.opened R.Datagrams.sent R.Datagrams.came
         R.Connection.connected R.Connection.contents R.Connection.remaining };
 
     fn server(&self) -> Addr {
@@ -62,7 +67,7 @@ impl<R: ReadyNet> InFlight for SocketLine<R> {
 
 impl<R: ReadyNet> SocketLine<R> {
     /// Sends a query, or begins to connect, and has the poll watch the socket. The service listens at `service`, and queries
-    /// neither itself nor an address that belongs to no host.
+    /// neither itself nor an address that belongs to no host. An exchange that begins is counted here, where its socket is opened.
     pub fn open(
         rt: &R,
         alloc: Global,
@@ -72,9 +77,12 @@ impl<R: ReadyNet> SocketLine<R> {
         server: &Addr,
         over: Over,
         query: Shared<Octets>,
+        counts: &mut Counts,
     ) -> io::Result<SocketLine<R>>
         ensures asked { IfOk result (λ line. line.asked ≡ query_to server.now over query) }
         ensures token { IfOk result (λ line. line.token ≡ token) }
+        ensures opened { OnOk result (CountsOpened counts.old counts.new) }
+        ensures unopened { OnErr result (counts.new ≡ counts.old) }
         ensures may_ask { OnOk result (MayAskServer R.Datagrams.opened R.Datagrams.is_at R.Connection.connected R.Connection.is_at
             over service server.now) }
         ensures failed { OnErr result (IsNotToBeHad R.failed R.Datagrams.opened R.Datagrams.is_at R.Datagrams.failed
@@ -88,6 +96,7 @@ impl<R: ReadyNet> SocketLine<R> {
                 rt, alloc, registry, token, service, place, octets,
             )?),
         };
+        counts.open();
         Ok(SocketLine {
             server: *server,
             over,
@@ -120,7 +129,7 @@ impl<R: ReadyNet> SocketLine<R> {
     /// Reads and writes as far as the socket allows.
     pub fn hear(&mut self, alloc: Global, registry: &Registry, room: &mut [u8]) -> Listened
         requires { length room.old ≡ MOST_MESSAGE }
-        ensures heard { IsHeard (IsServerReply R.Datagrams.opened R.Datagrams.sent R.Datagrams.came
+        ensures heard { IsHeard (MayCome R.Datagrams.opened R.Datagrams.sent R.Datagrams.came
             R.Connection.connected R.Connection.contents R.Connection.remaining self.old.asked) result }
         ensures nothing { result ≡ Nothing → IsQuiet R.Datagrams.sent R.Datagrams.drained R.Datagrams.reported_again self.old }
         ensures kept { self.new ≡ self.old }

@@ -5,7 +5,7 @@ ghost use Rattle.front_workers.specs.declared.limits.TheConstants.{MOST_MESSAGE}
 ghost use Rattle.flight.specs.declared.outside.Listened.TheVariants.{Nothing};
 ghost use Rattle.flight.specs.Told.{IsHeard};
 ghost use Rattle.flight_sockets.specs.Exchanges.{ExchangeState, HasNoneYet, IsUnderWay, OnUnbroken, WentOn};
-ghost use Rattle.flight_sockets.specs.Replies.{IsServerReply, IsWholeReply};
+ghost use Rattle.flight_sockets.specs.Replies.{IfCame, IsWholeReply, MayCome};
 
 use dns_sockets::{ReadyConnection, ReadySocket, TcpLine, UdpLine, fits};
 use dns_text::Octets;
@@ -25,7 +25,7 @@ pub(crate) enum Way<S, C> {
 
 /// A copy of the octets of a reply.
 fn came(alloc: Global, reply: &[u8]) -> Listened
-    ensures heard { IsHeard (λ octets. octets ≡ reply.now) result }
+    ensures heard { IfCame (λ octets. octets ≡ reply.now) result }
     ensures ended { result ≢ Nothing }
 {
     match Vec::from_slice(alloc, reply) {
@@ -44,7 +44,7 @@ fn hear_tcp<C: ReadyConnection>(
     requires { 0 < length room.old }
     ensures asks { line.new.asks ≡ line.old.asks }
     ensures went { OnUnbroken result (WentOn C.contents C.remaining line.old line.new) }
-    ensures heard { IsHeard (IsWholeReply query.now line.new) result }
+    ensures heard { IfCame (IsWholeReply query.now line.new) result }
 {
     match line.go_on(room) {
         Ok(false) => Listened::Nothing,
@@ -79,7 +79,7 @@ impl<S: ReadySocket, C: ReadyConnection> Way<S, C> {
         requires { length room.old ≡ MOST_MESSAGE }
         ensures heard { (exchange : ExchangeState) → exchange.asked.query ≡ query.now
             → IsUnderWay S.opened S.reported S.sent C.connected C.reported C.contents C.remaining exchange self.old
-            → IsHeard (IsServerReply S.opened S.sent S.came C.connected C.contents C.remaining exchange.asked) result }
+            → IsHeard (MayCome S.opened S.sent S.came C.connected C.contents C.remaining exchange.asked) result }
         ensures nothing { result ≡ Nothing → HasNoneYet S.drained S.reported_again token self.old }
         ensures goes_on { result ≡ Nothing → (exchange : ExchangeState)
             → IsUnderWay S.opened S.reported S.sent C.connected C.reported C.contents C.remaining exchange self.old

@@ -1,15 +1,17 @@
 //! The turns of a worker. In each it waits, goes on with its exchanges, and takes datagrams.
 
-ghost use Rattle.std.specs.Prelude.{◌≡◌, ◌≤◌, [], false, map, take, IfOk, OnErr};
+ghost use Rattle.std.specs.Prelude.{◌≡◌, ◌≤◌, [], false, map, take, IfOk, OnErr, OnOk};
 ghost use Rattle.std.specs.Duration.{as_nanos};
 ghost use Rattle.front_workers.specs.Counts.{Rises};
+ghost use Rattle.mio.specs.Events.{items};
 ghost use Rattle.dns_sockets.specs.Moments.{millis_at, IsRead};
 ghost use Rattle.flight.specs.declared.table.TheConstants.{PATIENCE};
-ghost use Rattle.flight.specs.Waiting.{IsAccounted, outstanding, time_left};
+ghost use Rattle.flight.specs.Waiting.{EarlyGoOn, IsAccounted, IsPatient, outstanding, time_left};
 ghost use Rattle.flight_sockets.specs.Accounts.{GoesOn, fresh_worker};
-ghost use Rattle.flight_sockets.specs.Begun.{AllBegin, BatchBegins, IsBegun, arrived};
+ghost use Rattle.flight_sockets.specs.Begun.{AllBegin, BatchBegins, IsBegun, Runs, TakesNone, arrived};
 ghost use Rattle.flight_sockets.specs.Endings.{Endings};
-ghost use Rattle.flight_sockets.specs.Patience.{patience_of};
+ghost use Rattle.flight_sockets.specs.Looked.{AllLookedAt, LooksAtAll};
+ghost use Rattle.flight_sockets.specs.Patience.{AreRead, EndsOverdue, IsReadOn, patience_of};
 ghost use Rattle.flight_sockets.specs.Taken.{IsQuery};
 
 use crate::client::UdpClient;
@@ -41,10 +43,10 @@ const MOST_TAKING: u64 = 10;
 const MOST_READY: usize = 16;
 
 /// The questions of a worker that are in flight.
-pub(crate) type Questions<D, C, G, R> = Flight<D, SocketLine<R>, C, G, UdpClient>;
+pub(crate) type Questions<D, C, G, R, S> = Flight<D, SocketLine<R>, C, G, UdpClient<S>>;
 
-/// The state of a worker between its turns. Contracts see its port of name servers, its counters, the socket of the service, and
-/// the replies that wait to be sent by it.
+/// The state of a worker between its turns. Contracts see its port of name servers, its counters, its clock, what its poll reported
+/// last, the socket of the service, and the replies that wait to be sent by it.
 #[derive(Drop)]
 pub(crate) struct Turns<'a, R, S: ServiceSocket> {
     sockets: WorkerSockets<'a, R, S>,
@@ -55,6 +57,7 @@ pub(crate) struct Turns<'a, R, S: ServiceSocket> {
 }
 
 impl<'a, R, S: ServiceSocket> Model for Turns<'a, R, S> {
+    ghost use Rattle.mio.specs.Events.{items};
     ghost use Rattle.flight_sockets.specs.Accounts.{WorkerState};
 
     ghost Value = { WorkerState S };
@@ -65,6 +68,8 @@ impl<'a, R, S: ServiceSocket> Model for Turns<'a, R, S> {
       failures = turns.failures;
       outbox = turns.sockets.outbox;
       counts = turns.sockets.counts;
+      clock = turns.clock;
+      reported = items turns.events;
     } };
 }
 
@@ -79,7 +84,7 @@ impl<'a, R: ReadyNet + Log + Elapsing, S: ServiceSocket> Turns<'a, R, S> {
         server_port: u16,
         start: Instant,
     ) -> Result<Turns<'a, R, S>, NoMemory>
-        ensures { IfOk result (λ turns. turns ≡ fresh_worker listener.socket server_port) }
+        ensures { IfOk result (λ turns. turns ≡ fresh_worker listener.socket server_port start) }
     {
         Ok(Turns {
             sockets: WorkerSockets::new(rt, tally, alloc, listener, server_port)?,
@@ -114,13 +119,13 @@ impl<'a, R: ReadyNet + Log + Elapsing, S: ServiceSocket> Turns<'a, R, S> {
     fn begin<D: Numbered, C: Clock, G: Rng>(
         &mut self,
         desk: &mut D,
-        questions: &mut Questions<D, C, G, R>,
+        questions: &mut Questions<D, C, G, R, S>,
         slot: &Slot<S>,
         now: u64,
     )
         ensures begun { IsQuery slot.now.came → Rises self.old.taken self.new.taken }
-        ensures goes_on { GoesOn S.came S.sends questions.old self.old questions.new self.new }
-        ensures just { IsBegun S.sends (D.seen desk.old) slot.now.came slot.now.room questions.old self.old questions.new self.new }
+        ensures goes_on { GoesOn S.takes S.sends questions.old self.old questions.new self.new }
+        ensures just { IsBegun S.takes S.sends (D.seen desk.old) slot.now.came slot.now.room questions.old self.old questions.new self.new }
     {
         match slot.taken(desk) {
             Arrival::Passed => {}
@@ -139,12 +144,12 @@ impl<'a, R: ReadyNet + Log + Elapsing, S: ServiceSocket> Turns<'a, R, S> {
     fn begin_each<D: Numbered, C: Clock, G: Rng>(
         &mut self,
         desk: &mut D,
-        questions: &mut Questions<D, C, G, R>,
+        questions: &mut Questions<D, C, G, R, S>,
         inbox: &Inbox<S>,
         now: u64,
     )
-        ensures goes_on { GoesOn S.came S.sends questions.old self.old questions.new self.new }
-        ensures begin { AllBegin S.sends (map (λ slot. arrived slot.came slot.room) (take inbox.now.filled inbox.now.slots.items))
+        ensures goes_on { GoesOn S.takes S.sends questions.old self.old questions.new self.new }
+        ensures begin { AllBegin S.takes S.sends (map (λ slot. arrived slot.came slot.room) (take inbox.now.filled inbox.now.slots.items))
             questions.old self.old questions.new self.new }
     {
         for slot in inbox.datagrams() {
@@ -157,15 +162,15 @@ impl<'a, R: ReadyNet + Log + Elapsing, S: ServiceSocket> Turns<'a, R, S> {
     fn take_batch<D: Numbered, C: Clock, G: Rng>(
         &mut self,
         desk: &mut D,
-        questions: &mut Questions<D, C, G, R>,
+        questions: &mut Questions<D, C, G, R, S>,
         inbox: &mut Inbox<S>,
         now: u64,
     ) -> io::Result<bool>
         ensures drained { IfOk result (λ more. more ≡ false → S.drained) }
         ensures failed { OnErr result S.failed }
-        ensures goes_on { GoesOn S.came S.sends questions.old self.old questions.new self.new }
+        ensures goes_on { GoesOn S.takes S.sends questions.old self.old questions.new self.new }
         ensures sent { self.new.outbox.waiting ≡ [] }
-        ensures begun { BatchBegins S.sends (map (λ slot. arrived slot.came slot.room) (take inbox.new.filled inbox.new.slots.items))
+        ensures begun { BatchBegins S.takes S.sends (map (λ slot. arrived slot.came slot.room) (take inbox.new.filled inbox.new.slots.items))
             questions.old self.old questions.new self.new }
     {
         inbox.clear();
@@ -181,13 +186,14 @@ impl<'a, R: ReadyNet + Log + Elapsing, S: ServiceSocket> Turns<'a, R, S> {
     fn take_datagrams<D: Numbered, C: Clock, G: Rng>(
         &mut self,
         desk: &mut D,
-        questions: &mut Questions<D, C, G, R>,
+        questions: &mut Questions<D, C, G, R, S>,
         inbox: &mut Inbox<S>,
     ) -> io::Result<bool>
         ensures drained { IfOk result (λ more. more ≡ false → S.drained) }
         ensures failed { OnErr result S.failed }
-        ensures goes_on { GoesOn S.came S.sends questions.old self.old questions.new self.new }
+        ensures goes_on { GoesOn S.takes S.sends questions.old self.old questions.new self.new }
         ensures sent { self.old.outbox.waiting ≡ [] → self.new.outbox.waiting ≡ [] }
+        ensures runs { Runs S.takes S.sends questions.old self.old questions.new self.new }
     {
         let begun = self.clock.millis();
         let mut now = begun;
@@ -203,15 +209,38 @@ impl<'a, R: ReadyNet + Log + Elapsing, S: ServiceSocket> Turns<'a, R, S> {
         Ok(true)
     }
 
+    /// Ends each exchange that is overdue, at a reading of the clock.
+    fn expire<D: Numbered, C: Clock, G: Rng>(
+        &mut self,
+        desk: &mut D,
+        questions: &mut Questions<D, C, G, R, S>,
+    )
+        ensures goes_on { GoesOn S.takes S.sends questions.old self.old questions.new self.new }
+        ensures no_more { outstanding questions.new ≤ outstanding questions.old }
+        ensures takes_none { TakesNone S.takes S.sends questions.old self.old questions.new self.new }
+        ensures read { IsRead R.passed self.old.clock self.new.clock }
+        ensures patient { IsPatient PATIENCE (millis_at self.new.clock.last) questions.new }
+        ensures early { EarlyGoOn PATIENCE (millis_at self.new.clock.last) questions.old questions.new }
+    {
+        let now = self.clock.millis();
+        self.sockets.set_now(now);
+        questions.expire(desk, &mut self.sockets, now);
+    }
+
     /// Goes on with the questions that wait: listens to their exchanges, and ends those that are overdue.
     fn go_on<D: Numbered, C: Clock, G: Rng>(
         &mut self,
         desk: &mut D,
-        questions: &mut Questions<D, C, G, R>,
+        questions: &mut Questions<D, C, G, R, S>,
     )
-        ensures goes_on { GoesOn S.came S.sends questions.old self.old questions.new self.new }
+        ensures goes_on { GoesOn S.takes S.sends questions.old self.old questions.new self.new }
         ensures no_more { outstanding questions.new ≤ outstanding questions.old }
         ensures sent { self.new.outbox.waiting ≡ [] }
+        ensures takes_none { TakesNone S.takes S.sends questions.old self.old questions.new self.new }
+        ensures read { IsReadOn R.passed self.old.clock self.new.clock }
+        ensures patient { IsPatient PATIENCE (millis_at self.new.clock.last) questions.new }
+        ensures looks { LooksAtAll self.old.reported (millis_at self.new.clock.last)
+            questions.old self.old.counts questions.new self.new.counts }
     {
         look_all(
             &self.events,
@@ -220,32 +249,46 @@ impl<'a, R: ReadyNet + Log + Elapsing, S: ServiceSocket> Turns<'a, R, S> {
             desk,
             questions,
         );
-        let now = self.clock.millis();
-        self.sockets.set_now(now);
-        questions.expire(desk, &mut self.sockets, now);
+        self.expire(desk, questions);
         self.sockets.flush();
     }
 
-    /// Waits for events, and handles them. It does not wait if the last turn left datagrams. Returns whether more datagrams may
-    /// be there.
-    #[tactic(auto, using(crate::proofs::Accounting::gone_on))]
-    pub fn turn<D: Numbered, C: Clock, G: Rng>(
+    /// Waits for events. It does not wait if the last turn left datagrams.
+    fn wait<D: Numbered, C: Clock, G: Rng>(
         &mut self,
-        desk: &mut D,
-        questions: &mut Questions<D, C, G, R>,
-        inbox: &mut Inbox<S>,
+        questions: &Questions<D, C, G, R, S>,
         were_left: bool,
-    ) -> io::Result<bool>
-        ensures drained { IfOk result (λ more. more ≡ false → S.drained) }
-        ensures goes_on { GoesOn S.came S.sends questions.old self.old questions.new self.new }
-        ensures sent { self.old.outbox.waiting ≡ [] → self.new.outbox.waiting ≡ [] }
+    ) -> io::Result<()>
+        ensures read { AreRead R.passed self.old.clock self.new.clock }
+        ensures taken { self.new.taken ≡ self.old.taken }
+        ensures counts { self.new.counts ≡ self.old.counts }
+        ensures outbox { self.new.outbox ≡ self.old.outbox }
+        ensures failures { self.new.failures ≡ self.old.failures }
     {
         let wait = if were_left {
             Duration::ZERO
         } else {
             patience(&mut self.clock, questions, glance())
         };
-        self.sockets.wait(&mut self.events, wait)?;
+        self.sockets.wait(&mut self.events, wait)
+    }
+
+    /// Waits for events, and handles them. It does not wait if the last turn left datagrams. Returns whether more datagrams may
+    /// be there.
+    pub fn turn<D: Numbered, C: Clock, G: Rng>(
+        &mut self,
+        desk: &mut D,
+        questions: &mut Questions<D, C, G, R, S>,
+        inbox: &mut Inbox<S>,
+        were_left: bool,
+    ) -> io::Result<bool>
+        ensures drained { IfOk result (λ more. more ≡ false → S.drained) }
+        ensures goes_on { GoesOn S.takes S.sends questions.old self.old questions.new self.new }
+        ensures sent { self.old.outbox.waiting ≡ [] → self.new.outbox.waiting ≡ [] }
+        ensures runs { Runs S.takes S.sends questions.old self.old questions.new self.new }
+        ensures overdue { OnOk result (EndsOverdue R.passed S.takes S.sends questions.old self.old questions.new self.new) }
+    {
+        self.wait(questions, were_left)?;
         self.go_on(desk, questions);
         // The event of the service's socket may come after those of many replies.
         self.take_datagrams(desk, questions, inbox)
@@ -254,9 +297,9 @@ impl<'a, R: ReadyNet + Log + Elapsing, S: ServiceSocket> Turns<'a, R, S> {
 
 /// The time that the next wait may take: at most `most`, and at most until an exchange is overdue.
 #[tactic(auto, using(crate::proofs::Durations::shorter_nanos))]
-fn patience<D: Numbered, C: Clock, G: Rng, R: ReadyNet + Elapsing>(
+fn patience<D: Numbered, C: Clock, G: Rng, R: ReadyNet + Elapsing, S: ServiceSocket>(
     clock: &mut MonotonicClock<'_, R>,
-    questions: &Questions<D, C, G, R>,
+    questions: &Questions<D, C, G, R, S>,
     most: Duration,
 ) -> Duration
     ensures read { IsRead R.passed clock.old clock.new }
@@ -275,13 +318,15 @@ fn look_all<D: Numbered, C: Clock, G: Rng, R: ReadyNet + Log + Elapsing, S: Serv
     sockets: &mut WorkerSockets<'_, R, S>,
     clock: &mut MonotonicClock<'_, R>,
     desk: &mut D,
-    questions: &mut Questions<D, C, G, R>,
+    questions: &mut Questions<D, C, G, R, S>,
 )
     ensures accounted { IsAccounted 0 (outstanding questions.old) sockets.old.counts (outstanding questions.new) sockets.new.counts }
-    ensures ends { Endings S.came S.sends 0 (outstanding questions.old) sockets.old.outbox (outstanding questions.new) sockets.new.outbox }
+    ensures ends { Endings S.takes S.sends 0 (outstanding questions.old) sockets.old.outbox (outstanding questions.new) sockets.new.outbox }
     ensures no_more { outstanding questions.new ≤ outstanding questions.old }
     ensures limit { questions.new.limit ≡ questions.old.limit }
     ensures in_time { sockets.new.counts.expired ≡ sockets.old.counts.expired }
+    ensures read { AreRead R.passed clock.old clock.new }
+    ensures looked { AllLookedAt (items events.now) questions.old sockets.old.counts questions.new sockets.new.counts }
 {
     for event in events.iter() {
         let token = event.token();

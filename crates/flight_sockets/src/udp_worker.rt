@@ -4,7 +4,9 @@ ghost use Rattle.std.specs.Prelude.{◌≡◌, ◌≤◌, [], ℕ, IfOk};
 ghost use Rattle.front_workers.specs.declared.limits.TheConstants.{MOST_FAILURES};
 ghost use Rattle.front_workers.specs.declared.work_end.WorkEnd.TheVariants.{Ended, Failing};
 ghost use Rattle.front_workers.specs.Working.{HasFailed};
+ghost use Rattle.flight.specs.Waiting.{FlightState};
 ghost use Rattle.flight_sockets.specs.Accounts.{Accounts, fresh_worker};
+ghost use Rattle.flight_sockets.specs.Begun.{Runs, none_in_flight};
 
 use crate::fault_line::cause_of;
 use crate::inbox::Inbox;
@@ -25,8 +27,8 @@ use std::marker::Model;
 use std::sync::Wait;
 use std::time::Instant;
 
-/// A worker that takes datagrams. Contracts see its port of name servers, its counters, the socket of the service, and the
-/// replies that wait to be sent by it.
+/// A worker that takes datagrams. Contracts see its port of name servers, its counters, its clock, the socket of the service, and
+/// the replies that wait to be sent by it.
 #[derive(Drop)]
 pub struct UdpWorker<'a, R, S: ServiceSocket = UdpSocket> {
     inbox: Inbox<S>,
@@ -52,7 +54,7 @@ impl<'a, R: ReadyNet + Log + Elapsing, S: ServiceSocket> UdpWorker<'a, R, S> {
         server_port: u16,
         start: Instant,
     ) -> Result<UdpWorker<'a, R, S>, NoMemory>
-        ensures { IfOk result (λ worker. worker ≡ fresh_worker listener.socket server_port) }
+        ensures { IfOk result (λ worker. worker ≡ fresh_worker listener.socket server_port start) }
     {
         Ok(UdpWorker {
             inbox: Inbox::new(alloc)?,
@@ -88,7 +90,9 @@ pub fn fly_udp<
 ) -> WorkEnd
     // Each query that was taken was settled once, and each exchange that began ended once, except those that wait at the end. One
     // datagram left for each query that got a reply, one for each datagram that is too long and was refused, and no other.
-    ensures accounts { (waiting : ℕ) × (waiting ≤ limit) × Accounts S.came S.sends 0 worker.old waiting worker.new }
+    ensures accounts { (waiting : ℕ) × (waiting ≤ limit) × Accounts S.takes S.sends 0 worker.old waiting worker.new }
+    // Each datagram that was taken began once, as a client of its own, and no other client came.
+    ensures runs { (flight : FlightState) × Runs S.takes S.sends (none_in_flight limit) worker.old flight worker.new }
     // No reply waits at the end.
     ensures unsent { worker.old.outbox.waiting ≡ [] → worker.new.outbox.waiting ≡ [] }
     ensures ended { result ≡ Ended → F.stopped }

@@ -1,6 +1,6 @@
 //! The sockets of one worker.
 
-ghost use Rattle.std.specs.Prelude.{◌≡◌, ◌⊎◌, ◌≤◌, [], ◌∷◌, false, length, true, vec_len, IfNone, IfOk, IfSome, OnErr, OnSome};
+ghost use Rattle.std.specs.Prelude.{◌≡◌, ◌⊎◌, ◌≤◌, [], ◌∷◌, false, length, map, take, true, vec_len, IfNone, IfOk, IfSome, OnErr, OnSome};
 ghost use Rattle.dns_sockets.specs.Own.{MayAskServer};
 ghost use Rattle.front_workers.specs.declared.limits.TheConstants.{MOST_MESSAGE};
 ghost use Rattle.front_workers.specs.Serves.{fault_octets};
@@ -10,9 +10,11 @@ ghost use Rattle.flight.specs.Flight.{query_to};
 ghost use Rattle.flight.specs.Told.{octets_of, IsHeard, Keeps};
 ghost use Rattle.flight_sockets.specs.Exchanges.{IsNotToBeHad, IsQuiet};
 ghost use Rattle.flight_sockets.specs.Endings.{IsTooLong, Refuses};
-ghost use Rattle.flight_sockets.specs.Outgoing.{OutboxState, Posts, PostsTo, datagram_to};
+ghost use Rattle.flight_sockets.specs.Begun.{arrived, fronts_of};
+ghost use Rattle.flight_sockets.specs.Moves.{AllMoved, datagram_to};
+ghost use Rattle.flight_sockets.specs.Outgoing.{OutboxState, Posts, PostsTo};
 ghost use Rattle.flight_sockets.specs.Pauses.{HeedsPause, IsPaused, Loses, NotesHeard};
-ghost use Rattle.flight_sockets.specs.Replies.{IsServerReply};
+ghost use Rattle.flight_sockets.specs.Replies.{MayCome};
 ghost use Rattle.flight_sockets.specs.declared.inbox.TheConstants.{BATCH};
 
 use crate::client::UdpClient;
@@ -116,7 +118,7 @@ impl<'a, R: Log, S: ServiceSocket> WorkerSockets<'a, R, S> {
 
     /// Sends a reply with the next batch, or at once if there is no memory for it to wait.
     fn send(&mut self, peer: SocketAddr, reply: ReplyOctets)
-        ensures posts { Posts S.sends (datagram_to peer (octets_of reply) ∷ []) self.old.outbox self.new.outbox }
+        ensures posts { Posts S.takes S.sends [] (datagram_to peer (octets_of reply) ∷ []) self.old.outbox self.new.outbox }
         ensures port { self.new.server_port ≡ self.old.server_port }
         ensures counts { self.new.counts ≡ self.old.counts }
     {
@@ -127,7 +129,7 @@ impl<'a, R: Log, S: ServiceSocket> WorkerSockets<'a, R, S> {
     /// Sends each reply that waits. Then none waits.
     pub fn flush(&mut self)
         ensures none { self.new.outbox.waiting ≡ [] }
-        ensures posts { Posts S.sends [] self.old.outbox self.new.outbox }
+        ensures posts { Posts S.takes S.sends [] [] self.old.outbox self.new.outbox }
         ensures port { self.new.server_port ≡ self.old.server_port }
         ensures counts { self.new.counts ≡ self.old.counts }
     {
@@ -154,21 +156,25 @@ impl<'a, R: Log, S: ServiceSocket> WorkerSockets<'a, R, S> {
     }
 
     /// Takes the datagrams that are there into an empty inbox, until it is full. Returns whether there may be more.
-    pub fn receive(&self, inbox: &mut Inbox<S>) -> io::Result<bool>
+    pub fn receive(&mut self, inbox: &mut Inbox<S>) -> io::Result<bool>
         requires empty { inbox.old.filled ≡ 0 }
+        ensures took { AllMoved S.takes (fronts_of (map (λ slot. arrived slot.came slot.room) (take inbox.new.filled inbox.new.slots.items)))
+            self.old.outbox.socket self.new.outbox.socket }
+        ensures waiting { self.new.outbox.waiting ≡ self.old.outbox.waiting }
+        ensures port { self.new.server_port ≡ self.old.server_port }
+        ensures counts { self.new.counts ≡ self.old.counts }
         ensures drained { IfOk result (λ more. more ≡ false → S.drained) }
         ensures full { IfOk result (λ more. more ≡ true → S.interrupted ⊎ (inbox.new.filled ≡ BATCH)) }
         ensures failed { OnErr result S.failed }
-        ensures keeps { inbox.old.filled ≤ inbox.new.filled }
     {
-        inbox.fill(&self.outbox.socket)
+        inbox.fill(&mut self.outbox.socket)
     }
 
     /// Sends FORMERR to the sender of a datagram that is too long, unless the datagram is itself a reply.
     pub fn refuse(&mut self, peer: SocketAddr, front: &[u8])
         requires header { 12 ≤ length front.now }
-        requires came { ∥ IsTooLong S.came peer front.now ∥₁ }
-        ensures refuses { Refuses S.sends peer front.now self.old.outbox self.new.outbox }
+        requires came { ∥ IsTooLong S.takes peer front.now ∥₁ }
+        ensures refuses { Refuses S.takes S.sends peer front.now self.old.outbox self.new.outbox }
         ensures port { self.new.server_port ≡ self.old.server_port }
         ensures counts { self.new.counts ≡ self.old.counts }
     {
@@ -197,7 +203,7 @@ impl<'a, D: Numbered, C: Clock, R: ReadyNet + Log, S: ServiceSocket> Outside<
     D,
     SocketLine<R>,
     C,
-    UdpClient,
+    UdpClient<S>,
 > for WorkerSockets<'a, R, S> {
     ghost server_port = { λ sockets. sockets.server_port };
 
@@ -208,7 +214,7 @@ impl<'a, D: Numbered, C: Clock, R: ReadyNet + Log, S: ServiceSocket> Outside<
     ghost outbox = { λ sockets. sockets.outbox };
 
     // To the address from which the client's datagram came.
-    ghost posts = { PostsTo S.sends };
+    ghost posts = { PostsTo S.takes S.sends };
 
     fn server_port(&self) -> u16 {
         self.server_port
@@ -225,13 +231,14 @@ impl<'a, D: Numbered, C: Clock, R: ReadyNet + Log, S: ServiceSocket> Outside<
         over: Over,
         query: Shared<Octets>,
     ) -> Option<SocketLine<R>>
-        // As for any `Outside`. Also, the exchange is reported under the key, and the service may ask that server. Over UDP
+        // As for any `Outside`. Also, the service may ask that server. Over UDP
         // there is an exchange unless the network failed, the address belongs to no host, the server is the service itself, or
         // the server is passed over.
         ensures asked { IfSome result (λ line. line.asked ≡ query_to server.now over query) }
+        ensures watched { IfSome result (λ line. line.token.0 ≡ key) }
         ensures opened { OnSome result (CountsOpened self.old.counts self.new.counts) }
         ensures unopened { IfNone result (self.new.counts ≡ self.old.counts) }
-        ensures reported { IfSome result (λ line. line.token.0 ≡ key) }
+        ensures unanswered { IfNone result (Unit {0}) }
         ensures keeps { Keeps (λ sockets. sockets.server_port) (λ sockets. sockets.outbox) self.old self.new }
         ensures may_ask { OnSome result (MayAskServer R.Datagrams.opened R.Datagrams.is_at R.Connection.connected
             R.Connection.is_at over self.old.place server.now) }
@@ -255,11 +262,9 @@ impl<'a, D: Numbered, C: Clock, R: ReadyNet + Log, S: ServiceSocket> Outside<
             server,
             over,
             query,
+            &mut self.counts,
         ) {
-            Ok(line) => {
-                self.counts.open();
-                Some(line)
-            }
+            Ok(line) => Some(line),
             Err(error) => {
                 self.tally.give_up();
                 if let Ok(asked) = asked {
@@ -273,9 +278,10 @@ impl<'a, D: Numbered, C: Clock, R: ReadyNet + Log, S: ServiceSocket> Outside<
 
     fn hear(&mut self, line: &mut SocketLine<R>) -> Listened
         // As for any `Outside`. Also, nothing is heard only of a quiet exchange, and a server that answered is not passed over.
-        ensures heard { IsHeard (IsServerReply R.Datagrams.opened R.Datagrams.sent R.Datagrams.came
+        ensures heard { IsHeard (MayCome R.Datagrams.opened R.Datagrams.sent R.Datagrams.came
             R.Connection.connected R.Connection.contents R.Connection.remaining line.old.asked) result }
         ensures asked { line.new.asked ≡ line.old.asked }
+        ensures watched { line.new.token.0 ≡ line.old.token.0 }
         ensures listened { CountsListened result self.old.counts self.new.counts }
         ensures keeps { Keeps (λ sockets. sockets.server_port) (λ sockets. sockets.outbox) self.old self.new }
         ensures nothing { result ≡ Nothing → IsQuiet R.Datagrams.sent R.Datagrams.drained R.Datagrams.reported_again line.old }
@@ -314,18 +320,18 @@ impl<'a, D: Numbered, C: Clock, R: ReadyNet + Log, S: ServiceSocket> Outside<
         line.log_failure(self.rt, self.alloc, "timed out");
     }
 
-    fn give(&mut self, client: UdpClient, _octets: &[u8], reply: ReplyOctets) {
+    fn give(&mut self, client: UdpClient<S>, _octets: &[u8], reply: ReplyOctets) {
         self.send(client.peer(), reply);
         self.counts.settle();
     }
 
-    fn fail(&mut self, client: UdpClient, octets: &[u8], why: Unserved) {
+    fn fail(&mut self, client: UdpClient<S>, octets: &[u8], why: Unserved) {
         self.send(client.peer(), report_of(octets, Rcode::SERVER_FAILURE));
         self.log(why);
         self.counts.settle();
     }
 
-    fn pass_over(&mut self, _client: UdpClient, _octets: &[u8]) {
+    fn pass_over(&mut self, _client: UdpClient<S>, _octets: &[u8]) {
         self.tally.pass_over();
         self.counts.settle();
     }

@@ -34,6 +34,7 @@ impl Client for Peer {
 /// An exchange.
 #[derive(Drop)]
 pub struct Wire {
+    key: usize,
     server: Addr,
     over: Over,
     query: Shared<Octets>,
@@ -41,6 +42,8 @@ pub struct Wire {
 
 impl InFlight for Wire {
     ghost asked = { λ wire. query_to wire.server wire.over wire.query };
+
+    ghost key = { λ wire. wire.key };
 
     ghost hears = { λ _ _. Unit {0} };
 
@@ -187,6 +190,7 @@ impl<D: Numbered> Outside<D, Wire, LineClock, Peer> for Sockets {
         }
         self.counts.open();
         Some(Wire {
+            key,
             server: *server,
             over,
             query,

@@ -1,22 +1,16 @@
-use Rattle.flight.proofs.Answering.{told_by, untold_by}
-use Rattle.flight.proofs.Settling.{settles_behind}
+use Rattle.std.proofs.Common.{inl, sym, subst}
+use Rattle.std.specs.Prelude.{None}
+use Rattle.dns_query.specs.declared.over.Over.TheVariants.{Udp}
+use Rattle.iterate.specs.declared.answer.Answer.{Answer}
+use Rattle.front_workers.specs.Serves.{Tells}
+use Rattle.flight.specs.Flight.{Lands}
+use Rattle.flight.specs.Told.{silent}
 use Rattle.flight.proofs.telling.tell.Goals as goal
 
-pub give-requires-clause-told : goal.give-requires-clause-told
-give-requires-clause-told g c =
-    let tells = rw c.in-Ok-Some.field-0-is at c.in-Ok-Some.ensures.tells in
-    rw c.buffer-buffer.ensures.keeps.port (told_by _ c.requires.good c.requires.lands tells)
-
 pub pass_over-requires-clause-untold : goal.pass_over-requires-clause-untold
-pass_over-requires-clause-untold g c =
-    let tells = rw c.in-Ok-None.field-0-is at c.in-Ok-None.ensures.tells in
-    rw c.buffer-buffer.ensures.keeps.port (untold_by _ c.requires.good c.requires.lands tells)
+pass_over-requires-clause-untold g c = silent c.requires.good (rw c.in-Silent.is at c.requires.lands)
 
-pub returns-in-Ok-Some : goal.returns-in-Ok-Some
-returns-in-Ok-Some g c = settles_behind c.buffer-buffer.ensures.keeps c.buffer-buffer.ensures.counts c.give.ensures
-
-pub returns-in-Ok-None : goal.returns-in-Ok-None
-returns-in-Ok-None g c = settles_behind c.buffer-buffer.ensures.keeps c.buffer-buffer.ensures.counts c.pass_over.ensures
-
-pub returns-in-Err : goal.returns-in-Err
-returns-in-Err g c = settles_behind c.buffer-buffer.ensures.keeps c.buffer-buffer.ensures.counts c.fail.ensures
+pub returns-in-Silent : goal.returns-in-Silent
+returns-in-Silent g c =
+    let tells = subst (λ (answer : Answer). Tells Udp c.args.octets.now c.args.query.now answer None) (sym c.in-Silent.is) tt in
+    (None, inl tells, c.pass_over.ensures)

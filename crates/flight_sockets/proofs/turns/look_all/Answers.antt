@@ -1,12 +1,14 @@
-use Rattle.std.proofs.Common.{◌∙◌, ap, arith, refl}
+use Rattle.std.proofs.Common.{◌∙◌, ap, arith, refl, rules}
 use Rattle.flight.specs.declared.counts.Counts.{Counts}
 use Rattle.flight_sockets.proofs.Accounting.{accounted_on, same_counts}
 use Rattle.flight_sockets.proofs.Posting.{endings_none, endings_of, endings_then, endings_within, posts_none}
+use Rattle.flight_sockets.specs.Patience.{once_more, unread}
+use Rattle.flight_sockets.proofs.Watching.{seen_on}
 use Rattle.flight_sockets.proofs.turns.look_all.Goals as goal
 
 pub loop-event-init : goal.loop-event-init
 loop-event-init g c =
-    record { so_far = same_counts _ _; ends = endings_none (posts_none refl) refl; no_more = omega arith; in_time = refl; limit = refl }
+    record { so_far = same_counts _ _; ends = endings_none (posts_none refl) refl; no_more = omega arith; in_time = refl; limit = refl; read = unread; looked = (refl, refl) }
 
 pub loop-event-preserved-then-ne : goal.loop-event-preserved-then-ne
 loop-event-preserved-then-ne g c =
@@ -18,4 +20,19 @@ loop-event-preserved-then-ne g c =
       no_more = omega (arith, loses.no_more, before.no_more);
       in_time = c.look.ensures.unexpired ∙ ap (λ (counts : Counts). counts.expired) c.set_now.ensures.counts ∙ before.in_time;
       limit = loses.limit ∙ before.limit;
+      read = once_more before.read c.millis-now.ensures.read;
+      looked = seen_on (λ event. event.now) _ _ _ _ _ _ _ _ before.looked (record { listens = λ _. rw c.token-token.ensures at (rw c.set_now.ensures.counts at c.look.ensures.listens); others = rw c.token-token.ensures at c.look.ensures.others; unexpired = c.look.ensures.unexpired ∙ ap (λ (counts : Counts). counts.expired) c.set_now.ensures.counts });
+    }
+
+pub loop-event-preserved : goal.loop-event-preserved
+loop-event-preserved g c =
+    let before = c.loop-event.invariant in
+    record {
+      so_far = before.so_far;
+      ends = before.ends;
+      no_more = before.no_more;
+      in_time = before.in_time;
+      limit = before.limit;
+      read = before.read;
+      looked = seen_on (λ event. event.now) _ _ _ _ _ _ _ _ before.looked (record { listens = λ differs. absurd (search rules); others = λ other since differs here. here; unexpired = refl });
     }

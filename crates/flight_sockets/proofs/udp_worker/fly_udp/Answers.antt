@@ -1,5 +1,7 @@
 use Rattle.std.proofs.Common.{rules, ◌∙◌, arith}
 use Rattle.flight_sockets.proofs.Accounting.{followed, failed, none_yet, not_failed, failed_more}
+use Rattle.flight_sockets.specs.Begun.{goes_on, stays}
+use Rattle.flight_sockets.proofs.Beginning.{rests, runs_then}
 use Rattle.flight_sockets.proofs.udp_worker.fly_udp.Goals as goal
 
 pub loop-preserved-in-Ok : goal.loop-preserved-in-Ok
@@ -8,6 +10,7 @@ loop-preserved-in-Ok g c =
     let within = c.turn-turned.ensures.goes_on.within (omega (arith, before.within, before.limit)) in
     record {
       so_far = followed _ _ _ _ _ _ before.so_far c.turn-turned.ensures.goes_on.accounts;
+      ran = runs_then before.ran c.turn-turned.ensures.runs;
       within = omega (arith, within, before.limit);
       limit = c.turn-turned.ensures.goes_on.limit ∙ before.limit;
       few = omega arith;
@@ -26,6 +29,11 @@ pub returns-then-failed-eq-MOST_FAILURES-clause-failing :
 returns-then-failed-eq-MOST_FAILURES-clause-failing g c =
     λ _. rw (← c.if-failed-eq-MOST_FAILURES.true) (failed_more _ _ _ _ _ c.loop.invariant.counted c.turn-turned.ensures.goes_on.failures c.count_failure.ensures.failures)
 
+pub returns-then-failed-eq-MOST_FAILURES-clause-runs :
+    goal.returns-then-failed-eq-MOST_FAILURES-clause-runs
+returns-then-failed-eq-MOST_FAILURES-clause-runs g c =
+    (_, goes_on (runs_then c.loop.invariant.ran c.turn-turned.ensures.runs) (rests _ _ _ c.count_failure.ensures.outbox c.count_failure.ensures.taken))
+
 pub loop-preserved : goal.loop-preserved
 loop-preserved g c =
     let before = c.loop.invariant in
@@ -33,6 +41,7 @@ loop-preserved g c =
     let turned = followed _ _ _ _ _ _ before.so_far c.turn-turned.ensures.goes_on.accounts in
     record {
       so_far = failed _ _ _ _ _ turned c.count_failure.ensures.taken c.count_failure.ensures.counts c.count_failure.ensures.outbox;
+      ran = goes_on (runs_then before.ran c.turn-turned.ensures.runs) (rests _ _ _ c.count_failure.ensures.outbox c.count_failure.ensures.taken);
       within = omega (arith, within, before.limit);
       limit = c.turn-turned.ensures.goes_on.limit ∙ before.limit;
       few = omega (arith, before.few, c.if-failed-eq-MOST_FAILURES.false);
@@ -44,6 +53,7 @@ pub loop-init : goal.loop-init
 loop-init g c =
     record {
       so_far = none_yet _ _ _ (search rules) (search rules);
+      ran = search (rules, stays);
       within = search rules;
       limit = search rules;
       few = search rules;

@@ -2,12 +2,14 @@ use Rattle.std.proofs.Common.{◌≡◌, ◌≤◌, ◌<◌, []}
 use Rattle.front_workers.specs.Working.{HasFailed}
 use Rattle.flight.specs.Waiting.{outstanding}
 use Rattle.flight_sockets.specs.Accounts.{Accounts}
+use Rattle.flight_sockets.specs.Begun.{Runs, none_in_flight}
 use Rattle.flight_sockets.proofs.udp_worker.fly_udp.Given as goal
 
 -- what was taken so far is accounted for, and so many turns have failed in a row
 abbrev pub invariant-loop : goal.invariant-loop
 invariant-loop g l = record {
-  so_far : Accounts g.S.ServiceSocket.came g.S.ServiceSocket.sends 0 l.fn.worker (outstanding l.questions) l.worker-inside.turns;
+  so_far : Accounts g.S.ServiceSocket.takes g.S.ServiceSocket.sends 0 l.fn.worker (outstanding l.questions) l.worker-inside.turns;
+  ran : Runs g.S.ServiceSocket.takes g.S.ServiceSocket.sends (none_in_flight l.fn.limit) l.fn.worker l.questions l.worker-inside.turns;
   within : outstanding l.questions ≤ l.fn.limit;
   limit : l.questions.limit ≡ l.fn.limit;
   few : l.failed < 16;

@@ -25,13 +25,13 @@ pub fail-requires-in-Err-clause-owed : goal.fail-requires-in-Err-clause-owed
 fail-requires-in-Err-clause-owed g c = good_is_told c.requires.good
 
 pub returns-then-seen-since : goal.returns-then-seen-since
-returns-then-seen-since g c = settled_now _ _ _ _ _ refl c.fail.ensures
+returns-then-seen-since g c = settled_now _ _ _ _ _ _ c.requires.own refl c.fail.ensures
 
 pub returns-in_default : goal.returns-in_default
-returns-in_default g c = settled_now _ _ _ _ _ c.self.view_is c.fail-in_default.ensures
+returns-in_default g c = settled_now _ _ _ _ _ _ c.requires.own c.self.view_is c.fail-in_default.ensures
 
 pub returns-in-Ok-Some : goal.returns-in-Ok-Some
-returns-in-Ok-Some g c = settled_now _ _ _ _ _ c.self.view_is c.tell.ensures.1
+returns-in-Ok-Some g c = settled_now _ _ _ _ _ _ c.requires.own c.self.view_is c.tell.ensures.2
 
 pub returns-in-Err : goal.returns-in-Err
-returns-in-Err g c = settled_now _ _ _ _ _ c.self.view_is c.fail-in-Err.ensures
+returns-in-Err g c = settled_now _ _ _ _ _ _ c.requires.own c.self.view_is c.fail-in-Err.ensures

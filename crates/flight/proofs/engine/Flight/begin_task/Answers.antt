@@ -10,7 +10,7 @@ drive-requires-clause-flies g c =
     (c.in-Ok-begun.ensures.steps ∙ ap (λ (question : Question). look_step question c.args.moment ∷ []) c.in-Ok.ensures)
 
 pub returns-in_default : goal.returns-in_default
-returns-in_default g c = settled_now _ _ _ _ _ refl c.fail.ensures
+returns-in_default g c = settled_now _ _ _ _ _ _ c.requires.own refl c.fail.ensures
 
 pub returns-in_default-begun : goal.returns-in_default-begun
-returns-in_default-begun g c = settled_now _ _ _ _ _ refl c.fail-in_default-begun.ensures
+returns-in_default-begun g c = settled_now _ _ _ _ _ _ c.requires.own refl c.fail-in_default-begun.ensures

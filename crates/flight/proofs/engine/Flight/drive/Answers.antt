@@ -40,7 +40,7 @@ loop-want-preserved g c =
     before.flies c.now-moment.ensures c.in-Ok.ensures.ok.steps c.in-Ok.ensures.ok.wants c.in-Ok.ensures.ok.drawn c.in-Send.is in
     record {
       asked = asked_on before.asked c.step.ensures.same.question c.step.ensures.same.port;
-      flies = flown is failed;
+      flies = flown is (failed c.in_default-open.ensures.failed);
       port = before.port ∙ sym c.open.ensures.keeps.port;
       known = before.known;
       client_kept = before.client_kept;
@@ -73,16 +73,16 @@ returns-in-Finish g c =
     let before = c.loop-want.invariant in
     let table = c.loop-want.self-inside.table in
     let state : FlightState = record { exchanges = table.jobs.slots; begun = map (λ wait. wait.since) table.waits.items; latest = table.latest; limit = table.limit } in
-    own_client before.client_kept (settled_there c.args.now c.args.self.now state c.args.outside.now c.loop-want.outside c.tell.new.outside before.keeps before.counts_kept
-    (same_state c.args.self.now state before.exchanges_kept before.begun_kept before.latest_kept before.limit_kept) c.tell.ensures.1)
+    own_client before.client_kept (settled_there c.args.now c.args.self.now state c.args.outside.now c.loop-want.outside c.tell.new.outside c.args.octets.now before.asked.own before.keeps before.counts_kept
+    (same_state c.args.self.now state before.exchanges_kept before.begun_kept before.latest_kept before.limit_kept) c.tell.ensures.2)
 
 pub returns-in_default : goal.returns-in_default
 returns-in_default g c =
     let before = c.loop-want.invariant in
     let table = c.loop-want.self-inside.table in
     let state : FlightState = record { exchanges = table.jobs.slots; begun = map (λ wait. wait.since) table.waits.items; latest = table.latest; limit = table.limit } in
-    own_client before.client_kept (settled_there c.args.now c.args.self.now state c.args.outside.now c.loop-want.outside c.refuse.new.outside before.keeps before.counts_kept
-    (same_state c.args.self.now state before.exchanges_kept before.begun_kept before.latest_kept before.limit_kept) c.refuse.ensures)
+    own_client before.client_kept (settled_there c.args.now c.args.self.now state c.args.outside.now c.loop-want.outside c.lack.new.outside c.args.octets.now before.asked.own before.keeps before.counts_kept
+    (same_state c.args.self.now state before.exchanges_kept before.begun_kept before.latest_kept before.limit_kept) c.lack.ensures)
 
 pub returns-in-Err : goal.returns-in-Err
 returns-in-Err g c =
@@ -90,8 +90,8 @@ returns-in-Err g c =
     let room = c.make_room.ensures in
     let table = c.make_room.new.self in
     let state : FlightState = record { exchanges = table.jobs.slots; begun = map (λ wait. wait.since) table.waits.items; latest = table.latest; limit = table.limit } in
-    own_client before.client_kept (settled_there c.args.now c.args.self.now state c.args.outside.now c.loop-want.outside c.refuse-in-Err.new.outside before.keeps before.counts_kept
-    (same_state c.args.self.now state (room.jobs ∙ before.exchanges_kept) (ap (map (λ wait. wait.since)) room.waits ∙ before.begun_kept) (room.latest ∙ before.latest_kept) (room.limit ∙ before.limit_kept)) c.refuse-in-Err.ensures)
+    own_client before.client_kept (settled_there c.args.now c.args.self.now state c.args.outside.now c.loop-want.outside c.refuse.new.outside c.args.octets.now before.asked.own before.keeps before.counts_kept
+    (same_state c.args.self.now state (room.jobs ∙ before.exchanges_kept) (ap (map (λ wait. wait.since)) room.waits ∙ before.begun_kept) (room.latest ∙ before.latest_kept) (room.limit ∙ before.limit_kept)) c.refuse.ensures)
 
 pub returns-in-Some : goal.returns-in-Some
 returns-in-Some g c =
@@ -104,7 +104,7 @@ returns-in-Some g c =
     (ap (map (λ wait. wait.since)) c.make_room.ensures.waits ∙ before.begun_kept)
     in
     let new : FlightState = record { exchanges = kept.jobs.slots; begun = map (λ wait. wait.since) kept.waits.items; latest = kept.latest; limit = kept.limit } in
-    let exchange : UnderWay = record { since = c.since-since.result; asked = g.L.InFlight.asked c.in-Some.line } in
+    let exchange : UnderWay = record { since = c.since-since.result; asked = g.L.InFlight.asked c.in-Some.line; key = g.L.InFlight.key c.in-Some.line } in
     let same = c.make_room.ensures.jobs ∙ before.exchanges_kept in
     let place = subst (λ (limit : ℕ). HasPlace c.in-Send.server c.args.self.now.exchanges limit) (before.limit_kept ∙ sym limit)
     (subst (λ (exchanges : List (Option UnderWay)). HasPlace c.in-Send.server exchanges c.loop-want.self-inside.table.limit) before.exchanges_kept c.in-Ok-make_room.ensures.place)
@@ -123,7 +123,7 @@ returns-in-Some g c =
       unexpired = search rules;
       waits = inr (begins c.args.now c.args.self.now new
           table.jobs kept.jobs exchange c.since-since.result same refl c.keep.ensures.vacant c.keep.ensures.one_more.updates c.keep.ensures.one_more.len
-          refl now_is begun c.keep.ensures.latest limit);
+          refl (c.in-Some.ensures.watched ∙ c.vacant_key-key.ensures) now_is begun c.keep.ensures.latest limit);
       within = search rules;
       places = kept_begun c.in-Send.server exchange c.args.self.now new (ap (λ (asked : Sent). asked.server) c.in-Some.ensures.asked) place
           (λ other. c.keep.ensures.one_more.counts other ∙ ap (λ (exchanges : List (Option UnderWay)). count_with other exchanges + cond (is_with other (Some exchange)) 1 0) same)

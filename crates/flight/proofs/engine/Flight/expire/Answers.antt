@@ -1,6 +1,6 @@
 use Rattle.std.proofs.Common.{◌∙◌, ℕ, List, Option, ap, map, subst, sym, arith}
 use Rattle.slab.specs.Slab.{Slab}
-use Rattle.flight.specs.Waiting.{FlightState, IsAccounted, UnderWay, outstanding, since_at, since_in, since_of, with_server}
+use Rattle.flight.specs.Waiting.{FlightState, IsAccounted, UnderWay, exchange_at, outstanding, since_at, since_in, since_of, with_server}
 use Rattle.flight.proofs.Accounting.{accounted_then}
 use Rattle.flight.proofs.Flights.{begun_or_not, early_then, less_over, no_more_then, on_or_begun_then, taken_out}
 use Rattle.flight.proofs.Leaving.{ends_of, ends_then}
@@ -33,7 +33,7 @@ loop-wait-preserved-in-Some-pass g c =
     let due = c.in-Some-pass.ensures.due in
     let fewer = c.in-Some-pass.ensures.len ∙ ap outstanding was in
     let after = subst (λ (waiting : ℕ). IsAccounted 0 waiting (g.O.Outside.counts c.loop-wait.outside) (outstanding c.end.new.self) (g.O.Outside.counts c.end.new.outside)) fewer c.end.ensures.accounted in
-    let out = taken_out c.args.now key c.loop-wait.self _ (ap since_of c.in-Some-pass.ensures.taken.changed) (λ other differs. ap since_of (c.in-Some-pass.ensures.taken.others other differs) ∙ ap (λ (state : FlightState). since_at state other) was)
+    let out = taken_out c.args.now key c.loop-wait.self _ c.in-Some-pass.ensures.taken.changed (λ other differs. c.in-Some-pass.ensures.taken.others other differs ∙ ap (λ (state : FlightState). exchange_at state other) was)
     (c.in-Some-pass.ensures.latest ∙ ap (λ (state : FlightState). state.latest) was)
     in
     record {

@@ -7,7 +7,7 @@ use Rattle.flight.proofs.engine.Flight.expire.Given as goal
 abbrev pub invariant-loop-wait : goal.invariant-loop-wait
 invariant-loop-wait g l = record {
   early : EarlyGoOn 2000 l.now l.fn.self l.self;
-  so_far : LosesNone g.O.Outside.server_port g.O.Outside.counts g.O.Outside.outbox g.O.Outside.posts l.now l.fn.self l.fn.outside l.self l.outside;
+  so_far : LosesNone g.K.Client.sent g.O.Outside.server_port g.O.Outside.counts g.O.Outside.outbox g.O.Outside.posts l.now l.fn.self l.fn.outside l.self l.outside;
 }
 
 abbrev pub decreases-loop-wait : goal.decreases-loop-wait

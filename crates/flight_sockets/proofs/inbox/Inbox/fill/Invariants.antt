@@ -1,9 +1,11 @@
-use Rattle.std.proofs.Common.{◌≤◌, ◌-◌}
+use Rattle.std.proofs.Common.{◌-◌, map, take}
+use Rattle.flight_sockets.specs.Begun.{arrived, fronts_of}
+use Rattle.flight_sockets.specs.Moves.{AllMoved}
 use Rattle.flight_sockets.proofs.inbox.Inbox.fill.Given as goal
 
--- none has gone
+-- those so far were taken
 abbrev pub invariant-loop-self : goal.invariant-loop-self
-invariant-loop-self g l = l.fn.self.filled ≤ l.self.filled
+invariant-loop-self g l = AllMoved g.S.ServiceSocket.takes (fronts_of (map (λ slot. arrived slot.came slot.room) (take l.self.filled l.self.slots.items))) l.fn.socket l.socket
 
 abbrev pub decreases-loop-self : goal.decreases-loop-self
 decreases-loop-self g l = 32 - l.self.filled

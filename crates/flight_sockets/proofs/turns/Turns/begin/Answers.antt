@@ -1,7 +1,7 @@
 use Rattle.std.proofs.Common.{refl, rules}
 use Rattle.flight_sockets.specs.Begun.{begun as begun_now, passed, refused}
 use Rattle.flight_sockets.proofs.Accounting.{begun, stayed}
-use Rattle.flight_sockets.proofs.Beginning.{own_ends, too_long}
+use Rattle.flight_sockets.proofs.Beginning.{own_ends, sent_by, too_long}
 use Rattle.flight_sockets.proofs.Posting.{endings_none, endings_of, endings_refused, endings_within, posts_none}
 use Rattle.flight_sockets.proofs.turns.Turns.begin.Goals as goal
 
@@ -12,14 +12,19 @@ pub returns-in-Passed-clause-just : goal.returns-in-Passed-clause-just
 returns-in-Passed-clause-just g c = passed c.in-Passed.ensures refl refl
 
 pub refuse-requires-clause-came : goal.refuse-requires-clause-came
-refuse-requires-clause-came g c = too_long g.S.ServiceSocket.came c.args.slot.now.came_so c.in-TooLong.ensures
+refuse-requires-clause-came g c = too_long g.S.ServiceSocket.takes c.args.slot.now.came_so c.in-TooLong.ensures
 
 pub returns-in-TooLong-clause-goes_on : goal.returns-in-TooLong-clause-goes_on
 returns-in-TooLong-clause-goes_on g c =
-    rw (← c.self.view_is) (stayed _ _ _ (endings_refused (too_long g.S.ServiceSocket.came c.args.slot.now.came_so c.in-TooLong.ensures) c.refuse.ensures.refuses) refl c.refuse.ensures.counts refl)
+    rw (← c.self.view_is) (stayed _ _ _ (endings_refused (too_long g.S.ServiceSocket.takes c.args.slot.now.came_so c.in-TooLong.ensures) c.refuse.ensures.refuses) refl c.refuse.ensures.counts refl)
 
 pub returns-in-TooLong-clause-just : goal.returns-in-TooLong-clause-just
 returns-in-TooLong-clause-just g c = rw (← c.self.view_is) (refused c.in-TooLong.ensures c.refuse.ensures.refuses refl refl c.refuse.ensures.counts)
+
+pub begin-requires : goal.begin-requires
+begin-requires g c =
+    let query = c.in-Query.ensures in
+    record { own = rw c.count.ensures.same (sent_by g.S.ServiceSocket.takes c.in-Query.client c.args.slot.now.came_so query.0 query.3) }
 
 pub returns-in-Query-clause-goes_on : goal.returns-in-Query-clause-goes_on
 returns-in-Query-clause-goes_on g c =

@@ -6,6 +6,6 @@ use Rattle.flight_sockets.proofs.turns.Turns.begin_each.Given as goal
 -- what has begun so far is accounted for, each datagram once
 abbrev pub invariant-loop-slot : goal.invariant-loop-slot
 invariant-loop-slot g l = record {
-  so_far : GoesOn g.S.ServiceSocket.came g.S.ServiceSocket.sends l.initial.questions l.initial.self l.questions l.self;
-  begin : AllBegin g.S.ServiceSocket.sends (map (λ slot. arrived slot.came slot.room) (take l.slot-index l.slot-items)) l.initial.questions l.initial.self l.questions l.self;
+  so_far : GoesOn g.S.ServiceSocket.takes g.S.ServiceSocket.sends l.initial.questions l.initial.self l.questions l.self;
+  begin : AllBegin g.S.ServiceSocket.takes g.S.ServiceSocket.sends (map (λ slot. arrived slot.came slot.room) (take l.slot-index l.slot-items)) l.initial.questions l.initial.self l.questions l.self;
 }

@@ -1,27 +1,42 @@
-use Rattle.std.proofs.Common.{◌≡◌, refl}
-use Rattle.flight_sockets.proofs.Accounting.{gone_on, stayed, worker_of}
+use Rattle.std.proofs.Common.{refl}
+use Rattle.std.specs.Prelude.{Result, Ok, Err, OnOk}
+use Rattle.flight_sockets.specs.Begun.{goes_on, stays}
+use Rattle.flight_sockets.proofs.Accounting.{gone_on, stayed}
+use Rattle.flight_sockets.proofs.Beginning.{rests, runs_then}
 use Rattle.flight_sockets.proofs.Posting.{endings_none, posts_none}
+use Rattle.flight_sockets.proofs.Reading.{read_after}
 use Rattle.flight_sockets.proofs.turns.Turns.turn.Goals as goal
-use Rattle.flight_sockets.proofs.turns.Turns.turn.Goals.{then-were_left, else-were_left}
+
+-- A fact holds if the result is no error.
+on_ok : {A E : Type 0} {fact : Type 0} (result : Result A E) → fact → OnOk result fact
+on_ok (Ok _) is = is
+on_ok (Err _) is = tt
 
 pub returns-in_err-wait-clause-goes_on : goal.returns-in_err-wait-clause-goes_on
 returns-in_err-wait-clause-goes_on g c =
-    let inside = c.if-were_left.self-inside in
-    let before = worker_of inside.sockets.server_port inside.taken inside.failures inside.sockets.outbox inside.sockets.counts in
-    let same : before ≡ c.args.self.now = elim c.if-were_left.branch [
-      | then-were_left w ↦ rw w.self-inside-is c.self.view_is
-      | else-were_left w ↦ rw w.self-inside-is c.self.view_is
-    ] in
-    rw (← same) (stayed _ before _ (endings_none (posts_none c.wait.ensures.kept) refl) refl c.wait.ensures.counts refl)
+    let waited = c.wait.ensures in
+    stayed _ _ _ (endings_none (posts_none waited.outbox) refl) waited.taken waited.counts waited.failures
+
+pub returns-in_err-wait-clause-runs : goal.returns-in_err-wait-clause-runs
+returns-in_err-wait-clause-runs g c = goes_on stays (rests _ _ _ c.wait.ensures.outbox c.wait.ensures.taken)
 
 pub returns-clause-goes_on : goal.returns-clause-goes_on
 returns-clause-goes_on g c =
-    let inside = c.if-were_left.self-inside in
-    let before = worker_of inside.sockets.server_port inside.taken inside.failures inside.sockets.outbox inside.sockets.counts in
-    let after = worker_of c.wait.new.self.server_port inside.taken inside.failures c.wait.new.self.outbox c.wait.new.self.counts in
-    let same : before ≡ c.args.self.now = elim c.if-were_left.branch [
-      | then-were_left w ↦ rw w.self-inside-is c.self.view_is
-      | else-were_left w ↦ rw w.self-inside-is c.self.view_is
-    ] in
-    rw (← same) (gone_on _ _ _ before after _ (stayed _ before after (endings_none (posts_none c.wait.ensures.kept) refl) refl c.wait.ensures.counts refl)
-    (gone_on _ _ _ after _ _ c.go_on.ensures.goes_on c.take_datagrams.ensures.goes_on))
+    let waited = c.wait.ensures in
+    gone_on _ _ _ _ _ _ (stayed _ _ _ (endings_none (posts_none waited.outbox) refl) waited.taken waited.counts waited.failures)
+    (gone_on _ _ _ _ _ _ c.go_on.ensures.goes_on c.take_datagrams.ensures.goes_on)
+
+pub returns-clause-runs : goal.returns-clause-runs
+returns-clause-runs g c =
+    runs_then (goes_on (goes_on stays (rests _ _ _ c.wait.ensures.outbox c.wait.ensures.taken)) c.go_on.ensures.takes_none) c.take_datagrams.ensures.runs
+
+pub returns-clause-overdue : goal.returns-clause-overdue
+returns-clause-overdue g c = on_ok c.take_datagrams.result
+    (record {
+      between = c.go_on.new.questions;
+      mid = c.go_on.new.self;
+      before = goes_on (goes_on stays (rests _ _ _ c.wait.ensures.outbox c.wait.ensures.taken)) c.go_on.ensures.takes_none;
+      read = read_after c.wait.ensures.read c.go_on.ensures.read;
+      patient = c.go_on.ensures.patient;
+      after = c.take_datagrams.ensures.runs;
+    })

@@ -1,0 +1,29 @@
+-- The exchanges that the poll reports, to each of which a worker listens.
+use Rattle.std.specs.Prelude.{◌≡◌, ◌≢◌, ◌≤◌, ℕ, IfSome, List, [], ◌∷◌}
+use Rattle.mio.specs.declared.event.event.Event.{Event}
+use Rattle.mio.specs.declared.token.Token.{Token}
+use Rattle.mio.specs.Event.{event_token}
+use Rattle.front_workers.specs.Counts.{Rises}
+use Rattle.flight.specs.declared.counts.Counts.{Counts}
+use Rattle.flight.specs.declared.table.TheConstants.{PATIENCE}
+use Rattle.flight.specs.Waiting.{EarlyGoOn, FlightState, OthersGoOn, since_at}
+use Rattle.flight_sockets.specs.declared.listener.TheConstants.{SERVICE}
+
+-- The poll reported this. If it is an exchange, it is listened to once. Each other exchange goes on.
+pub record IsLookedAt (event : Event) (flight : FlightState) (old : Counts) (flight' : FlightState) (new : Counts) : Type 0 where
+  pub listens : event_token event ≢ SERVICE → IfSome (since_at flight (event_token event).0) (λ _. Rises old.listened new.listened)
+  pub others : OthersGoOn (event_token event).0 flight flight'
+  pub unexpired : new.expired ≡ old.expired
+
+-- Each is, one after another.
+abbrev pub AllLookedAt : List Event → FlightState → Counts → FlightState → Counts → Type 0
+AllLookedAt [] flight old flight' new = (flight' ≡ flight) × (new ≡ old)
+AllLookedAt (event ∷ rest) flight old flight' new = (between : FlightState) × (mid : Counts) × IsLookedAt event flight old between mid × AllLookedAt rest between mid flight' new
+
+-- Each exchange that the poll reported is listened to. Then those are ended whose time is up at this moment, and the others go on.
+pub record LooksAtAll (events : List Event) (now : ℕ) (flight : FlightState) (old : Counts) (flight' : FlightState) (new : Counts) : Type 0 where
+  pub between : FlightState
+  pub mid : Counts
+  pub looked : AllLookedAt events flight old between mid
+  pub early : EarlyGoOn PATIENCE now between flight'
+  pub listened : mid.listened ≤ new.listened
