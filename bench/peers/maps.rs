@@ -1,8 +1,8 @@
 //! A cache of names, and local zones and records, by the maps of Rust's std: `maps WORD CALL SIZE COUNT` prints a number that
-//! depends on each call. The words are `cells` and `tables`.
+//! depends on each call. The words are `cells`, `room` and `tables`.
 //! It has no flush, no undo, no journal and no limit, and one set for each name. The call `memory` prints by how many octets the
 //! process grows as it fills a map.
-use std::collections::HashMap;
+use std::collections::{HashMap, VecDeque};
 
 /// What is found about a name.
 struct Find {
@@ -89,6 +89,46 @@ fn cells(call: &str, size: u32, count: u32) -> u32 {
         "memory" => growth(|| cache_of(size)),
         _ => panic!("there is no such call"),
     }
+}
+
+// ---- room: a cache that forgets the name that was added first
+
+/// A cache with room for so many names, and the names in the order in which they were added.
+struct Bounded {
+    room: usize,
+    cache: HashMap<Vec<u8>, Find>,
+    names: VecDeque<Vec<u8>>,
+}
+
+impl Bounded {
+    /// Adds a find of a new name. If there is no room, the name that was added first makes way.
+    fn add(&mut self, name: &[u8], find: &Find, moment: u64) {
+        if self.cache.len() == self.room {
+            if let Some(first) = self.names.pop_front() {
+                self.cache.remove(&first);
+            }
+        }
+        let find = Find { since: moment, data: find.data.clone(), ..*find };
+        self.cache.insert(name.to_vec(), find);
+        self.names.push_back(name.to_vec());
+    }
+}
+
+/// How many of the names were new: there are twice as many as there is room for, and they come in turn.
+fn room(size: u32, count: u32) -> u32 {
+    let finds: Vec<(Vec<u8>, Find)> = (0..2 * size).map(find_at).collect();
+    let mut bounded = Bounded { room: size as usize, cache: HashMap::new(), names: VecDeque::new() };
+    let (mut sum, mut place) = (0u32, 0);
+    for turn in 0..size + count {
+        let moment = u64::from(turn / (size / 3_600 + 1));
+        let (name, find) = &finds[place];
+        if look(&bounded.cache, name, moment) == 0 {
+            bounded.add(name, find, moment);
+            sum += 1;
+        }
+        place = (place + 1) % finds.len();
+    }
+    sum
 }
 
 // ---- tables: things in order, with an index by name
@@ -218,6 +258,7 @@ fn main() {
     let (size, count) = (size.parse().unwrap(), count.parse().unwrap());
     let told = match word.as_str() {
         "cells" => cells(call, size, count),
+        "room" => room(size, count),
         "tables" => tables(call, size, count),
         _ => panic!("there is no such word"),
     };

@@ -26,9 +26,14 @@ pub fn empty_book(alloc: Global) -> Result<PlainBook, MakeFault>
 
 /// The book of the program, which was given nothing. It can undo one command, and hold as many cells as there may be.
 pub fn empty_shelf(alloc: Global) -> Result<ShelfBook, MakeFault> {
+    shelf_of(alloc, MOST_CELLS)
+}
+
+/// The same with room for so many cells.
+pub fn shelf_of(alloc: Global, cells: usize) -> Result<ShelfBook, MakeFault> {
     let settings = Settings {
         journal: 1,
-        cells: MOST_CELLS,
+        cells,
         hints: Items::new(Vec::new(alloc)),
         server_port: 53,
     };

@@ -11,6 +11,7 @@
 //! | `messages` | `decode_query`, .. | reads or writes a message or a name; bench/README.md has them all |
 //! | `book` | `alone`, `shared`, `recorded` | looks at a book of one caller, through the lock of a shared one, and with each look recorded |
 //! | `cells` | a number of names | looks names up in a cache of so many, each with one address |
+//! | `room` | a number of names | gives new names to a full cache with room for so many |
 //! | `tables` | a number of records | asks for names of so many local records, in a sixteenth as many zones |
 #![tactic(auto)]
 
@@ -22,6 +23,7 @@ mod tasks; // tasks and looks
 mod front; // queries from octets to octets
 mod lookups; // lookups of many names
 mod cells; // lookups in a cache of many names
+mod room; // new names for a full cache
 mod tables; // answers from many local records
 
 use anyhow::anyhow;
@@ -29,6 +31,7 @@ use book::measure_book;
 use cells::measure_cells;
 use front::measure_front;
 use messages::measure_messages;
+use room::measure_room;
 use std::alloc::Global;
 use std::env;
 use std::sync::Wait;
@@ -36,7 +39,9 @@ use tables::measure_tables;
 use tasks::measure_tasks;
 
 /// Every word, in the order in which it is shown.
-const WORDS: [&str; 6] = ["front", "tasks", "messages", "book", "cells", "tables"];
+const WORDS: [&str; 7] = [
+    "front", "tasks", "messages", "book", "cells", "room", "tables",
+];
 
 /// Makes the calls of a word: the one that the next words name, or each.
 fn measure<R: Print + Wait>(
@@ -51,6 +56,7 @@ fn measure<R: Print + Wait>(
         "messages" => measure_messages(rt, alloc, words),
         "book" => measure_book(rt, alloc, words),
         "cells" => measure_cells(rt, alloc, words),
+        "room" => measure_room(rt, alloc, words),
         "tables" => measure_tables(rt, alloc, words),
         _ => Err(anyhow!("there is no such word")),
     }
