@@ -1,0 +1,190 @@
+//! Clients and name servers of a worker without sockets: replies go into a digest, and responses come from an internet in memory.
+
+ghost use Rattle.std.specs.Prelude.{◌≡◌};
+ghost use Rattle.flight.specs.Flight.{query_to};
+
+use crate::digest::Digest;
+use crate::internet::Internet;
+use command_text::Clock;
+use dns_query::Over;
+use dns_text::{Addr, Octets, Shared};
+use flight::{Client, Counts, InFlight, Listened, Numbered, Outside, ReplyOctets, Unserved};
+use std::alloc::Global;
+use std::cell::Cell;
+use std::collections::VecDeque;
+use std::mem;
+use std::sync::Arc;
+
+/// A clock that says what it was set to, in seconds.
+#[derive(Drop)]
+pub struct SetClock {
+    pub moment: Arc<Cell<u64>>,
+}
+
+impl Clock for SetClock {
+    ghost ticks = { λ _ _ _. Unit {0} };
+
+    fn now(&mut self) -> u64 {
+        self.moment.get()
+    }
+}
+
+/// A client, by the number of its question.
+#[derive(Drop)]
+pub struct Asker {
+    pub number: u64,
+}
+
+impl Client for Asker {
+    ghost sent = { λ _ _. Unit {0} };
+
+    ghost since = { λ _. 0 };
+
+    fn since(&self) -> u64 {
+        0
+    }
+}
+
+/// An exchange.
+#[derive(Drop)]
+pub struct Wire {
+    key: usize,
+    server: Addr,
+    over: Over,
+    query: Shared<Octets>,
+}
+
+impl InFlight for Wire {
+    ghost asked = { λ wire. query_to wire.server wire.over wire.query };
+
+    ghost key = { λ wire. wire.key };
+
+    ghost hears = { λ _ _. Unit {0} };
+
+    fn server(&self) -> Addr {
+        self.server
+    }
+}
+
+/// The clients and the name servers.
+#[derive(Drop)]
+pub struct Network {
+    alloc: Global,
+    port: u16,
+    /// Without an internet no exchange begins.
+    internet: Option<Internet>,
+    pub digest: Digest,
+    pub counts: Counts,
+    /// The keys of the exchanges that began, in their order.
+    pub keys: VecDeque<usize>,
+    /// The buffer of the last reply.
+    buffer: Vec<u8>,
+}
+
+impl Network {
+    /// Nobody was asked or answered.
+    pub fn new(alloc: Global, internet: Option<Internet>) -> Network {
+        Network {
+            alloc,
+            port: 53,
+            internet,
+            digest: Digest::new(),
+            counts: Counts::new(),
+            keys: VecDeque::new(alloc),
+            buffer: Vec::new(alloc),
+        }
+    }
+
+    /// Takes into the digest how a client was settled.
+    fn note(&mut self, client: u64, octets: &[u8], why: u64)
+        ensures port { self.new.port ≡ self.old.port }
+        ensures counts { self.new.counts ≡ self.old.counts }
+    {
+        self.digest.number(client);
+        self.digest.number(why);
+        self.digest.octets(octets);
+    }
+
+    /// The response to a query, or none.
+    fn response(&self, server: &Addr, over: Over, query: &[u8]) -> Listened {
+        let Some(internet) = &self.internet else {
+            return Listened::Broken;
+        };
+        match internet.response(self.alloc, server, over, query) {
+            Ok(octets) => Listened::Came(Octets::new(octets)),
+            Err(_) => Listened::NoMemory,
+        }
+    }
+}
+
+impl<D: Numbered> Outside<D, Wire, SetClock, Asker> for Network {
+    ghost server_port = { λ s. s.port };
+
+    ghost counts = { λ s. s.counts };
+
+    ghost Sending = { Unit {0} };
+
+    ghost outbox = { λ _. tt };
+
+    ghost posts = { λ _ _ _ _. Unit {0} };
+
+    fn server_port(&self) -> u16 {
+        self.port
+    }
+
+    fn buffer(&mut self) -> Vec<u8> {
+        mem::replace(&mut self.buffer, Vec::new(self.alloc))
+    }
+
+    fn open(
+        &mut self,
+        key: usize,
+        server: &Addr,
+        over: Over,
+        query: Shared<Octets>,
+    ) -> Option<Wire> {
+        if self.internet.is_none() || self.keys.push_back(key).is_err() {
+            return None;
+        }
+        self.counts.open();
+        Some(Wire {
+            key,
+            server: *server,
+            over,
+            query,
+        })
+    }
+
+    fn hear(&mut self, line: &mut Wire) -> Listened {
+        let heard = self.response(&line.server, line.over, line.query.get().as_slice());
+        self.counts.listen(&heard);
+        heard
+    }
+
+    fn expire(&mut self, _: Wire) {
+        self.counts.expire();
+    }
+
+    fn give(&mut self, client: Asker, _: &[u8], reply: ReplyOctets) {
+        self.note(client.number, reply.as_slice(), 0);
+        self.counts.settle();
+        if let ReplyOctets::Message(octets) = reply {
+            self.buffer = octets;
+        }
+    }
+
+    fn fail(&mut self, client: Asker, _: &[u8], why: Unserved) {
+        let why = match why {
+            Unserved::NoMemory => 1,
+            Unserved::TooMany => 2,
+            Unserved::Elsewhere => 3,
+        };
+        self.note(client.number, b"", why);
+        self.counts.settle();
+    }
+
+    fn pass_over(&mut self, client: Asker, _: &[u8]) {
+        self.note(client.number, b"", 4);
+        self.counts.settle();
+    }
+}

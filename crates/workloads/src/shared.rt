@@ -1,0 +1,99 @@
+//! Jobs of a worker at a shared book whose call log is full, as those of a service are.
+
+ghost use Rattle.std.specs.Prelude.{◌≡◌, []};
+
+use crate::answers::answer;
+use crate::block_list::block;
+use crate::internet::{Internet, hints};
+use crate::resolving::resolve;
+use crate::worker::Worker;
+use dns_text::{Addr, Items};
+use flight::Numbered;
+use history::{Book, MOST_CELLS, Settings};
+use shared_book::{Blank, CallLedger, Seat, SharedBook};
+use std::alloc::Global;
+use std::marker::Brand;
+use std::sync::Wait;
+use undo_book::ShelfBook;
+
+/// What the worker does.
+#[derive(Clone, Copy, PartialEq, Eq)]
+pub enum Job {
+    Answers,
+    Resolving,
+    BlockList,
+}
+
+/// Does a job at a desk.
+fn work_at<D: Numbered + Drop>(
+    alloc: Global,
+    desk: D,
+    job: Job,
+    seed: u32,
+    size: u32,
+    count: u32,
+) -> anyhow::Result<u64> {
+    let internet = match job {
+        Job::Resolving => Some(Internet::new(seed, size)),
+        _ => None,
+    };
+    let mut worker = Worker::new(alloc, desk, seed, internet)?;
+    match job {
+        Job::Answers => answer(alloc, &mut worker, seed, size, count)?,
+        Job::Resolving => resolve(alloc, &mut worker, seed, size, count)?,
+        Job::BlockList => block(alloc, &mut worker, seed, size, count)?,
+    }
+    Ok(worker.network.digest.sum())
+}
+
+/// Does a job at a shared book that is empty. One call is recorded, and all others are not.
+fn work_over<B: Book, L: CallLedger, R: Wait>(
+    rt: &R,
+    alloc: Global,
+    blank: Blank,
+    book: B,
+    job: Job,
+    seed: u32,
+    size: u32,
+    count: u32,
+) -> anyhow::Result<u64>
+    requires name { blank.name ≡ L.name }
+    requires parts { blank.parts ≡ L.parts }
+    requires limit { 1 ≡ L.limit }
+    requires settings { B.settings book ≡ L.settings }
+    requires fresh { B.stands_for book [] }
+{
+    let (book, pass) = SharedBook::<B, L>::new(alloc, blank, book, 1)?;
+    work_at(
+        alloc,
+        Seat::new(rt, alloc, &book, pass),
+        job,
+        seed,
+        size,
+        count,
+    )
+}
+
+/// The settings of the book.
+fn settings(alloc: Global) -> anyhow::Result<Settings> {
+    let servers: Vec<Addr> = hints(alloc)?;
+    Ok(Settings {
+        journal: 64,
+        cells: MOST_CELLS,
+        hints: Items::new(servers),
+        server_port: 53,
+    })
+}
+
+/// Does a job, and returns the digest of what clients and operators got.
+pub fn shared_job<R: Wait>(
+    rt: &R,
+    alloc: Global,
+    job: Job,
+    seed: u32,
+    size: u32,
+    count: u32,
+) -> anyhow::Result<u64> {
+    let book = ShelfBook::new(alloc, settings(alloc)?)?;
+    work_over::<ShelfBook, Brand, R>(rt, alloc, Blank::new(1), book, job, seed, size, count)
+}
