@@ -1,6 +1,6 @@
 -- Reading a message gives the one that the octets spell, and the first fault where they spell none.
 use Rattle.std.proofs.Common.{◌≡◌, ℕ, ◌≤◌, ◌⊎◌, List, length, Result, Ok, Err, refl, sym, ◌∙◌, subst, inl, inr, ltb, eqb, eq-eqb, arith}
-use Rattle.std.specs.Prelude.{MatchResult, IfOk, IfErr}
+use Rattle.std.specs.Prelude.{MatchResult, IfOk, IfErr, IfSome}
 use Rattle.std.proofs.lemmas.Bool.{cases_Bool, le-ltb, lt-ltb, ltb-true, ltb-false, eqb-true, eqb-false, ne_eqb}
 use Rattle.dns_text.specs.declared.record.Question.{Question}
 use Rattle.dns_text.specs.declared.record.Record.{Record}
@@ -8,6 +8,7 @@ use Rattle.dns_wire.specs.declared.fault.WireFault.{WireFault}
 use Rattle.dns_wire.specs.declared.fault.WireFault.TheVariants.{Short, BadName, BadPointer, BadData, Trailing, NoMemory}
 use Rattle.dns_wire.specs.declared.message.Classed.{Classed}
 use Rattle.dns_wire.specs.declared.message.Message.{Message}
+use Rattle.dns_wire.specs.Read.Chains.{IsFirstName}
 use Rattle.dns_wire.specs.Read.Decoding.{IsUnspelled, HasTrailing, UnlessMemory}
 use Rattle.dns_wire.specs.Read.Header.{head_in, question_count, answer_count, authority_count, additional_count}
 use Rattle.dns_wire.specs.Read.Message.{QuestionsAt, RecordsAt, QuestionsFail, RecordsFail, MessageAt, SpelledMessage, MessageFails, short_header, bad_questions, bad_answer, bad_authority, bad_additional, trailing, questions_read, records_read, sections_read, whole, message_read}
@@ -15,6 +16,8 @@ use Rattle.dns_wire.specs.Read.Question.{QuestionAt, QuestionFails, question_rea
 use Rattle.dns_name.specs.Results.{◌>>=◌}
 use Rattle.dns_wire.specs.Fault.{Gives}
 use Rattle.dns_wire.specs.Read.Record.{RecordAt, RecordFails, record_read}
+use Rattle.dns_wire.specs.Write.Question.{first_name}
+use Rattle.dns_wire.specs.Read.Section.{no_items, one_more}
 use Rattle.dns_wire.proofs.QuestionLaws.{question_read-stands, question_read-fails, question_read-match}
 use Rattle.dns_wire.proofs.RecordLaws.{record_read-stands, record_read-fails, record_read-match}
 use Rattle.dns_wire.proofs.SectionLaws.{IsReader, section_within, section_read-stands, section_read-fails, section_read-match}
@@ -48,6 +51,14 @@ questions_within {m} within h = section_within (length m) (QuestionAt m) (Questi
 
 questions_match : (m : List ℕ) (count at : ℕ) → at ≤ length m → MatchResult (questions_read m count at) (λ x. QuestionsAt m count at x.0 x.1) (λ e. QuestionsFail m count at e)
 questions_match m count at within = section_read-match (length m) (QuestionAt m) (QuestionFails m) (λ i. question_read m i) (question_reader m) count at within
+
+first_of : {m : List ℕ} {count after : ℕ} {questions : List (Classed Question)} → QuestionsAt m count 12 questions after → IfSome (first_name questions) (λ name. IsFirstName m name)
+first_of (no_items is) = tt
+first_of (one_more one rest) = record { after = one.fixed; spelled = one.owner }
+
+-- of questions that were read, the name of the first is known
+pub first_known : (m : List ℕ) (count after : ℕ) (questions : List (Classed Question)) → 12 ≤ length m → questions_read m count 12 ≡ Ok (questions, after) → IfSome (first_name questions) (λ name. IsFirstName m name)
+first_known m count after questions header is = first_of (rw is at (questions_match m count 12 header))
 
 pub records_stand : {m : List ℕ} {count at after : ℕ} {items : List (Classed Record)} → at ≤ length m → RecordsAt m count at items after → records_read m count at ≡ Ok (items, after)
 records_stand {m} within h = section_read-stands (length m) (RecordAt m) (RecordFails m) (λ i. record_read m i) (record_reader m) within h

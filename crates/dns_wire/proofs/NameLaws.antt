@@ -13,6 +13,7 @@ use Rattle.dns_wire.specs.declared.read.place.Next.{Next}
 use Rattle.dns_wire.specs.declared.read.place.Next.TheVariants.{Finish, Label, Pointer, Reserved, Cut}
 use Rattle.dns_wire.specs.declared.fault.WireFault.{WireFault}
 use Rattle.dns_wire.specs.declared.fault.WireFault.TheVariants.{Short}
+use Rattle.dns_wire.specs.Read.Chains.{IsFirstName}
 use Rattle.dns_wire.specs.Read.Place.{next_at, next_by, pointer_by, label_at}
 use Rattle.dns_wire.specs.Read.Name.{NameAt, finish, label, pointer, SpelledIn, SpelledName, NameFails, UnspelledIn, UnspelledName, cut, reserved, long, cut_label, not_before, after_label, after_pointer, name_by, name_in, name_read_in, name_read, name_end, steps_left}
 use Rattle.dns_wire.specs.Fault.{Gives}
@@ -178,6 +179,10 @@ name_read-spelled m at after labels within h = name_read_in-spelled m m Short at
 
 pub name_read-unspelled : (m : List ℕ) (at : ℕ) (fault : WireFault) → at ≤ length m → UnspelledName m at fault → name_read m at ≡ Err fault
 name_read-unspelled m at fault within h = name_read_in-unspelled m m Short at fault within (omega arith) h
+
+-- A place with a pointer to the name of the first question, which is before it, has that name.
+pub first_pointed : {m front : List ℕ} {at to : ℕ} {name : Labels} → IsFirstName m name → next_at front at ≡ Pointer to → to ≡ 12 → to < at → SpelledIn m front at (at + 2) name
+first_pointed h here is before = record { stands = pointer {end = h.after} here before refl (rw is h.spelled.stands); short = h.spelled.short }
 
 -- ---- what the loops find is what reading gives
 

@@ -55,15 +55,22 @@ pub struct Message {
     pub additional: Items<Classed<Record>>,
 }
 
+/// The name of the first of some questions, if there is one.
+pub(crate) fn first_owner(questions: &[Classed<Question>]) -> Option<&Name>
+    ensures { option_copied result ≡ first_name questions.now }
+{
+    match questions.first() {
+        Some(first) => Some(&first.item.owner),
+        None => None,
+    }
+}
+
 impl Message {
     /// The name of the first question, if there is one.
     pub(crate) fn first_name(&self) -> Option<&Name>
         ensures { option_copied result ≡ first_name self.now.questions }
     {
-        match self.questions.as_slice().first() {
-            Some(first) => Some(&first.item.owner),
-            None => None,
-        }
+        first_owner(self.questions.as_slice())
     }
 
     /// The borrowed records of each section.

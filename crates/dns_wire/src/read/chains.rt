@@ -1,11 +1,14 @@
-//! Chains of pointers. Their ends are noted once if a message may have many names.
+//! What is known of the pointers of a message: the ends of their chains are noted once if it may have many names, and
+//! the name of the first question is kept for the pointers to it.
 
-ghost use Rattle.std.specs.Prelude.{◌≡◌, ◌≤◌, ◌<◌, ◌-◌, ℕ, length};
-ghost use Rattle.dns_wire.specs.Read.Chains.{PointersLead, IsNotedAt, AreEnds};
+ghost use Rattle.std.specs.Prelude.{◌≡◌, ◌≤◌, ◌<◌, ◌-◌, ℕ, length, IfSome};
+ghost use Rattle.std.specs.Option.{option_copied};
+ghost use Rattle.dns_wire.specs.Read.Chains.{PointersLead, IsNotedAt, AreEnds, IsFirstName};
 
 use crate::limits::{HEADER_OCTETS, MOST_OCTETS};
 use crate::read::number::u16_at;
 use crate::read::place::{Next, next_at};
+use dns_name::Name;
 use std::marker::Model;
 
 /// How far a pointer reaches: its offset has 14 bits (RFC 1035, section 4.1.4).
@@ -14,25 +17,28 @@ pub(crate) const POINTER_REACH: usize = 16384;
 /// The most steps along pointers that are taken one by one.
 const MOST_STEPS: usize = 1 << 18;
 
-/// The octets of a message, and for each place that a pointer can reach the end of the chain of pointers from there.
-/// Contracts see the octets.
+/// The octets of a message, for each place that a pointer can reach the end of the chain of pointers from there, and the
+/// name of the first question. Contracts see the octets.
 #[derive(Drop)]
 pub(crate) struct Wire<'a> {
     octets: &'a [u8],
     // For a place that has a pointer back, one more than the place where the chain from there ends; else 0. Empty if
     // nothing is noted.
     ends: &'a [u16],
+    // The name right after the header, if it was read already.
+    first: Option<&'a Name>,
 }
 
 impl<'a> Model for Wire<'a> {
-    ghost use Rattle.std.specs.Prelude.{List, ℕ};
-    ghost use Rattle.dns_wire.specs.Read.Chains.{AreEnds};
+    ghost use Rattle.std.specs.Prelude.{List, ℕ, IfSome};
+    ghost use Rattle.std.specs.Option.{option_copied};
+    ghost use Rattle.dns_wire.specs.Read.Chains.{AreEnds, IsFirstName};
 
     ghost Value = { List ℕ };
 
     ghost view = { λ w. w.octets.now };
 
-    ghost invariant = { λ w. AreEnds w.octets.now w.ends.now };
+    ghost invariant = { λ w. AreEnds w.octets.now w.ends.now × IfSome (option_copied w.first) (λ name. IsFirstName w.octets.now name) };
 }
 
 impl<'a> Wire<'a> {
@@ -40,7 +46,11 @@ impl<'a> Wire<'a> {
     pub(crate) fn plain(octets: &'a [u8]) -> Wire<'a>
         ensures { result ≡ octets.now }
     {
-        Wire { octets, ends: &[] }
+        Wire {
+            octets,
+            ends: &[],
+            first: None,
+        }
     }
 
     /// A message with all its chains noted, by one walk over the places that a pointer can reach.
@@ -48,7 +58,23 @@ impl<'a> Wire<'a> {
         ensures { result ≡ octets.now }
     {
         note_ends(octets, ends);
-        Wire { octets, ends }
+        Wire {
+            octets,
+            ends,
+            first: None,
+        }
+    }
+
+    /// The same message with the name of its first question, if it has one.
+    pub(crate) fn knowing<'b>(&'b self, first: Option<&'b Name>) -> Wire<'b>
+        requires { IfSome (option_copied first) (λ name. IsFirstName self.now name) }
+        ensures { result ≡ self.now }
+    {
+        Wire {
+            octets: self.octets,
+            ends: self.ends,
+            first,
+        }
     }
 
     /// The octets alone.
@@ -56,6 +82,13 @@ impl<'a> Wire<'a> {
         ensures { result.now ≡ self.now }
     {
         self.octets
+    }
+
+    /// The name of the first question, if it is known.
+    pub(crate) fn first(&self) -> Option<&'a Name>
+        ensures { IfSome (option_copied result) (λ name. IsFirstName self.now name) }
+    {
+        self.first
     }
 
     /// A place to which pointers lead from this one. If all chains are noted, that place has no pointer back.

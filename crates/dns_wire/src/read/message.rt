@@ -6,7 +6,7 @@ ghost use Rattle.dns_wire.specs.Read.Message.{message_behind, message_read};
 
 use crate::fault::WireFault;
 use crate::limits::HEADER_OCTETS;
-use crate::message::Message;
+use crate::message::{Message, first_owner};
 use crate::read::chains::{Wire, blank_ends, has_many_names};
 use crate::read::header::head_in;
 use crate::read::number::u16_at;
@@ -21,9 +21,11 @@ fn message_in(alloc: Global, message: &Wire<'_>) -> Result<Message, WireFault>
 {
     let octets = message.as_slice();
     let (questions, at) = section_at(alloc, message, u16_at(octets, 4), HEADER_OCTETS)?;
-    let (answer, at) = section_at(alloc, message, u16_at(octets, 6), at)?;
-    let (authority, at) = section_at(alloc, message, u16_at(octets, 8), at)?;
-    let (additional, at) = section_at(alloc, message, u16_at(octets, 10), at)?;
+    // Most records have the name of the first question for their owner, which is not to be read again for each.
+    let known = message.knowing(first_owner(questions.as_slice()));
+    let (answer, at) = section_at(alloc, &known, u16_at(octets, 6), at)?;
+    let (authority, at) = section_at(alloc, &known, u16_at(octets, 8), at)?;
+    let (additional, at) = section_at(alloc, &known, u16_at(octets, 10), at)?;
     if at != octets.len() {
         return Err(WireFault::Trailing);
     }

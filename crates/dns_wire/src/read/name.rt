@@ -1,6 +1,7 @@
 //! Names in messages, which may point back to others.
 
-ghost use Rattle.std.specs.Prelude.{◌≡◌, ◌≤◌, length, take, MatchOption, MatchResult, IfOk, IfSome};
+ghost use Rattle.std.specs.Prelude.{◌≡◌, ◌≤◌, ◌+◌, length, take, MatchOption, MatchResult, IfOk, IfSome};
+ghost use Rattle.std.specs.Option.{option_copied};
 ghost use Rattle.dns_name.specs.Labels.{Labels, IsName};
 ghost use Rattle.dns_wire.specs.declared.fault.WireFault.{WireFault};
 ghost use Rattle.dns_wire.specs.Fault.{Gives};
@@ -8,6 +9,7 @@ ghost use Rattle.dns_wire.specs.Read.Decoding.{UnlessMemory};
 ghost use Rattle.dns_wire.specs.Read.Name.{NameAt, SpelledIn, UnspelledIn, name_read_in, name_read, name_end};
 
 use crate::fault::WireFault;
+use crate::limits::HEADER_OCTETS;
 use crate::read::chains::Wire;
 use crate::read::place::{Next, next_at};
 use dns_name::{MAX_NAME_OCTETS, Name, NameBuilder};
@@ -15,6 +17,7 @@ use std::alloc::Global;
 
 /// Follows a name from a place of a message on: the name, and the place after it. If the name's own octets pass the
 /// limit, the fault is `ending`.
+#[inline(always)]
 fn follow_name(
     alloc: Global,
     message: &Wire<'_>,
@@ -64,6 +67,22 @@ fn follow_name(
     }
 }
 
+/// The name of the first question, if it is known and nothing but a pointer to it is at a place. Most owners are.
+fn pointed_name<'a>(message: &Wire<'a>, limit: usize, at: usize) -> Option<&'a Name>
+    requires within { at ≤ limit }
+    requires limit { limit ≤ length message.now }
+    ensures { IfSome (option_copied result) (λ name. SpelledIn message.now (take limit message.now) at (at + 2) name) }
+{
+    let Some(name) = message.first() else {
+        return None;
+    };
+    let (front, _) = message.as_slice().split_at(limit);
+    match next_at(front, at) {
+        Next::Pointer(to) if to == HEADER_OCTETS && to < at => Some(name),
+        _ => None,
+    }
+}
+
 /// The name at a place of a message, and the place after it. If the name's own octets, up to the end of its first pointer,
 /// pass the limit, the fault is `ending`.
 pub(crate) fn name_in(
@@ -78,11 +97,14 @@ pub(crate) fn name_in(
     ensures exact { Gives result (name_read_in message.now (take limit message.now) ending at) }
     ensures within { IfOk result (λ r. r.1 ≤ limit) }
 {
+    if let Some(name) = pointed_name(message, limit, at) {
+        return Ok((name.clone()?, at + 2));
+    }
     follow_name(alloc, message, limit, ending, at)
 }
 
-/// The name at a place of a message, and the place after it.
-pub(crate) fn name_at(
+/// The owner of the record at a place of a message, and the place after it.
+pub(crate) fn owner_at(
     alloc: Global,
     message: &Wire<'_>,
     at: usize,
@@ -92,6 +114,25 @@ pub(crate) fn name_at(
     ensures within { IfOk result (λ r. r.1 ≤ length message.now) }
 {
     name_in(
+        alloc,
+        message,
+        message.as_slice().len(),
+        WireFault::Short,
+        at,
+    )
+}
+
+/// The name at a place of a message, and the place after it. It is for questions: no name is known before them.
+pub(crate) fn name_at(
+    alloc: Global,
+    message: &Wire<'_>,
+    at: usize,
+) -> Result<(Name, usize), WireFault>
+    requires { at ≤ length message.now }
+    ensures exact { Gives result (name_read message.now at) }
+    ensures within { IfOk result (λ r. r.1 ≤ length message.now) }
+{
+    follow_name(
         alloc,
         message,
         message.as_slice().len(),

@@ -7,7 +7,7 @@ ghost use Rattle.dns_wire.specs.Read.Record.{frame_read, record_read, ttl_of};
 use crate::fault::WireFault;
 use crate::message::Classed;
 use crate::read::chains::Wire;
-use crate::read::name::name_at;
+use crate::read::name::owner_at;
 use crate::read::number::{u16_at, u32_at};
 use crate::read::rdata::{data_at, form_in};
 use crate::read::section::SectionItem;
@@ -59,7 +59,7 @@ fn record_at(
     ensures exact { Gives result (record_read message.now at) }
     ensures within { IfOk result (λ r. r.1 ≤ length message.now) }
 {
-    let (owner, at) = name_at(alloc, message, at)?;
+    let (owner, at) = owner_at(alloc, message, at)?;
     let octets = message.as_slice();
     let frame = frame_at(octets, at)?;
     let body = data_at(alloc, message, frame.end, frame.begin, frame.form)?;
