@@ -57,6 +57,8 @@ impl<'a> Wire<'a> {
     pub(crate) fn noted(octets: &'a [u8], ends: &'a mut [u16; POINTER_REACH]) -> Wire<'a>
         ensures { result ≡ octets.now }
     {
+        // No chain goes on from a place behind the last octet, so these places need no note.
+        let ends = &mut ends[..octets.len().min(POINTER_REACH)];
         note_ends(octets, ends);
         Wire {
             octets,
