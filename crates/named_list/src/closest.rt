@@ -4,24 +4,34 @@ ghost use Rattle.std.specs.Prelude.{◌≡◌};
 ghost use Rattle.std.specs.Option.{option_map};
 ghost use Rattle.indexmap.specs.IndexMap.{values};
 ghost use Rattle.named_list.specs.Closest.{closest_of};
-ghost use Rattle.named_list.specs.Keyed.{AreKeyed};
+ghost use Rattle.named_list.specs.Keyed.{AreAsLong, AreKeyed};
 
 use crate::named::Named;
 use dns_name::Name;
 use dns_text::Shared;
 use indexmap::IndexMap;
 
-/// The thing with the longest name at or above a name: one lookup for each label, and one for the root.
+/// The thing with the longest name at or above a name. No thing has a name of fewer octets than `least`, so it makes a lookup for each
+/// name above that has as many.
 pub(crate) fn closest<'a, T: Named>(
     things: &'a IndexMap<Vec<u8>, Shared<T>>,
+    least: usize,
     name: &Name,
 ) -> Option<&'a Shared<T>>
-    requires { AreKeyed T.named (λ k. k.items) things.now.entries }
+    requires keyed { AreKeyed T.named (λ k. k.items) things.now.entries }
+    requires long { AreAsLong T.named least (values things.now) }
     ensures { option_map (λ x. x.now) result ≡ closest_of T.named (values things.now) name.now }
 {
     let mut octets = name.octets();
+    // Most services have no local zone, and no stub.
+    if octets.len() < least {
+        return None;
+    }
     let mut labels = name.labels();
     loop {
+        if octets.len() < least {
+            return None;
+        }
         if let Some(thing) = things.get(octets) {
             return Some(thing);
         }

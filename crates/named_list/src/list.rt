@@ -25,19 +25,22 @@ use std::marker::Model;
 pub struct NamedList<T: Named> {
     // Each under the octets of its name.
     things: IndexMap<Vec<u8>, Shared<T>>,
+    // No thing has a name of fewer octets. A thing that is taken out leaves it as it is.
+    least: usize,
 }
 
 impl<T: Named> Model for NamedList<T> {
     ghost use Rattle.std.specs.Prelude.{List};
     ghost use Rattle.indexmap.specs.IndexMap.{values};
     ghost use Rattle.named_list.specs.Named.{AreNamed};
-    ghost use Rattle.named_list.specs.Keyed.{AreKeyed};
+    ghost use Rattle.named_list.specs.Keyed.{AreAsLong, AreKeyed};
 
     ghost Value = { List T };
 
     ghost view = { λ l. values l.things };
 
-    ghost invariant = { λ l. AreNamed T.named (values l.things) × AreKeyed T.named (λ k. k.items) l.things.entries };
+    ghost invariant = { λ l. AreNamed T.named (values l.things) × AreKeyed T.named (λ k. k.items) l.things.entries
+        × AreAsLong T.named l.least (values l.things) };
 }
 
 impl<T: Named> NamedList<T> {
@@ -47,6 +50,7 @@ impl<T: Named> NamedList<T> {
     {
         NamedList {
             things: IndexMap::new(alloc),
+            least: usize::MAX,
         }
     }
 
@@ -58,11 +62,11 @@ impl<T: Named> NamedList<T> {
         self.things.values().as_slice()
     }
 
-    /// The thing with the longest name at or above a name: one lookup for each label. It takes no memory.
+    /// The thing with the longest name at or above a name: at most one lookup for each label. It takes no memory.
     pub fn closest(&self, name: &Name) -> Option<&Shared<T>>
         ensures { option_map (λ x. x.now) result ≡ closest_of T.named self.now name.now }
     {
-        closest(&self.things, name)
+        closest(&self.things, self.least, name)
     }
 
     /// Whether a thing has this name.
@@ -79,6 +83,7 @@ impl<T: Named> NamedList<T> {
         ensures saved { IfOk result (λ turn. IsWayBack T.named turn self.new self.old) }
         ensures free { has_named T.named self.old (T.named new) ≡ true → IsOk result }
     {
+        self.least = self.least.min(new.get().name().octets().len());
         put(alloc, &mut self.things, new)
     }
 
@@ -117,6 +122,7 @@ impl<T: Named> NamedList<T> {
         ensures without { OnOk result ((place : ℕ) × ((thing : T) ×
             ((turn.old ≡ Turn.With place thing) × (turn.new ≡ Turn.Without place)))) }
     {
+        self.least = self.least.min(turn.octets_in());
         put_in(&mut self.things, turn)
     }
 

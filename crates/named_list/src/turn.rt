@@ -1,6 +1,7 @@
 //! The way back that a change leaves.
 
-ghost use Rattle.std.specs.Prelude.{◌≡◌};
+ghost use Rattle.std.specs.Prelude.{◌≡◌, ℕ, length};
+ghost use Rattle.dns_name.specs.Labels.{octets_of};
 ghost use Rattle.named_list.specs.Turn.{puts_in};
 
 use crate::keyed::Keyed;
@@ -26,5 +27,15 @@ impl<T: Named> Turn<T> {
         ensures { result ≡ puts_in self.now }
     {
         matches!(self, Turn::With { .. })
+    }
+
+    /// How many octets the name of the thing has that the step to the other side puts in, if it puts one in.
+    pub(crate) fn octets_in(&self) -> usize
+        ensures { (place : ℕ) (thing : T) → self.now ≡ Turn.With place thing → result ≡ length (octets_of (T.named thing)) }
+    {
+        match self {
+            Turn::With { thing, .. } => thing.key.len(),
+            _ => usize::MAX,
+        }
     }
 }
