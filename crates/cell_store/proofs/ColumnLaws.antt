@@ -1,5 +1,5 @@
 -- A column as its users see it, by what it keeps.
-use Rattle.std.proofs.Common.{◌≡◌, ℕ, suc, ◌+◌, ◌-◌, ◌<◌, ◌≤◌, Bool, true, false, cond, Option, Some, None, List, [], ◌∷◌, ◌++◌, length, get_or, map, refl, sym, ap, ◌∙◌, subst, arith, length-append, Vec, Global}
+use Rattle.std.proofs.Common.{◌≡◌, ℕ, suc, ◌+◌, ◌-◌, ◌<◌, ◌≤◌, Bool, true, false, cond, Option, Some, None, List, [], ◌∷◌, ◌++◌, length, get_or, map, refl, sym, ap, ◌∙◌, subst, arith, length-append}
 use Rattle.std.specs.Prelude.{eqb, nat_le, nat_lt, slice_get, fold}
 use Rattle.std.specs.List.{AllByRecursion}
 use Rattle.std.specs.Option.{option_map}
@@ -10,6 +10,7 @@ use Rattle.std.proofs.lemmas.Map.Steps.{le-length_from_below}
 use Rattle.std.proofs.lemmas.List.{get_or_append_left}
 use Rattle.std.proofs.lemmas.List.Sums.{fold-append}
 use Rattle.std.proofs.Math.Seq.{get_or-append_seam}
+use Rattle.arrayvec.specs.ArrayVec.{ArrayVec}
 use Rattle.ranked.specs.declared.find.Find.{Find}
 use Rattle.ranked.specs.declared.cell.Admitted.{Admitted}
 use Rattle.ranked.specs.declared.cell.Shown.{Shown}
@@ -226,12 +227,12 @@ dark_seen {F} finds moment (Some held) is = split (is_alive held moment) refl (s
 not_past : (v upto : ℕ) → v ≤ upto → nat_lt upto v ≡ false
 not_past v upto low = grind (arith, nat_tests)
 
-pub seen_here : (cells : Cells) (versions : Vec (Version ℕ) Global) (finds : Vec Find Global) (upto v : ℕ) (slice : List (Version ℕ)) (place : Place ℕ)
-    → cells_of versions finds upto ≡ cells → v ≤ upto → slice ≡ versions.items → place ≡ place_at slice v → place_in cells v ≡ place_of finds.items place
+pub seen_here : (cells : Cells) (versions : ArrayVec (Version ℕ)) (finds : List Find) (upto v : ℕ) (slice : List (Version ℕ)) (place : Place ℕ)
+    → cells_of versions finds upto ≡ cells → v ≤ upto → slice ≡ versions.items → place ≡ place_at slice v → place_in cells v ≡ place_of finds place
 seen_here cells versions finds upto v slice place view low same is =
     ap (λ (c : Cells). place_in c v) (sym view)
-    ∙ (ap (λ b. cond b nothing (place_at (map (version_of finds.items) versions.items) v)) (not_past v upto low)
-    ∙ (seen_place finds.items v versions.items ∙ ap (place_of finds.items) (sym (is ∙ ap (λ (l : List (Version ℕ)). place_at l v) same))))
+    ∙ (ap (λ b. cond b nothing (place_at (map (version_of finds) versions.items) v)) (not_past v upto low)
+    ∙ (seen_place finds v versions.items ∙ ap (place_of finds) (sym (is ∙ ap (λ (l : List (Version ℕ)). place_at l v) same))))
 
 pub within_here : (versions : List (Version ℕ)) (slots v : ℕ) (slice : List (Version ℕ)) (place : Place ℕ)
     → AllByRecursion (IsWithin slots) versions → slice ≡ versions → place ≡ place_at slice v → IsHeldWithin slots place.cell.held

@@ -1,5 +1,5 @@
 -- A column whose equal neighbours are kept once.
-use Rattle.std.proofs.Common.{◌≡◌, ℕ, zero, suc, ◌+◌, ◌<◌, ◌≤◌, Bool, true, false, cond, Option, Some, None, List, [], ◌∷◌, length, get_or, slice_set, refl, sym, ap, ◌∙◌, subst, arith, inl, inr, Vec, Global, vec_capacity}
+use Rattle.std.proofs.Common.{◌≡◌, ℕ, zero, suc, ◌+◌, ◌<◌, ◌≤◌, Bool, true, false, cond, Option, Some, None, List, [], ◌∷◌, length, get_or, slice_set, refl, sym, ap, ◌∙◌, subst, arith, inl, inr}
 use Rattle.std.specs.Prelude.{fold, nat_le, nat_lt, ◌&&◌, ◌||◌}
 use Rattle.std.proofs.Math.Bool.{beq}
 use Rattle.std.specs.List.{AllByRecursion, remove, list_any}
@@ -154,66 +154,64 @@ joined_read (a ∷ versions) (suc i) (suc k) d = joined_read versions i k d
 abbrev same_places : Place ℕ → Place ℕ → Bool
 same_places p q = beq p.left q.left && same_held p.cell.held q.cell.held
 
-pub record IsMerged (old new : Vec (Version ℕ) Global) (place : ℕ) : Type 0 where
+pub record IsMerged (old new : List (Version ℕ)) (place : ℕ) : Type 0 where
   pub some : 1 ≤ place
-  pub places : (v : ℕ) → place_at new.items v ≡ place_at old.items v
-  pub within : (slots : ℕ) → AllByRecursion (IsWithin slots) old.items → AllByRecursion (IsWithin slots) new.items
-  pub starts : IsFromStart old.items → IsFromStart new.items
-  pub fewer : length new.items ≤ length old.items
-  pub apart : AreApart new.items place
-  pub finds : list_any has_find new.items ≡ true → list_any has_find old.items ≡ true
-  pub ranked : AreRanked old.items → AreRanked new.items
-  pub capacity : vec_capacity new ≡ vec_capacity old
+  pub places : (v : ℕ) → place_at new v ≡ place_at old v
+  pub within : (slots : ℕ) → AllByRecursion (IsWithin slots) old → AllByRecursion (IsWithin slots) new
+  pub starts : IsFromStart old → IsFromStart new
+  pub fewer : length new ≤ length old
+  pub apart : AreApart new place
+  pub finds : list_any has_find new ≡ true → list_any has_find old ≡ true
+  pub ranked : AreRanked old → AreRanked new
 
 read_any : (xs : List (Version ℕ)) (i : ℕ) (x d : Version ℕ) → i < length xs → x ≡ get_or xs i x → get_or xs i d ≡ x
 read_any xs i x d low is = get_or_default xs i d x low ∙ sym is
 
-module _ (old versions : Vec (Version ℕ) Global) (place i : ℕ) (a b : Version ℕ) (merged : IsMerged old versions place) (at : i + 1 ≡ place) (low : place < length versions.items)
-    (first : a ≡ get_or versions.items i a) (second : b ≡ get_or versions.items place b) where
-  here : (d : Version ℕ) → holds_same (get_or versions.items i d) (get_or versions.items place d) ≡ holds_same a b
-  here d = ap (λ x. holds_same x (get_or versions.items place d)) (read_any versions.items i a d (omega arith) first) ∙ ap (holds_same a) (read_any versions.items place b d low second)
+module _ (old versions : List (Version ℕ)) (place i : ℕ) (a b : Version ℕ) (merged : IsMerged old versions place) (at : i + 1 ≡ place) (low : place < length versions)
+    (first : a ≡ get_or versions i a) (second : b ≡ get_or versions place b) where
+  here : (d : Version ℕ) → holds_same (get_or versions i d) (get_or versions place d) ≡ holds_same a b
+  here d = ap (λ x. holds_same x (get_or versions place d)) (read_any versions i a d (omega arith) first) ∙ ap (holds_same a) (read_any versions place b d low second)
 
-  same_here : holds_same a b ≡ true → (d : Version ℕ) → (get_or versions.items i d).place ≡ (get_or versions.items (suc i) d).place
+  same_here : holds_same a b ≡ true → (d : Version ℕ) → (get_or versions i d).place ≡ (get_or versions (suc i) d).place
   same_here same d =
       let next : suc i ≡ place = omega (arith, at) in
-      place_exact (get_or versions.items i d) (get_or versions.items (suc i) d) (ap (λ n. holds_same (get_or versions.items i d) (get_or versions.items n d)) next ∙ (here d ∙ same))
+      place_exact (get_or versions i d) (get_or versions (suc i) d) (ap (λ n. holds_same (get_or versions i d) (get_or versions n d)) next ∙ (here d ∙ same))
 
-  put_is : (removed : List (Version ℕ)) (later lent : Version ℕ) → removed ≡ remove versions.items place → later ≡ get_or versions.items place later → lent ≡ get_or removed i lent
-      → slice_set removed i (started later.from lent) ≡ joined i versions.items
+  put_is : (removed : List (Version ℕ)) (later lent : Version ℕ) → removed ≡ remove versions place → later ≡ get_or versions place later → lent ≡ get_or removed i lent
+      → slice_set removed i (started later.from lent) ≡ joined i versions
   put_is removed later lent gone read there =
       let next : suc i ≡ place = omega (arith, at) in
-      let gone' : removed ≡ remove versions.items (suc i) = gone ∙ ap (remove versions.items) (sym next) in
-      let later' : later ≡ get_or versions.items (suc i) lent = read ∙ (get_or_default versions.items place later lent low ∙ ap (λ n. get_or versions.items n lent) (sym next)) in
-      let lent' : lent ≡ get_or (remove versions.items (suc i)) i lent = there ∙ ap (λ (l : List (Version ℕ)). get_or l i lent) gone' in
+      let gone' : removed ≡ remove versions (suc i) = gone ∙ ap (remove versions) (sym next) in
+      let later' : later ≡ get_or versions (suc i) lent = read ∙ (get_or_default versions place later lent low ∙ ap (λ n. get_or versions n lent) (sym next)) in
+      let lent' : lent ≡ get_or (remove versions (suc i)) i lent = there ∙ ap (λ (l : List (Version ℕ)). get_or l i lent) gone' in
       ap (λ (l : List (Version ℕ)). slice_set l i (started later.from lent)) gone'
-      ∙ (ap (λ (x : Version ℕ). slice_set (remove versions.items (suc i)) i (started x.from lent)) later'
-      ∙ (ap (λ (x : Version ℕ). slice_set (remove versions.items (suc i)) i (started (get_or versions.items (suc i) lent).from x)) lent'
-      ∙ joined_is versions.items i lent (omega arith)))
+      ∙ (ap (λ (x : Version ℕ). slice_set (remove versions (suc i)) i (started x.from lent)) later'
+      ∙ (ap (λ (x : Version ℕ). slice_set (remove versions (suc i)) i (started (get_or versions (suc i) lent).from x)) lent'
+      ∙ joined_is versions i lent (omega arith)))
 
-  pub merged_less : ((d : Version ℕ) → (get_or versions.items i d).place ≡ (get_or versions.items (suc i) d).place → AreRanked versions.items → AreRanked (joined i versions.items))
-      → (new : Vec (Version ℕ) Global) (removed : List (Version ℕ)) (later lent : Version ℕ) → holds_same a b ≡ true → removed ≡ remove versions.items place → later ≡ get_or versions.items place later → lent ≡ get_or removed i lent
-      → new.items ≡ slice_set removed i (started later.from lent) → vec_capacity new ≡ vec_capacity versions → IsMerged old new place
-  merged_less ranks new removed later lent same gone read there items capacity =
-      let is : new.items ≡ joined i versions.items = items ∙ put_is removed later lent gone read there in
-      let low' : i + 1 < length versions.items = omega arith in
+  pub merged_less : ((d : Version ℕ) → (get_or versions i d).place ≡ (get_or versions (suc i) d).place → AreRanked versions → AreRanked (joined i versions))
+      → (new : List (Version ℕ)) (removed : List (Version ℕ)) (later lent : Version ℕ) → holds_same a b ≡ true → removed ≡ remove versions place → later ≡ get_or versions place later → lent ≡ get_or removed i lent
+      → new ≡ slice_set removed i (started later.from lent) → IsMerged old new place
+  merged_less ranks new removed later lent same gone read there items =
+      let is : new ≡ joined i versions = items ∙ put_is removed later lent gone read there in
+      let low' : i + 1 < length versions = omega arith in
       let next : suc i ≡ place = omega (arith, at) in
       record {
         some = merged.some;
-        places = λ v. ap (λ (l : List (Version ℕ)). place_at l v) is ∙ (joined_fold v versions.items i nothing low' (same_here same) ∙ merged.places v);
-        within = λ slots all. subst (λ (l : List (Version ℕ)). AllByRecursion (IsWithin slots) l) (sym is) (joined_within slots versions.items i (merged.within slots all));
-        starts = λ start. subst (λ (l : List (Version ℕ)). IsFromStart l) (sym is) (joined_starts versions.items i (merged.starts start));
-        fewer = omega (arith, merged.fewer, ap length is, joined_length versions.items i low');
+        places = λ v. ap (λ (l : List (Version ℕ)). place_at l v) is ∙ (joined_fold v versions i nothing low' (same_here same) ∙ merged.places v);
+        within = λ slots all. subst (λ (l : List (Version ℕ)). AllByRecursion (IsWithin slots) l) (sym is) (joined_within slots versions i (merged.within slots all));
+        starts = λ start. subst (λ (l : List (Version ℕ)). IsFromStart l) (sym is) (joined_starts versions i (merged.starts start));
+        fewer = omega (arith, merged.fewer, ap length is, joined_length versions i low');
         apart = λ k d few.
             let one : k < place = omega arith in
             ap (λ (l : List (Version ℕ)). holds_same (get_or l k d) (get_or l (k + 1) d)) is
-            ∙ (ap (λ (p : Place ℕ). same_places p (get_or (joined i versions.items) (k + 1) d).place) (joined_read versions.items i k d)
-            ∙ (ap (λ (p : Place ℕ). same_places (get_or (remove versions.items (suc i)) k d).place p) (joined_read versions.items i (k + 1) d)
-            ∙ (ap (λ n. holds_same (get_or (remove versions.items n) k d) (get_or (remove versions.items n) (k + 1) d)) next
-            ∙ (ap (λ x. holds_same x (get_or (remove versions.items place) (k + 1) d)) (get_or-remove_below versions.items place d k one low)
-            ∙ (ap (holds_same (get_or versions.items k d)) (get_or-remove_below versions.items place d (k + 1) few low) ∙ merged.apart k d few)))));
-        finds = λ some. merged.finds (joined_finds versions.items i (ap (list_any has_find) (sym is) ∙ some));
+            ∙ (ap (λ (p : Place ℕ). same_places p (get_or (joined i versions) (k + 1) d).place) (joined_read versions i k d)
+            ∙ (ap (λ (p : Place ℕ). same_places (get_or (remove versions (suc i)) k d).place p) (joined_read versions i (k + 1) d)
+            ∙ (ap (λ n. holds_same (get_or (remove versions n) k d) (get_or (remove versions n) (k + 1) d)) next
+            ∙ (ap (λ x. holds_same x (get_or (remove versions place) (k + 1) d)) (get_or-remove_below versions place d k one low)
+            ∙ (ap (holds_same (get_or versions k d)) (get_or-remove_below versions place d (k + 1) few low) ∙ merged.apart k d few)))));
+        finds = λ some. merged.finds (joined_finds versions i (ap (list_any has_find) (sym is) ∙ some));
         ranked = λ was. subst (λ (l : List (Version ℕ)). AreRanked l) (sym is) (ranks a (same_here same a) (merged.ranked was));
-        capacity = capacity ∙ merged.capacity;
       }
 
   pub merged_more : holds_same a b ≡ false → IsMerged old versions (place + 1)
@@ -226,10 +224,9 @@ module _ (old versions : Vec (Version ℕ) Global) (place i : ℕ) (a b : Versio
     apart = λ k d few. elim (cases_eq k i) [
       | inl same ↦
           let e : k + 1 ≡ place = omega (arith, same, at) in
-          ap (λ n. holds_same (get_or versions.items k d) (get_or versions.items n d)) e ∙ (ap (λ n. holds_same (get_or versions.items n d) (get_or versions.items place d)) same ∙ (here d ∙ other))
+          ap (λ n. holds_same (get_or versions k d) (get_or versions n d)) e ∙ (ap (λ n. holds_same (get_or versions n d) (get_or versions place d)) same ∙ (here d ∙ other))
       | inr ne ↦ merged.apart k d (omega (arith, at))
     ];
     finds = merged.finds;
     ranked = merged.ranked;
-    capacity = merged.capacity;
   }

@@ -1,9 +1,10 @@
 -- The finds of a column, when one to which no cell refers is dropped.
-use Rattle.std.proofs.Common.{◌≡◌, ◌≢◌, ℕ, ◌+◌, ◌<◌, ◌≤◌, Bool, true, false, cond, Option, Some, None, List, [], ◌∷◌, length, get_or, map, refl, sym, ap, ◌∙◌, arith}
+use Rattle.std.proofs.Common.{◌≡◌, ◌≢◌, ℕ, ◌+◌, ◌-◌, ◌<◌, ◌≤◌, Bool, true, false, cond, Option, Some, None, List, [], ◌∷◌, length, get_or, map, slice_set, refl, sym, ap, ◌∙◌, arith}
 use Rattle.std.specs.Prelude.{◌==◌, ◌||◌, slice_get}
-use Rattle.std.specs.List.{list_any, AllByRecursion}
+use Rattle.std.specs.List.{list_any, swap_remove, AllByRecursion}
 use Rattle.std.specs.Option.{option_map}
 use Rattle.std.proofs.lemmas.Bool.{eq-eqb, eqb-true, false≢true}
+use Rattle.std.proofs.lemmas.List.{get_or-take, get_or-set_same, get_or-set_other, get_or_default, length-set, length-take-le}
 use Rattle.std.proofs.lemmas.Option.{slice_get-get_or}
 use Rattle.ranked.specs.declared.cell.Admitted.{Admitted}
 use Rattle.ranked.specs.Cell.{admitted_map}
@@ -17,6 +18,41 @@ pub record IsWithout {F : Type 0} (all rest : List F) (slot last : ℕ) : Type 0
   pub fewer : length rest ≡ last
   pub there : (d : F) → slot < last → get_or rest slot d ≡ get_or all last d
   pub other : (k : ℕ) (d : F) → k ≢ slot → k < last → get_or rest k d ≡ get_or all k d
+
+-- ---- the last find moves into a gap
+
+module _ {F : Type 0} (all : List F) (slot : ℕ) (d : F) (low : slot < length all) where
+  abbrev last : ℕ
+  last = length all - 1
+
+  abbrev moved : List F
+  moved = slice_set all slot (get_or all last d)
+
+  moved_length : length (swap_remove all slot d) ≡ last
+  moved_length = length-take-le last moved (omega (arith, length-set all slot (get_or all last d)))
+
+  moved_there : (e : F) → slot < last → get_or (swap_remove all slot d) slot e ≡ get_or all last e
+  moved_there e below =
+      get_or-take last moved slot e below ∙ (get_or-set_same all slot (get_or all last d) e low ∙ get_or_default all last d e (omega arith))
+
+  moved_other : (k : ℕ) (e : F) → (k ≡ slot → ⊥) → k < last → get_or (swap_remove all slot d) k e ≡ get_or all k e
+  moved_other k e away below = get_or-take last moved k e below ∙ get_or-set_other all slot k (get_or all last d) e away
+
+-- a find of a list that has a slot
+pub some_find : {F : Type 0} (all : List F) (slot : ℕ) → slot < length all → F
+some_find [] slot low = absurd (omega arith)
+some_find (x ∷ all) slot low = x
+
+-- the last find moved into the gap
+pub without_is : {F : Type 0} (all rest : List F) (slot last : ℕ) (d : F) → slot < length all → length all ≡ last + 1 → rest ≡ swap_remove all slot d → IsWithout all rest slot last
+without_is {F} all rest slot last d low few is =
+    let count : length all - 1 ≡ last = omega arith in
+    record {
+      few = few;
+      fewer = ap length is ∙ (moved_length all slot d low ∙ count);
+      there = λ e below. ap (λ (l : List F). get_or l slot e) is ∙ (moved_there all slot d low e (omega arith) ∙ ap (λ k. get_or all k e) count);
+      other = λ k e away below. ap (λ (l : List F). get_or l k e) is ∙ moved_other all slot d low k e away (omega arith);
+    }
 
 apart : (a b : ℕ) → (a == b) ≡ false → a ≢ b
 apart a b is same = false≢true (sym is ∙ eq-eqb a b same)

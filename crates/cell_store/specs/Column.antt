@@ -1,8 +1,8 @@
 -- A column: the versions of one name and type, and the find that each has.
-use Rattle.std.specs.Prelude.{ℕ, ◌≤◌, Bool, List, Option, Some, None, length, map, nat_lt, is_some, Vec, vec_capacity, if◌then◌else◌}
-use Rattle.std.specs.Global.{Global}
+use Rattle.std.specs.Prelude.{ℕ, ◌≤◌, Bool, List, Option, Some, None, length, map, nat_lt, is_some, if◌then◌else◌}
 use Rattle.std.specs.List.{AllByRecursion, list_any}
 use Rattle.std.specs.Option.{option_map}
+use Rattle.arrayvec.specs.ArrayVec.{ArrayVec}
 use Rattle.ranked.specs.declared.find.Find.{Find}
 use Rattle.ranked.specs.declared.cell.Shown.{Shown}
 use Rattle.ranked.specs.Cell.{shown_at, shown_map}
@@ -24,19 +24,17 @@ abbrev pub place_in : Cells → ℕ → Place Find
 place_in cells v = if nat_lt cells.upto v then nothing else place_at cells.versions v
 
 -- the cells of a column, with the finds in place of their slots
-abbrev pub cells_of : Vec (Version ℕ) Global → Vec Find Global → ℕ → Cells
-cells_of versions finds upto = record { versions = map (version_of finds.items) versions.items; upto = upto }
+abbrev pub cells_of : ArrayVec (Version ℕ) → List Find → ℕ → Cells
+cells_of versions finds upto = record { versions = map (version_of finds) versions.items; upto = upto }
 
--- Each cell refers to a find of the column, and some cell refers to each find. The first entry starts at version 0. No two neighbours have the same content. There are at most five entries, and room for one more and its find.
-pub record IsColumn (versions : Vec (Version ℕ) Global) (finds : Vec Find Global) : Type 0 where
-  pub within : AllByRecursion (IsWithin (length finds.items)) versions.items
-  pub named : AreNamed versions.items (length finds.items)
-  pub starts : IsFromStart (map (version_of finds.items) versions.items)
+-- Each cell refers to a find of the column, and some cell refers to each find. The first entry starts at version 0. No two neighbours have the same content. There are at most five entries, so that one more has room.
+pub record IsColumn (versions : ArrayVec (Version ℕ)) (finds : List Find) : Type 0 where
+  pub within : AllByRecursion (IsWithin (length finds)) versions.items
+  pub named : AreNamed versions.items (length finds)
+  pub starts : IsFromStart (map (version_of finds) versions.items)
   pub ranked : AreRanked versions.items
   pub differ : DoDiffer (contents versions.items)
   pub short : length versions.items ≤ 5
-  pub room : 6 ≤ vec_capacity versions
-  pub slots : 6 ≤ vec_capacity finds
 
 -- the answer of a place at a moment, or None if it refers to the find of the whole name
 abbrev pub sight_at : Place Find → ℕ → Option (Option (Shown Find))

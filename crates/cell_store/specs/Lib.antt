@@ -19,3 +19,4 @@ pub mod Same
 pub mod Mixed
 pub mod Entry
 pub mod Life
+pub mod Finds

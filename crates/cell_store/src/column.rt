@@ -1,6 +1,6 @@
 //! The cells of one name and type.
 
-ghost use Rattle.std.specs.Prelude.{◌≡◌, ◌<◌, ◌≤◌, ◌+◌, ℕ, max, true, false, IfOk, OnOk, OnErr, IsOk, nat_lt, if◌then◌else◌};
+ghost use Rattle.std.specs.Prelude.{◌≡◌, ◌<◌, ◌≤◌, ◌+◌, ℕ, None, [], ◌∷◌, max, true, false, IfOk, OnOk, OnErr, IsOk, nat_lt, if◌then◌else◌};
 ghost use Rattle.ranked.specs.Find.{admission_of};
 ghost use Rattle.ranked.specs.Rank.{level_of};
 ghost use Rattle.cell_store.specs.Version.{nothing, whole, after_find};
@@ -12,29 +12,32 @@ ghost use Rattle.cell_store.specs.Ends.{first_end};
 ghost use Rattle.cell_store.specs.Mixed.{is_mixed, IsEven};
 ghost use Rattle.cell_store.specs.Same.{place_now};
 
-use crate::entry::Entry;
+use crate::entry::{Entries, Entry};
+use crate::finds::Finds;
 use crate::merge::merge;
 use crate::prune::prune;
 use crate::slots::{has_find, lend, release};
 use crate::version::{Place, Sight, Slot, Version};
 use crate::versions::{admit_each, first_end, forget_before, place_at, reach, sweep_each};
+use arrayvec::ArrayVec;
 use dns_name::NoMemory;
 use ranked::{Cell, SharedFind, Shown};
 use std::alloc::Global;
+use std::default::Default;
 use std::marker::Model;
-
-// The room of a column: five entries, and one more during an admission. Two finds of one column have different ranks,
-// since the newer one left only finds that outrank it. So no admission takes more room, however many flushes can be undone.
-const ENTRIES: usize = 6;
+use std::mem::size_of;
 
 /// The cells of one name and type, one for each version. It keeps a find once, however many versions have it.
 #[derive(Drop)]
 pub struct Column {
-    versions: Vec<Entry>,
-    finds: Vec<SharedFind>,
     // The last version that an admission has reached. Later versions are empty.
     upto: u64,
+    // The first entry stands beside `upto`, and the first find beside the number of entries: a lookup mostly reads these alone.
+    versions: Entries,
+    finds: Finds,
 }
+
+const _: () = prove!(size_of::<Column>() == 216);
 
 impl Model for Column {
     ghost use Rattle.std.specs.Coded.{codes};
@@ -51,26 +54,14 @@ impl Model for Column {
 }
 
 impl Column {
-    /// An empty column. It allocates all the room that it will ever need.
+    /// An empty column. It has all the room that it will ever need in itself.
     pub fn new(alloc: Global, upto: u64) -> Result<Column, NoMemory>
         ensures places { IfOk result (λ column. (v : ℕ) → place_in column v ≡ nothing) }
         ensures upto { IfOk result (λ column. column.upto ≡ upto) }
         ensures counted { IfOk result (λ column. is_counted column ≡ false) }
     {
-        let mut versions = Vec::with_capacity(alloc, ENTRIES)?;
-        let finds = Vec::with_capacity(alloc, ENTRIES)?;
-        versions.push_reserved(Entry::new(Version {
-            from: 0,
-            place: Place {
-                left: false,
-                cell: Cell::empty(),
-            },
-        }));
-        Ok(Column {
-            versions,
-            finds,
-            upto,
-        })
+        let _ = alloc;
+        Ok(Column::of(false, upto))
     }
 
     /// A column that refers to the find of the whole name in the versions up to `upto`.
@@ -79,20 +70,30 @@ impl Column {
         ensures upto { IfOk result (λ column. column.upto ≡ upto) }
         ensures counted { IfOk result (λ column. is_counted column ≡ false) }
     {
-        let mut versions = Vec::with_capacity(alloc, ENTRIES)?;
-        let finds = Vec::with_capacity(alloc, ENTRIES)?;
-        versions.push_reserved(Entry::new(Version {
+        let _ = alloc;
+        Ok(Column::of(true, upto))
+    }
+
+    // A column with one entry, without a find.
+    fn of(left: bool, upto: u64) -> Column
+        ensures { result ≡ record {
+          upto = upto;
+          versions = record { from = 0; place = record { left = left; cell = record { held = None } } } ∷ [];
+        } }
+    {
+        let mut versions = ArrayVec::new();
+        versions.push(Entry::new(Version {
             from: 0,
             place: Place {
-                left: true,
+                left,
                 cell: Cell::empty(),
             },
         }));
-        Ok(Column {
-            versions,
-            finds,
+        Column {
             upto,
-        })
+            versions,
+            finds: Finds::new(),
+        }
     }
 
     /// The last version that an admission has reached. Later versions are empty.
@@ -139,7 +140,7 @@ impl Column {
             Some(shown) => Sight::Own(Some(Shown {
                 rank: shown.rank,
                 left: shown.left,
-                body: &self.finds[usize::from(shown.body)],
+                body: self.finds.get(usize::from(shown.body)),
             })),
             None => Sight::Own(None),
         }
@@ -177,10 +178,10 @@ impl Column {
         reach(&mut self.versions, self.upto, top);
         self.upto = top;
         let slot = self.finds.len();
-        self.finds.push_reserved(find);
+        self.finds.push(find);
         admit_each(
             &mut self.versions,
-            self.finds[slot].find(),
+            self.finds.get(slot).find(),
             slot as Slot,
             moment,
             outranked,
@@ -219,14 +220,8 @@ impl Column {
         ensures upto { self.new.upto ≡ self.old.upto }
         ensures counted { is_counted self.new ≡ false }
     {
-        self.versions.truncate(1);
-        self.versions[0] = Entry::new(Version {
-            from: 0,
-            place: Place {
-                left: false,
-                cell: Cell::empty(),
-            },
-        });
+        self.versions.clear();
+        self.versions.push(Entry::default());
         self.finds.clear();
     }
 

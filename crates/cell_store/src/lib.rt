@@ -10,6 +10,8 @@
 mod version;
 // An entry of a column, in memory.
 mod entry;
+// The finds of a column, in the column itself.
+mod finds;
 // The finds of a column, each kept once.
 mod slots;
 // Equal neighbours, kept once.

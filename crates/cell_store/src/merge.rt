@@ -1,6 +1,6 @@
 //! Equal neighbours among the versions of a column. Later admissions change them alike, so one entry is enough for both.
 
-ghost use Rattle.std.specs.Prelude.{◌≡◌, ◌≤◌, ℕ, true, length, vec_capacity};
+ghost use Rattle.std.specs.Prelude.{◌≡◌, ◌≤◌, ℕ, true, length};
 ghost use Rattle.std.specs.List.{AllByRecursion, list_any};
 ghost use Rattle.cell_store.specs.Column.{has_find};
 ghost use Rattle.cell_store.specs.Version.{place_at, IsFromStart};
@@ -8,7 +8,7 @@ ghost use Rattle.cell_store.specs.Few.{contents, AreRanked, DoDiffer};
 ghost use Rattle.cell_store.specs.Merge.{holds_same, same_held, started};
 ghost use Rattle.cell_store.specs.Slots.{IsWithin};
 
-use crate::entry::Entry;
+use crate::entry::{Entries, Entry};
 use crate::version::Slot;
 use ranked::Admitted;
 
@@ -17,8 +17,8 @@ impl Entry {
     fn holds_same(&self, other: &Entry) -> bool
         ensures { result ≡ holds_same self.now other.now }
     {
-        let own = self.version().place;
-        let others = other.version().place;
+        let own = self.place();
+        let others = other.place();
         own.left == others.left && same_held(&own.cell.held, &others.cell.held)
     }
 
@@ -26,10 +26,8 @@ impl Entry {
     fn start_by(&mut self, number: u64)
         ensures { self.new ≡ started number self.old }
     {
-        let mut version = self.version();
-        if number < version.from {
-            version.from = number;
-            *self = Entry::new(version);
+        if number < self.start() {
+            self.start_at(number);
         }
     }
 }
@@ -55,7 +53,7 @@ fn same_held(a: &Option<Admitted<Slot>>, b: &Option<Admitted<Slot>>) -> bool
 }
 
 // Removes each entry that has the content of the entry before it, and moves the start of that one if it was later.
-pub(crate) fn merge(versions: &mut Vec<Entry>)
+pub(crate) fn merge(versions: &mut Entries)
     ensures places { (v : ℕ) → place_at versions.new.items v ≡ place_at versions.old.items v }
     ensures within { (slots : ℕ) →
         AllByRecursion (IsWithin slots) versions.old.items → AllByRecursion (IsWithin slots) versions.new.items }
@@ -64,13 +62,12 @@ pub(crate) fn merge(versions: &mut Vec<Entry>)
     ensures finds { list_any has_find versions.new.items ≡ true → list_any has_find versions.old.items ≡ true }
     ensures ranked { AreRanked versions.old.items → AreRanked versions.new.items }
     ensures differ { AreRanked versions.old.items → DoDiffer (contents versions.new.items) }
-    ensures capacity { vec_capacity versions.new ≡ vec_capacity versions.old }
 {
     let mut place = 1;
     while place < versions.len() {
         if versions[place - 1].holds_same(&versions[place]) {
             let later = versions.remove(place);
-            versions[place - 1].start_by(later.version().from);
+            versions[place - 1].start_by(later.start());
         } else {
             place += 1;
         }

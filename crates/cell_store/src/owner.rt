@@ -129,7 +129,8 @@ impl OwnerCells {
         ensures count { count_of self.new ≡ 1 }
         ensures places { AddsPlace Whole self.old self.new }
     {
-        self.kinds.clear();
+        // The list goes, with its room: it counts no more, and may have had a column for each of many types.
+        self.kinds = Vec::new(self.alloc);
         self.whole = Some(WholeFind {
             find,
             since: moment,

@@ -1,21 +1,12 @@
 //! Unused versions: those of flushes that can no longer be undone.
 
-ghost use Rattle.std.specs.Prelude.{◌≡◌, ◌<◌, ◌+◌, ℕ, length, drop, slice_index_or, vec_capacity};
+ghost use Rattle.std.specs.Prelude.{◌≡◌, ◌<◌, ◌+◌, ℕ, length, drop, slice_index_or};
 ghost use Rattle.std.specs.List.{list_any};
 ghost use Rattle.cell_store.specs.Prune.{is_from, is_held_at, is_seen, kept_entry, pruned};
 
-use crate::entry::Entry;
+use crate::entry::{Entries, Entry};
 use crate::version::{Place, Version};
 use ranked::Cell;
-
-impl Entry {
-    // Whether it starts at a version or before.
-    fn is_from(&self, number: u64) -> bool
-        ensures { result ≡ is_from number self.now }
-    {
-        self.version().from <= number
-    }
-}
 
 // Whether a version has the content of an entry: the entry starts there or before, and no later one does.
 fn is_held_at(versions: &[Entry], place: usize, number: u64) -> bool
@@ -66,9 +57,8 @@ fn kept_entry(versions: &[Entry], place: usize, numbers: &[u64], upto: u64) -> E
 }
 
 // Empties the entries whose content no version in use has. Version 0 and those of `numbers` are in use.
-pub(crate) fn prune(versions: &mut Vec<Entry>, numbers: &[u64], upto: u64)
-    ensures each { versions.new.items ≡ pruned numbers.now upto versions.old.items }
-    ensures capacity { vec_capacity versions.new ≡ vec_capacity versions.old }
+pub(crate) fn prune(versions: &mut Entries, numbers: &[u64], upto: u64)
+    ensures { versions.new.items ≡ pruned numbers.now upto versions.old.items }
 {
     let mut place = 0;
     while place < versions.len() {

@@ -1,13 +1,14 @@
 //! The finds of a column, each in one slot. The cells of all versions refer to a find by its slot.
 
-ghost use Rattle.std.specs.Prelude.{◌≡◌, ◌==◌, ◌≤◌, ℕ, map, length, vec_capacity};
+ghost use Rattle.std.specs.Prelude.{◌≡◌, ◌==◌, ◌≤◌, ℕ, map, length};
 ghost use Rattle.std.specs.List.{AllByRecursion, list_any};
 ghost use Rattle.cell_store.specs.Same.{cell_now};
 ghost use Rattle.cell_store.specs.Slots.{held_of, names, renamed, version_of, IsHeldWithin, IsWithin, AreNamed};
 ghost use Rattle.cell_store.specs.Count.{has_find};
 ghost use Rattle.cell_store.specs.Few.{contents, AreRanked, DoDiffer};
 
-use crate::entry::Entry;
+use crate::entry::{Entries, Entry};
+use crate::finds::Finds;
 use crate::version::Slot;
 use ranked::{Admitted, SharedFind};
 
@@ -16,15 +17,15 @@ impl Entry {
     fn has_find(&self) -> bool
         ensures { result ≡ has_find self.now }
     {
-        self.version().place.cell.held.is_some()
+        self.slot().is_some()
     }
 
     // Whether its cell refers to a slot.
     fn names(&self, slot: usize) -> bool
         ensures { result ≡ names slot self.now }
     {
-        match self.version().place.cell.held {
-            Some(held) => usize::from(held.body) == slot,
+        match self.slot() {
+            Some(own) => usize::from(own) == slot,
             None => false,
         }
     }
@@ -33,12 +34,12 @@ impl Entry {
     fn rename(&mut self, old: usize, new: Slot)
         ensures { self.new ≡ renamed old new self.old }
     {
-        let mut version = self.version();
-        if let Some(mut held) = version.place.cell.held {
+        let mut place = self.place();
+        if let Some(mut held) = place.cell.held {
             if usize::from(held.body) == old {
                 held.body = new;
-                version.place.cell.held = Some(held);
-                *self = Entry::new(version);
+                place.cell.held = Some(held);
+                self.set_place(place);
             }
         }
     }
@@ -59,9 +60,8 @@ fn is_named(versions: &[Entry], slot: usize) -> bool
 }
 
 // Replaces the old slot by the new one in each cell that refers to it.
-fn rename(versions: &mut Vec<Entry>, old: usize, new: Slot)
-    ensures each { versions.new.items ≡ map (renamed old new) versions.old.items }
-    ensures capacity { vec_capacity versions.new ≡ vec_capacity versions.old }
+fn rename(versions: &mut Entries, old: usize, new: Slot)
+    ensures { versions.new.items ≡ map (renamed old new) versions.old.items }
 {
     for entry in versions.iter_mut() {
         entry.rename(old, new);
@@ -69,10 +69,7 @@ fn rename(versions: &mut Vec<Entry>, old: usize, new: Slot)
 }
 
 // The content of a cell, with the find in place of its slot.
-pub(crate) fn lend(
-    finds: &[SharedFind],
-    held: Option<Admitted<Slot>>,
-) -> Option<Admitted<&SharedFind>>
+pub(crate) fn lend(finds: &Finds, held: Option<Admitted<Slot>>) -> Option<Admitted<&SharedFind>>
     requires { IsHeldWithin (length finds.now) held }
     ensures { cell_now result ≡ held_of finds.now held }
 {
@@ -81,23 +78,21 @@ pub(crate) fn lend(
             rank: held.rank,
             ttl: held.ttl,
             since: held.since,
-            body: &finds[usize::from(held.body)],
+            body: finds.get(usize::from(held.body)),
         }),
         None => None,
     }
 }
 
 // Drops the finds to which no cell refers. The last find moves into the gap.
-pub(crate) fn release(versions: &mut Vec<Entry>, finds: &mut Vec<SharedFind>)
-    requires few { length finds.old.items ≤ 256 }
-    requires within { AllByRecursion (IsWithin (length finds.old.items)) versions.old.items }
-    ensures same { map (version_of finds.new.items) versions.new.items ≡ map (version_of finds.old.items) versions.old.items }
-    ensures within { AllByRecursion (IsWithin (length finds.new.items)) versions.new.items }
+pub(crate) fn release(versions: &mut Entries, finds: &mut Finds)
+    requires few { length finds.old ≤ 256 }
+    requires within { AllByRecursion (IsWithin (length finds.old)) versions.old.items }
+    ensures same { map (version_of finds.new) versions.new.items ≡ map (version_of finds.old) versions.old.items }
+    ensures within { AllByRecursion (IsWithin (length finds.new)) versions.new.items }
     ensures ranked { AreRanked versions.old.items → AreRanked versions.new.items }
     ensures differ { DoDiffer (contents versions.old.items) → DoDiffer (contents versions.new.items) }
-    ensures named { AreNamed versions.new.items (length finds.new.items) }
-    ensures capacity { vec_capacity versions.new ≡ vec_capacity versions.old }
-    ensures room { vec_capacity finds.new ≡ vec_capacity finds.old }
+    ensures named { AreNamed versions.new.items (length finds.new) }
 {
     let mut slot = 0;
     while slot < finds.len() {

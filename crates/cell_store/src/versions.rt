@@ -1,6 +1,6 @@
 //! One change made in each version of a column.
 
-ghost use Rattle.std.specs.Prelude.{◌≡◌, ◌<◌, ◌≤◌, ◌==◌, ℕ, ◌+◌, true, false, max, min, map, if◌then◌else◌, length, drop, slice_index_or, vec_capacity};
+ghost use Rattle.std.specs.Prelude.{◌≡◌, ◌<◌, ◌≤◌, ◌==◌, ℕ, ◌+◌, true, false, max, min, map, if◌then◌else◌, length, drop, slice_index_or};
 ghost use Rattle.std.specs.List.{AllByRecursion, list_any};
 ghost use Rattle.cell_store.specs.Count.{has_find};
 ghost use Rattle.ranked.specs.Find.{admission_of};
@@ -10,7 +10,7 @@ ghost use Rattle.cell_store.specs.Slots.{IsWithin};
 ghost use Rattle.cell_store.specs.Sweep.{swept, version_swept};
 ghost use Rattle.cell_store.specs.Version.{lowered, reached, version_after, place_at, IsFromStart};
 
-use crate::entry::Entry;
+use crate::entry::{Entries, Entry};
 use crate::version::{Place, Slot, Version};
 use ranked::{Cell, Find};
 
@@ -19,19 +19,17 @@ impl Entry {
     fn admit(&mut self, find: &Find, slot: Slot, moment: u64, outranked: bool)
         ensures { self.new ≡ version_after (admission_of find.now slot moment) outranked self.old }
     {
-        let mut version = self.version();
-        version.place.admit(find, slot, moment, outranked);
-        *self = Entry::new(version);
+        let mut place = self.place();
+        place.admit(find, slot, moment, outranked);
+        self.set_place(place);
     }
 
     // Moves the start to version 0, if it is at a number or before.
     fn lower(&mut self, number: u64)
         ensures { self.new ≡ lowered number self.old }
     {
-        let mut version = self.version();
-        if version.from <= number {
-            version.from = 0;
-            *self = Entry::new(version);
+        if self.is_from(number) {
+            self.start_at(0);
         }
     }
 
@@ -39,15 +37,14 @@ impl Entry {
     fn sweep(&mut self, moment: u64)
         ensures { self.new ≡ version_swept moment self.old }
     {
-        let mut version = self.version();
-        version.place.sweep(moment);
-        *self = Entry::new(version);
+        let mut place = self.place();
+        place.sweep(moment);
+        self.set_place(place);
     }
 }
 
-fn lower_each(versions: &mut Vec<Entry>, number: u64)
-    ensures each { versions.new.items ≡ map (lowered number) versions.old.items }
-    ensures capacity { vec_capacity versions.new ≡ vec_capacity versions.old }
+fn lower_each(versions: &mut Entries, number: u64)
+    ensures { versions.new.items ≡ map (lowered number) versions.old.items }
 {
     for entry in versions.iter_mut() {
         entry.lower(number);
@@ -64,23 +61,24 @@ fn last_start(versions: &[Entry]) -> usize
 {
     let mut last = 0;
     for (place, entry) in versions.iter().enumerate() {
-        if entry.version().from == 0 {
+        if entry.start() == 0 {
             last = place;
         }
     }
     last
 }
 
-fn drop_front(versions: &mut Vec<Entry>, count: usize)
+fn drop_front(versions: &mut Entries, count: usize)
     requires { count ≤ length versions.old.items }
-    ensures items { versions.new.items ≡ drop count versions.old.items }
-    ensures capacity { vec_capacity versions.new ≡ vec_capacity versions.old }
+    ensures { versions.new.items ≡ drop count versions.old.items }
 {
-    versions.drain(..count);
+    let kept = versions.len() - count;
+    versions.rotate_left(count);
+    versions.truncate(kept);
 }
 
 // Gives every version before one the content of that one.
-pub(crate) fn forget_before(versions: &mut Vec<Entry>, number: u64)
+pub(crate) fn forget_before(versions: &mut Entries, number: u64)
     requires starts { IsFromStart versions.old.items }
     ensures places { (v : ℕ) → place_at versions.new.items v ≡ place_at versions.old.items (max number v) }
     ensures within { (slots : ℕ) →
@@ -91,7 +89,6 @@ pub(crate) fn forget_before(versions: &mut Vec<Entry>, number: u64)
     ensures finds { list_any has_find versions.new.items ≡ true → list_any has_find versions.old.items ≡ true }
     ensures ranked { AreRanked versions.old.items → AreRanked versions.new.items }
     ensures differ { DoDiffer (contents versions.old.items) → DoDiffer (contents versions.new.items) }
-    ensures capacity { vec_capacity versions.new ≡ vec_capacity versions.old }
 {
     lower_each(versions, number);
     let before = last_start(versions);
@@ -100,14 +97,13 @@ pub(crate) fn forget_before(versions: &mut Vec<Entry>, number: u64)
 
 // Caches a find in each version.
 pub(crate) fn admit_each(
-    versions: &mut Vec<Entry>,
+    versions: &mut Entries,
     find: &Find,
     slot: Slot,
     moment: u64,
     outranked: bool,
 )
-    ensures each { versions.new.items ≡ map (version_after (admission_of find.now slot moment) outranked) versions.old.items }
-    ensures capacity { vec_capacity versions.new ≡ vec_capacity versions.old }
+    ensures { versions.new.items ≡ map (version_after (admission_of find.now slot moment) outranked) versions.old.items }
 {
     for entry in versions.iter_mut() {
         entry.admit(find, slot, moment, outranked);
@@ -123,9 +119,8 @@ pub(crate) fn place_at(versions: &[Entry], number: u64) -> Place<Slot>
         cell: Cell::empty(),
     };
     for entry in versions {
-        let version = entry.version();
-        if version.from <= number {
-            place = version.place;
+        if entry.is_from(number) {
+            place = entry.place();
         }
     }
     place
@@ -150,13 +145,12 @@ impl<B: Copy> Place<B> {
 }
 
 // Adds an empty entry for the versions from `upto` to `top`, which an admission can change.
-pub(crate) fn reach(versions: &mut Vec<Entry>, upto: u64, top: u64)
-    requires { length versions.old.items < vec_capacity versions.old }
-    ensures items { versions.new.items ≡ reached upto top versions.old.items }
-    ensures capacity { vec_capacity versions.new ≡ vec_capacity versions.old }
+pub(crate) fn reach(versions: &mut Entries, upto: u64, top: u64)
+    requires { length versions.old.items < 6 }
+    ensures { versions.new.items ≡ reached upto top versions.old.items }
 {
     if upto < top {
-        versions.push_reserved(Entry::new(Version {
+        versions.push(Entry::new(Version {
             from: upto + 1,
             place: Place {
                 left: false,
@@ -194,15 +188,14 @@ pub(crate) fn first_end(versions: &[Entry]) -> u64
 {
     let mut end = u64::MAX;
     for entry in versions {
-        end = end.min(entry.version().place.end());
+        end = end.min(entry.place().end());
     }
     end
 }
 
 // Drops the finds that are dead at a moment, from each version.
-pub(crate) fn sweep_each(versions: &mut Vec<Entry>, moment: u64)
-    ensures each { versions.new.items ≡ map (version_swept moment) versions.old.items }
-    ensures capacity { vec_capacity versions.new ≡ vec_capacity versions.old }
+pub(crate) fn sweep_each(versions: &mut Entries, moment: u64)
+    ensures { versions.new.items ≡ map (version_swept moment) versions.old.items }
 {
     for entry in versions.iter_mut() {
         entry.sweep(moment);

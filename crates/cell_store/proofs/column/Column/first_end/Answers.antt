@@ -6,4 +6,4 @@ use Rattle.cell_store.proofs.column.Column.first_end.Goals as goal
 
 pub returns : goal.returns
 returns c =
-    c.first_end.ensures ∙ (ap first_end c.deref.ensures.value ∙ (sym (ends_seen c.self.inside.finds.items c.self.inside.versions.items c.self.invariant.within) ∙ ap (λ (cells : Cells). first_end cells.versions) c.self.view_is))
+    c.first_end.ensures ∙ (ap first_end c.deref.ensures.0 ∙ (sym (ends_seen c.self.inside.finds c.self.inside.versions.items c.self.invariant.within) ∙ ap (λ (cells : Cells). first_end cells.versions) c.self.view_is))

@@ -6,4 +6,4 @@ use Rattle.cell_store.proofs.column.Column.is_counted.Goals as goal
 
 pub returns : goal.returns
 returns c =
-    c.has_find.ensures ∙ (ap (list_any has_find) c.deref.ensures.value ∙ (sym (counted_seen c.self.inside.finds.items c.self.inside.versions.items c.self.invariant.within) ∙ ap is_counted c.self.view_is))
+    c.has_find.ensures ∙ (ap (list_any has_find) c.deref.ensures.0 ∙ (sym (counted_seen c.self.inside.finds c.self.inside.versions.items c.self.invariant.within) ∙ ap is_counted c.self.view_is))
