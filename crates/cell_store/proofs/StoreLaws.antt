@@ -1,13 +1,15 @@
 -- The cells of all names, when those of one have changed.
 use Rattle.std.proofs.Common.{◌≡◌, ℕ, zero, suc, ◌+◌, ◌≤◌, max, Bool, true, false, cond, Option, Some, None, List, [], ◌∷◌, refl, sym, ap, ◌∙◌, subst, arith, slice_get, inl, inr}
-use Rattle.std.specs.Prelude.{◌==◌, ◌&&◌, ◌||◌, not, IfSome}
+use Rattle.std.specs.Prelude.{◌==◌, ◌&&◌, ◌||◌, not, nat_lt, position, is_some, length, IfSome}
 use Rattle.std.specs.Option.{option_map_or}
-use Rattle.std.proofs.lemmas.Bool.{cases_Bool, false≢true}
+use Rattle.std.proofs.lemmas.Bool.{cases_Bool, eq-eqb, false≢true}
 use Rattle.std.specs.List.{AllByRecursion, list_any, position_or_len}
 use Rattle.std.specs.Map.{keys_of, lookup}
-use Rattle.indexmap.specs.IndexMap.{IndexMap, get, set_value_at, with_entries, with_value_at, Updates}
+use Rattle.indexmap.specs.IndexMap.{IndexMap, get, set_value_at, with_entries, with_value_at, IsUnique, Updates}
+use Rattle.indexmap.proofs.MapLemmas.{some_index}
+use Rattle.indexmap.proofs.CallerLemmas.{index_map_len-with_value_at, updates-with_value_at}
 use Rattle.dns_name.specs.Labels.{Labels}
-use Rattle.dns_name.specs.Order.{name_eq, name_eq_exact}
+use Rattle.dns_name.specs.Order.{name_eq, name_eq_exact, name_equiv}
 use Rattle.dns_text.specs.declared.record.Question.{Question}
 use Rattle.ranked.specs.declared.find.Find.{Find}
 use Rattle.ranked.specs.declared.find.Scope.{Scope}
@@ -17,7 +19,7 @@ use Rattle.ranked.specs.Cell.{after_admission}
 use Rattle.cell_store.specs.declared.owner.OwnerCells.{OwnerCells}
 use Rattle.dns_name.specs.Below.{is_at_or_below}
 use Rattle.cell_store.specs.Owner.{cell_in, IsUpTo, CanSettle}
-use Rattle.cell_store.specs.Store.{cell_by_owner, cell_of, name_place, AreUpTo, CanSettleAt, StayButAt}
+use Rattle.cell_store.specs.Store.{cell_by_owner, cell_of, name_place, AreUpTo, CanSettleAt, StayBut, StayButAt}
 use Rattle.cell_store.specs.Count.{has_pair, has_place, pair_eq, scope_eq, AddPair, KeepPairs, KeepsPlaces}
 use Rattle.cell_store.proofs.PlaceLaws.{or_right}
 
@@ -225,6 +227,51 @@ module _ {S : Type 0} (old new : IndexMap Labels OwnerCells S) (place : ℕ) (ke
       split : (b : Bool) → (name_place pair.0 old.entries == place) ≡ b → option_map_or (λ cells. has_place cells pair.1) (cond b (Some cells) (get name_eq old pair.0)) false ≡ true → has_pair old pair ≡ true
       split true at has = ap (λ (o : Option OwnerCells). option_map_or (λ cells. has_place cells pair.1) o false) (there_at (name_eq pair.0) old.entries place key lent there at).0 ∙ step pair.1 has
       split false off has = has
+
+-- ---- a name by the place that a look-up has found
+
+at_first : (p n place : ℕ) → Some place ≡ cond (nat_lt p n) (Some p) None → p ≡ place
+at_first p n place is = split (nat_lt p n) is
+  where
+    split : (b : Bool) → Some place ≡ cond b (Some p) None → p ≡ place
+    split true is = let one : Some place ≡ Some p = is in cc
+    split false is = let none : Some place ≡ None = is in absurd cc
+
+pub none_there : (test : Labels → Bool) (entries : List (Labels × OwnerCells)) → None ≡ position test (keys_of entries) → lookup test entries ≡ None
+none_there test entries none = split (lookup test entries) (sym (some_index test entries) ∙ ap is_some (sym none))
+  where
+    split : (o : Option OwnerCells) → is_some o ≡ false → o ≡ None
+    split None is = refl
+    split (Some cells) is = absurd (false≢true (sym is))
+
+-- what stands at the first place that passes
+pub held_at : (test : Labels → Bool) (entries : List (Labels × OwnerCells)) (place : ℕ) (key : Labels) (lent : OwnerCells) → Some place ≡ position test (keys_of entries) → slice_get entries place ≡ Some (key, lent)
+    → (lookup test entries ≡ Some lent) × (test key ≡ true)
+held_at test entries place key lent at there =
+    there_at test entries place key lent there (eq-eqb (position_or_len test (keys_of entries)) place (at_first (position_or_len test (keys_of entries)) (length (keys_of entries)) place at))
+
+-- what is known of the entry that a look-up of a name has found
+pub record IsFound {S : Type 0} (old : IndexMap Labels OwnerCells S) (owner : Labels) (place : ℕ) (key : Labels) (lent : OwnerCells) : Type 0 where
+  pub held : get name_eq old owner ≡ Some lent
+  pub same : key ≡ owner
+  pub updates : (new : OwnerCells) → Updates name_eq old (with_value_at old place new) key (Some new)
+  pub stays : (new : OwnerCells) → StayBut owner old.entries (set_value_at old.entries place new)
+
+pub found : {S : Type 0} (old : IndexMap Labels OwnerCells S) (owner : Labels) (place : ℕ) (key : Labels) (lent : OwnerCells) → Some place ≡ position (name_eq owner) (keys_of old.entries) → slice_get old.entries place ≡ Some (key, lent) → IsUnique name_eq old
+    → IsFound old owner place key lent
+found old owner place key lent at there unique =
+    let spot : name_place owner old.entries ≡ place = at_first (name_place owner old.entries) (length (keys_of old.entries)) place at in
+    let here = held_at (name_eq owner) old.entries place key lent at there in
+    record {
+      held = here.0;
+      same = sym (name_eq_exact owner key here.1);
+      updates = λ new. updates-with_value_at old place new name_equiv unique key lent there;
+      stays = λ new. record {
+        others = λ i off. others_at old.entries place new i (λ same. off (same ∙ sym spot));
+        size = inl (index_map_len-with_value_at old place new);
+        names = inl (keys_at old.entries place new);
+      };
+    }
 
 -- a flush of types of a name that has no cells can become permanent
 pub settles_absent : {S : Type 0} (owners after : IndexMap Labels OwnerCells S) (owner : Labels) (kinds : List ℕ) → after ≡ owners → get name_eq owners owner ≡ None → AllByRecursion (λ kind. (n : ℕ) → CanSettleAt n kind owner after) kinds

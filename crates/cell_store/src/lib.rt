@@ -37,7 +37,7 @@ pub use column::Column;
 pub use owner::{KindColumn, OwnerCells, WholeFind};
 pub use seed::NameSeed;
 pub use store::{
-    Owners, admit, at, drop_if_uncounted, forget, has_pair, has_place, is_same, open_kinds,
-    settle_at, settle_kinds,
+    Owners, admit, admit_at, at, cells_at, drop_if_uncounted, forget, forget_place, has_pair,
+    has_place, has_place_in, held_in, is_same, open_kinds, settle_at, settle_kinds,
 };
 pub use version::{Place, Sight, Version};

@@ -1,9 +1,10 @@
 //! The cells of all names, in an index with a seeded hasher.
 
-ghost use Rattle.std.specs.Prelude.{◌≡◌, ◌<◌, ◌≤◌, ◌==◌, ◌&&◌, ◌+◌, ◌^◌, ℕ, None, not, true, false, length, slice_get};
+ghost use Rattle.std.specs.Prelude.{◌≡◌, ◌<◌, ◌≤◌, ◌==◌, ◌&&◌, ◌+◌, ◌^◌, ℕ, None, not, true, false, length, option_copied, position, slice_get};
 ghost use Rattle.std.specs.Prelude.{IfSome, IsOk, OnOk, OnErr, if◌then◌else◌};
 ghost use Rattle.std.specs.List.{AllByRecursion, list_any};
 ghost use Rattle.std.specs.Map.{keys_of};
+ghost use Rattle.std.specs.Option.{option_map_or};
 ghost use Rattle.indexmap.specs.IndexMap.{get, swap_remove_entry};
 ghost use Rattle.dns_name.specs.Labels.{Labels};
 ghost use Rattle.dns_name.specs.Order.{name_eq};
@@ -12,9 +13,9 @@ ghost use Rattle.dns_text.specs.declared.record.Question.{Question};
 ghost use Rattle.ranked.specs.Find.{admission_of, touches};
 ghost use Rattle.ranked.specs.Cell.{shown_at};
 ghost use Rattle.cell_store.specs.Owner.{after_settle, after_touch, held_now};
-ghost use Rattle.cell_store.specs.Count.{count_of, has_pair, has_place_for, one_if, pair_of, stored_in, AddPair, KeepPairs};
+ghost use Rattle.cell_store.specs.Count.{count_of, has_pair, has_place, has_place_for, one_if, pair_of, stored_in, AddPair, KeepPairs};
 ghost use Rattle.cell_store.specs.Same.{same_cell};
-ghost use Rattle.cell_store.specs.Store.{cell_of, AreLeft, AreSameCells, AreUpTo, CanSettleAt, IsDroppedAt, IsIndex, KeepSettling, KeepUpTo, StayBut};
+ghost use Rattle.cell_store.specs.Store.{cell_by_owner, cell_of, AreLeft, AreSameCells, AreUpTo, CanSettleAt, IsDroppedAt, IsIndex, KeepSettling, KeepUpTo, StayBut};
 ghost use Rattle.cell_store.specs.Store.{name_place, StayButAt};
 
 use crate::owner::OwnerCells;
@@ -48,7 +49,33 @@ pub fn admit(
         × AddPair (pair_of find) owners.old owners.new × StayBut find.owner owners.old.entries owners.new.entries }
     ensures free { has_place_for owners.old find ≡ true → IsOk result }
 {
-    if let Some(cells) = owners.get_mut(&find.find().owner) {
+    let place = owners.get_index_of(&find.find().owner);
+    admit_at(alloc, owners, stored, place, find, moment, top)
+}
+
+/// Does the same, by the place that a look-up has found for the owner. It hashes the owner only if it is new.
+pub fn admit_at(
+    alloc: Global,
+    owners: &mut Owners,
+    stored: &mut u64,
+    place: Option<usize>,
+    find: SharedFind,
+    moment: u64,
+    top: u64,
+) -> Result<(), NoMemory>
+    requires index { IsIndex top stored.old owners.old × (place ≡ position (name_eq find.owner) (keys_of owners.old.entries)) }
+    ensures cells { OnOk result ((q : Question) (v : ℕ) → v ≤ top →
+        cell_of owners.new q v ≡ after_touch (touches find q) (cell_of owners.old q v) (admission_of find find moment)) }
+    ensures err { OnErr result (AreSameCells owners.old owners.new × (stored.new ≡ stored.old) × KeepPairs owners.old owners.new) }
+    ensures upto { AreUpTo top owners.new }
+    ensures settles { (n k : ℕ) (name : Labels) → n ≤ top → CanSettleAt n k name owners.old → CanSettleAt n k name owners.new }
+    ensures counted { stored.new ≡ stored_in owners.new }
+    ensures bound { (stored.new ≤ stored.old + one_if (not (has_place_for owners.old find)))
+        × AddPair (pair_of find) owners.old owners.new × StayBut find.owner owners.old.entries owners.new.entries }
+    ensures free { has_place_for owners.old find ≡ true → IsOk result }
+{
+    if let Some(place) = place {
+        let (_, cells) = owners.pair_mut(place);
         let others = *stored - cells.counted();
         let result = cells.admit(find, moment, top);
         *stored = others + cells.counted();
@@ -63,6 +90,20 @@ pub fn admit(
     Ok(())
 }
 
+/// The cells of a name, by the place that a look-up has found for it.
+pub fn cells_at(owners: &Owners, place: Option<usize>) -> Option<&OwnerCells>
+    ensures { (name : Labels) → place ≡ position (name_eq name) (keys_of owners.now.entries) →
+        option_copied result ≡ get name_eq owners.now name }
+{
+    match place {
+        Some(place) => match owners.get_index(place) {
+            Some((_, cells)) => Some(cells),
+            None => None,
+        },
+        None => None,
+    }
+}
+
 /// The find of a question in a version, if it is alive at the moment. It looks the name up once, and takes no memory.
 pub fn at<'a>(
     owners: &'a Owners,
@@ -73,7 +114,19 @@ pub fn at<'a>(
 ) -> Option<Held<'a>>
     ensures { held_now result ≡ shown_at (cell_of owners.now (record { owner = owner.now; kind = kind }) version) moment }
 {
-    match owners.get(owner) {
+    held_in(owners.get(owner), kind, version, moment)
+}
+
+/// The same by the cells of the name, if it has some.
+pub fn held_in<'a>(
+    cells: Option<&'a OwnerCells>,
+    kind: u16,
+    version: u64,
+    moment: u64,
+) -> Option<Held<'a>>
+    ensures { held_now result ≡ shown_at (cell_by_owner (option_copied cells.entry) kind version) moment }
+{
+    match cells {
         Some(cells) => cells.at(kind, version, moment),
         None => None,
     }
@@ -156,17 +209,21 @@ pub fn settle_at(
 pub fn has_place(owners: &Owners, find: &Find) -> bool
     ensures { result ≡ has_place_for owners.now find.now }
 {
-    match owners.get(&find.owner) {
-        Some(cells) => cells.has_place(find.scope),
-        None => false,
-    }
+    has_place_in(owners.get(&find.owner), find.scope)
 }
 
 /// Whether the place of an owner and scope is counted.
 pub fn has_pair(owners: &Owners, owner: &Name, scope: Scope) -> bool
     ensures { result ≡ has_pair owners.now (owner.now, scope) }
 {
-    match owners.get(owner) {
+    has_place_in(owners.get(owner), scope)
+}
+
+/// The same by the cells of the owner, if it has some.
+pub fn has_place_in(cells: Option<&OwnerCells>, scope: Scope) -> bool
+    ensures { result ≡ option_map_or (λ own. has_place own scope) (option_copied cells.entry) false }
+{
+    match cells {
         Some(cells) => cells.has_place(scope),
         None => false,
     }
@@ -197,9 +254,26 @@ pub fn forget(owners: &mut Owners, stored: &mut u64, owner: &Name)
         × IfSome (get name_eq owners.old owner.now) (λ cells. stored.new + count_of cells ≡ stored.old) }
     ensures pairs { KeepPairs owners.old owners.new }
 {
-    if let Some(cells) = owners.swap_remove(owner) {
-        *stored -= cells.counted();
-    }
+    forget_place(owners, stored, owner);
+}
+
+/// Does the same, and returns the place that the name had. The last name moves into it.
+pub fn forget_place(owners: &mut Owners, stored: &mut u64, owner: &Name) -> Option<usize>
+    requires counted { stored.old ≡ stored_in owners.old }
+    ensures gone { (result ≡ position (name_eq owner.now) (keys_of owners.old.entries)) × (get name_eq owners.new owner.now ≡ None)
+        × (owners.new.entries ≡ swap_remove_entry (name_eq owner.now) owners.old.entries) }
+    ensures cells { (q : Question) (v : ℕ) →
+        cell_of owners.new q v ≡ (if name_eq owner.now q.owner then None else cell_of owners.old q v) }
+    ensures upto { KeepUpTo owners.old owners.new }
+    ensures settles { KeepSettling owners.old owners.new }
+    ensures counted { stored.new ≡ stored_in owners.new }
+    ensures fewer { (stored.new ≤ stored.old)
+        × IfSome (get name_eq owners.old owner.now) (λ cells. stored.new + count_of cells ≡ stored.old) }
+    ensures pairs { KeepPairs owners.old owners.new }
+{
+    let (place, _, cells) = owners.swap_remove_full(owner)?;
+    *stored -= cells.counted();
+    Some(place)
 }
 
 /// Removes the name at a place if no place of it counts, and says whether it did. The last name moves into the gap. No cell changes.

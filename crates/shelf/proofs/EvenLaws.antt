@@ -1,10 +1,10 @@
 -- The moments of the names that are not mixed.
-use Rattle.std.proofs.Common.{◌≡◌, ℕ, zero, suc, ◌+◌, ◌-◌, ◌<◌, ◌≤◌, Bool, true, false, cond, Some, None, List, [], ◌∷◌, ◌++◌, length, take, get_or, refl, sym, ap, ◌∙◌, arith}
-use Rattle.std.specs.Prelude.{nat_lt, replicate, swap_remove}
+use Rattle.std.proofs.Common.{◌≡◌, ℕ, zero, suc, ◌+◌, ◌-◌, ◌<◌, ◌≤◌, Bool, true, false, cond, Option, Some, None, List, [], ◌∷◌, ◌++◌, length, take, get_or, refl, sym, ap, subst, ◌∙◌, arith}
+use Rattle.std.specs.Prelude.{nat_lt, replicate, swap_remove, IfSome}
 use Rattle.std.proofs.Math.ListN.{set, length-set, length-append}
 use Rattle.std.proofs.lemmas.List.{length-replicate, length-take-le}
 use Rattle.std.proofs.lemmas.Bool.Decides.{nat_tests}
-use Rattle.shelf.specs.Clean.{evens, evens_of, fitted, touched, AreBy, AreEvened}
+use Rattle.shelf.specs.Clean.{evens, evens_of, fitted, touched, touched_at, AreBy, AreEvened}
 use Rattle.shelf.specs.Lasts.{AreSameLasts}
 use Rattle.shelf.specs.declared.ends.Ends.{Ends}
 
@@ -114,7 +114,7 @@ evens_twice (e ∷ ends) (false ∷ mixed) = ap (λ (l : List ℕ). e ∷ l) (ev
 
 -- ---- the place of a name
 
-pub find_some : (p n place : ℕ) → Some place ≡ cond (nat_lt p n) (Some p) None → (place ≡ p) × (p < n)
+find_some : (p n place : ℕ) → Some place ≡ cond (nat_lt p n) (Some p) None → (place ≡ p) × (p < n)
 find_some p n place is = split (nat_lt p n) refl is
   where
     split : (b : Bool) → nat_lt p n ≡ b → Some place ≡ cond b (Some p) None → (place ≡ p) × (p < n)
@@ -128,11 +128,32 @@ find_none p n is = split (nat_lt p n) refl is
     split true low is = let none : None ≡ Some p = is in absurd cc
     split false high is = grind (arith, nat_tests)
 
-touched_low : (p : ℕ) (l : List ℕ) → p < length l → touched p l ≡ set l p 0
-touched_low p l low = let is : nat_lt p (length l) ≡ true = grind (arith, nat_tests) in ap (λ b. cond b (set l p 0) (l ++ 0 ∷ [])) is
+-- a place that a look-up has found is a low one
+pub low_place : (p n : ℕ) (place : Option ℕ) → place ≡ cond (nat_lt p n) (Some p) None → IfSome place (λ q. q < n)
+low_place p n place is = subst (λ (o : Option ℕ). IfSome o (λ q. q < n)) (sym is) (split (nat_lt p n) refl)
+  where
+    split : (b : Bool) → nat_lt p n ≡ b → IfSome (cond b (Some p) None) (λ q. q < n)
+    split true low = grind (arith, nat_tests)
+    split false high = tt
 
-touched_past : (p : ℕ) (l : List ℕ) → length l ≤ p → touched p l ≡ l ++ 0 ∷ []
-touched_past p l high = let is : nat_lt p (length l) ≡ false = grind (arith, nat_tests) in ap (λ b. cond b (set l p 0) (l ++ 0 ∷ [])) is
+-- and a name that is past the others has none
+pub none_past : (p n : ℕ) (place : Option ℕ) → place ≡ cond (nat_lt p n) (Some p) None → p ≡ n → place ≡ None
+none_past p n place is past = let high : nat_lt p n ≡ false = grind (arith, nat_tests) in is ∙ ap (λ b. cond b (Some p) None) high
+
+touched_as : (p : ℕ) (place : Option ℕ) (l : List ℕ) → place ≡ cond (nat_lt p (length l)) (Some p) None → touched_at place l ≡ touched p l
+touched_as p place l is = ap (λ (o : Option ℕ). touched_at o l) is ∙ split (nat_lt p (length l))
+  where
+    split : (b : Bool) → touched_at (cond b (Some p) None) l ≡ cond b (set l p 0) (l ++ 0 ∷ [])
+    split true = refl
+    split false = refl
+
+pub by_place : (was ends : Ends) (p : ℕ) (place : Option ℕ) → place ≡ cond (nat_lt p (length was.moments)) (Some p) None → AreBy (touched_at place) was ends → AreBy (touched p) was ends
+by_place was ends p place is by = record {
+  moments = by.moments ∙ touched_as p place was.moments is;
+  unmixed = by.unmixed ∙ touched_as p place (evens was) (is ∙ ap (λ n. cond (nat_lt p n) (Some p) None) (sym (evens_length was.moments was.mixed.items)));
+  flags = by.flags;
+  lasts = by.lasts;
+}
 
 set_past : (l : List ℕ) (p : ℕ) → length l ≤ p → set l p 0 ≡ l
 set_past [] p high = refl
@@ -152,17 +173,6 @@ module _ (was ends : Ends) (p n : ℕ) (size : length was.moments ≡ n) (flags 
         lasts = same;
       }
 
-  pub by_touched : (place : ℕ) → Some place ≡ cond (nat_lt p n) (Some p) None → ends.moments ≡ set was.moments place 0 → ends.mixed.items ≡ was.mixed.items → AreBy (touched p) was ends
-  by_touched place found moments mixed =
-      let at = find_some p n place found in
-      let by = by_zero place found moments mixed in
-      record {
-        moments = by.moments ∙ sym (touched_low p was.moments (omega (arith, at.1, size)));
-        unmixed = by.unmixed ∙ sym (touched_low p (evens was) (omega (arith, at.1, size, evens_length was.moments was.mixed.items)));
-        flags = by.flags;
-        lasts = same;
-      }
-
   pub by_none : None ≡ cond (nat_lt p n) (Some p) None → ends.moments ≡ was.moments → ends.mixed.items ≡ was.mixed.items → AreBy (λ l. set l p 0) was ends
   by_none found moments mixed =
       let high = find_none p n found in
@@ -173,17 +183,23 @@ module _ (was ends : Ends) (p n : ℕ) (size : length was.moments ≡ n) (flags 
         lasts = same;
       }
 
-  pub by_more : None ≡ cond (nat_lt p n) (Some p) None → ends.moments ≡ was.moments ++ 0 ∷ [] → ends.mixed.items ≡ was.mixed.items ++ false ∷ [] → AreBy (touched p) was ends
-  by_more found moments mixed =
-      let high = find_none p n found in
-      record {
-        moments = moments ∙ sym (touched_past p was.moments (omega (arith, high, size)));
-        unmixed = (λ i. evens_of (moments i) (mixed i)) ∙ (evens_more was.moments was.mixed.items flags ∙ sym (touched_past p (evens was) (omega (arith, high, size, evens_length was.moments was.mixed.items))));
-        flags = omega (arith, ap length mixed, length-append was.mixed.items (false ∷ []), flags, ap length moments, length-append was.moments (0 ∷ []));
-        lasts = same;
-      }
-
 module _ (was ends : Ends) (flags : length was.mixed.items ≡ length was.moments) (same : AreSameLasts was.lasts ends.lasts) where
+  pub by_touched : (p : ℕ) (place : Option ℕ) → place ≡ Some p → ends.moments ≡ set was.moments p 0 → ends.mixed.items ≡ was.mixed.items → AreBy (touched_at place) was ends
+  by_touched p place is moments mixed = subst (λ (o : Option ℕ). AreBy (touched_at o) was ends) (sym is) (record {
+    moments = moments;
+    unmixed = (λ i. evens_of (moments i) (mixed i)) ∙ evens_zero was.moments was.mixed.items p;
+    flags = omega (arith, ap length mixed, flags, ap length moments, length-set was.moments p 0);
+    lasts = same;
+  })
+
+  pub by_more : (place : Option ℕ) → place ≡ None → ends.moments ≡ was.moments ++ 0 ∷ [] → ends.mixed.items ≡ was.mixed.items ++ false ∷ [] → AreBy (touched_at place) was ends
+  by_more place is moments mixed = subst (λ (o : Option ℕ). AreBy (touched_at o) was ends) (sym is) (record {
+    moments = moments;
+    unmixed = (λ i. evens_of (moments i) (mixed i)) ∙ evens_more was.moments was.mixed.items flags;
+    flags = omega (arith, ap length mixed, length-append was.mixed.items (false ∷ []), flags, ap length moments, length-append was.moments (0 ∷ []));
+    lasts = same;
+  })
+
   pub by_fit : (n k : ℕ) → n < length was.moments → k ≡ length was.moments - 1 → ends.moments ≡ take (length was.moments - 1) was.moments → ends.mixed.items ≡ take k was.mixed.items → AreBy (fitted n) was ends
   by_fit n k more fewer moments mixed =
       let is : nat_lt n (length was.moments) ≡ true = grind (arith, nat_tests) in

@@ -34,6 +34,11 @@ pub record AreKeyed (P : Labels × OwnerCells → ℕ → Type 0) (entries : Lis
 abbrev pub touched : ℕ → List ℕ → List ℕ
 touched place ends = if nat_lt place (length ends) then slice_set ends place 0 else ends ++ 0 ∷ []
 
+-- the same, by the place that a look-up has found, which is None for a new name
+abbrev pub touched_at : Option ℕ → List ℕ → List ℕ
+touched_at None ends = ends ++ 0 ∷ []
+touched_at (Some place) ends = slice_set ends place 0
+
 -- the moments without the last, if there are more than names
 abbrev pub fitted : ℕ → List ℕ → List ℕ
 fitted names ends = if nat_lt names (length ends) then take (length ends - 1) ends else ends

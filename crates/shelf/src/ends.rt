@@ -1,11 +1,8 @@
 //! The moments before which names need no sweep, when names come and go.
 
-ghost use Rattle.std.specs.Prelude.{◌≡◌, ◌<◌, [], List, true, false, length, replicate, slice_set, swap_remove, is_some, IfSome, IsOk, OnOk, OnErr, position, if◌then◌else◌};
-ghost use Rattle.std.specs.Map.{keys_of};
-ghost use Rattle.indexmap.specs.IndexMap.{get};
-ghost use Rattle.dns_name.specs.Order.{name_eq};
+ghost use Rattle.std.specs.Prelude.{◌≡◌, ◌<◌, [], List, None, true, length, replicate, slice_set, swap_remove, is_some, IfSome, IsOk, OnOk, OnErr, if◌then◌else◌};
 ghost use Rattle.cell_store.specs.Store.{name_place};
-ghost use Rattle.shelf.specs.Clean.{dropped, evens, fitted, touched, AreBy, AreEnds, AreEvened};
+ghost use Rattle.shelf.specs.Clean.{dropped, evens, fitted, touched_at, AreBy, AreEnds, AreEvened};
 ghost use Rattle.shelf.specs.Lasts.{HaveRoom};
 ghost use Rattle.shelf.specs.declared.shelf.KeptFlush.{KeptFlush};
 
@@ -35,16 +32,16 @@ pub(crate) fn no_ends(alloc: Global) -> Ends
     }
 }
 
-// Makes room for a name, and lets the next sweep visit it.
-pub(crate) fn touch(owners: &Owners, ends: &mut Ends, owner: &Name) -> Result<(), AllocError>
-    requires size { length ends.old.moments ≡ length owners.now.entries }
+// Lets the next sweep visit the name at a place, or makes room for a new name, and lets the next sweep visit that.
+pub(crate) fn touch(ends: &mut Ends, place: Option<usize>) -> Result<(), AllocError>
+    requires low { IfSome place (λ p. p < length ends.old.moments) }
     requires flags { length ends.old.mixed.items ≡ length ends.old.moments }
-    ensures ok { OnOk result (AreBy (touched (name_place owner.now owners.now.entries)) ends.old ends.new) }
+    ensures ok { OnOk result (AreBy (touched_at place) ends.old ends.new) }
     ensures err { OnErr result (AreBy (λ l. l) ends.old ends.new) }
-    ensures room { OnOk result (name_place owner.now owners.now.entries ≡ length owners.now.entries → HaveRoom ends.new.lasts) }
-    ensures free { is_some (get name_eq owners.now owner.now) ≡ true → IsOk result }
+    ensures room { OnOk result (place ≡ None → HaveRoom ends.new.lasts) }
+    ensures free { is_some place ≡ true → IsOk result }
 {
-    match owners.get_index_of(owner) {
+    match place {
         Some(place) => {
             ends.moments.set(place, 0);
             Ok(())
@@ -92,17 +89,15 @@ pub(crate) fn drop_at(ends: &mut Ends, place: usize)
     ends.mixed.swap_remove(place);
 }
 
-// Removes the moment of a name that is to go, and returns its place, if it is there.
-pub(crate) fn drop_end(owners: &Owners, ends: &mut Ends, owner: &Name) -> Option<usize>
-    requires size { length ends.old.moments ≡ length owners.now.entries }
+// Removes the moment at a place, if there is one. The last one moves into the gap.
+pub(crate) fn drop_end(ends: &mut Ends, place: Option<usize>)
+    requires low { IfSome place (λ p. p < length ends.old.moments) }
     requires flags { length ends.old.mixed.items ≡ length ends.old.moments }
-    ensures ends { AreBy (dropped (position (name_eq owner.now) (keys_of owners.now.entries))) ends.old ends.new }
-    ensures place { result ≡ position (name_eq owner.now) (keys_of owners.now.entries) }
-    ensures low { IfSome result (λ p. p < length owners.now.entries) }
+    ensures { AreBy (dropped place) ends.old ends.new }
 {
-    let place = owners.get_index_of(owner)?;
-    drop_at(ends, place);
-    Some(place)
+    if let Some(place) = place {
+        drop_at(ends, place);
+    }
 }
 
 // Gives the name at a place another moment.

@@ -1,6 +1,6 @@
 //! The shelf: cached cells, and the flushes that can be undone or redone.
 
-ghost use Rattle.std.specs.Prelude.{◌≡◌, ◌<◌, ◌≤◌, ◌+◌, ◌-◌, ◌^◌, ◌∷◌, ◌&&◌, [], ℕ, Bool, List, None, true, false, not, length, map, vec_capacity};
+ghost use Rattle.std.specs.Prelude.{◌≡◌, ◌<◌, ◌≤◌, ◌+◌, ◌-◌, ◌^◌, ◌∷◌, ◌&&◌, [], ℕ, Bool, List, None, true, false, not, length, map, option_copied, position, vec_capacity};
 ghost use Rattle.std.specs.Prelude.{IfErr, IfSome, IsOk, OnOk, OnErr, if◌then◌else◌};
 ghost use Rattle.std.specs.List.{AllByRecursion};
 ghost use Rattle.std.specs.Map.{keys_of};
@@ -30,7 +30,10 @@ use crate::room::Room;
 use crate::settling::{
     REACHED_AT_ONCE, Settling, fit_place, reach_some, settle_name, settle_zone, settled_version,
 };
-use cell_store::{NameSeed, Owners, admit, at, forget, has_place, open_kinds};
+use cell_store::{
+    NameSeed, OwnerCells, Owners, admit_at, at, cells_at, forget_place, has_place_in, held_in,
+    open_kinds,
+};
 use dns_name::{Name, NoMemory};
 use dns_text::types;
 use indexmap::IndexMap;
@@ -160,27 +163,36 @@ impl Shelf {
         self.stored
     }
 
-    // Whether a version has content of a type that is alive at the moment and outranks a find.
-    fn turns_away(&self, find: &Find, kind: u16, version: u64, moment: u64) -> bool
+    // Whether a version has content of a type that is alive at the moment and outranks a find, by the cells of its owner.
+    fn turns_away(
+        &self,
+        find: &Find,
+        cells: Option<&OwnerCells>,
+        kind: u16,
+        version: u64,
+        moment: u64,
+    ) -> bool
+        requires { option_copied cells ≡ get name_eq self.now.owners find.now.owner }
         ensures { result ≡ turns_away
             (cell_at self.now (record { owner = find.now.owner; kind = kind }) version) (admission_of find.now find.now moment) }
     {
         let version = settled_version(&self.settling, &find.owner, version);
-        match at(&self.owners, &find.owner, kind, version, moment) {
+        match held_in(cells, kind, version, moment) {
             Some(shown) => find.rank.level() < shown.rank.level(),
             None => false,
         }
     }
 
     // Whether some version would cache a find of a type.
-    fn is_taken(&self, find: &Find, kind: u16, moment: u64) -> bool
+    fn is_taken(&self, find: &Find, cells: Option<&OwnerCells>, kind: u16, moment: u64) -> bool
+        requires { option_copied cells ≡ get name_eq self.now.owners find.now.owner }
         ensures { result ≡
             is_taken (cell_at self.now) self.now.kept.items find.now moment (record { owner = find.now.owner; kind = kind }) }
     {
-        let mut taken = !self.turns_away(find, kind, 0, moment);
+        let mut taken = !self.turns_away(find, cells, kind, 0, moment);
         for own in &self.kept {
             if own.flush.covers(&find.owner, kind)
-                && !self.turns_away(find, kind, own.number, moment)
+                && !self.turns_away(find, cells, kind, own.number, moment)
             {
                 taken = true;
             }
@@ -189,23 +201,26 @@ impl Shelf {
     }
 
     // Whether some version would cache a find.
-    fn is_wanted(&self, find: &Find, moment: u64) -> bool
+    fn is_wanted(&self, find: &Find, cells: Option<&OwnerCells>, moment: u64) -> bool
+        requires { option_copied cells ≡ get name_eq self.now.owners find.now.owner }
         ensures { result ≡ is_wanted self.now find.now moment find.now.scope }
     {
         match find.scope {
-            Scope::One(kind) => self.is_taken(find, kind, moment),
+            Scope::One(kind) => self.is_taken(find, cells, kind, moment),
             Scope::Whole => true,
         }
     }
 
-    // Whether there is room for a find.
-    fn room_for(&self, find: &Find, moment: u64) -> Room
+    // Whether there is room for a find, by the place that a look-up has found for its owner.
+    fn room_for(&self, find: &Find, place: Option<usize>, moment: u64) -> Room
+        requires { place ≡ position (name_eq find.now.owner) (keys_of self.now.owners.entries) }
         ensures { result ≡ room_for self.now find.now moment }
     {
-        if has_place(&self.owners, find) {
+        let cells = cells_at(&self.owners, place);
+        if has_place_in(cells, find.scope) {
             return Room::Free;
         }
-        if !self.is_wanted(find, moment) {
+        if !self.is_wanted(find, cells, moment) {
             return Room::Unwanted;
         }
         if self.stored == self.limit {
@@ -229,7 +244,8 @@ impl Shelf {
         ensures { result ≡ kind_fate self.now find.now moment kind }
     {
         let version = self.version(&find.owner, kind);
-        if self.turns_away(find, kind, version, moment) {
+        let cells = self.owners.get(&find.owner);
+        if self.turns_away(find, cells, kind, version, moment) {
             Fate::Outranked
         } else {
             Fate::Taken
@@ -251,19 +267,27 @@ impl Shelf {
         ensures flushes { KeepsFlushes self.old self.new }
         ensures stored { self.new.stored ≤ self.old.stored + 1 }
     {
-        match self.room_for(find.find(), moment) {
+        // The name is hashed here, and again only to insert it: all else goes by its place.
+        let place = self.owners.get_index_of(&find.find().owner);
+        match self.room_for(find.find(), place, moment) {
             Room::Unwanted => Ok(()),
             Room::Full => Err(StoreFault::Full {
                 stored: self.stored(),
             }),
-            Room::Free => self.hold(find, moment),
+            Room::Free => self.hold(find, place, moment),
         }
     }
 
-    // Caches a find, if there is room for its place.
-    fn hold(&mut self, find: SharedFind, moment: u64) -> Result<(), StoreFault>
+    // Caches a find, if there is room for its place, by the place that a look-up has found for its owner.
+    fn hold(
+        &mut self,
+        find: SharedFind,
+        place: Option<usize>,
+        moment: u64,
+    ) -> Result<(), StoreFault>
         requires whole { IsShelf self.old }
-        requires room { self.old.stored + one_if (not (has_place_for self.old.owners find)) ≤ self.old.limit }
+        requires room { (place ≡ position (name_eq find.owner) (keys_of self.old.owners.entries))
+            × (self.old.stored + one_if (not (has_place_for self.old.owners find)) ≤ self.old.limit) }
         ensures whole { IsShelf self.new }
         ensures admitted { OnOk result (HasAdmitted find moment self.old self.new) }
         ensures fault { IfErr result (λ fault. fault ≡ StoreFault.NoMemory) × (has_place_for self.old.owners find ≡ true → IsOk result) }
@@ -272,11 +296,12 @@ impl Shelf {
         ensures stored { self.new.stored ≤ self.old.stored + 1 }
         ensures left { OnOk result (names_left self.new.settling ≡ names_left self.old.settling - reached_at_once) }
     {
-        touch(&self.owners, &mut self.ends, &find.find().owner)?;
-        let result = admit(
+        touch(&mut self.ends, place)?;
+        let result = admit_at(
             self.alloc,
             &mut self.owners,
             &mut self.stored,
+            place,
             find,
             moment,
             self.top,
@@ -363,8 +388,8 @@ impl Shelf {
         // Fewer places are counted, if a find of the name was alive, whatever choice of the kept flushes was in force.
         ensures fewer { (t end : ℕ) → IsEnding self.old t owner.now end → self.new.stored < self.old.stored }
     {
-        let place = drop_end(&self.owners, &mut self.ends, owner);
-        forget(&mut self.owners, &mut self.stored, owner);
+        let place = forget_place(&mut self.owners, &mut self.stored, owner);
+        drop_end(&mut self.ends, place);
         self.ends.lasts.remove(&self.owners, place);
         fit_place(&self.owners, &mut self.settling);
     }

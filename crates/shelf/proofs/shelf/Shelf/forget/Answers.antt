@@ -1,7 +1,13 @@
-use Rattle.std.proofs.Common.{List, length, sym, subst, arith}
+use Rattle.std.proofs.Common.{◌≡◌, ◌<◌, ℕ, List, Option, length, sym, subst, arith}
+use Rattle.std.proofs.lemmas.Map.Entries.{length-keys_of}
+use Rattle.std.specs.Map.{keys_of}
+use Rattle.std.specs.Prelude.{position, IfSome}
+use Rattle.cell_store.specs.Store.{name_place}
+use Rattle.shelf.proofs.EvenLaws.{low_place}
 use Rattle.dns_name.specs.Labels.{Labels}
 use Rattle.cell_store.specs.declared.owner.OwnerCells.{OwnerCells}
-use Rattle.shelf.specs.Clean.{AreEnds}
+use Rattle.shelf.specs.declared.ends.Ends.{Ends}
+use Rattle.shelf.specs.Clean.{dropped, AreBy, AreEnds}
 use Rattle.shelf.specs.Lasts.{AreWinners}
 use Rattle.shelf.proofs.EndLaws.{gone_ends, gone_low, gone_winners}
 use Rattle.shelf.specs.Told.{chosen_version}
@@ -12,50 +18,60 @@ use Rattle.shelf.proofs.FaceLaws.{settles_each}
 use Rattle.shelf.proofs.SettlingLaws.{forgot_face, forgot_settling}
 use Rattle.shelf.proofs.shelf.Shelf.forget.Goals as goal
 
-pub drop_end-place-requires : goal.drop_end-place-requires
-drop_end-place-requires c = record { size = c.requires.whole.ends.now.size; flags = c.requires.whole.ends.flags }
+-- the place that the name had
+low : (name : Labels) (entries : List (Labels × OwnerCells)) (place : Option ℕ) → place ≡ position (name_eq name) (keys_of entries) → IfSome place (λ p. p < length entries)
+low name entries place at = subst (λ n. IfSome place (λ p. p < n)) (length-keys_of entries) (low_place (name_place name entries) (length (keys_of entries)) place at)
 
-pub forget-requires : goal.forget-requires
-forget-requires c = record { counted = c.requires.whole.counted }
+by : (name : Labels) (entries : List (Labels × OwnerCells)) (place : Option ℕ) (was ends : Ends) → place ≡ position (name_eq name) (keys_of entries) → AreBy (dropped place) was ends → AreBy (dropped (position (name_eq name) (keys_of entries))) was ends
+by name entries place was ends at = subst (λ (o : Option ℕ). AreBy (dropped o) was ends) at
+
+pub forget_place-place-requires : goal.forget_place-place-requires
+forget_place-place-requires c = record { counted = c.requires.whole.counted }
+
+pub drop_end-requires : goal.drop_end-requires
+drop_end-requires c = record {
+  low = subst (λ n. IfSome c.forget_place-place.result (λ p. p < n)) (sym c.requires.whole.ends.now.size) (low c.args.owner.now c.args.self.now.owners.entries c.forget_place-place.result c.forget_place-place.ensures.gone.0);
+  flags = c.requires.whole.ends.flags;
+}
 
 pub remove-requires : goal.remove-requires
 remove-requires c =
     let self = c.args.self.now in
     record {
-      shape = (gone_winners self.kept.items c.args.owner.now self.owners.entries self.ends c.drop_end-place.new.ends c.requires.whole.ends c.drop_end-place.ensures.ends).shape;
-      low = gone_low self.kept.items c.args.owner.now self.owners.entries self.ends c.drop_end-place.new.ends c.requires.whole.ends c.drop_end-place.ensures.ends c.drop_end-place.result c.drop_end-place.ensures.low;
+      shape = (gone_winners self.kept.items c.args.owner.now self.owners.entries self.ends c.drop_end.new.ends c.requires.whole.ends (by c.args.owner.now self.owners.entries c.forget_place-place.result self.ends c.drop_end.new.ends c.forget_place-place.ensures.gone.0 c.drop_end.ensures)).shape;
+      low = gone_low self.kept.items c.args.owner.now self.owners.entries self.ends c.drop_end.new.ends c.requires.whole.ends (by c.args.owner.now self.owners.entries c.forget_place-place.result self.ends c.drop_end.new.ends c.forget_place-place.ensures.gone.0 c.drop_end.ensures) c.forget_place-place.result (low c.args.owner.now c.args.self.now.owners.entries c.forget_place-place.result c.forget_place-place.ensures.gone.0);
     }
 
 pub returns-clause-faces : goal.returns-clause-faces
 returns-clause-faces c = λ chosen q.
     let self = c.args.self.now in
-    forgot_face self.owners c.forget.new.owners c.args.owner.now (length c.forget.new.owners.entries) c.forget.ensures.cells self.settling c.fit_place.new.settling c.fit_place.ensures q (chosen_version self.kept.items q chosen)
+    forgot_face self.owners c.forget_place-place.new.owners c.args.owner.now (length c.forget_place-place.new.owners.entries) c.forget_place-place.ensures.cells self.settling c.fit_place.new.settling c.fit_place.ensures q (chosen_version self.kept.items q chosen)
 
 pub returns-clause-whole : goal.returns-clause-whole
 returns-clause-whole c =
     let self = c.args.self.now in
     let whole = c.requires.whole in
     record {
-      upto = c.forget.ensures.upto self.top whole.upto;
-      about = about_forgot self.owners c.forget.new.owners (λ q. name_eq c.args.owner.now q.owner) c.forget.ensures.cells whole.about;
+      upto = c.forget_place-place.ensures.upto self.top whole.upto;
+      about = about_forgot self.owners c.forget_place-place.new.owners (λ q. name_eq c.args.owner.now q.owner) c.forget_place-place.ensures.cells whole.about;
       numbers = whole.numbers;
       ascending = whole.ascending;
-      settles = settles_each self.owners c.forget.new.owners self.kept.items c.forget.ensures.settles whole.settles;
-      counted = c.forget.ensures.counted;
-      few = omega (arith, c.forget.ensures.fewer.0, whole.few);
+      settles = settles_each self.owners c.forget_place-place.new.owners self.kept.items c.forget_place-place.ensures.settles whole.settles;
+      counted = c.forget_place-place.ensures.counted;
+      few = omega (arith, c.forget_place-place.ensures.fewer.0, whole.few);
       small = whole.small;
       room = whole.room;
-      ends = subst (λ (l : List (Labels × OwnerCells)). AreEnds self.kept.items l (record { moments = c.drop_end-place.new.ends.moments; mixed = c.drop_end-place.new.ends.mixed; lasts = c.remove.new.self })) (sym c.forget.ensures.gone.1)
-          (gone_ends self.kept.items c.args.owner.now self.owners.entries self.ends c.drop_end-place.new.ends whole.ends c.drop_end-place.ensures.ends c.drop_end-place.result c.remove.new.self c.drop_end-place.ensures.place c.remove.ensures.ends
-          (subst (λ (l : List (Labels × OwnerCells)). AreWinners l c.remove.new.self) c.forget.ensures.gone.1
-          (c.remove.ensures.winners self.owners.entries c.args.owner.now c.drop_end-place.ensures.place c.forget.ensures.gone.1
-          (gone_winners self.kept.items c.args.owner.now self.owners.entries self.ends c.drop_end-place.new.ends whole.ends c.drop_end-place.ensures.ends))));
-      settling = forgot_settling self.top self.owners c.forget.new.owners c.args.owner.now c.forget.ensures.cells c.forget.ensures.gone.1 self.settling c.fit_place.new.settling c.fit_place.ensures whole.settling;
+      ends = subst (λ (l : List (Labels × OwnerCells)). AreEnds self.kept.items l (record { moments = c.drop_end.new.ends.moments; mixed = c.drop_end.new.ends.mixed; lasts = c.remove.new.self })) (sym c.forget_place-place.ensures.gone.2)
+          (gone_ends self.kept.items c.args.owner.now self.owners.entries self.ends c.drop_end.new.ends whole.ends (by c.args.owner.now self.owners.entries c.forget_place-place.result self.ends c.drop_end.new.ends c.forget_place-place.ensures.gone.0 c.drop_end.ensures) c.forget_place-place.result c.remove.new.self c.forget_place-place.ensures.gone.0 c.remove.ensures.ends
+          (subst (λ (l : List (Labels × OwnerCells)). AreWinners l c.remove.new.self) c.forget_place-place.ensures.gone.2
+          (c.remove.ensures.winners self.owners.entries c.args.owner.now c.forget_place-place.ensures.gone.0 c.forget_place-place.ensures.gone.2
+          (gone_winners self.kept.items c.args.owner.now self.owners.entries self.ends c.drop_end.new.ends whole.ends (by c.args.owner.now self.owners.entries c.forget_place-place.result self.ends c.drop_end.new.ends c.forget_place-place.ensures.gone.0 c.drop_end.ensures)))));
+      settling = forgot_settling self.top self.owners c.forget_place-place.new.owners c.args.owner.now c.forget_place-place.ensures.cells c.forget_place-place.ensures.gone.2 self.settling c.fit_place.new.settling c.fit_place.ensures whole.settling;
     }
 
 pub returns-clause-stored : goal.returns-clause-stored
-returns-clause-stored c = c.forget.ensures.fewer.0
+returns-clause-stored c = c.forget_place-place.ensures.fewer.0
 
 pub returns-clause-fewer : goal.returns-clause-fewer
 returns-clause-fewer c = λ t end is.
-    fewer_left c.args.self.now c.requires.whole c.args.owner.now c.forget.new.stored c.forget.ensures.fewer.1 t end is
+    fewer_left c.args.self.now c.requires.whole c.args.owner.now c.forget_place-place.new.stored c.forget_place-place.ensures.fewer.1 t end is

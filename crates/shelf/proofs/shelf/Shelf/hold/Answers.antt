@@ -1,14 +1,27 @@
-use Rattle.std.proofs.Common.{◌≡◌, ◌≤◌, Option, List, Bool, cond, true, false, sym, ap, ◌∙◌, subst, arith}
+use Rattle.std.proofs.Common.{◌≡◌, ◌≤◌, ℕ, Option, Some, None, List, Bool, cond, true, false, length, refl, sym, ap, ◌∙◌, subst, rules, arith}
+use Rattle.std.proofs.lemmas.Map.Entries.{length-keys_of}
+use Rattle.std.specs.Map.{keys_of}
+use Rattle.dns_name.specs.Order.{name_eq}
+use Rattle.cell_store.specs.Store.{name_place}
+use Rattle.shelf.specs.Clean.{touched, touched_at, AreBy}
+use Rattle.shelf.specs.declared.ends.Ends.{Ends}
+use Rattle.shelf.specs.declared.shelf.Shelf.{Shelf}
+use Rattle.shelf.proofs.EvenLaws.{by_place, low_place, none_past}
 use Rattle.ranked.specs.declared.find.Find.{Find}
 use Rattle.ranked.specs.declared.cell.Admitted.{Admitted}
 use Rattle.ranked.specs.Find.{touches, admission_of}
 use Rattle.ranked.specs.Cell.{after_admission}
 use Rattle.shelf.specs.declared.shelf.KeptFlush.{KeptFlush}
 use Rattle.shelf.specs.Settling.{settled_version}
-use Rattle.shelf.specs.Told.{cell_at, only, chosen_version, is_version}
+use Rattle.shelf.specs.Told.{cell_at, only, chosen_version, is_version, IsShelf}
 use Rattle.shelf.specs.Told.Told.{admitted}
-use Rattle.std.specs.Prelude.{not, Ok}
-use Rattle.cell_store.specs.Count.{has_place_for, one_if}
+use Rattle.std.specs.Prelude.{is_some, nat_lt, not, position, Ok}
+use Rattle.std.specs.Option.{option_map_or}
+use Rattle.std.proofs.lemmas.Bool.{false≢true}
+use Rattle.indexmap.specs.IndexMap.{get}
+use Rattle.indexmap.proofs.MapLemmas.{some_index}
+use Rattle.cell_store.specs.declared.owner.OwnerCells.{OwnerCells}
+use Rattle.cell_store.specs.Count.{has_place, has_place_for, one_if}
 use Rattle.shelf.proofs.EndLaws.{ends_same, held_about, held_ends, held_ok, held_room, held_shape}
 use Rattle.shelf.specs.declared.lasts.Lasts.{Lasts}
 use Rattle.shelf.specs.Lasts.{HaveRoom}
@@ -19,8 +32,34 @@ use Rattle.shelf.proofs.FaceLaws.{chosen_low, settles_kept}
 use Rattle.shelf.proofs.SettlingLaws.{admitted_settling, held_settling, size_more, version_low}
 use Rattle.shelf.proofs.shelf.Shelf.hold.Goals as goal
 
+-- the place that a look-up has found, by the number of the moments
+spot : (shelf : Shelf) (find : Find) (place : Option ℕ) → IsShelf shelf → place ≡ position (name_eq find.owner) (keys_of shelf.owners.entries)
+    → place ≡ cond (nat_lt (name_place find.owner shelf.owners.entries) (length shelf.ends.moments)) (Some (name_place find.owner shelf.owners.entries)) None
+spot shelf find place whole at =
+    let p = name_place find.owner shelf.owners.entries in
+    let size : length (keys_of shelf.owners.entries) ≡ length shelf.ends.moments = length-keys_of shelf.owners.entries ∙ sym whole.ends.now.size in
+    at ∙ ap (λ n. cond (nat_lt p n) (Some p) None) size
+
+touched_by : (shelf : Shelf) (find : Find) (place : Option ℕ) (middle : Ends) → IsShelf shelf → place ≡ position (name_eq find.owner) (keys_of shelf.owners.entries) → AreBy (touched_at place) shelf.ends middle
+    → AreBy (touched (name_place find.owner shelf.owners.entries)) shelf.ends middle
+touched_by shelf find place middle whole at by = by_place shelf.ends middle (name_place find.owner shelf.owners.entries) place (spot shelf find place whole at) by
+
+-- a find whose place counts has a name that is there
+is_there : (found : Option OwnerCells) (counts : OwnerCells → Bool) → option_map_or counts found false ≡ true → is_some found ≡ true
+is_there None counts has = absurd (false≢true has)
+is_there (Some cells) counts has = refl
+
+has_spot : (shelf : Shelf) (find : Find) (place : Option ℕ) → place ≡ position (name_eq find.owner) (keys_of shelf.owners.entries) → has_place_for shelf.owners find ≡ true → is_some place ≡ true
+has_spot shelf find place at has =
+    ap is_some at ∙ (some_index (name_eq find.owner) shelf.owners.entries ∙ is_there (get name_eq shelf.owners find.owner) (λ cells. has_place cells find.scope) has)
+
 pub touch-requires : goal.touch-requires
-touch-requires c = record { size = c.requires.whole.ends.now.size; flags = c.requires.whole.ends.flags }
+touch-requires c =
+    let self = c.args.self.now in
+    record {
+      low = low_place (name_place c.args.find.owner self.owners.entries) (length self.ends.moments) c.args.place (spot self c.args.find c.args.place c.requires.whole c.requires.room.0);
+      flags = c.requires.whole.ends.flags;
+    }
 
 pub fit-requires : goal.fit-requires
 fit-requires c = record { flags = c.in_ok-touch.ensures.ok.flags }
@@ -29,34 +68,38 @@ pub follow-requires : goal.follow-requires
 follow-requires c =
     let self = c.args.self.now in
     record {
-      shape = held_shape self c.admit-result.new.owners c.args.find c.find-2.result.now c.touch.new.ends c.fit.new.ends c.requires.whole.ends c.admit-result.ensures.bound.2 c.find-2.ensures c.in_ok-touch.ensures.ok c.fit.ensures.ends;
+      shape = held_shape self c.admit_at-result.new.owners c.args.find c.args.find c.touch.new.ends c.fit.new.ends c.requires.whole.ends c.admit_at-result.ensures.bound.2 refl (touched_by self c.args.find c.args.place c.touch.new.ends c.requires.whole c.requires.room.0 c.in_ok-touch.ensures.ok) c.fit.ensures.ends;
       room = λ more.
           subst (λ (l : Lasts). HaveRoom l) (sym c.fit.ensures.lasts)
-          (held_room self c.admit-result.new.owners c.args.find c.find-2.result.now c.touch.new.ends c.fit.new.ends c.requires.whole.ends c.admit-result.ensures.bound.2 c.find-2.ensures c.in_ok-touch.ensures.ok c.fit.ensures.ends
-          (HaveRoom c.touch.new.ends.lasts) c.in_ok-touch.ensures.room more);
+          (held_room self c.admit_at-result.new.owners c.args.find c.args.find c.touch.new.ends c.fit.new.ends c.requires.whole.ends c.admit_at-result.ensures.bound.2 refl (touched_by self c.args.find c.args.place c.touch.new.ends c.requires.whole c.requires.room.0 c.in_ok-touch.ensures.ok) c.fit.ensures.ends
+          (HaveRoom c.touch.new.ends.lasts)
+          (λ past. c.in_ok-touch.ensures.room (none_past (name_place c.args.find.owner self.owners.entries) (length self.ends.moments) c.args.place
+          (spot self c.args.find c.args.place c.requires.whole c.requires.room.0) (past ∙ sym c.requires.whole.ends.now.size))) more);
     }
 
-pub admit-result-requires : goal.admit-result-requires
-admit-result-requires c = record { index = record { upto = c.requires.whole.upto; counted = c.requires.whole.counted; few = omega (arith, c.requires.whole.few, c.requires.whole.small) } }
+pub admit_at-result-requires : goal.admit_at-result-requires
+admit_at-result-requires c = record {
+  index = (record { upto = c.requires.whole.upto; counted = c.requires.whole.counted; few = omega (arith, c.requires.whole.few, c.requires.whole.small) }, c.requires.room.0);
+}
 
 pub reach_names-requires : goal.reach_names-requires
 reach_names-requires c =
     let self = c.args.self.now in
-    let done : c.admit-result.result ≡ Ok c.in_ok-result.field-0 = cc in
-    let cells = held_ok c.admit-result.result c.in_ok-result.field-0 c.admit-result.ensures.cells done in
+    let done : c.admit_at-result.result ≡ Ok c.in_ok-result.field-0 = cc in
+    let cells = held_ok c.admit_at-result.result c.in_ok-result.field-0 c.admit_at-result.ensures.cells done in
     record {
       whole = record {
-        upto = c.admit-result.ensures.upto;
-        about = about_admitted self.owners c.admit-result.new.owners c.args.find c.args.moment self.top c.admit-result.ensures.upto cells c.requires.whole.about;
+        upto = c.admit_at-result.ensures.upto;
+        about = about_admitted self.owners c.admit_at-result.new.owners c.args.find c.args.moment self.top c.admit_at-result.ensures.upto cells c.requires.whole.about;
         numbers = c.requires.whole.numbers;
         ascending = c.requires.whole.ascending;
-        settles = settles_kept self.owners c.admit-result.new.owners self.top self.kept.items c.admit-result.ensures.settles c.requires.whole.numbers c.requires.whole.settles;
-        counted = c.admit-result.ensures.counted;
-        few = omega (arith, c.admit-result.ensures.bound.0, c.requires.room);
+        settles = settles_kept self.owners c.admit_at-result.new.owners self.top self.kept.items c.admit_at-result.ensures.settles c.requires.whole.numbers c.requires.whole.settles;
+        counted = c.admit_at-result.ensures.counted;
+        few = omega (arith, c.admit_at-result.ensures.bound.0, c.requires.room.1);
         small = c.requires.whole.small;
         room = c.requires.whole.room;
-        ends = held_ends self c.admit-result.new.owners c.args.find c.find-2.result.now c.touch.new.ends c.fit.new.ends c.requires.whole.ends c.admit-result.ensures.bound.2 c.find-2.ensures c.in_ok-touch.ensures.ok c.fit.ensures.ends c.follow.new.self c.follow.ensures.ends c.follow.ensures.winners;
-        settling = admitted_settling self.top self.owners c.admit-result.new.owners c.args.find.owner c.admit-result.ensures.bound.2.names (size_more self.owners.entries c.admit-result.new.owners.entries c.args.find.owner c.admit-result.ensures.bound.2.size)
+        ends = held_ends self c.admit_at-result.new.owners c.args.find c.args.find c.touch.new.ends c.fit.new.ends c.requires.whole.ends c.admit_at-result.ensures.bound.2 refl (touched_by self c.args.find c.args.place c.touch.new.ends c.requires.whole c.requires.room.0 c.in_ok-touch.ensures.ok) c.fit.ensures.ends c.follow.new.self c.follow.ensures.ends c.follow.ensures.winners;
+        settling = admitted_settling self.top self.owners c.admit_at-result.new.owners c.args.find.owner c.admit_at-result.ensures.bound.2.names (size_more self.owners.entries c.admit_at-result.new.owners.entries c.args.find.owner c.admit_at-result.ensures.bound.2.size)
             c.args.find c.args.moment cells self.settling c.requires.whole.settling;
       };
     }
@@ -65,8 +108,8 @@ pub returns-clause-admitted : goal.returns-clause-admitted
 returns-clause-admitted c =
     let self = c.args.self.now in
     let new = admission_of c.args.find c.args.find c.args.moment in
-    let done : c.admit-result.result ≡ Ok c.in_ok-result.field-0 = cc in
-    let cells = held_ok c.admit-result.result c.in_ok-result.field-0 c.admit-result.ensures.cells done in
+    let done : c.admit_at-result.result ≡ Ok c.in_ok-result.field-0 = cc in
+    let cells = held_ok c.admit_at-result.result c.in_ok-result.field-0 c.admit_at-result.ensures.cells done in
     let kept = c.reach_names.ensures.flushes.0 in
     let low = version_low self.owners self.top self.settling c.requires.whole.settling in
     record {
@@ -81,7 +124,7 @@ returns-clause-admitted c =
           ap (λ (l : List KeptFlush). cell_at c.reach_names.new.self q (chosen_version l q chosen)) kept
           ∙ (c.reach_names.ensures.cells q version
           ∙ cells q (settled_version self.settling q.owner version) (low q.owner version (chosen_low self.top self.kept.items q chosen c.requires.whole.numbers)));
-      pairs = λ pair has. c.admit-result.ensures.bound.1 pair (c.reach_names.ensures.pairs pair has);
+      pairs = λ pair has. c.admit_at-result.ensures.bound.1 pair (c.reach_names.ensures.pairs pair has);
     }
 
 at_most_one : (b : Bool) → one_if b ≤ 1
@@ -89,24 +132,24 @@ at_most_one true = omega arith
 at_most_one false = omega arith
 
 pub returns-clause-stored : goal.returns-clause-stored
-returns-clause-stored c = omega (arith, c.reach_names.ensures.stored, c.admit-result.ensures.bound.0, at_most_one (not (has_place_for c.args.self.now.owners c.args.find)))
+returns-clause-stored c = omega (arith, c.reach_names.ensures.stored, c.admit_at-result.ensures.bound.0, at_most_one (not (has_place_for c.args.self.now.owners c.args.find)))
 
 pub returns-in_err-result-clause-whole : goal.returns-in_err-result-clause-whole
 returns-in_err-result-clause-whole c =
     let self = c.args.self.now in
     record {
-      upto = c.admit-result.ensures.upto;
-      about = held_about self.owners c.admit-result.new.owners c.args.find c.args.moment self.top self.stored c.admit-result.new.stored c.admit-result.result c.admit-result.ensures.upto c.admit-result.ensures.cells c.admit-result.ensures.err c.requires.whole.about;
+      upto = c.admit_at-result.ensures.upto;
+      about = held_about self.owners c.admit_at-result.new.owners c.args.find c.args.moment self.top self.stored c.admit_at-result.new.stored c.admit_at-result.result c.admit_at-result.ensures.upto c.admit_at-result.ensures.cells c.admit_at-result.ensures.err c.requires.whole.about;
       numbers = c.requires.whole.numbers;
       ascending = c.requires.whole.ascending;
-      settles = settles_kept self.owners c.admit-result.new.owners self.top self.kept.items c.admit-result.ensures.settles c.requires.whole.numbers c.requires.whole.settles;
-      counted = c.admit-result.ensures.counted;
-      few = omega (arith, c.admit-result.ensures.bound.0, c.requires.room);
+      settles = settles_kept self.owners c.admit_at-result.new.owners self.top self.kept.items c.admit_at-result.ensures.settles c.requires.whole.numbers c.requires.whole.settles;
+      counted = c.admit_at-result.ensures.counted;
+      few = omega (arith, c.admit_at-result.ensures.bound.0, c.requires.room.1);
       small = c.requires.whole.small;
       room = c.requires.whole.room;
-      ends = held_ends self c.admit-result.new.owners c.args.find c.find-2.result.now c.touch.new.ends c.fit.new.ends c.requires.whole.ends c.admit-result.ensures.bound.2 c.find-2.ensures c.in_ok-touch.ensures.ok c.fit.ensures.ends c.follow.new.self c.follow.ensures.ends c.follow.ensures.winners;
-      settling = held_settling self.owners c.admit-result.new.owners c.args.find c.args.moment self.top self.stored c.admit-result.new.stored c.admit-result.result c.admit-result.ensures.cells c.admit-result.ensures.err c.admit-result.ensures.bound.2.names
-          (size_more self.owners.entries c.admit-result.new.owners.entries c.args.find.owner c.admit-result.ensures.bound.2.size) self.settling c.requires.whole.settling;
+      ends = held_ends self c.admit_at-result.new.owners c.args.find c.args.find c.touch.new.ends c.fit.new.ends c.requires.whole.ends c.admit_at-result.ensures.bound.2 refl (touched_by self c.args.find c.args.place c.touch.new.ends c.requires.whole c.requires.room.0 c.in_ok-touch.ensures.ok) c.fit.ensures.ends c.follow.new.self c.follow.ensures.ends c.follow.ensures.winners;
+      settling = held_settling self.owners c.admit_at-result.new.owners c.args.find c.args.moment self.top self.stored c.admit_at-result.new.stored c.admit_at-result.result c.admit_at-result.ensures.cells c.admit_at-result.ensures.err c.admit_at-result.ensures.bound.2.names
+          (size_more self.owners.entries c.admit_at-result.new.owners.entries c.args.find.owner c.admit_at-result.ensures.bound.2.size) self.settling c.requires.whole.settling;
     }
 
 pub returns-in_err-touch-clause-whole : goal.returns-in_err-touch-clause-whole
@@ -126,3 +169,6 @@ returns-in_err-touch-clause-whole c =
       ends = ends_same self.kept.items self.owners.entries self.ends c.touch.new.ends c.in_err-touch.ensures.err whole.ends;
       settling = whole.settling;
     }
+
+pub returns-in_err-touch-clause-fault : goal.returns-in_err-touch-clause-fault
+returns-in_err-touch-clause-fault c = (search rules, λ has. absurd (false≢true (c.in_err-touch.ensures.free (has_spot c.args.self.now c.args.find c.args.place c.requires.room.0 has))))
