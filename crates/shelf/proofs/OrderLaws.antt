@@ -64,7 +64,7 @@ pub up_last : (k n : ℕ) → up (suc k) n ≡ up k n / 2
 up_last zero n = refl
 up_last (suc k) n = up_last k (n / 2)
 
-up_low : (k n : ℕ) → up k n ≤ n
+pub up_low : (k n : ℕ) → up k n ≤ n
 up_low zero n = omega arith
 up_low (suc k) n = omega (arith, up_low k (n / 2))
 

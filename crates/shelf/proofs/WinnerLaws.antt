@@ -9,9 +9,9 @@ use Rattle.cell_store.specs.declared.owner.OwnerCells.{OwnerCells}
 use Rattle.winner_tree.specs.Tree.{up, IsBelow}
 use Rattle.shelf.specs.declared.lasts.Lasts.{Lasts}
 use Rattle.shelf.specs.First.{name_at}
-use Rattle.shelf.specs.Lasts.{last_at, winner_at, AreSameLasts, AreWinners, AreWithin, IsFirstOf, IsRight, IsShaped, IsWinner, Leads}
+use Rattle.shelf.specs.Lasts.{last_at, winner_at, AreSameLasts, AreWinners, AreWithin, IsFirstOf, IsNodeOrWinner, IsRight, IsShaped, IsUnder, IsWinner, Leads}
 use Rattle.shelf.proofs.ListLaws.{same_or}
-use Rattle.shelf.proofs.OrderLaws.{sooner_itself, sooner_same, sooner_then, up_last}
+use Rattle.shelf.proofs.OrderLaws.{below_root, sooner_itself, sooner_same, sooner_then, up_last}
 
 -- ---- places at or below a node
 
@@ -58,17 +58,21 @@ module _ (entries : List (Labels × OwnerCells)) (lasts winners : List ℕ) (nod
     right = two.other;
   }
 
-  pub both_within : AreWithin winners → IsBelow node first
-  both_within within = elim two.one [
-    | inl same ↦ subst (λ n. IsBelow node n) (sym same) near_within
-    | inr child ↦ below_child node (2 * node + 2) first (inr refl) (subst (λ n. IsBelow (2 * node + 2) n) (sym child.1) (within (2 * node + 2) child.0))
+  pub both_next : IsNodeOrWinner winners node first
+  both_next = elim two.one [
+    | inl same ↦ elim one.one [
+      | inl own ↦ inl (same ∙ own)
+      | inr left ↦ inr (inl (left.0, same ∙ left.1))
+    ]
+    | inr right ↦ inr (inr right)
   ]
-    where
-      near_within : IsBelow node near
-      near_within = elim one.one [
-        | inl same ↦ subst (λ n. IsBelow node n) (sym same) (0, refl)
-        | inr child ↦ below_child node (2 * node + 1) near (inl refl) (subst (λ n. IsBelow (2 * node + 1) n) (sym child.1) (within (2 * node + 1) child.0))
-      ]
+
+pub next_within : (winners : List ℕ) (node place : ℕ) → IsNodeOrWinner winners node place → AreWithin winners → IsBelow node place
+next_within winners node place (inl same) within = subst (λ n. IsBelow node n) (sym same) (0, refl)
+next_within winners node place (inr (inl left)) within =
+    below_child node (2 * node + 1) place (inl refl) (subst (λ n. IsBelow (2 * node + 1) n) (sym left.1) (within (2 * node + 1) left.0))
+next_within winners node place (inr (inr right)) within =
+    below_child node (2 * node + 2) place (inr refl) (subst (λ n. IsBelow (2 * node + 2) n) (sym right.1) (within (2 * node + 2) right.0))
 
 -- ---- a node stays right if nothing below it changes
 
@@ -81,7 +85,7 @@ abbrev pub IsNear : ℕ → ℕ → Type 0
 IsNear i j = (j ≡ i) ⊎ ((j ≡ 2 * i + 1) ⊎ (j ≡ 2 * i + 2))
 
 module _ (entries other : List (Labels × OwnerCells)) (lasts more winners news : List ℕ) where
-  leads_like : (a b : ℕ) → IsLike entries other lasts more a → IsLike entries other lasts more b → Leads entries lasts a b → Leads other more a b
+  pub leads_like : (a b : ℕ) → IsLike entries other lasts more a → IsLike entries other lasts more b → Leads entries lasts a b → Leads other more a b
   leads_like a b p q is = sooner_same (last_at lasts a) (last_at more a) (last_at lasts b) (last_at more b) (name_at entries a) (name_at other a) (name_at entries b) (name_at other b) p.0 p.1 q.0 q.1 is
 
   pub right_like : (i : ℕ) → AreWithin winners → i < length news → ((a : ℕ) → IsBelow i a → IsLike entries other lasts more a)
@@ -204,15 +208,22 @@ module _ (entries : List (Labels × OwnerCells)) (lasts : Lasts) (is : AreWinner
   from_child p i low there (inl left) = subst (λ n. Leads entries lasts.ends.items (winner_of p) (winner_of n)) (sym left) ((is.right p low).left (omega (arith, left, there)))
   from_child p i low there (inr right) = subst (λ n. Leads entries lasts.ends.items (winner_of p) (winner_of n)) (sym right) ((is.right p low).right (omega (arith, right, there)))
 
-  from_root : (fuel i : ℕ) → i < fuel → i < length lasts.winners.items → Leads entries lasts.ends.items (winner_of 0) (winner_of i)
-  from_root zero i low there = absurd (omega arith)
-  from_root (suc fuel) zero low there = sooner_itself (last_at lasts.ends.items (winner_of 0)) (name_at entries (winner_of 0))
-  from_root (suc fuel) (suc i) low there =
+  from_node : (node k i : ℕ) → up k (i + 1) ≡ node + 1 → i < length lasts.winners.items → Leads entries lasts.ends.items (winner_of node) (winner_of i)
+  from_node node zero i at low =
+      let same : i ≡ node = omega (arith, at) in
+      subst (λ n. Leads entries lasts.ends.items (winner_of node) (winner_of n)) (sym same) (sooner_itself (last_at lasts.ends.items (winner_of node)) (name_at entries (winner_of node)))
+  from_node node (suc k) zero at low = absurd (omega (arith, at, up_none k))
+  from_node node (suc k) (suc i) at low =
       let parent : (suc i ≡ 2 * (i / 2) + 1) ⊎ (suc i ≡ 2 * (i / 2) + 2) = grind arith in
-      leads_then entries lasts.ends.items (winner_of 0) (winner_of (i / 2)) (winner_of (suc i)) (from_root fuel (i / 2) (omega arith) (omega arith))
-      (from_child (i / 2) (suc i) (omega arith) there parent)
+      let half : (suc i + 1) / 2 ≡ i / 2 + 1 = omega arith in
+      leads_then entries lasts.ends.items (winner_of node) (winner_of (i / 2)) (winner_of (suc i)) (from_node node k (i / 2) (sym (ap (up k) half) ∙ at) (omega (arith, low)))
+      (from_child (i / 2) (suc i) (omega (arith, low)) low parent)
+
+  pub leads_under : (node place : ℕ) → IsUnder lasts.winners.items node place → Leads entries lasts.ends.items (winner_of node) place
+  leads_under node place (i, (low, (below, inl same))) =
+      subst (λ n. Leads entries lasts.ends.items (winner_of node) n) (sym same)
+      (leads_then entries lasts.ends.items (winner_of node) (winner_of i) i (from_node node below.0 i below.1 low) (is.right i low).own)
+  leads_under node place (i, (low, (below, inr same))) = subst (λ n. Leads entries lasts.ends.items (winner_of node) n) (sym same) (from_node node below.0 i below.1 low)
 
   pub root_leads : (i : ℕ) → i < length entries → Leads entries lasts.ends.items (winner_of 0) i
-  root_leads i there =
-      let low : i < length lasts.winners.items = omega (arith, there, is.size, is.shape.0) in
-      leads_then entries lasts.ends.items (winner_of 0) (winner_of i) i (from_root (suc i) i (omega arith) low) (is.right i low).own
+  root_leads i there = leads_under 0 i (i, (omega (arith, there, is.size, is.shape.0), (below_root i, inl refl)))

@@ -33,9 +33,65 @@ pub record IsFirstOf (entries : List (Labels × OwnerCells)) (lasts winners : Li
   pub own : Leads entries lasts first place
   pub other : child < length winners → Leads entries lasts first (winner_at winners child)
 
+-- a node or the winner of one of its children
+abbrev pub IsNodeOrWinner : List ℕ → ℕ → ℕ → Type 0
+IsNodeOrWinner winners node place =
+    (place ≡ node)
+    ⊎ (((2 * node + 1 < length winners) × (place ≡ winner_at winners (2 * node + 1)))
+    ⊎ ((2 * node + 2 < length winners) × (place ≡ winner_at winners (2 * node + 2))))
+
+-- a place at or below a node, or the winner of such a place
+abbrev pub IsUnder : List ℕ → ℕ → ℕ → Type 0
+IsUnder winners node place = (i : ℕ) × ((i < length winners) × (IsBelow node i × ((place ≡ i) ⊎ (place ≡ winner_at winners i))))
+
+-- No place at or below a node comes before its winner, unless one of the two is among some places.
+abbrev pub IsFirstBut : (ℕ → Type 0) → List (Labels × OwnerCells) → List ℕ → List ℕ → ℕ → Type 0
+IsFirstBut Some entries lasts winners node =
+    (Some (winner_at winners node) → ⊥) → (place : ℕ) → IsUnder winners node place → (Some place → ⊥)
+    → Leads entries lasts (winner_at winners node) place
+
+-- the same of each node at or above a changed place, but for that place
+abbrev pub AreFirstBut : ℕ → List (Labels × OwnerCells) → List ℕ → List ℕ → Type 0
+AreFirstBut changed entries lasts winners =
+    (i : ℕ) → i < length winners → IsBelow i changed → IsFirstBut (λ place. place ≡ changed) entries lasts winners i
+
+-- the same of each node, but for a place and the last one, which has gone
+abbrev pub AreFirstButGone : ℕ → List (Labels × OwnerCells) → List ℕ → List ℕ → Type 0
+AreFirstButGone changed entries lasts winners =
+    (i : ℕ) → i < length winners → IsFirstBut (λ place. (place ≡ changed) ⊎ (place ≡ length winners)) entries lasts winners i
+
+-- Each winner is a place at or below its node, or was the winner of such a place.
+abbrev pub HaveCome : List ℕ → List ℕ → Type 0
+HaveCome old new = (i : ℕ) → i < length old → IsUnder old i (winner_at new i)
+
+-- A place is the winner in the stead of the last one, which has gone, of each node at or above it. Each other node keeps its winner.
+abbrev pub AreMoved : ℕ → List ℕ → List ℕ → Type 0
+AreMoved place old new =
+    (i : ℕ) → i < length old
+    → ((winner_at old i ≡ length old) × (IsBelow i place × (winner_at new i ≡ place)))
+    ⊎ ((winner_at new i ≡ winner_at old i) × (IsBelow i place → winner_at old i ≡ length old → ⊥))
+
+-- The last place, which has gone, is no winner. A node that had it as its winner is right, and each other one has the winner that it had.
+pub record AreLetGo (entries : List (Labels × OwnerCells)) (lasts old new : List ℕ) : Type 0 where
+  pub gone : (i : ℕ) → i < length old → winner_at new i ≡ length old → ⊥
+  pub right : (i : ℕ) → i < length old → winner_at old i ≡ length old → IsWinner entries lasts new i (winner_at new i)
+  pub kept : (i : ℕ) → i < length old → (winner_at old i ≡ length old → ⊥) → winner_at new i ≡ winner_at old i
+
+-- What is known of a node when a place at or below it has changed and the nodes below it are mended. The first at or below the child on
+-- the way there does not come after the changed place, nor the node's winner after any other, unless it is the changed place itself.
+pub record IsReady (entries : List (Labels × OwnerCells)) (lasts winners : List ℕ) (node changed first : ℕ) : Type 0 where
+  pub next : IsNodeOrWinner winners node first
+  pub leads : Leads entries lasts first changed
+  pub others : (winner_at winners node ≡ changed → ⊥) → (j : ℕ) → IsNodeOrWinner winners node j → (j ≡ changed → ⊥)
+      → Leads entries lasts (winner_at winners node) j
+
 -- The winner of a node is right, by those of its children.
 abbrev pub IsRight : List (Labels × OwnerCells) → List ℕ → List ℕ → ℕ → Type 0
 IsRight entries lasts winners node = IsWinner entries lasts winners node (winner_at winners node)
+
+-- Each node is right.
+abbrev pub AreRight : List (Labels × OwnerCells) → List ℕ → List ℕ → Type 0
+AreRight entries lasts winners = (i : ℕ) → i < length winners → IsRight entries lasts winners i
 
 -- Each winner is at or below its node.
 abbrev pub AreWithin : List ℕ → Type 0

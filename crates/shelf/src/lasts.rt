@@ -10,7 +10,9 @@ ghost use Rattle.cell_store.specs.Store.{StayBut};
 ghost use Rattle.winner_tree.specs.Tree.{IsBelow};
 ghost use Rattle.shelf.specs.First.{name_at};
 ghost use Rattle.shelf.specs.Clean.{dropped};
-ghost use Rattle.shelf.specs.Lasts.{last_at, winner_at, AreMended, AreSameLasts, AreWinners, AreWithin, HaveRoom, IsFirstOf, IsRight, IsShaped, IsWinner, Leads};
+ghost use Rattle.shelf.specs.Lasts.{last_at, winner_at, AreFirstBut, AreFirstButGone, AreLetGo, AreMended, AreMoved, AreRight};
+ghost use Rattle.shelf.specs.Lasts.{AreSameLasts, AreWinners, AreWithin, HaveCome, HaveRoom, IsShaped};
+ghost use Rattle.shelf.specs.Lasts.{IsFirstOf, IsNodeOrWinner, IsReady, IsRight, IsWinner, Leads};
 
 use cell_store::Owners;
 use dns_name::Name;
@@ -89,23 +91,90 @@ fn first_of(owners: &Owners, lasts: &[u64], winners: &[usize], place: usize, chi
 fn winner(owners: &Owners, lasts: &[u64], winners: &[usize], node: usize) -> usize
     requires { node < length winners.now }
     ensures right { IsWinner owners.now.entries lasts.now winners.now node result }
-    ensures within { AreWithin winners.now → IsBelow node result }
+    ensures one { IsNodeOrWinner winners.now node result }
 {
     let first = first_of(owners, lasts, winners, node, 2 * node + 1);
     first_of(owners, lasts, winners, first, 2 * node + 2)
 }
 
-// Mends the nodes from a place up to the root.
+// The first of the places at or below a node, once one of them has changed: the one before, unless that has changed or comes after it.
+// `first` is the first at or below the child on the way to the changed place, or that place itself at its own node. If it is another one,
+// the changed place does not come first here either, and no names are compared.
+fn winner_again(
+    owners: &Owners,
+    lasts: &[u64],
+    winners: &[usize],
+    node: usize,
+    changed: usize,
+    first: usize,
+) -> usize
+    requires low { node < length winners.now }
+    ensures one { IsNodeOrWinner winners.now node result ⊎ ((result ≡ changed) ⊎ (result ≡ winner_at winners.now node)) }
+    ensures right { IsReady owners.now.entries lasts.now winners.now node changed first →
+        IsWinner owners.now.entries lasts.now winners.now node result × Leads owners.now.entries lasts.now result changed }
+{
+    let was = winners[node];
+    if was == changed {
+        winner(owners, lasts, winners, node)
+    } else if first != changed || leads(owners, lasts, was, changed) {
+        was
+    } else {
+        changed
+    }
+}
+
+// Mends the nodes from a changed place up to the root. It compares the names of two places at a node, and no more once another place comes
+// before the changed one, except at nodes whose winner the changed place was.
 fn mend(owners: &Owners, lasts: &[u64], winners: &mut Vec<usize>, place: usize)
     requires low { place < length winners.old.items }
     requires within { AreWithin winners.old.items }
     ensures size { length winners.new.items ≡ length winners.old.items }
     ensures within { AreWithin winners.new.items }
-    ensures right { AreMended (λ i. IsBelow i place) owners.now.entries lasts.now winners.old.items winners.new.items }
+    ensures right { AreFirstBut place owners.now.entries lasts.now winners.old.items →
+        AreMended (λ i. IsBelow i place) owners.now.entries lasts.now winners.old.items winners.new.items }
 {
+    let mut first = place;
     let mut node = place + 1;
     while node > 0 {
-        winners[node - 1] = winner(owners, lasts, winners, node - 1);
+        first = winner_again(owners, lasts, winners, node - 1, place, first);
+        winners[node - 1] = first;
+        node /= 2;
+    }
+}
+
+// Makes a place the winner of each node at or above it whose winner was the last place, which has gone: its name and second are at the
+// place now, so that this needs no comparison.
+fn move_into(winners: &mut Vec<usize>, place: usize)
+    requires low { place < length winners.old.items }
+    requires within { AreWithin winners.old.items }
+    ensures size { length winners.new.items ≡ length winners.old.items }
+    ensures within { AreWithin winners.new.items }
+    ensures moved { AreMoved place winners.old.items winners.new.items }
+{
+    let last = winners.len();
+    let mut node = place + 1;
+    while node > 0 {
+        if winners[node - 1] == last {
+            winners[node - 1] = place;
+        }
+        node /= 2;
+    }
+}
+
+// Gives another winner to each node whose winner was the last place, which has gone.
+fn let_go(owners: &Owners, lasts: &[u64], winners: &mut Vec<usize>)
+    requires within { AreWithin winners.old.items }
+    ensures size { length winners.new.items ≡ length winners.old.items }
+    ensures within { AreWithin winners.new.items }
+    ensures come { HaveCome winners.old.items winners.new.items }
+    ensures right { AreLetGo owners.now.entries lasts.now winners.old.items winners.new.items }
+{
+    let last = winners.len();
+    let mut node = (last + 1) / 2;
+    while node > 0 {
+        if winners[node - 1] == last {
+            winners[node - 1] = winner(owners, lasts, winners, node - 1);
+        }
         node /= 2;
     }
 }
@@ -203,16 +272,14 @@ fn mend_gap(owners: &Owners, lasts: &[u64], winners: &mut Vec<usize>, place: usi
     requires within { AreWithin winners.old.items }
     ensures size { length winners.new.items ≡ length winners.old.items }
     ensures within { AreWithin winners.new.items }
-    ensures right { AreMended (λ i. IsBelow i (length winners.old.items) ⊎ IsBelow i place)
-        owners.now.entries lasts.now winners.old.items winners.new.items }
+    ensures right { AreFirstButGone place owners.now.entries lasts.now winners.old.items →
+        AreRight owners.now.entries lasts.now winners.new.items }
 {
-    let last = winners.len();
-    if last == 0 {
+    if place == winners.len() {
+        let_go(owners, lasts, winners);
         return;
     }
-    mend(owners, lasts, winners, (last - 1) / 2);
-    if place == last {
-        return;
-    }
+    move_into(winners, place);
+    let_go(owners, lasts, winners);
     mend(owners, lasts, winners, place);
 }

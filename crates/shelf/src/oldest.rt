@@ -499,6 +499,31 @@ mod tests {
         short_and_long(&rt, rt.alloc(), &mut Shelf::new(rt.alloc(), 3))
     }
 
+    fn in_turn<R: Abort>(rt: &R, alloc: Global, shelf: &mut Shelf) -> Result<(), Fail>
+        requires { IsShelf shelf.old }
+    {
+        for step in 0..26u8 {
+            let letter = (7 * step + 3) % 26;
+            let seconds = 60 + u32::from(letter % 3);
+            shelf.admit(address(alloc, &[b'a' + letter], seconds)?, 0)?;
+        }
+        shelf.sweep(0);
+        for step in 0..26u8 {
+            let letter = step % 9 * 3 + step / 9;
+            let owner = Name::from_text(alloc, &[b'a' + letter])?;
+            assert!(rt; is_oldest(shelf, 0, &owner));
+            shelf.forget(&owner);
+        }
+        assert!(rt; shelf.oldest(0).is_none());
+        Ok(())
+    }
+
+    /// However the names came, each is the next to go once those before it have gone: by its second, and then by its letter.
+    #[test]
+    fn names_that_go_one_by_one(rt: HostRuntime) -> Result<(), Fail> {
+        in_turn(&rt, rt.alloc(), &mut Shelf::new(rt.alloc(), 26))
+    }
+
     fn flushed_and_undone<R: Abort>(rt: &R, alloc: Global, shelf: &mut Shelf) -> Result<(), Fail>
         requires whole { IsShelf shelf.old }
         requires newest { shelf.old.top < 1 }

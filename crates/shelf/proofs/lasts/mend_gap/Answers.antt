@@ -1,26 +1,23 @@
-use Rattle.std.proofs.Common.{◌≡◌, ◌<◌, ◌-◌, ◌/◌, ℕ, length, sym, subst, arith, inl, inr}
-use Rattle.winner_tree.specs.Tree.{IsBelow}
-use Rattle.shelf.proofs.WinnerLaws.{below_parent}
+use Rattle.std.proofs.Common.{◌≡◌, ◌<◌, length, arith}
+use Rattle.shelf.proofs.GoneLaws.{first_again, right_aside, right_last}
 use Rattle.shelf.proofs.lasts.mend_gap.Goals as goal
 
-parent : (n last i : ℕ) → last ≡ n → i < n → IsBelow i n → IsBelow i ((last - 1) / 2)
-parent n last i at low below = subst (λ m. IsBelow i ((m - 1) / 2)) (sym at) (below_parent i n low below)
-
-pub returns-then-place-last-clause-right : goal.returns-then-place-last-clause-right
-returns-then-place-last-clause-right c = λ i low was.
-    let n = length c.args.winners.now.items in
-    let at : c.len-last.result ≡ n = omega (arith, c.len-last.ensures, c.args.winners.now.ok.0) in
-    let here : c.args.place ≡ n = omega (arith, c.if-place-last.true, at) in
-    c.mend.ensures.right i low (λ off. was (λ above. elim above [
-      | inl below ↦ off (parent n c.len-last.result i at low below)
-      | inr below ↦ off (parent n c.len-last.result i at low (subst (λ m. IsBelow i m) here below))
-    ]))
+pub returns-then-place-len-clause-right : goal.returns-then-place-len-clause-right
+returns-then-place-len-clause-right c =
+    let old = c.args.winners.now.items in
+    let at : c.args.place ≡ length old = omega (arith, c.if-place-len.true, c.len.ensures, c.args.winners.now.ok.0) in
+    right_last c.args.owners.now.entries c.args.lasts.now old c.let_go.new.winners.items c.args.place at c.let_go.ensures.size c.let_go.ensures.come c.let_go.ensures.right
 
 pub returns-clause-right : goal.returns-clause-right
-returns-clause-right c = λ i low was.
-    let n = length c.args.winners.now.items in
-    let at : c.len-last.result ≡ n = omega (arith, c.len-last.ensures, c.args.winners.now.ok.0) in
-    c.mend-2.ensures.right i (omega (arith, low, c.mend.ensures.size)) (λ gap. c.mend.ensures.right i low (λ off. was (λ above. elim above [
-      | inl below ↦ off (parent n c.len-last.result i at low below)
-      | inr below ↦ gap below
-    ])))
+returns-clause-right c = λ but i low.
+    let entries = c.args.owners.now.entries in
+    let lasts = c.args.lasts.now in
+    let old = c.args.winners.now.items in
+    let middle = c.move_into.new.winners.items in
+    let new = c.let_go-2.new.winners.items in
+    let place = c.args.place in
+    let there : place < length old = omega (arith, c.requires.low, c.if-place-len.false, c.len.ensures, c.args.winners.now.ok.0) in
+    let go = c.let_go-2.ensures in
+    c.mend.ensures.right
+    (first_again entries lasts old middle new place there c.requires.within but c.move_into.ensures.size c.move_into.ensures.moved go.size go.within go.come go.right) i (omega (arith, low, c.mend.ensures.size))
+    (right_aside entries lasts old middle new place there c.requires.within but c.move_into.ensures.size c.move_into.ensures.moved go.size go.within go.come go.right i (omega (arith, low, c.mend.ensures.size)))
