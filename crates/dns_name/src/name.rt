@@ -1,7 +1,9 @@
 //! A name, its labels and its order.
 
-ghost use Rattle.std.specs.Prelude.{◌≡◌, ◌↔◌, ◌++◌, IsTrue, IfOk, IfErr, OnOk, MatchOption, List, ℕ, ◌+◌, ◌≤◌, [], length, drop, map};
+ghost use Rattle.std.specs.Prelude.{◌≡◌, ◌↔◌, ◌++◌, IsTrue, IfOk, IfErr, OnOk, MatchOption, List, ℕ, ◌+◌, ◌≤◌, [], true, length, drop, map};
 ghost use Rattle.std.specs.Iterator.{YieldsFirstBy, item_count};
+ghost use Rattle.std.specs.Cmp.Lexicographic.{slice_cmp};
+ghost use Rattle.std.specs.Ordering.{nat_cmp};
 ghost use Rattle.dns_name.specs.Labels.{Labels, IsAtOrBelow, octets_of, spelled, wire_len, IsName, IsOctets, labels_in, labels_of, parent_of};
 ghost use Rattle.dns_name.specs.Below.{is_at_or_below};
 ghost use Rattle.dns_name.specs.Making.{Gives, name_after, lowercase_labels};
@@ -135,7 +137,7 @@ impl Name {
         ensures value { result ≡ is_at_or_below self.now zone.now }
         ensures fact { IsTrue result ↔ IsAtOrBelow self.now zone.now }
     {
-        self.octets().starts_with(zone.octets())
+        begins(self.octets(), zone.octets())
     }
 }
 
@@ -235,6 +237,42 @@ fn pop_label<'a>(
     Some((&last[1..], front))
 }
 
+/// Whether a run of octets may begin with another, by its length and its last octets. Most names begin alike, with the same
+/// top-level domain, and the last of these octets differ.
+#[inline]
+fn may_begin(octets: &[u8], front: &[u8]) -> bool
+    ensures { (rest : List ℕ) → octets.now ≡ front.now ++ rest → result ≡ true }
+{
+    if octets.len() < front.len() {
+        return false;
+    }
+    let (begin, _) = octets.split_at(front.len());
+    match (begin.last_chunk::<4>(), front.last_chunk::<4>()) {
+        (Some(a), Some(b)) => *a == *b,
+        _ => true,
+    }
+}
+
+/// Whether a run of octets begins with another.
+#[inline]
+fn begins(octets: &[u8], front: &[u8]) -> bool
+    ensures yes { result ≡ true → octets.now ≡ front.now ++ drop (length front.now) octets.now }
+    ensures no { (rest : List ℕ) → octets.now ≡ front.now ++ rest → result ≡ true }
+{
+    may_begin(octets, front) && octets.starts_with(front)
+}
+
+/// Compares two labels, first by their first octets, which mostly differ.
+#[inline]
+fn compare_labels(x: &[u8], y: &[u8]) -> Ordering
+    ensures { result ≡ slice_cmp nat_cmp x.now y.now }
+{
+    match (x, y) {
+        ([a, ..], [b, ..]) if *a != *b => a.cmp(b),
+        _ => x.cmp(&y),
+    }
+}
+
 /// Compares the labels that two runs of octets spell.
 fn compare(a: &[u8], b: &[u8]) -> Ordering
     requires a { IsOctets a.now }
@@ -247,7 +285,7 @@ fn compare(a: &[u8], b: &[u8]) -> Ordering
         let Some((y, rest_right)) = split_label(right) else {
             return Ordering::Greater;
         };
-        let order = x.cmp(&y);
+        let order = compare_labels(x, y);
         if order != Ordering::Equal {
             return order;
         }

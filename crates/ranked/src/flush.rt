@@ -26,8 +26,8 @@ impl Reach {
         ensures { result ≡ reaches self name.now (record { owner = owner.now; kind = kind }) }
     {
         match self {
-            Reach::OneType(flushed) => *name == *owner && flushed == kind,
-            Reach::Name => *name == *owner && is_flushed(kind),
+            Reach::OneType(flushed) => flushed == kind && *name == *owner,
+            Reach::Name => is_flushed(kind) && *name == *owner,
             Reach::Zone => owner.at_or_below(name),
         }
     }
