@@ -15,6 +15,7 @@ use Rattle.cell_store.specs.declared.owner.WholeFind.{WholeFind}
 use Rattle.cell_store.specs.declared.owner.OwnerCells.{OwnerCells}
 use Rattle.cell_store.specs.Column.{Cells}
 use Rattle.cell_store.specs.Life.{life_end}
+use Rattle.cell_store.specs.Mixed.{IsLikeFirst}
 use Rattle.cell_store.specs.Owner.{column_held, column_of, whole_held}
 use Rattle.shelf.specs.declared.settling.Settling.{Settling}
 use Rattle.shelf.specs.declared.shelf.KeptFlush.{KeptFlush}
@@ -241,3 +242,34 @@ only_version kept q v there = elim (either (v == 0) (is_kept kept q v) there) [
   | inl first ↦ only_fold kept q v 0 (inl (sym (eqb-true v 0 first)))
   | inr own ↦ only_fold kept q v 0 (inr own)
 ]
+
+-- ---- a name whose versions are alike
+
+module _ (cell : ℕ → Option (Admitted Find)) (q : Question) (like : (v : ℕ) → (cell v ≡ cell 0) ⊎ (cell v ≡ None)) where
+  ends_before : (v : ℕ) → life_end (cell v) ≤ life_end (cell 0)
+  ends_before v = elim (like v) [
+    | inl same ↦ omega (arith, ap life_end same)
+    | inr none ↦ omega (arith, ap life_end none)
+  ]
+
+  stays_last : (x : KeptFlush) → later_life cell q (life_end (cell 0)) x ≡ life_end (cell 0)
+  stays_last x = split (covers x.flush q)
+    where
+      split : (b : Bool) → cond b (max (life_end (cell 0)) (life_end (cell x.number))) (life_end (cell 0)) ≡ life_end (cell 0)
+      split true = omega (arith, ends_before x.number)
+      split false = refl
+
+  first_is_last : (kept : List KeptFlush) → kind_life kept cell q ≡ life_end (cell 0)
+  first_is_last [] = refl
+  first_is_last (x ∷ kept) = ap (λ (n : ℕ). fold (later_life cell q) n kept) (stays_last x) ∙ first_is_last kept
+
+module _ (kept : List KeptFlush) (name : Labels) (cells : OwnerCells) (like : IsLikeFirst cells) where
+  same_kinds : (kinds : List KindColumn) (end : ℕ) → fold (later_kind None [] name cells) end kinds ≡ fold (later_kind None kept name cells) end kinds
+  same_kinds [] end = refl
+  same_kinds (own ∷ kinds) end =
+      let last = first_is_last (cell_at_name None name cells own.kind) (record { owner = name; kind = own.kind }) (like own.kind) kept in
+      ap (λ (n : ℕ). fold (later_kind None [] name cells) (max end n) kinds) (sym last) ∙ same_kinds kinds (later_kind None kept name cells end own)
+
+  -- if the versions of a name are alike, its last find ends in the same second whichever flushes are kept
+  pub life_of_alike : name_life None [] name cells ≡ name_life None kept name cells
+  life_of_alike = same_kinds cells.kinds.items (life_end (whole_held cells.whole 0))

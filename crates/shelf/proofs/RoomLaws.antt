@@ -1,5 +1,5 @@
 -- Whether a find would be cached, and whether there is room for its place.
-use Rattle.std.proofs.Common.{◌≡◌, ℕ, ◌+◌, ◌<◌, ◌≤◌, Bool, true, false, cond, Option, Some, None, List, [], ◌∷◌, refl, sym, ap, ◌∙◌, subst, arith, ◌⊎◌, inl, inr}
+use Rattle.std.proofs.Common.{◌≡◌, ℕ, zero, suc, length, get_or, ◌+◌, ◌<◌, ◌≤◌, Bool, true, false, cond, Option, Some, None, List, [], ◌∷◌, refl, sym, ap, ◌∙◌, subst, arith, ◌⊎◌, inl, inr}
 use Rattle.std.specs.Prelude.{fold, ◌==◌, ◌&&◌, ◌||◌, not}
 use Rattle.std.specs.Prelude.{Result, Ok, Err, IfErr, IsOk}
 use Rattle.std.proofs.lemmas.Bool.{cases_Bool, eq-eqb, eqb-true, false≢true, and_parts}
@@ -64,6 +64,19 @@ module _ (cells : Question → ℕ → Option (Admitted Find)) (find : Find) (mo
         ]
     | inr later ↦ not_kept kept (taken_by cells find moment question t x) is v later
   ]
+
+  -- the version of a flush that covers the question would cache it
+  pub taken_at : (kept : List KeptFlush) (t : Bool) (i : ℕ) (own : KeptFlush) → i < length kept → own ≡ get_or kept i own → covers own.flush question ≡ true → takes cells find moment question own.number ≡ true → fold (taken_by cells find moment question) t kept ≡ true
+  taken_at [] t i own low is covered taken = absurd (omega arith)
+  taken_at (x ∷ kept) t zero own low is covered taken =
+      let here : covers x.flush question ≡ true = ap (λ (k : KeptFlush). covers k.flush question) (sym is) ∙ covered in
+      let there : takes cells find moment question x.number ≡ true = ap (λ (k : KeptFlush). takes cells find moment question k.number) (sym is) ∙ taken in
+      ap (λ b. fold (taken_by cells find moment question) (cond b true t) kept) (both _ _ here there) ∙ taken_stays kept
+  taken_at (x ∷ kept) t (suc i) own low is covered taken = taken_at kept (taken_by cells find moment question t x) i own (omega arith) is covered taken
+
+  -- version 0 would cache it
+  pub taken_first : (kept : List KeptFlush) → takes cells find moment question 0 ≡ true → is_taken cells kept find moment question ≡ true
+  taken_first kept taken = ap (λ b. fold (taken_by cells find moment question) b kept) taken ∙ taken_stays kept
 
   -- no version would cache it
   pub not_version : (kept : List KeptFlush) → is_taken cells kept find moment question ≡ false → (v : ℕ) → is_version kept question v ≡ true → takes cells find moment question v ≡ false

@@ -13,6 +13,8 @@ mod ends;
 mod lasts;
 // A permanent flush of a zone, while it reaches the names.
 mod settling;
+// Flushes that are made, and made permanent.
+mod flushing;
 // The shelf: cells and flushes.
 mod shelf;
 // What the counted places are.

@@ -81,12 +81,22 @@ fn name_life(
     end
 }
 
+// The same while no permanent flush reaches names. If the versions of the name are alike, it does not matter which flushes cover it.
+fn last_life(name: &Name, cells: &OwnerCells, kept: &[KeptFlush]) -> u128
+    ensures { result ≡ name_life None kept.now name.now cells.now }
+{
+    if cells.is_mixed() {
+        return name_life(name, cells, &None, kept);
+    }
+    name_life(name, cells, &None, &[])
+}
+
 // The second in which the last find of the name at a place ends, or the latest one that a sweep can note. It is 0 if there is no name.
 pub(crate) fn last_end(owners: &Owners, kept: &[KeptFlush], place: usize) -> u64
     ensures { result ≡ min (life_at None kept.now owners.now.entries place) latest }
 {
     match owners.get_index(place) {
-        Some((name, cells)) => noted(name_life(name, cells, &None, kept)),
+        Some((name, cells)) => noted(last_life(name, cells, kept)),
         None => 0,
     }
 }

@@ -1,7 +1,7 @@
 //! The shelf: cached cells, and the flushes that can be undone or redone.
 
-ghost use Rattle.std.specs.Prelude.{◌≡◌, ◌<◌, ◌≤◌, ◌+◌, ◌-◌, ◌^◌, ◌∷◌, ◌&&◌, [], ℕ, Bool, List, None, true, false, not, length, map, option_copied, position, vec_capacity};
-ghost use Rattle.std.specs.Prelude.{IfErr, IfSome, IsOk, OnOk, OnErr, if◌then◌else◌};
+ghost use Rattle.std.specs.Prelude.{◌≡◌, ◌<◌, ◌≤◌, ◌+◌, ◌-◌, ◌^◌, ◌∷◌, ◌&&◌, [], ℕ, Bool, List, None, true, false, not, map, option_copied, position};
+ghost use Rattle.std.specs.Prelude.{IfErr, IsOk, OnOk, OnErr, if◌then◌else◌};
 ghost use Rattle.std.specs.List.{AllByRecursion};
 ghost use Rattle.std.specs.Map.{keys_of};
 ghost use Rattle.indexmap.specs.IndexMap.{get, hasher_of};
@@ -10,34 +10,28 @@ ghost use Rattle.dns_name.specs.Order.{name_eq};
 ghost use Rattle.dns_text.specs.declared.record.Question.{Question};
 ghost use Rattle.ranked.specs.Cell.{shown_at, turns_away};
 ghost use Rattle.ranked.specs.Find.{admission_of};
-ghost use Rattle.ranked.specs.Flush.{covers, flushed_types};
-ghost use Rattle.cell_store.specs.Count.{has_place_for, one_if, stored_in, KeepPairs};
-ghost use Rattle.cell_store.specs.Owner.{after_settle, held_now};
-ghost use Rattle.cell_store.specs.Store.{cell_of, AreUpTo, StayBut};
+ghost use Rattle.cell_store.specs.Count.{has_place_for, one_if, KeepPairs};
+ghost use Rattle.cell_store.specs.Owner.{held_now};
 ghost use Rattle.cell_store.specs.Sweep.{alive_at};
 ghost use Rattle.shelf.specs.declared.shelf.KeptFlush.{KeptFlush};
-ghost use Rattle.shelf.specs.Clean.{AreEnds, HaveEnds};
 ghost use Rattle.shelf.specs.Kept.{with_shown, stands_first};
 ghost use Rattle.shelf.specs.Room.{fate_of, kind_fate, is_taken, is_wanted, room_for, IsFault};
-ghost use Rattle.shelf.specs.Settling.{names_left, reached_at_once, IsMoved, IsSettling};
+ghost use Rattle.shelf.specs.Settling.{names_left, reached_at_once};
 ghost use Rattle.shelf.specs.Sweep.{AreAlive};
-ghost use Rattle.shelf.specs.Told.{without, CanSettleFlush, CanSettleKept};
+ghost use Rattle.shelf.specs.Told.{without};
 ghost use Rattle.ranked.specs.declared.find.Scope.{Scope};
 
 use crate::ends::{Ends, drop_end, end_mixed, fit, no_ends, reset, touch};
 use crate::fault::StoreFault;
+use crate::flushing::{open_flush, reserve, settle_flush};
 use crate::room::Room;
-use crate::settling::{
-    REACHED_AT_ONCE, Settling, fit_place, reach_some, settle_name, settle_zone, settled_version,
-};
+use crate::settling::{REACHED_AT_ONCE, Settling, fit_place, reach_some, settled_version};
 use cell_store::{
     NameSeed, OwnerCells, Owners, admit_at, at, cells_at, forget_place, has_place_in, held_in,
-    open_kinds,
 };
 use dns_name::{Name, NoMemory};
-use dns_text::types;
 use indexmap::IndexMap;
-use ranked::{Fate, Find, Flush, Held, Reach, Scope, SharedFind};
+use ranked::{Fate, Find, Flush, Held, Scope, SharedFind};
 use std::alloc::Global;
 
 /// A flush that can be undone or redone.
@@ -189,15 +183,17 @@ impl Shelf {
         ensures { result ≡
             is_taken (cell_at self.now) self.now.kept.items find.now moment (record { owner = find.now.owner; kind = kind }) }
     {
-        let mut taken = !self.turns_away(find, cells, kind, 0, moment);
+        if !self.turns_away(find, cells, kind, 0, moment) {
+            return true;
+        }
         for own in &self.kept {
             if own.flush.covers(&find.owner, kind)
                 && !self.turns_away(find, cells, kind, own.number, moment)
             {
-                taken = true;
+                return true;
             }
         }
-        taken
+        false
     }
 
     // Whether some version would cache a find.
@@ -234,22 +230,44 @@ impl Shelf {
         ensures { result ≡ fate_of self.now find.now moment find.now.scope }
     {
         match find.scope {
-            Scope::One(kind) => self.kind_fate(find, kind, moment),
+            Scope::One(kind) => self.kind_fate(find, self.owners.get(&find.owner), kind, moment),
             Scope::Whole => Fate::Taken,
         }
     }
 
-    // The same for a find of a type.
-    fn kind_fate(&self, find: &Find, kind: u16, moment: u64) -> Fate
+    /// The same, by the place that a look-up has found for the owner.
+    pub fn fate_at(&self, find: &Find, place: Option<usize>, moment: u64) -> Fate
+        requires { place ≡ position (name_eq find.now.owner) (keys_of self.now.owners.entries) }
+        ensures { result ≡ fate_of self.now find.now moment find.now.scope }
+    {
+        match find.scope {
+            Scope::One(kind) => self.kind_fate(find, cells_at(&self.owners, place), kind, moment),
+            Scope::Whole => Fate::Taken,
+        }
+    }
+
+    // The same for a find of a type, by the cells of its owner.
+    fn kind_fate(&self, find: &Find, cells: Option<&OwnerCells>, kind: u16, moment: u64) -> Fate
+        requires { option_copied cells ≡ get name_eq self.now.owners find.now.owner }
         ensures { result ≡ kind_fate self.now find.now moment kind }
     {
+        // A new name has nothing that outranks it, whichever flushes are in force.
+        if cells.is_none() {
+            return Fate::Taken;
+        }
         let version = self.version(&find.owner, kind);
-        let cells = self.owners.get(&find.owner);
         if self.turns_away(find, cells, kind, version, moment) {
             Fate::Outranked
         } else {
             Fate::Taken
         }
+    }
+
+    /// The place of a name in the index, if it has cells. It hashes the name once.
+    pub fn place_of(&self, owner: &Name) -> Option<usize>
+        ensures { result ≡ position (name_eq owner.now) (keys_of self.now.owners.entries) }
+    {
+        self.owners.get_index_of(owner)
     }
 
     /// Caches a find in each version, unless the content there is alive at the moment and outranks it.
@@ -267,8 +285,27 @@ impl Shelf {
         ensures flushes { KeepsFlushes self.old self.new }
         ensures stored { self.new.stored ≤ self.old.stored + 1 }
     {
-        // The name is hashed here, and again only to insert it: all else goes by its place.
-        let place = self.owners.get_index_of(&find.find().owner);
+        let place = self.place_of(&find.find().owner);
+        self.admit_at(find, place, moment)
+    }
+
+    /// Does the same, by the place that a look-up has found for the owner. It hashes the owner only to insert it.
+    pub fn admit_at(
+        &mut self,
+        find: SharedFind,
+        place: Option<usize>,
+        moment: u64,
+    ) -> Result<(), StoreFault>
+        requires place { place ≡ position (name_eq find.owner) (keys_of self.old.owners.entries) }
+        requires whole { IsShelf self.old }
+        ensures whole { IsShelf self.new }
+        ensures admitted { OnOk result (HasAdmitted find moment self.old self.new) }
+        ensures full { IfErr result (λ fault. IsFault self.old find moment fault) }
+        ensures room { IsByRoom self.old find moment result }
+        ensures same { OnErr result (IsSame self.old self.new) }
+        ensures flushes { KeepsFlushes self.old self.new }
+        ensures stored { self.new.stored ≤ self.old.stored + 1 }
+    {
         match self.room_for(find.find(), place, moment) {
             Room::Unwanted => Ok(()),
             Room::Full => Err(StoreFault::Full {
@@ -502,82 +539,6 @@ fn stands_first(kept: &[KeptFlush], number: u64) -> bool
     match kept.first() {
         Some(own) => own.number == number && own.shown,
         None => false,
-    }
-}
-
-// Makes room for one number more than `count`.
-fn reserve(numbers: &mut Vec<u64>, count: usize) -> Result<(), NoMemory>
-    requires few { count < 2 ^ 63 }
-    ensures room { OnOk result (count + 1 ≤ vec_capacity numbers.new) }
-    ensures more { vec_capacity numbers.old ≤ vec_capacity numbers.new }
-{
-    numbers.clear();
-    numbers.reserve(count + 1)?;
-    Ok(())
-}
-
-// The types of the cells that `flush` of a name empties.
-fn flushed_types() -> [u16; 10]
-    ensures { result ≡ flushed_types }
-{
-    [
-        types::A,
-        types::NS,
-        types::SOA,
-        types::CNAME,
-        types::PTR,
-        types::MX,
-        types::AAAA,
-        types::SRV,
-        types::NAPTR,
-        types::DNAME,
-    ]
-}
-
-// Makes room for a flush, so that `settle_flush` needs no memory later. No cell changes.
-fn open_flush(owners: &mut Owners, flush: &Flush, top: u64) -> Result<(), NoMemory>
-    requires upto { AreUpTo top owners.old }
-    ensures cells { (q : Question) (v : ℕ) → cell_of owners.new q v ≡ cell_of owners.old q v }
-    ensures upto { AreUpTo top owners.new }
-    ensures settles { (kept : List KeptFlush) →
-        AllByRecursion (CanSettleKept owners.old) kept → AllByRecursion (CanSettleKept owners.new) kept }
-    ensures opened { OnOk result ((n : ℕ) → CanSettleFlush owners.new n flush.now) }
-    ensures counted { stored_in owners.new ≡ stored_in owners.old }
-    ensures pairs { KeepPairs owners.old owners.new }
-    ensures entries { StayBut flush.now.name owners.old.entries owners.new.entries
-        × (length owners.new.entries ≡ length owners.old.entries) × (keys_of owners.new.entries ≡ keys_of owners.old.entries) }
-{
-    match flush.reach {
-        Reach::OneType(kind) => open_kinds(owners, &flush.name, &[kind], top),
-        Reach::Name => open_kinds(owners, &flush.name, &flushed_types(), top),
-        Reach::Zone => Ok(()),
-    }
-}
-
-// Makes a flush permanent.
-fn settle_flush(
-    owners: &mut Owners,
-    ends: &mut Ends,
-    stored: &mut u64,
-    settling: &mut Option<Settling>,
-    flush: Flush,
-    number: u64,
-)
-    requires low { IfSome settling.old (λ own. own.left ≤ length owners.old.entries) × HaveEnds owners.old.entries ends.old }
-    requires counted { stored.old ≡ stored_in owners.old }
-    requires settles { CanSettleFlush owners.old number flush }
-    ensures moved { (top : ℕ) → number ≤ top → AreUpTo top owners.old → IfSome settling.old (IsSettling top owners.old) →
-        IsMoved (λ q v. after_settle (covers flush q) number v) top settling.old settling.new owners.old owners.new }
-    ensures settles { (kept : List KeptFlush) →
-        AllByRecursion (CanSettleKept owners.old) kept → AllByRecursion (CanSettleKept owners.new) kept }
-    ensures counted { (stored.new ≡ stored_in owners.new) × (stored.new ≤ stored.old) }
-    ensures pairs { KeepPairs owners.old owners.new }
-    ensures ends { (kept : List KeptFlush) → AreEnds kept owners.old.entries ends.old → AreEnds kept owners.new.entries ends.new }
-{
-    match flush.reach {
-        Reach::OneType(kind) => settle_name(owners, ends, stored, &flush.name, &[kind], number),
-        Reach::Name => settle_name(owners, ends, stored, &flush.name, &flushed_types(), number),
-        Reach::Zone => settle_zone(owners, ends, stored, settling, flush.name, number),
     }
 }
 

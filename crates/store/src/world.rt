@@ -153,8 +153,10 @@ impl World for ShelfWorld {
     ghost clears = { λ world kept h. clears_by_word world kept h };
 
     fn admit(&mut self, find: SharedFind, moment: u64) -> Result<Fate, WorldFault> {
-        let fate = self.shelf.fate(find.find(), moment);
-        match self.shelf.admit(find, moment) {
+        // The name is hashed once for both.
+        let place = self.shelf.place_of(&find.find().owner);
+        let fate = self.shelf.fate_at(find.find(), place, moment);
+        match self.shelf.admit_at(find, place, moment) {
             Ok(()) => return Ok(fate),
             Err(fault) => return Err(fault_told(fault)),
         }

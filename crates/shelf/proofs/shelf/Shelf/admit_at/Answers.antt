@@ -12,14 +12,14 @@ use Rattle.shelf.proofs.ShelfLaws.{told_more}
 use Rattle.shelf.specs.Room.{room_for}
 use Rattle.shelf.proofs.RoomLaws.{unwanted_cell, chosen_is_version, room_full, room_unwanted, room_free, fault_of, not_both, not_needed, has_or_needs}
 use Rattle.shelf.proofs.ByRoomLaws.{by_room_free, by_room_full, by_room_ok, same_pairs}
-use Rattle.shelf.proofs.shelf.Shelf.admit.Goals as goal
+use Rattle.shelf.proofs.shelf.Shelf.admit_at.Goals as goal
 
 pub hold-requires : goal.hold-requires
 hold-requires c = record {
   whole = c.requires.whole;
   room = (
-    c.get_index_of-place.ensures.index ∙ ap (λ (f : Find). position (name_eq f.owner) (keys_of c.args.self.now.owners.entries)) c.find-2.ensures,
-    room_free c.args.self.now c.args.find c.args.moment (c.in-Free.ensures ∙ ap (λ (f : Find). room_for c.args.self.now f c.args.moment) c.find-3.ensures) c.requires.whole.few,
+    c.requires.place,
+    room_free c.args.self.now c.args.find c.args.moment (c.in-Free.ensures ∙ ap (λ (f : Find). room_for c.args.self.now f c.args.moment) c.find-2.ensures) c.requires.whole.few,
   );
 }
 
@@ -27,7 +27,7 @@ pub returns-in-Unwanted-clause-admitted : goal.returns-in-Unwanted-clause-admitt
 returns-in-Unwanted-clause-admitted c =
     let self = c.args.self.now in
     let new = admission_of c.args.find c.args.find c.args.moment in
-    let unwanted = room_unwanted self c.args.find c.args.moment (c.in-Unwanted.ensures ∙ ap (λ (f : Find). room_for self f c.args.moment) c.find-3.ensures) in
+    let unwanted = room_unwanted self c.args.find c.args.moment (c.in-Unwanted.ensures ∙ ap (λ (f : Find). room_for self f c.args.moment) c.find-2.ensures) in
     record {
       cells = λ told is question version there.
           unwanted_cell self c.args.find c.args.moment unwanted question version there
@@ -42,27 +42,27 @@ pub returns-in-Free-clause-full : goal.returns-in-Free-clause-full
 returns-in-Free-clause-full c = fault_of c.args.self.now c.args.find c.args.moment c.hold.result c.hold.ensures.fault.0 c.hold.ensures.fault.1
 
 pub returns-in-Unwanted-clause-room : goal.returns-in-Unwanted-clause-room
-returns-in-Unwanted-clause-room c = by_room_ok c.args.self.now c.args.find c.args.moment _ _ refl (λ same needs. not_needed c.args.self.now c.args.find c.args.moment (c.in-Unwanted.ensures ∙ ap (λ (f : Find). room_for c.args.self.now f c.args.moment) c.find-3.ensures) same needs)
+returns-in-Unwanted-clause-room c = by_room_ok c.args.self.now c.args.find c.args.moment _ _ refl (λ same needs. not_needed c.args.self.now c.args.find c.args.moment (c.in-Unwanted.ensures ∙ ap (λ (f : Find). room_for c.args.self.now f c.args.moment) c.find-2.ensures) same needs)
 
 pub returns-in-Full-clause-full : goal.returns-in-Full-clause-full
 returns-in-Full-clause-full c =
-    let full = room_full c.args.self.now c.args.find c.args.moment (c.in-Full.ensures ∙ ap (λ (f : Find). room_for c.args.self.now f c.args.moment) c.find-3.ensures) in
+    let full = room_full c.args.self.now c.args.find c.args.moment (c.in-Full.ensures ∙ ap (λ (f : Find). room_for c.args.self.now f c.args.moment) c.find-2.ensures) in
     (c.stored.ensures.value, full.0, full.1)
 
 pub returns-in-Full-clause-room : goal.returns-in-Full-clause-room
 returns-in-Full-clause-room c =
-    let full = room_full c.args.self.now c.args.find c.args.moment (c.in-Full.ensures ∙ ap (λ (f : Find). room_for c.args.self.now f c.args.moment) c.find-3.ensures) in
+    let full = room_full c.args.self.now c.args.find c.args.moment (c.in-Full.ensures ∙ ap (λ (f : Find). room_for c.args.self.now f c.args.moment) c.find-2.ensures) in
     by_room_full c.args.self.now c.requires.whole c.args.find c.args.moment _ _ refl c.stored.ensures.value full
     (λ told each. omega (arith, full.0, c.stored.ensures.value, c.stored.ensures.most c.requires.whole told each))
 
 pub returns-in-Free-clause-room : goal.returns-in-Free-clause-room
 returns-in-Free-clause-room c =
     by_room_free c.args.self.now c.requires.whole c.args.find c.args.moment c.hold.result
-    (λ same needs. not_both c.args.self.now c.args.find c.args.moment (c.in-Free.ensures ∙ ap (λ (f : Find). room_for c.args.self.now f c.args.moment) c.find-3.ensures) same needs)
-    (has_or_needs c.args.self.now c.args.find c.args.moment (c.in-Free.ensures ∙ ap (λ (f : Find). room_for c.args.self.now f c.args.moment) c.find-3.ensures))
+    (λ same needs. not_both c.args.self.now c.args.find c.args.moment (c.in-Free.ensures ∙ ap (λ (f : Find). room_for c.args.self.now f c.args.moment) c.find-2.ensures) same needs)
+    (has_or_needs c.args.self.now c.args.find c.args.moment (c.in-Free.ensures ∙ ap (λ (f : Find). room_for c.args.self.now f c.args.moment) c.find-2.ensures))
     c.hold.ensures.fault.0 c.hold.ensures.fault.1
 
 pub room_for-requires : goal.room_for-requires
 room_for-requires c =
     let test = λ (f : Find). position (name_eq f.owner) (keys_of c.args.self.now.owners.entries) in
-    c.get_index_of-place.ensures.index ∙ (ap test c.find-2.ensures ∙ sym (ap test c.find-3.ensures))
+    c.requires.place ∙ sym (ap test c.find-2.ensures)

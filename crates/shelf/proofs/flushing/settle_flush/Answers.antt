@@ -8,7 +8,7 @@ use Rattle.cell_store.specs.Owner.{after_settle}
 use Rattle.cell_store.specs.Store.{cell_of}
 use Rattle.shelf.proofs.FaceLaws.{covers_below, covers_name, covers_one, settles_each}
 use Rattle.shelf.proofs.SettlingLaws.{moved_like, moved_name}
-use Rattle.shelf.proofs.shelf.settle_flush.Goals as goal
+use Rattle.shelf.proofs.flushing.settle_flush.Goals as goal
 
 pub returns-in-OneType-clause-moved : goal.returns-in-OneType-clause-moved
 returns-in-OneType-clause-moved c = λ top older upto is.
