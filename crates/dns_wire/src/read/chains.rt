@@ -5,7 +5,7 @@ ghost use Rattle.std.specs.Prelude.{◌≡◌, ◌≤◌, ◌<◌, ◌-◌, ℕ,
 ghost use Rattle.std.specs.Option.{option_copied};
 ghost use Rattle.dns_wire.specs.Read.Chains.{PointersLead, IsNotedAt, AreEnds, IsFirstName};
 
-use crate::limits::{HEADER_OCTETS, MOST_OCTETS};
+use crate::limits::{HEADER_OCTETS, MOST_OCTETS, POINTER_MARK};
 use crate::read::number::u16_at;
 use crate::read::place::{Next, next_at};
 use dns_name::Name;
@@ -118,6 +118,11 @@ fn note_of(octets: &[u8], ends: &[u16], at: usize) -> u16
     requires noted { (place : ℕ) → place < at → IsNotedAt octets.now ends.now place }
     ensures { 0 < result → PointersLead octets.now at (result - 1) }
 {
+    // Most octets begin no pointer.
+    match octets.get(at) {
+        Some(octet) if *octet >= POINTER_MARK => {}
+        _ => return 0,
+    }
     match next_at(octets, at) {
         Next::Pointer(to) if to < at => (end_in(octets, ends, to) + 1) as u16,
         _ => 0,
