@@ -21,6 +21,16 @@ pub(crate) trait SectionItem: Drop {
         ensures within { IfOk result (λ r. r.1 ≤ length message.now) };
 }
 
+/// The most items for which a section has room before one of them is read.
+const MOST_ROOM: usize = 64;
+
+/// The room with which a section begins, by the number of its items and the octets that are left for them. A message that
+/// counts more items than its octets can hold gets no more room than these need, and for 64 items at most.
+fn first_room(count: u16, left: usize) -> usize {
+    // A question takes five octets at least, and a record more.
+    usize::from(count).min(left / 5).min(MOST_ROOM)
+}
+
 /// So many items, and the place after them.
 pub(crate) fn section_at<T: SectionItem>(
     alloc: Global,
@@ -32,7 +42,8 @@ pub(crate) fn section_at<T: SectionItem>(
     ensures exact { Gives result (section_read (λ i. T.read message.now i) count at) }
     ensures within { IfOk result (λ r. r.1 ≤ length message.now) }
 {
-    let mut items = Vec::new(alloc);
+    let left = message.as_slice().len() - at;
+    let mut items = Vec::with_capacity(alloc, first_room(count, left))?;
     let mut at = at;
     for _ in 0..count {
         let (item, after) = T::read_at(alloc, message, at)?;

@@ -1,22 +1,43 @@
 //! Records as octets, each after what `out` holds. If memory runs out, a part of them may have been written.
 
-ghost use Rattle.std.specs.Prelude.{◌≡◌, ◌++◌, ◌≤◌, ◌<◌, length, OnOk};
+ghost use Rattle.std.specs.Prelude.{◌≡◌, ◌++◌, ◌≤◌, ◌<◌, ◌^◌, length, OnOk};
 ghost use Rattle.std.specs.List.{AllByRecursion};
 ghost use Rattle.std.specs.Option.{option_copied};
 ghost use Rattle.dns_name.specs.Labels.{IsName};
 ghost use Rattle.dns_wire.specs.Lent.{part_at};
 ghost use Rattle.dns_wire.specs.WellFormed.{HasItsForm, IsRecord};
+ghost use Rattle.dns_wire.specs.Write.Number.{u16_octets, u32_octets};
 ghost use Rattle.dns_wire.specs.Write.Rdata.{data_octets};
 ghost use Rattle.dns_wire.specs.Write.Record.{behind_owner_octets, record_octets, records_octets};
 
 use crate::lent::{LentRecord, Section, record_in};
 use crate::limits::MOST_OCTETS;
 use crate::write::name::push_owner;
-use crate::write::number::{push_u16, push_u32};
 use crate::write::rdata::push_data;
 use crate::write::size::data_len;
 use dns_name::Name;
 use std::alloc::AllocError;
+
+/// The fields of a record between its owner and its data, in one piece.
+fn push_fields(
+    out: &mut Vec<u8>,
+    kind: u16,
+    class: u16,
+    ttl: u32,
+    len: u16,
+) -> Result<(), AllocError>
+    ensures octets { OnOk result
+        (out.new.items ≡ out.old.items ++ (u16_octets kind ++ u16_octets class ++ u32_octets ttl ++ u16_octets len)) }
+    ensures range { (kind < 2 ^ 16) × (class < 2 ^ 16) × (ttl < 2 ^ 32) }
+{
+    let [kind_high, kind_low] = kind.to_be_bytes();
+    let [class_high, class_low] = class.to_be_bytes();
+    let [a, b, c, d] = ttl.to_be_bytes();
+    let [len_high, len_low] = len.to_be_bytes();
+    out.extend_from_slice(&[
+        kind_high, kind_low, class_high, class_low, a, b, c, d, len_high, len_low,
+    ])
+}
 
 /// The fields of a record after its owner.
 fn push_behind_owner(out: &mut Vec<u8>, entry: &LentRecord<'_>) -> Result<(), AllocError>
@@ -25,11 +46,14 @@ fn push_behind_owner(out: &mut Vec<u8>, entry: &LentRecord<'_>) -> Result<(), Al
     ensures octets { OnOk result (out.new.items ≡ out.old.items ++ behind_owner_octets entry.now) }
     ensures fits { OnOk result (IsName entry.now.item.owner → IsRecord entry.now) }
 {
-    push_u16(out, entry.kind)?;
-    push_u16(out, entry.class)?;
-    push_u32(out, entry.ttl.seconds())?;
     let len = data_len(entry.body).unwrap();
-    push_u16(out, len as u16)?;
+    push_fields(
+        out,
+        entry.kind,
+        entry.class,
+        entry.ttl.seconds(),
+        len as u16,
+    )?;
     push_data(out, entry.body)
 }
 

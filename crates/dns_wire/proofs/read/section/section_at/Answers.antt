@@ -5,7 +5,7 @@ use Rattle.dns_wire.proofs.read.section.section_at.Goals as goal
 
 pub returns-in_err-item-clause-exact : goal.returns-in_err-item-clause-exact
 returns-in_err-item-clause-exact g c =
-    let p = err_from_is_err_and c.from_residual.result c.from_residual.ensures.1 in
+    let p = err_from_is_err_and c.from_residual-in_err-item.result c.from_residual-in_err-item.ensures.1 in
     rw (p.1, p.2) (section_fails (λ i. g.T.SectionItem.read c.args.message.now i) c.loop.items.items c.args.count c.loop.counter c.loop.at _ _ c.loop-test.true c.in_err-item.ensures.exact c.loop.invariant.told)
 
 pub loop-preserved : goal.loop-preserved
