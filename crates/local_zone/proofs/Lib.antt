@@ -14,3 +14,4 @@ pub mod CountLaws
 pub mod MaskLaws
 pub mod CountsBelowLaws
 pub mod ZonesBelowLaws
+pub mod InPlaceLaws

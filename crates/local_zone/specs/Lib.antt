@@ -16,3 +16,4 @@ pub mod EqualLaws
 pub mod Gaps
 pub mod Count
 pub mod CountsBelow
+pub mod InPlace

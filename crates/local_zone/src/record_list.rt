@@ -1,6 +1,7 @@
 //! Records in the order of their arrival, with an index by owner.
 
-ghost use Rattle.std.specs.Prelude.{◌≡◌, ◌++◌, ◌∷◌, [], IfOk, OnErr, OnOk};
+ghost use Rattle.std.specs.Prelude.{◌≡◌, ◌≤◌, ◌+◌, ◌++◌, ◌∷◌, [], IfOk, MatchOption, OnErr, OnOk};
+ghost use Rattle.std.specs.Vec.{vec_len, vec_capacity};
 ghost use Rattle.local_zone.specs.Gaps.{at_gaps, gaps_of, put_back, rest_of, AreApart, AreWithin};
 ghost use Rattle.std.specs.Prelude.{◌-◌, List, None, map, take, length, false, IsTrue, ◌&&◌, ◌==◌, not};
 ghost use Rattle.std.specs.List.{list_any};
@@ -14,10 +15,12 @@ ghost use Rattle.local_zone.specs.Index.{of_owner, items_in, under, IsGrouped, I
 
 use crate::counts_below::CountsBelow;
 use crate::groups::{move_groups, put_groups};
+use crate::in_place::{MOST_IN_PLACE, put_few, take_few};
 use crate::passes::{push_gaps, put_pass, take_pass};
 use crate::record::LocalRecord;
 use crate::removed::Removed;
 use crate::tag::tag_of;
+use crate::taken::Taken;
 use dns_name::{Name, NoMemory};
 use dns_text::{Record, Ttl};
 use indexmap::IndexMap;
@@ -127,6 +130,73 @@ fn pop_under(owners: &mut IndexMap<Vec<u8>, Vec<LocalRecord>>, owner: &Name) -> 
     }
 }
 
+/// Takes the records at the gaps out of a list: few in place, many in one pass. If memory is refused, nothing has changed.
+fn cut_out(
+    alloc: Global,
+    list: &mut Vec<LocalRecord>,
+    gaps: &[usize],
+    taken: &mut Vec<Taken>,
+) -> Result<(), NoMemory>
+    requires within { AreWithin gaps.now list.old.items }
+    requires places { vec_len taken.old + length gaps.now ≤ vec_capacity taken.old }
+    ensures list { OnOk result (list.new.items ≡ rest_of gaps.now list.old.items) }
+    ensures taken { OnOk result (taken.new.items ≡ taken.old.items ++ at_gaps gaps.now list.old.items) }
+    ensures err { OnErr result ((list.new.items ≡ list.old.items) × (taken.new.items ≡ taken.old.items)) }
+{
+    // A list that has become much shorter than its room goes into a second one, which has less.
+    if gaps.len() <= MOST_IN_PLACE && list.capacity() / 4 <= list.len() {
+        take_few(list, gaps, taken);
+        return Ok(());
+    }
+    let mut left = Vec::with_capacity(alloc, list.len())?;
+    let mut from = mem::replace(list, Vec::new(alloc)).into_iter();
+    take_pass(&mut from, gaps, &mut left, taken);
+    *list = left;
+    Ok(())
+}
+
+/// Room for records that go back into a list: in the list itself if they are few, and it has not become much shorter than its
+/// room, else a second list.
+fn room_for(
+    alloc: Global,
+    list: &mut Vec<LocalRecord>,
+    taken: &[Taken],
+) -> Result<Option<Vec<LocalRecord>>, NoMemory>
+    ensures items { list.new.items ≡ list.old.items }
+    ensures room { IfOk result (λ second. MatchOption second (vec_len list.new + length taken.now ≤ vec_capacity list.new)
+        (λ to. (to.items ≡ []) × (vec_len list.new + length taken.now ≤ vec_capacity to))) }
+{
+    if taken.len() <= MOST_IN_PLACE && list.capacity() / 4 <= list.len() + taken.len() {
+        list.reserve_exact(taken.len())?;
+        return Ok(None);
+    }
+    Ok(Some(Vec::with_capacity(alloc, list.len() + taken.len())?))
+}
+
+/// Puts records back in their places in a list, with the room that was made for them. It takes no memory.
+fn put_all(
+    alloc: Global,
+    list: &mut Vec<LocalRecord>,
+    taken: Vec<Taken>,
+    gaps: &[usize],
+    second: Option<Vec<LocalRecord>>,
+)
+    requires gaps { gaps.now ≡ gaps_of taken.items }
+    requires room { MatchOption second (vec_len list.old + vec_len taken ≤ vec_capacity list.old)
+        (λ to. (to.items ≡ []) × (vec_len list.old + vec_len taken ≤ vec_capacity to)) }
+    ensures { list.new.items ≡ put_back taken.items list.old.items }
+{
+    match second {
+        None => put_few(list, taken, gaps),
+        Some(to) => {
+            let mut to = to;
+            let mut from = mem::replace(list, Vec::new(alloc)).into_iter();
+            put_pass(&mut from, taken, &mut to);
+            *list = to;
+        }
+    }
+}
+
 /// Records in order. Contracts see the list alone. An index finds those of an owner in one lookup, and counts say in one lookup
 /// whether there are any below a name.
 #[derive(Drop)]
@@ -228,7 +298,7 @@ impl RecordList {
         }
     }
 
-    /// Takes the records at the gaps out, in one pass. It takes all its memory first. If that is refused, nothing has changed.
+    /// Takes the records at the gaps out. It takes all its memory first. If that is refused, nothing has changed.
     pub(crate) fn take_out(&mut self, alloc: Global, gaps: &[usize]) -> Result<Removed, NoMemory>
         requires within { AreWithin gaps.now self.old }
         requires apart { AreApart (at_gaps gaps.now self.old) (rest_of gaps.now self.old) }
@@ -236,18 +306,15 @@ impl RecordList {
         ensures removed { IfOk result (λ removed. removed ≡ at_gaps gaps.now self.old) }
         ensures err { OnErr result (self.new ≡ self.old) }
     {
-        let mut left = Vec::with_capacity(alloc, self.list.len())?;
         let mut taken = Vec::with_capacity(alloc, gaps.len())?;
         let mut groups = Vec::with_capacity(alloc, gaps.len())?;
-        let mut from = mem::replace(&mut self.list, Vec::new(alloc)).into_iter();
-        take_pass(&mut from, gaps, &mut left, &mut taken);
-        self.list = left;
+        cut_out(alloc, &mut self.list, gaps, &mut taken)?;
         move_groups(&mut self.owners, &mut groups, &taken);
         self.below.remove_all(&taken);
         Ok(Removed { taken, groups })
     }
 
-    /// Puts records back in their places, in one pass, and returns the gaps. It takes all its memory first. If that is refused,
+    /// Puts records back in their places, and returns the gaps. It takes all its memory first. If that is refused,
     /// nothing has changed.
     pub(crate) fn put_in(
         &mut self,
@@ -260,15 +327,13 @@ impl RecordList {
         ensures err { OnErr result ((self.new ≡ self.old) × (removed.new ≡ removed.old)) }
     {
         let mut gaps = Vec::with_capacity(alloc, removed.taken.len())?;
-        let mut list = Vec::with_capacity(alloc, self.list.len() + removed.taken.len())?;
+        let second = room_for(alloc, &mut self.list, &removed.taken)?;
         self.owners.reserve(removed.groups.len())?;
         self.below.add_all(alloc, &removed.taken)?;
         let taken = mem::replace(&mut removed.taken, Vec::new(alloc));
         let groups = mem::replace(&mut removed.groups, Vec::new(alloc));
         push_gaps(&taken, &mut gaps);
-        let mut from = mem::replace(&mut self.list, Vec::new(alloc)).into_iter();
-        put_pass(&mut from, taken, &mut list);
-        self.list = list;
+        put_all(alloc, &mut self.list, taken, &gaps, second);
         put_groups(&mut self.owners, groups);
         Ok(gaps)
     }

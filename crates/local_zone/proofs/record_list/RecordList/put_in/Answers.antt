@@ -1,5 +1,4 @@
 use Rattle.std.proofs.Common.{◌≡◌, ◌+◌, ℕ, List, ◌++◌, Vec, Global, ap, sym, subst, ◌∙◌}
-use Rattle.std.specs.Vec.Iter.{into_iter_items}
 use Rattle.dns_text.specs.declared.record.Record.{Record}
 use Rattle.local_zone.specs.declared.record.LocalRecord.{LocalRecord}
 use Rattle.local_zone.specs.declared.taken.Taken.{Taken}
@@ -16,15 +15,11 @@ octets k = k.items
 abbrev items : Vec LocalRecord Global → List Record
 items g = g.items
 
-list_is : (c : goal.After-drop-from) → c.put_pass.new.to.items ≡ put_back c.removed.inside.taken.items c.self.inside.list.items
-list_is c =
-    c.put_pass.ensures ∙ ap (λ (x : List Record). x ++ put_back c.replace-taken.result.items (into_iter_items c.into_iter-from.result)) c.in_ok-list.ensures.items
-    ∙ (λ i. put_back ((ap (λ v. v.items) c.replace-taken.ensures.value) i) ((c.into_iter-from.ensures.rest ∙ ap (λ v. v.items) c.replace.ensures.value) i))
-
 pub invariant_of-self-2 : goal.invariant_of-self-2
 invariant_of-self-2 c =
     let taken : List Taken = c.removed.inside.taken.items in
     let left : List Record = c.self.inside.list.items in
+    let list_is : c.put_all.new.list.items ≡ put_back taken left = c.put_all.ensures ∙ (λ i. put_back ((ap (λ v. v.items) c.replace-taken.ensures.value) i) (c.room_for.ensures.items i)) in
     let parted : AreApart taken left
     = subst (λ (x : List Taken). AreApart x left) (sym c.removed.view_is) (subst (λ (y : List Record). AreApart c.args.removed.now y) (sym c.self.view_is) c.requires.apart) in
     let both = grouped_joined octets items taken left c.removed.inside.groups.items c.self.inside.owners.entries parted c.removed.invariant c.self.invariant.0 in
@@ -32,7 +27,7 @@ invariant_of-self-2 c =
     let now : IsGrouped octets items (put_back taken left) (c.replace-groups.result.items ++ c.reserve.new.self.entries)
     = subst (λ gs. IsGrouped octets items (put_back taken left) (gs ++ c.reserve.new.self.entries)) (sym (ap (λ v. v.items) c.replace-groups.ensures.value))
     (subst (λ es. IsGrouped octets items (put_back taken left) (c.removed.inside.groups.items ++ es)) (sym entries) both) in (
-      subst (λ (x : List Record). IsGrouped octets items x c.put_groups.new.owners.entries) (sym (list_is c)) (c.put_groups.ensures (put_back taken left) now),
-      subst (λ (x : List Record). AreCounted x c.add_all.new.self) (sym (list_is c)) (counted_back taken left c.self.inside.below c.add_all.new.self c.self.invariant.1
-          (λ name. c.in_ok-add_all.ensures.ok name ∙ ap (λ (ts : List Taken). counted name c.self.inside.below + count_below name (records_of ts)) c.deref.ensures.value)),
+      subst (λ (x : List Record). IsGrouped octets items x c.put_groups.new.owners.entries) (sym list_is) (c.put_groups.ensures (put_back taken left) now),
+      subst (λ (x : List Record). AreCounted x c.add_all.new.self) (sym list_is) (counted_back taken left c.self.inside.below c.add_all.new.self c.self.invariant.1
+          (λ name. c.in_ok-add_all.ensures.ok name ∙ ap (λ (ts : List Taken). counted name c.self.inside.below + count_below name (records_of ts)) c.deref-2.ensures.value)),
     )

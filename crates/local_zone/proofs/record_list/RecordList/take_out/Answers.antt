@@ -1,11 +1,10 @@
 use Rattle.std.proofs.Common.{◌≡◌, ℕ, List, ◌-◌, ◌++◌, length, None, Vec, Global, ap, sym, subst, ◌∙◌, arith}
 use Rattle.std.specs.List.{AllByRecursion}
-use Rattle.std.specs.Vec.Iter.{into_iter_items}
 use Rattle.dns_name.specs.Labels.{octets_of}
 use Rattle.dns_text.specs.declared.record.Record.{Record}
 use Rattle.local_zone.specs.declared.record.LocalRecord.{LocalRecord}
 use Rattle.local_zone.specs.declared.taken.Taken.{Taken}
-use Rattle.local_zone.specs.CountsBelow.{count_below, counted}
+use Rattle.local_zone.specs.CountsBelow.{count_below, counted, AreCounted}
 use Rattle.local_zone.specs.Gaps.{records_of, at_gaps, rest_of, AreApart, AreWithin}
 use Rattle.local_zone.specs.Index.{of_owner, under, IsGrouped}
 use Rattle.local_zone.proofs.CountsBelowLaws.{counted_left}
@@ -21,19 +20,23 @@ items g = g.items
 
 pub move_groups-requires : goal.move_groups-requires
 move_groups-requires c =
-    let taken_is : c.take_pass.new.taken.items ≡ at_gaps c.args.gaps.now c.self.inside.list.items = c.take_pass.ensures.taken ∙ ap (λ (x : List Taken). x ++ at_gaps c.args.gaps.now (into_iter_items c.into_iter-from.result)) c.in_ok-taken.ensures.items
-    ∙ ap (at_gaps c.args.gaps.now) (c.into_iter-from.ensures.rest ∙ ap (λ v. v.items) c.replace.ensures.value) in
+    let taken_is : c.cut_out.new.taken.items ≡ at_gaps c.args.gaps.now c.self.inside.list.items = c.in_ok-cut_out.ensures.taken ∙ ap (λ (x : List Taken). x ++ at_gaps c.args.gaps.now c.self.inside.list.items) c.in_ok-taken.ensures.items in
     omega (arith, c.in_ok-groups.ensures.len, c.in_ok-groups.ensures.capacity, ap (λ (x : List Taken). length x) (c.deref.ensures.value ∙ taken_is), length_at c.args.gaps.now c.self.inside.list.items)
+
+pub invariant_of-self : goal.invariant_of-self
+invariant_of-self c =
+    let same = c.in_err-cut_out.ensures.err.0 in (
+      subst (λ (x : List Record). IsGrouped octets items x c.self.inside.owners.entries) (sym same) c.self.invariant.0,
+      subst (λ (x : List Record). AreCounted x c.self.inside.below) (sym same) c.self.invariant.1,
+    )
 
 pub invariant_of-result : goal.invariant_of-result
 invariant_of-result c =
     let before : List Record = c.self.inside.list.items in
     let gaps : List ℕ = c.args.gaps.now in
-    let taken_is : c.take_pass.new.taken.items ≡ at_gaps gaps before = c.take_pass.ensures.taken ∙ ap (λ (x : List Taken). x ++ at_gaps c.args.gaps.now (into_iter_items c.into_iter-from.result)) c.in_ok-taken.ensures.items
-    ∙ ap (at_gaps c.args.gaps.now) (c.into_iter-from.ensures.rest ∙ ap (λ v. v.items) c.replace.ensures.value) in
-    let left_is : c.take_pass.new.to.items ≡ rest_of gaps before = c.take_pass.ensures.to ∙ ap (λ (x : List Record). x ++ rest_of c.args.gaps.now (into_iter_items c.into_iter-from.result)) c.in_ok-left.ensures.items
-    ∙ ap (rest_of c.args.gaps.now) (c.into_iter-from.ensures.rest ∙ ap (λ v. v.items) c.replace.ensures.value) in
-    (parts octets items before gaps c.take_pass.new.taken.items c.take_pass.new.to.items c.move_groups.new.groups.items c.move_groups.new.owners.entries c.self.inside.owners.entries
+    let taken_is : c.cut_out.new.taken.items ≡ at_gaps gaps before = c.in_ok-cut_out.ensures.taken ∙ ap (λ (x : List Taken). x ++ at_gaps c.args.gaps.now c.self.inside.list.items) c.in_ok-taken.ensures.items in
+    let left_is : c.cut_out.new.list.items ≡ rest_of gaps before = c.in_ok-cut_out.ensures.list in
+    (parts octets items before gaps c.cut_out.new.taken.items c.cut_out.new.list.items c.move_groups.new.groups.items c.move_groups.new.owners.entries c.self.inside.owners.entries
     (subst (λ (x : List Record). AreWithin gaps x) (sym c.self.view_is) c.requires.within)
     (subst (λ (x : List Record). AreApart (at_gaps gaps x) (rest_of gaps x)) (sym c.self.view_is) c.requires.apart)
     taken_is left_is c.self.invariant.0
@@ -41,17 +44,15 @@ invariant_of-result c =
     (subst (λ (ts : List Taken). AllByRecursion (λ (t : Taken). under octets (octets_of t.item.owner) c.move_groups.new.owners.entries ≡ None) ts) c.deref.ensures.value c.move_groups.ensures.gone)
     (λ owner none. c.move_groups.ensures.only owner (ap (λ (ts : List Taken). of_owner owner (records_of ts)) c.deref.ensures.value ∙ none) (ap (λ gs. under octets (octets_of owner) gs) c.in_ok-groups.ensures.items))).0
 
-pub invariant_of-self : goal.invariant_of-self
-invariant_of-self c =
+pub invariant_of-self-2 : goal.invariant_of-self-2
+invariant_of-self-2 c =
     let before : List Record = c.self.inside.list.items in
     let gaps : List ℕ = c.args.gaps.now in
-    let taken_is : c.take_pass.new.taken.items ≡ at_gaps gaps before = c.take_pass.ensures.taken ∙ ap (λ (x : List Taken). x ++ at_gaps c.args.gaps.now (into_iter_items c.into_iter-from.result)) c.in_ok-taken.ensures.items
-    ∙ ap (at_gaps c.args.gaps.now) (c.into_iter-from.ensures.rest ∙ ap (λ v. v.items) c.replace.ensures.value) in
-    let left_is : c.take_pass.new.to.items ≡ rest_of gaps before = c.take_pass.ensures.to ∙ ap (λ (x : List Record). x ++ rest_of c.args.gaps.now (into_iter_items c.into_iter-from.result)) c.in_ok-left.ensures.items
-    ∙ ap (rest_of c.args.gaps.now) (c.into_iter-from.ensures.rest ∙ ap (λ v. v.items) c.replace.ensures.value) in
+    let taken_is : c.cut_out.new.taken.items ≡ at_gaps gaps before = c.in_ok-cut_out.ensures.taken ∙ ap (λ (x : List Taken). x ++ at_gaps c.args.gaps.now c.self.inside.list.items) c.in_ok-taken.ensures.items in
+    let left_is : c.cut_out.new.list.items ≡ rest_of gaps before = c.in_ok-cut_out.ensures.list in
     let within : AreWithin gaps before = subst (λ (x : List Record). AreWithin gaps x) (sym c.self.view_is) c.requires.within in
     let grouped =
-    (parts octets items before gaps c.take_pass.new.taken.items c.take_pass.new.to.items c.move_groups.new.groups.items c.move_groups.new.owners.entries c.self.inside.owners.entries
+    (parts octets items before gaps c.cut_out.new.taken.items c.cut_out.new.list.items c.move_groups.new.groups.items c.move_groups.new.owners.entries c.self.inside.owners.entries
     (subst (λ (x : List Record). AreWithin gaps x) (sym c.self.view_is) c.requires.within)
     (subst (λ (x : List Record). AreApart (at_gaps gaps x) (rest_of gaps x)) (sym c.self.view_is) c.requires.apart)
     taken_is left_is c.self.invariant.0
@@ -59,6 +60,6 @@ invariant_of-self c =
     (subst (λ (ts : List Taken). AllByRecursion (λ (t : Taken). under octets (octets_of t.item.owner) c.move_groups.new.owners.entries ≡ None) ts) c.deref.ensures.value c.move_groups.ensures.gone)
     (λ owner none. c.move_groups.ensures.only owner (ap (λ (ts : List Taken). of_owner owner (records_of ts)) c.deref.ensures.value ∙ none) (ap (λ gs. under octets (octets_of owner) gs) c.in_ok-groups.ensures.items))).1 in (
       grouped,
-      counted_left before gaps c.take_pass.new.taken.items c.take_pass.new.to.items c.self.inside.below c.remove_all.new.self within taken_is left_is c.self.invariant.1
+      counted_left before gaps c.cut_out.new.taken.items c.cut_out.new.list.items c.self.inside.below c.remove_all.new.self within taken_is left_is c.self.invariant.1
           (λ name. c.remove_all.ensures name ∙ ap (λ (ts : List Taken). counted name c.self.inside.below - count_below name (records_of ts)) c.deref-2.ensures.value),
     )
