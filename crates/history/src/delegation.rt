@@ -56,7 +56,7 @@ fn data_in(body: &Body) -> &[Data]
 fn targets(alloc: Global, set: &[Data]) -> Result<Vec<Name>, NoMemory>
     ensures { IfOk result (λ v. v.items ≡ flat_map target_of set.now) }
 {
-    let mut targets = Vec::new(alloc);
+    let mut targets = Vec::with_capacity(alloc, set.len())?;
     for datum in set {
         push_target(datum, &mut targets)?;
     }
@@ -86,15 +86,7 @@ fn servers_named<C: CellSource>(
     let mut addrs = Vec::new(alloc);
     let mut missing = Vec::new(alloc);
     for target in targets {
-        add_server(
-            alloc,
-            settings,
-            cells,
-            moment,
-            target,
-            &mut addrs,
-            &mut missing,
-        )?;
+        add_server(settings, cells, moment, target, &mut addrs, &mut missing)?;
     }
     Ok(Servers {
         zone: zone.clone()?,
@@ -106,7 +98,6 @@ fn servers_named<C: CellSource>(
 
 /// Adds the addresses of a server, or itself to those that have none.
 fn add_server<C: CellSource>(
-    alloc: Global,
     settings: &Settings,
     cells: &C,
     moment: u64,
@@ -117,28 +108,27 @@ fn add_server<C: CellSource>(
     ensures addrs { OnOk result (addrs.new.items ≡ addrs.old.items ++ addrs_at settings.now (C.shows_at cells.now moment) target.now) }
     ensures missing { OnOk result (AddsMissing settings.now (C.shows_at cells.now moment) target.now missing.old.items missing.new.items) }
 {
-    let own = addrs_at(alloc, settings, cells, moment, target)?;
-    if own.is_empty() {
+    let before = addrs.len();
+    push_addrs_at(settings, cells, moment, target, addrs)?;
+    if addrs.len() == before {
         missing.push(target.clone()?)?;
     }
-    addrs.extend_from_slice(&own)
+    Ok(())
 }
 
-/// The addresses of a server, those of IPv4 first.
-fn addrs_at<C: CellSource>(
-    alloc: Global,
+/// Adds the addresses of a server, those of IPv4 first.
+fn push_addrs_at<C: CellSource>(
     settings: &Settings,
     cells: &C,
     moment: u64,
     name: &Name,
-) -> Result<Vec<Addr>, NoMemory>
-    ensures { IfOk result (λ v. v.items ≡ addrs_at settings.now (C.shows_at cells.now moment) name.now) }
+    out: &mut Vec<Addr>,
+) -> Result<(), NoMemory>
+    ensures { OnOk result (out.new.items ≡ out.old.items ++ addrs_at settings.now (C.shows_at cells.now moment) name.now) }
 {
     let port = settings.server_port;
-    let mut addrs = Vec::new(alloc);
-    push_addrs(data_at(cells, name, types::A, moment), port, &mut addrs)?;
-    push_addrs(data_at(cells, name, types::AAAA, moment), port, &mut addrs)?;
-    Ok(addrs)
+    push_addrs(data_at(cells, name, types::A, moment), port, out)?;
+    push_addrs(data_at(cells, name, types::AAAA, moment), port, out)
 }
 
 fn push_addrs(set: &[Data], port: u16, out: &mut Vec<Addr>) -> Result<(), NoMemory>
