@@ -350,14 +350,17 @@ def check_drawn(checks):
 # ---- how much memory is requested
 
 def check_counts(checks):
-    """A header that counts 65,535 records of each section, and has none, takes no memory for them."""
+    """A header that counts 65,535 records of each section, and has none, takes no memory for them. With bad octets behind it, it takes
+    memory for 64 items at most, of up to 160 octets each."""
     header = bytes.fromhex("12340100ffffffffffffffff")
     one_question = bytes.fromhex("123401000001ffffffffffff0000010001")
+    bad = bytes.fromhex("123401000000ffff00000000") + bytes([65]) * 400
     first = call("decode", bytes(40))
-    for line in [call(word, octets) for word in ("decode", "ask") for octets in (header, one_question)]:
-        done = run([CALLS], first + b"\n" + line + b"\n", preload="refuse")
-        largest = [int(told.split()[1]) for told in done.told if told.startswith("largest ")]
-        checks.check(f"{line.decode()}, allocation", None if largest and largest[0] <= 1_024 else f"as much as {largest}")
+    for octets, most in ((header, 1_024), (one_question, 1_024), (bad, 64 * 160)):
+        for line in (call(word, octets) for word in ("decode", "ask")):
+            done = run([CALLS], first + b"\n" + line + b"\n", preload="refuse")
+            largest = [int(told.split()[1]) for told in done.told if told.startswith("largest ")]
+            checks.check(f"{line.decode()[:60]}, allocation", None if largest and largest[0] <= most else f"as much as {largest}")
 
 
 def main():
