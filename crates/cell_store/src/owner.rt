@@ -413,21 +413,6 @@ impl OwnerCells {
         self.settle_whole(number);
     }
 
-    // Makes a flush of every type permanent, if it covers the name.
-    pub(crate) fn settle_where(&mut self, covered: bool, number: u64)
-        ensures cells { (top : ℕ) → IsUpTo top self.old → (k v : ℕ) →
-            cell_in self.new k v ≡ cell_in self.old k (after_settle covered number v) }
-        ensures upto { KeepsUpTo self.old self.new }
-        ensures settles { KeepsSettling self.old self.new }
-        ensures count { count_of self.new ≤ count_of self.old }
-        ensures places { KeepsPlaces self.old self.new }
-        ensures same { covered ≡ false → self.new ≡ self.old }
-    {
-        if covered {
-            self.settle_all(number);
-        }
-    }
-
     // Drops the find of the whole name, if it is older than a flush.
     fn settle_whole(&mut self, number: u64)
         ensures whole { self.new.whole ≡ whole_settled number self.old.whole }

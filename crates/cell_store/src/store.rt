@@ -198,11 +198,14 @@ pub fn settle_at(
         × (result ≡ false → (owners.new ≡ owners.old) × (stored.new ≡ stored.old)) }
 {
     let (name, cells) = owners.pair_mut(place);
-    let covered = name.at_or_below(zone);
+    // Most names are not covered, and their cells need not be read.
+    if !name.at_or_below(zone) {
+        return false;
+    }
     let others = *stored - cells.counted();
-    cells.settle_where(covered, number);
+    cells.settle_all(number);
     *stored = others + cells.counted();
-    covered
+    true
 }
 
 /// Whether the place of a find is counted already. A place is that of a name and type, or of a whole name.
