@@ -1,17 +1,19 @@
 //! The servers of a zone, by what the cache holds.
 
-ghost use Rattle.std.specs.Prelude.{◌≡◌, ◌++◌, ◌∷◌, [], IfOk, OnOk, not};
+ghost use Rattle.std.specs.Prelude.{◌≡◌, ◌++◌, [], IfOk, OnOk, not};
 ghost use Rattle.std.specs.List.{flat_map, list_any};
+ghost use Rattle.std.specs.Option.{option_map};
 ghost use Rattle.dns_name.specs.Below.{is_at_or_below};
 ghost use Rattle.ranked.specs.Body.{data_of};
-ghost use Rattle.history.specs.Servers.{AddsMissing, addr_of, addrs_at, cached_servers, data_at, is_usable, servers_named, target_of, without_addr};
+ghost use Rattle.ranked.specs.Cell.{shown_map};
+ghost use Rattle.history.specs.Servers.{AddsMissing, addr_of, addrs_at, cached_servers, data_at, data_shown, is_usable, servers_named, target_of};
 
 use crate::event::Settings;
 use crate::servers::{Origin, Servers};
 use crate::source::CellSource;
 use dns_name::{Name, NoMemory};
 use dns_text::{Addr, Data, Ip, Items, types};
-use ranked::Body;
+use ranked::{Body, Held};
 use std::alloc::Global;
 
 /// The servers that the cache has at this very name, if they are usable.
@@ -37,7 +39,14 @@ pub(crate) fn cached_servers<C: CellSource>(
 fn data_at<'a, C: CellSource>(cells: &'a C, name: &Name, kind: u16, moment: u64) -> &'a [Data]
     ensures { result.now ≡ data_at (C.shows_at cells.now moment) kind name.now }
 {
-    match cells.shows(name, kind, moment) {
+    data_shown(cells.shows(name, kind, moment))
+}
+
+/// The data of what a cell shows.
+fn data_shown<'a>(held: Option<Held<'a>>) -> &'a [Data]
+    ensures { result.now ≡ data_shown (option_map (shown_map (λ find. find.now)) held.entry) }
+{
+    match held {
         Some(held) => data_in(&held.body.find().body),
         None => &[],
     }
@@ -116,7 +125,7 @@ fn add_server<C: CellSource>(
     Ok(())
 }
 
-/// Adds the addresses of a server, those of IPv4 first.
+/// Adds the addresses of a server, those of IPv4 first. The source is asked for both types at once.
 fn push_addrs_at<C: CellSource>(
     settings: &Settings,
     cells: &C,
@@ -127,8 +136,9 @@ fn push_addrs_at<C: CellSource>(
     ensures { OnOk result (out.new.items ≡ out.old.items ++ addrs_at settings.now (C.shows_at cells.now moment) name.now) }
 {
     let port = settings.server_port;
-    push_addrs(data_at(cells, name, types::A, moment), port, out)?;
-    push_addrs(data_at(cells, name, types::AAAA, moment), port, out)
+    let (v4, v6) = cells.shows_both(name, types::A, types::AAAA, moment);
+    push_addrs(data_shown(v4), port, out)?;
+    push_addrs(data_shown(v6), port, out)
 }
 
 fn push_addrs(set: &[Data], port: u16, out: &mut Vec<Addr>) -> Result<(), NoMemory>

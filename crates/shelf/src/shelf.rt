@@ -360,6 +360,39 @@ impl Shelf {
         at(&self.owners, owner, kind, version, moment)
     }
 
+    // The find of a question, by the cells of its owner.
+    fn shown_in<'a>(
+        &'a self,
+        cells: Option<&'a OwnerCells>,
+        owner: &Name,
+        kind: u16,
+        moment: u64,
+    ) -> Option<Held<'a>>
+        requires { option_copied cells ≡ get name_eq self.now.owners owner.now }
+        ensures { held_now result ≡ shown_at (shown_cell self.now (record { owner = owner.now; kind = kind })) moment }
+    {
+        let version = settled_version(&self.settling, owner, self.version(owner, kind));
+        held_in(cells, kind, version, moment)
+    }
+
+    /// The finds of two types of a name, each as `show` gives it. It looks the name up once.
+    pub fn show_both(
+        &self,
+        owner: &Name,
+        first: u16,
+        second: u16,
+        moment: u64,
+    ) -> (Option<Held<'_>>, Option<Held<'_>>)
+        ensures first { held_now result.0 ≡ shown_at (shown_cell self.now (record { owner = owner.now; kind = first })) moment }
+        ensures second { held_now result.1 ≡ shown_at (shown_cell self.now (record { owner = owner.now; kind = second })) moment }
+    {
+        let cells = self.owners.get(owner);
+        (
+            self.shown_in(cells, owner, first, moment),
+            self.shown_in(cells, owner, second, moment),
+        )
+    }
+
     /// Undoes a flush. It clears one flag, however much the flush covers.
     pub fn hide(&mut self, number: u64)
         ensures cells { (told : List Told) → IsShelfOf self.old told → IsShelfOf self.new told }

@@ -11,17 +11,6 @@ use ranked::Held;
 use table_changes::TableChange;
 use world_book::{BookChange, BookWorld};
 
-impl CellSource for Store {
-    ghost use Rattle.ranked.specs.Cell.{shown_at};
-    ghost use Rattle.store.specs.Store.{store_shown};
-
-    ghost shows_at = { λ store moment q. shown_at ((store_shown store).cell q) moment };
-
-    fn shows<'a>(&'a self, owner: &Name, kind: u16, moment: u64) -> Option<Held<'a>> {
-        self.cells.show(owner, kind, moment)
-    }
-}
-
 impl BookWorld for Store {
     ghost use Rattle.std.specs.Prelude.{refl};
     ghost use Rattle.store.specs.StoreLaws.{flush_needs_none};
@@ -62,5 +51,26 @@ impl BookChange for StoreChange {
     fn of(command: Command) -> Result<StoreChange, NoMemory> {
         let made = made_of(&command)?;
         Ok(StoreChange { command, made })
+    }
+}
+
+impl CellSource for Store {
+    ghost use Rattle.ranked.specs.Cell.{shown_at};
+    ghost use Rattle.store.specs.Store.{store_shown};
+
+    ghost shows_at = { λ store moment q. shown_at ((store_shown store).cell q) moment };
+
+    fn shows<'a>(&'a self, owner: &Name, kind: u16, moment: u64) -> Option<Held<'a>> {
+        self.cells.show(owner, kind, moment)
+    }
+
+    fn shows_both<'a>(
+        &'a self,
+        owner: &Name,
+        first: u16,
+        second: u16,
+        moment: u64,
+    ) -> (Option<Held<'a>>, Option<Held<'a>>) {
+        self.cells.show_both(owner, first, second, moment)
     }
 }

@@ -97,6 +97,22 @@ impl ShelfWorld {
         self.shelf.show(owner, kind, moment)
     }
 
+    /// What is shown of two types of a name, each as `show` gives it. It looks the name up once.
+    pub fn show_both(
+        &self,
+        owner: &Name,
+        first: u16,
+        second: u16,
+        moment: u64,
+    ) -> (Option<Held<'_>>, Option<Held<'_>>)
+        ensures first { held_now result.0
+            ≡ shown_at ((⟦<ShelfWorld as World>⟧.shown self.now).cell (record { owner = owner.now; kind = first })) moment }
+        ensures second { held_now result.1
+            ≡ shown_at ((⟦<ShelfWorld as World>⟧.shown self.now).cell (record { owner = owner.now; kind = second })) moment }
+    {
+        self.shelf.show_both(owner, first, second, moment)
+    }
+
     /// How many places count. They are never more than the limit, nor more than the different pairs that count. They are never
     /// fewer than the different pairs of the finds that are alive at a moment, whatever choice of the kept flushes is in force.
     pub fn stored(&self) -> u64
