@@ -18,6 +18,9 @@ use std::alloc::Global;
 use std::marker::Model;
 use std::mem;
 
+/// The number of steps for which a task that has begun has room. Most questions that one exchange answers need no more.
+const FIRST_STEPS: usize = 8;
+
 /// The state of a task: its question, its steps and its phase.
 #[derive(Drop)]
 pub struct State {
@@ -133,7 +136,7 @@ impl Task {
         ensures phase { IfOk result (λ task. task.phase ≡ Phase.First) }
     {
         let look = first_look(&question, moment)?;
-        let mut steps = Vec::new(alloc);
+        let mut steps = Vec::with_capacity(alloc, FIRST_STEPS)?;
         steps.push(Step {
             input: Input::Begin,
             want: Want::Book(look),
