@@ -6,7 +6,8 @@ ghost use Rattle.std.specs.Option.{option_map};
 ghost use Rattle.dns_name.specs.Below.{is_at_or_below};
 ghost use Rattle.ranked.specs.Body.{data_of};
 ghost use Rattle.ranked.specs.Cell.{shown_map};
-ghost use Rattle.history.specs.Servers.{AddsMissing, addr_of, addrs_at, cached_servers, data_at, data_shown, is_usable, servers_named, target_of};
+ghost use Rattle.history.specs.Servers.{AddsMissing, addr_of, addrs_at, data_at, data_shown, target_of};
+ghost use Rattle.history.specs.Servers.{cached_servers, is_usable, servers_named};
 
 use crate::event::Settings;
 use crate::servers::{Origin, Servers};
