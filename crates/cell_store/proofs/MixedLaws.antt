@@ -1,9 +1,10 @@
 -- A name whose columns have one entry each.
 use Rattle.std.proofs.Common.{◌≡◌, ℕ, zero, suc, ◌+◌, ◌<◌, ◌≤◌, Bool, true, false, cond, Option, Some, None, List, [], ◌∷◌, length, get_or, take, refl, sym, ap, ◌∙◌, subst, arith, ◌⊎◌, inl, inr}
-use Rattle.std.specs.Prelude.{◌==◌, ◌||◌, nat_le, nat_lt, IfSome}
+use Rattle.std.specs.Prelude.{◌==◌, ◌||◌, nat_le, nat_lt, is_some, IfSome}
 use Rattle.std.specs.List.{AllByRecursion, list_any}
 use Rattle.std.proofs.lemmas.Bool.{false≢true}
 use Rattle.std.proofs.lemmas.Bool.Decides.{nat_tests}
+use Rattle.std.proofs.Math.Bool.{or-false}
 use Rattle.ranked.specs.declared.find.Find.{Find}
 use Rattle.ranked.specs.declared.cell.Admitted.{Admitted}
 use Rattle.cell_store.specs.declared.version.Place.{Place}
@@ -12,8 +13,9 @@ use Rattle.cell_store.specs.declared.owner.KindColumn.{KindColumn}
 use Rattle.cell_store.specs.declared.owner.WholeFind.{WholeFind}
 use Rattle.cell_store.specs.declared.owner.OwnerCells.{OwnerCells}
 use Rattle.cell_store.specs.Version.{nothing, place_at, IsFromStart}
-use Rattle.cell_store.specs.Column.{Cells, place_in}
-use Rattle.cell_store.specs.Owner.{cell_in, column_held, column_of, place_held, whole_cell, whole_held}
+use Rattle.cell_store.specs.Column.{Cells, place_in, has_find, is_counted}
+use Rattle.cell_store.specs.Few.{contents, DoDiffer}
+use Rattle.cell_store.specs.Owner.{column_held, column_of, place_held, whole_cell, whole_held}
 use Rattle.cell_store.specs.Mixed.{is_mixed, IsEven, IsLikeFirst}
 
 -- ---- a column
@@ -24,20 +26,37 @@ not_past v upto low = grind (arith, nat_tests)
 at_start : (from v : ℕ) → from ≡ 0 → nat_le from v ≡ true
 at_start from v start = grind (arith, nat_tests)
 
+two_many : {A : Type 0} (x y : A) (xs : List A) → nat_lt 1 (length (x ∷ y ∷ xs)) ≡ false → ⊥
+two_many x y xs is = let more : nat_lt 1 (length (x ∷ y ∷ xs)) ≡ true = grind (arith, nat_tests) in false≢true (sym is ∙ more)
+
 one_place : (upto : ℕ) (versions : List (Version Find)) → IsFromStart versions → nat_lt 1 (length versions) ≡ false → (v : ℕ) → v ≤ upto → cond (nat_lt upto v) nothing (place_at versions v) ≡ cond (nat_lt upto 0) nothing (place_at versions 0)
 one_place upto [] starts few v low = absurd starts
 one_place upto (x ∷ []) starts few v low =
     ap (λ b. cond b nothing (cond (nat_le x.from v) x.place nothing)) (not_past v upto low)
     ∙ (ap (λ b. cond b x.place nothing) (at_start x.from v starts)
     ∙ sym (ap (λ b. cond b nothing (cond (nat_le x.from 0) x.place nothing)) (not_past 0 upto (omega arith)) ∙ ap (λ b. cond b x.place nothing) (at_start x.from 0 starts)))
-one_place upto (x ∷ y ∷ versions) starts few v low = absurd (many few)
-  where
-    many : nat_lt 1 (length (x ∷ y ∷ versions)) ≡ false → ⊥
-    many is = let more : nat_lt 1 (length (x ∷ y ∷ versions)) ≡ true = grind (arith, nat_tests) in false≢true (sym is ∙ more)
+one_place upto (x ∷ y ∷ versions) starts few v low = absurd (two_many x y versions few)
 
 pub even_one : (cells now : Cells) → cells ≡ now → IsFromStart cells.versions → is_mixed now ≡ false → IsEven now
 even_one cells now view starts few =
     subst (λ (c : Cells). is_mixed c ≡ false → IsEven c) view (λ one v low. one_place cells.upto cells.versions starts one v low) few
+
+-- version 0 has the find of the one entry
+one_find : (upto : ℕ) (versions : List (Version Find)) → IsFromStart versions → nat_lt 1 (length versions) ≡ false → list_any has_find versions ≡ true → is_some (cond (nat_lt upto 0) nothing (place_at versions 0)).cell.held ≡ true
+one_find upto [] starts few some = absurd starts
+one_find upto (x ∷ []) starts few some =
+    ap (λ b. is_some (cond b nothing (cond (nat_le x.from 0) x.place nothing)).cell.held) (not_past 0 upto (omega arith))
+    ∙ (ap (λ b. is_some (cond b x.place nothing).cell.held) (at_start x.from 0 starts) ∙ (sym (or-false (has_find x)) ∙ some))
+one_find upto (x ∷ y ∷ versions) starts few some = absurd (two_many x y versions few)
+
+pub one_seen : (cells : Cells) → IsFromStart cells.versions → is_mixed cells ≡ false → is_counted cells ≡ true → is_some (place_in cells 0).cell.held ≡ true
+one_seen cells starts few some = one_find cells.upto cells.versions starts few some
+
+-- one entry has no neighbour
+pub one_differs : (versions : List (Version ℕ)) → nat_lt 1 (length versions) ≡ false → DoDiffer (contents versions)
+one_differs [] few = tt
+one_differs (x ∷ []) few = refl
+one_differs (x ∷ y ∷ versions) few = absurd (two_many x y versions few)
 
 -- ---- the columns of a name
 

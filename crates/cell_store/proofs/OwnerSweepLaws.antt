@@ -1,6 +1,6 @@
 -- The cells of a name after a sweep.
 use Rattle.std.proofs.Common.{◌≡◌, ℕ, zero, suc, ◌-◌, ◌<◌, ◌≤◌, Bool, true, false, cond, Option, Some, None, List, [], ◌∷◌, length, get_or, map, slice_set, refl, sym, ap, ◌∙◌, subst, arith, inl, inr}
-use Rattle.std.specs.Prelude.{◌==◌, not, is_some, nat_eq, nat_lt, IfSome}
+use Rattle.std.specs.Prelude.{◌==◌, ◌||◌, not, is_some, nat_eq, nat_lt, IfSome}
 use Rattle.std.specs.List.{AllByRecursion, IsDistinct}
 use Rattle.std.specs.Option.{option_map_or}
 use Rattle.std.proofs.lemmas.Bool.{cases_Bool, eqb-true, eq-eqb, false≢true}
@@ -20,6 +20,7 @@ use Rattle.cell_store.specs.Count.{one_if}
 use Rattle.cell_store.specs.Prune.{is_asked}
 use Rattle.cell_store.specs.Sweep.{alive_at, swept, is_dead, whole_swept, IsSeenAt}
 use Rattle.cell_store.proofs.OwnerLaws.{column_put, column_here}
+use Rattle.cell_store.proofs.PlaceLaws.{or_right}
 
 not_true : (b : Bool) → not b ≡ true → b ≡ false
 not_true true is = absurd (false≢true is)
@@ -144,15 +145,36 @@ module _ (w : Option WholeFind) (kinds : List KindColumn) (kind place : ℕ) (le
   pub swept_kind_others : (k : ℕ) → (kind == k) ≡ false → column_of (slice_set kinds place (record { kind = lent.kind; column = column })) k ≡ column_of kinds k
   swept_kind_others k gone = put k ∙ ap (λ b. cond b (Some column) (column_of kinds k)) gone
 
+  now : column_of (slice_set kinds place (record { kind = lent.kind; column = column })) kind ≡ Some column
+  now = put kind ∙ ap (λ b. cond b (Some column) (column_of kinds kind)) (eq-eqb kind kind refl)
+
+  -- a version in use whose find stays
+  seen_in : (v : ℕ) → is_asked numbers v ≡ true → is_some (place_in column v).cell.held ≡ true → is_some (alive_at t (column_held w (column_of (slice_set kinds place (record { kind = lent.kind; column = column })) kind) v)) ≡ true
+  seen_in v asked there =
+      let here = places v asked in
+      let some : is_some (swept t (place_in lent.column v)).cell.held ≡ true = ap (λ (p : Place Find). is_some p.cell.held) (sym here) ∙ there in
+      ap (λ (o : Option Cells). is_some (alive_at t (column_held w o v))) now ∙ (ap (λ (p : Place Find). is_some (alive_at t (place_held (whole_cell w) p))) here ∙ swept_some t (whole_cell w) (place_in lent.column v) some)
+
+  counted_in : option_map_or is_counted (column_of (slice_set kinds place (record { kind = lent.kind; column = column })) kind) false ≡ true → is_counted column ≡ true
+  counted_in has = ap (λ (o : Option Cells). option_map_or is_counted o false) (sym now) ∙ has
+
   pub swept_kind_seen : (is_counted column ≡ true → IsSeenAt numbers column) → option_map_or is_counted (column_of (slice_set kinds place (record { kind = lent.kind; column = column })) kind) false ≡ true
       → (v : ℕ) × ((is_asked numbers v ≡ true) × (is_some (alive_at t (column_held w (column_of (slice_set kinds place (record { kind = lent.kind; column = column })) kind) v)) ≡ true))
-  swept_kind_seen seen has =
-      let new : column_of (slice_set kinds place (record { kind = lent.kind; column = column })) kind ≡ Some column = put kind ∙ ap (λ b. cond b (Some column) (column_of kinds kind)) (eq-eqb kind kind refl) in
-      let counted : is_counted column ≡ true = ap (λ (o : Option Cells). option_map_or is_counted o false) (sym new) ∙ has in
-      let at = seen counted in
-      let here = places at.0 at.1.0 in
-      let some : is_some (swept t (place_in lent.column at.0)).cell.held ≡ true = ap (λ (p : Place Find). is_some p.cell.held) (sym here) ∙ at.1.1 in
-      (at.0, (at.1.0, ap (λ (o : Option Cells). is_some (alive_at t (column_held w o at.0))) new ∙ (ap (λ (p : Place Find). is_some (alive_at t (place_held (whole_cell w) p))) here ∙ swept_some t (whole_cell w) (place_in lent.column at.0) some)))
+  swept_kind_seen seen has = let at = seen (counted_in has) in (at.0, (at.1.0, seen_in at.0 at.1.0 at.1.1))
+
+  -- version 0, which is always in use
+  pub swept_kind_first : (is_counted column ≡ true → is_some (place_in column 0).cell.held ≡ true) → option_map_or is_counted (column_of (slice_set kinds place (record { kind = lent.kind; column = column })) kind) false ≡ true
+      → is_some (alive_at t (column_held w (column_of (slice_set kinds place (record { kind = lent.kind; column = column })) kind) 0)) ≡ true
+  swept_kind_first seen has = seen_in 0 refl (seen (counted_in has))
+
+-- a column whose versions are all swept, whichever are in use
+pub swept_even_cell : (w : Option WholeFind) (kinds : List KindColumn) (kind place : ℕ) (lent : KindColumn) (column : Cells) (t : ℕ) → IsPlaceOf kinds kind place → lent ≡ get_or kinds place lent
+    → ((v : ℕ) → place_in column v ≡ swept t (place_in lent.column v))
+    → (k v : ℕ) → alive_at t (column_held w (column_of (slice_set kinds place (record { kind = lent.kind; column = column })) k) v) ≡ alive_at t (column_held w (column_of kinds k) v)
+swept_even_cell w kinds kind place lent column t is read places k v = swept_kind_cell w kinds kind place lent column (v ∷ []) t is read (λ u asked. places u) k v (λ here. asked_self)
+  where
+    asked_self : is_asked (v ∷ []) v ≡ true
+    asked_self = or_right (v == 0) (v == v || false) (ap (λ b. b || false) (eq-eqb v v refl))
 
 pub same_kinds : (kinds : List KindColumn) (place : ℕ) (lent : KindColumn) (column : Cells) → place < length kinds → lent ≡ get_or kinds place lent → map (λ (own : KindColumn). own.kind) (slice_set kinds place (record { kind = lent.kind; column = column })) ≡ map (λ (own : KindColumn). own.kind) kinds
 same_kinds [] place lent column low read = absurd (omega arith)

@@ -1,13 +1,12 @@
 -- The places of a name that count: no call adds one but an admission, and that only its own.
-use Rattle.std.proofs.Common.{◌≡◌, ◌≤◌, ℕ, Bool, true, false, cond, Option, Some, None, List, [], ◌∷◌, get_or, slice_set, refl, sym, ap, ◌∙◌, subst, ◌⊎◌, inl, inr}
-use Rattle.std.specs.Prelude.{◌==◌, ◌||◌, is_some, nat_lt}
+use Rattle.std.proofs.Common.{◌≡◌, ◌≤◌, ℕ, Bool, true, false, cond, Option, Some, None, List, [], ◌∷◌, get_or, slice_set, refl, sym, ap, ◌∙◌, ◌⊎◌, inl, inr}
+use Rattle.std.specs.Prelude.{◌==◌, ◌||◌, is_some}
 use Rattle.std.specs.Option.{option_map_or}
 use Rattle.std.proofs.lemmas.Bool.{cases_Bool, eqb-true, false≢true}
 use Rattle.ranked.specs.declared.find.Find.{Find}
 use Rattle.ranked.specs.declared.find.Scope.{Scope}
 use Rattle.ranked.specs.declared.find.Scope.TheVariants.{One, Whole}
 use Rattle.ranked.specs.declared.cell.Admitted.{Admitted}
-use Rattle.ranked.specs.Find.{admission_of}
 use Rattle.ranked.specs.Cell.{is_alive}
 use Rattle.cell_store.specs.declared.version.Place.{Place}
 use Rattle.cell_store.specs.declared.owner.KindColumn.{KindColumn}
@@ -17,6 +16,7 @@ use Rattle.cell_store.specs.Version.{own, whole}
 use Rattle.cell_store.specs.Column.{Cells, place_in, is_counted}
 use Rattle.cell_store.specs.Owner.{cell_in, column_of, column_held, place_held, whole_cell, IsPlaceOf, IsSettled, whole_settled}
 use Rattle.cell_store.specs.Count.{count_of, has_place, scope_eq, AddsPlace, KeepsPlaces, LosesFinds}
+use Rattle.cell_store.specs.Mixed.{is_mixed}
 use Rattle.cell_store.specs.Prune.{IsLess}
 use Rattle.cell_store.specs.Sweep.{alive_at, is_dead, swept, whole_swept}
 use Rattle.cell_store.specs.Walk.{IsEach}
@@ -43,6 +43,11 @@ place_put kinds kind place lent column is read k =
     split : (b : Bool) → option_map_or is_counted (cond b (Some column) (column_of kinds k)) false ≡ cond b (is_counted column) (option_map_or is_counted (column_of kinds k) false)
     split true = refl
     split false = refl
+
+-- the column of a type that has more than one entry
+pub mixed_here : (kinds : List KindColumn) (kind place : ℕ) (lent : KindColumn) → IsPlaceOf kinds kind place → lent ≡ get_or kinds place lent → is_mixed lent.column ≡ true → option_map_or is_mixed (column_of kinds kind) false ≡ true
+mixed_here kinds kind place lent is read mixed =
+    ap (λ (o : Option Cells). option_map_or is_mixed o false) (column_here kinds kind place lent is) ∙ (ap (λ (own : KindColumn). is_mixed own.column) (sym read) ∙ mixed)
 
 -- a fact of each scope
 pub by_scope : (P : Scope → Type 0) → ((k : ℕ) → P (One k)) → P Whole → (scope : Scope) → P scope

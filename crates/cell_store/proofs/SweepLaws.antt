@@ -13,10 +13,12 @@ use Rattle.cell_store.specs.declared.version.Version.{Version}
 use Rattle.cell_store.specs.Version.{nothing, own, whole, later_place, place_at, IsFromStart}
 use Rattle.cell_store.specs.Slots.{version_of, place_of, held_of, IsWithin, IsHeldWithin}
 use Rattle.cell_store.specs.Column.{Cells, place_in, has_find, is_counted}
+use Rattle.cell_store.specs.Mixed.{is_mixed}
 use Rattle.cell_store.specs.Prune.{is_asked, is_from, is_held_at, seen_by, is_seen, emptied, kept_entry, pruned, IsLess}
 use Rattle.cell_store.specs.Sweep.{alive_at, swept, version_swept, IsSeenAt}
-use Rattle.cell_store.proofs.ColumnLaws.{seen_place, within_place}
+use Rattle.cell_store.proofs.ColumnLaws.{length_map, seen_place, within_place}
 use Rattle.cell_store.proofs.CountLaws.{counted_seen, held_seen}
+use Rattle.cell_store.proofs.MixedLaws.{one_seen}
 use Rattle.cell_store.proofs.PruneLaws.{pruned_fold, less_fold, le_not}
 
 -- ---- by slot and by find
@@ -168,7 +170,7 @@ find_seen {B} numbers upto (x ∷ xs) some = elim (either (has_find (kept_entry 
 
 -- ---- references to the whole name
 
-left_of : {B : Type 0} (t : ℕ) (place : Place B) → (swept t place).left ≡ true → place.left ≡ true
+pub left_of : {B : Type 0} (t : ℕ) (place : Place B) → (swept t place).left ≡ true → place.left ≡ true
 left_of {B} t place is = split place.left refl
   where
     split : (l : Bool) → place.left ≡ l → place.left ≡ true
@@ -283,3 +285,30 @@ pruned_finds numbers upto (x ∷ versions) is = or_step _ _ (has_find x) (list_a
 pub swept_finds : (t : ℕ) (versions : List (Version ℕ)) → list_any has_find (map (version_swept t) versions) ≡ true → list_any has_find versions ≡ true
 swept_finds t [] is = is
 swept_finds t (x ∷ versions) is = or_step _ _ (has_find x) (list_any has_find versions) (swept_find t x) (swept_finds t versions) is
+
+-- ---- a column with one entry
+
+module _ (old new : Cells) (versions news : List (Version ℕ)) (finds rest : List Find) (t : ℕ) (old_is : old.versions ≡ map (version_of finds) versions) (new_is : new.versions ≡ map (version_of rest) news) (upto : new.upto ≡ old.upto)
+    (same : map (version_of rest) news ≡ map (version_of finds) (map (version_swept t) versions)) where
+  even_at : (v : ℕ) → place_at new.versions v ≡ swept t (place_at old.versions v)
+  even_at v =
+      ap (λ (l : List (Version Find)). place_at l v) (new_is ∙ same)
+      ∙ (seen_place finds v (map (version_swept t) versions)
+      ∙ (ap (place_of finds) (swept_place t v versions)
+      ∙ (swept_seen finds t (place_at versions v) ∙ ap (swept t) (sym (ap (λ (l : List (Version Find)). place_at l v) old_is ∙ seen_place finds v versions)))))
+
+  pub even_place : (v : ℕ) → place_in new v ≡ swept t (place_in old v)
+  even_place v = ap (λ n. cond (nat_lt n v) nothing (place_at new.versions v)) upto ∙ split (nat_lt old.upto v)
+    where
+      split : (b : Bool) → cond b nothing (place_at new.versions v) ≡ swept t (cond b nothing (place_at old.versions v))
+      split true = refl
+      split false = even_at v
+
+  even_size : length new.versions ≡ length old.versions
+  even_size =
+      ap length (new_is ∙ same)
+      ∙ (length_map (version_of finds) (map (version_swept t) versions) ∙ (length_map (version_swept t) versions ∙ sym (ap length old_is ∙ length_map (version_of finds) versions)))
+
+  -- version 0 has each find that stays
+  pub even_seen : IsFromStart new.versions → is_mixed old ≡ false → is_counted new ≡ true → is_some (place_in new 0).cell.held ≡ true
+  even_seen starts few counted = one_seen new starts (ap (nat_lt 1) even_size ∙ few) counted

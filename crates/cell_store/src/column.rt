@@ -1,6 +1,6 @@
 //! The cells of one name and type.
 
-ghost use Rattle.std.specs.Prelude.{◌≡◌, ◌<◌, ◌≤◌, ◌+◌, ℕ, None, [], ◌∷◌, max, true, false, IfOk, OnOk, OnErr, IsOk, nat_lt, if◌then◌else◌};
+ghost use Rattle.std.specs.Prelude.{◌≡◌, ◌<◌, ◌≤◌, ◌+◌, ℕ, None, [], ◌∷◌, max, true, false, IfOk, OnOk, OnErr, IsOk, is_some, nat_lt, if◌then◌else◌};
 ghost use Rattle.ranked.specs.Find.{admission_of};
 ghost use Rattle.ranked.specs.Rank.{level_of};
 ghost use Rattle.cell_store.specs.Version.{nothing, whole, after_find};
@@ -239,6 +239,19 @@ impl Column {
         merge(&mut self.versions);
         prune(&mut self.versions, numbers, self.upto);
         merge(&mut self.versions);
+        release(&mut self.versions, &mut self.finds);
+    }
+
+    /// Drops the finds that are dead at a moment, from a column with one entry. Its versions are alike, so it does not matter which of
+    /// them are in use. References to the find of the whole name stay. It takes no memory.
+    pub fn sweep_even(&mut self, moment: u64)
+        requires even { is_mixed self.old ≡ false }
+        ensures places { (v : ℕ) → place_in self.new v ≡ swept moment (place_in self.old v) }
+        ensures upto { self.new.upto ≡ self.old.upto }
+        ensures seen { is_counted self.new ≡ true → is_some (place_in self.new 0).cell.held ≡ true }
+        ensures counted { is_counted self.new ≡ true → is_counted self.old ≡ true }
+    {
+        sweep_each(&mut self.versions, moment);
         release(&mut self.versions, &mut self.finds);
     }
 }

@@ -3,6 +3,7 @@
 ghost use Rattle.std.specs.Prelude.{◌≡◌, ◌<◌, ◌≤◌, ◌==◌, ◌+◌, ◌-◌, ◌^◌, ℕ, [], ◌∷◌, Some, None, true, false, not, max, map, length, vec_len, is_some};
 ghost use Rattle.std.specs.Prelude.{IfOk, IsOk, OnOk, OnErr, IfSome, IfNone, if◌then◌else◌};
 ghost use Rattle.std.specs.List.{AllByRecursion, list_any};
+ghost use Rattle.std.specs.Option.{option_map_or};
 ghost use Rattle.ranked.specs.declared.find.Scope.{Scope};
 ghost use Rattle.ranked.specs.declared.find.Scope.TheVariants.{One, Whole};
 ghost use Rattle.ranked.specs.Find.{admission_of, has_kind};
@@ -13,6 +14,7 @@ ghost use Rattle.cell_store.specs.Owner.{IsLeftWithin, IsPlaceOf, IsSettled, IsW
 ghost use Rattle.cell_store.specs.Walk.{IsEach};
 ghost use Rattle.cell_store.specs.Count.{count_kinds, is_counted, one_if};
 ghost use Rattle.cell_store.specs.Ends.{cell_end, name_end};
+ghost use Rattle.cell_store.specs.Mixed.{is_mixed};
 ghost use Rattle.cell_store.specs.Prune.{is_asked};
 ghost use Rattle.cell_store.specs.Sweep.{alive_at, is_dead, whole_swept};
 
@@ -464,6 +466,32 @@ impl OwnerCells {
     {
         if let Some(place) = place_of(&self.kinds, kind) {
             self.kinds[place].column.sweep(numbers, moment);
+        }
+    }
+
+    /// Drops the finds of a type that are dead at a moment, unless its column has more than one entry: then it returns false, and nothing
+    /// changes. The versions of a column with one entry are alike, so it does not matter which are in use. It takes no memory.
+    pub fn sweep_if_even(&mut self, kind: u16, moment: u64) -> bool
+        ensures cells { (k v : ℕ) → alive_at moment (cell_in self.new k v) ≡ alive_at moment (cell_in self.old k v) }
+        ensures seen { result ≡ true → has_place self.new (One kind) ≡ true →
+            is_some (alive_at moment (cell_in self.new kind 0)) ≡ true }
+        ensures others { (k : ℕ) → (kind == k) ≡ false → column_of self.new.kinds.items k ≡ column_of self.old.kinds.items k }
+        ensures kinds { map (λ own. own.kind) self.new.kinds.items ≡ map (λ own. own.kind) self.old.kinds.items }
+        ensures whole { self.new.whole ≡ self.old.whole }
+        ensures kept { KeepsUpTo self.old self.new × KeepsSettling self.old self.new }
+        ensures lost { LosesFinds self.old self.new }
+        ensures same { result ≡ false → (self.new ≡ self.old)
+            × (option_map_or is_mixed (column_of self.old.kinds.items kind) false ≡ true) }
+    {
+        match place_of(&self.kinds, kind) {
+            Some(place) => {
+                if self.kinds[place].column.is_mixed() {
+                    return false;
+                }
+                self.kinds[place].column.sweep_even(moment);
+                true
+            }
+            None => true,
         }
     }
 }

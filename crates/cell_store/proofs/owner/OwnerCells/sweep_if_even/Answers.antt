@@ -1,0 +1,66 @@
+use Rattle.std.proofs.Common.{◌≤◌, [], List, refl, ap, subst, sym, ◌∙◌, arith, inl}
+use Rattle.ranked.specs.declared.find.Find.{Find}
+use Rattle.cell_store.specs.declared.version.Place.{Place}
+use Rattle.cell_store.specs.declared.owner.KindColumn.{KindColumn}
+use Rattle.cell_store.specs.Owner.{IsPlaceOf}
+use Rattle.cell_store.proofs.OwnerLaws.{all_at}
+use Rattle.cell_store.proofs.CountLaws.{count_lost}
+use Rattle.cell_store.proofs.OwnLaws.{own_swept}
+use Rattle.cell_store.proofs.PlaceLaws.{kept_put, less_put, lost_from, mixed_here}
+use Rattle.cell_store.proofs.SettleLaws.{settles_put, left_put}
+use Rattle.cell_store.proofs.SweepLaws.{left_of}
+use Rattle.cell_store.proofs.OwnerSweepLaws.{swept_even_cell, swept_kind_others, swept_kind_first, same_kinds}
+use Rattle.cell_store.proofs.owner.OwnerCells.sweep_if_even.Goals as goal
+
+pub returns-then-is_mixed-clause-same : goal.returns-then-is_mixed-clause-same
+returns-then-is_mixed-clause-same c = λ uneven.
+    let self = c.args.self.now in
+    let is = subst (λ (l : List KindColumn). IsPlaceOf l c.args.kind c.in-Some.place) c.deref.ensures.value c.in-Some.ensures.some in (
+      refl,
+      mixed_here self.kinds.items c.args.kind c.in-Some.place c.index.result.now is c.index.ensures (sym c.is_mixed.ensures.value ∙ c.if-is_mixed.true),
+    )
+
+pub returns-else-is_mixed-clause-cells : goal.returns-else-is_mixed-clause-cells
+returns-else-is_mixed-clause-cells c =
+    let self = c.args.self.now in
+    let is = subst (λ (l : List KindColumn). IsPlaceOf l c.args.kind c.in-Some.place) c.deref.ensures.value c.in-Some.ensures.some in
+    swept_even_cell self.whole self.kinds.items c.args.kind c.in-Some.place c.index_mut.result.now c.sweep_even.new.self c.args.moment is c.index_mut.ensures.value c.sweep_even.ensures.places
+
+pub returns-else-is_mixed-clause-seen : goal.returns-else-is_mixed-clause-seen
+returns-else-is_mixed-clause-seen c = λ even.
+    let self = c.args.self.now in
+    let is = subst (λ (l : List KindColumn). IsPlaceOf l c.args.kind c.in-Some.place) c.deref.ensures.value c.in-Some.ensures.some in
+    swept_kind_first self.whole self.kinds.items c.args.kind c.in-Some.place c.index_mut.result.now c.sweep_even.new.self [] c.args.moment is c.index_mut.ensures.value (λ v asked. c.sweep_even.ensures.places v) c.sweep_even.ensures.seen
+
+pub returns-else-is_mixed-clause-others : goal.returns-else-is_mixed-clause-others
+returns-else-is_mixed-clause-others c =
+    let self = c.args.self.now in
+    let is = subst (λ (l : List KindColumn). IsPlaceOf l c.args.kind c.in-Some.place) c.deref.ensures.value c.in-Some.ensures.some in
+    swept_kind_others self.whole self.kinds.items c.args.kind c.in-Some.place c.index_mut.result.now c.sweep_even.new.self [] c.args.moment is c.index_mut.ensures.value (λ v asked. c.sweep_even.ensures.places v)
+
+pub returns-else-is_mixed-clause-kinds : goal.returns-else-is_mixed-clause-kinds
+returns-else-is_mixed-clause-kinds c =
+    let self = c.args.self.now in
+    let is = subst (λ (l : List KindColumn). IsPlaceOf l c.args.kind c.in-Some.place) c.deref.ensures.value c.in-Some.ensures.some in
+    same_kinds self.kinds.items c.in-Some.place c.index_mut.result.now c.sweep_even.new.self is.low c.index_mut.ensures.value
+
+pub returns-else-is_mixed-clause-kept : goal.returns-else-is_mixed-clause-kept
+returns-else-is_mixed-clause-kept c =
+    let self = c.args.self.now in
+    let is = subst (λ (l : List KindColumn). IsPlaceOf l c.args.kind c.in-Some.place) c.deref.ensures.value c.in-Some.ensures.some in
+    let lent = c.index_mut.result.now in (
+      λ top upto.
+          let low = subst (λ (own : KindColumn). own.column.upto ≤ top) (sym c.index_mut.ensures.value) (all_at (λ own. own.column.upto ≤ top) self.kinds.items c.in-Some.place lent upto.kinds is.low) in
+          left_put top self _ c.args.kind c.in-Some.place lent c.sweep_even.new.self refl refl is.low c.index_mut.ensures.value (omega (arith, c.sweep_even.ensures.upto, low))
+          (λ v left. left_of c.args.moment _ (ap (λ (p : Place Find). p.left) (sym (c.sweep_even.ensures.places v)) ∙ left))
+          (own_swept lent.kind c.args.moment lent.column c.sweep_even.new.self (λ v. inl (c.sweep_even.ensures.places v))) upto,
+      λ n k settles. settles_put self.whole self.kinds.items c.args.kind c.in-Some.place lent c.sweep_even.new.self is c.index_mut.ensures.value n k settles,
+    )
+
+pub returns-else-is_mixed-clause-lost : goal.returns-else-is_mixed-clause-lost
+returns-else-is_mixed-clause-lost c =
+    let self = c.args.self.now in
+    let is = subst (λ (l : List KindColumn). IsPlaceOf l c.args.kind c.in-Some.place) c.deref.ensures.value c.in-Some.ensures.some in
+    lost_from self _ (omega (arith, count_lost self.kinds.items c.in-Some.place c.index_mut.result.now c.sweep_even.new.self is.low c.index_mut.ensures.value c.sweep_even.ensures.counted))
+    (kept_put self.whole self.kinds.items _ c.args.kind c.in-Some.place c.index_mut.result.now c.sweep_even.new.self refl is c.index_mut.ensures.value c.sweep_even.ensures.counted) (λ has. has)
+    (less_put self.whole self.kinds.items _ c.args.kind c.in-Some.place c.index_mut.result.now c.sweep_even.new.self refl is c.index_mut.ensures.value c.args.moment (λ v. inl (c.sweep_even.ensures.places v)))
