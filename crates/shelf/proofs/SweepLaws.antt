@@ -64,7 +64,7 @@ asked_version kept q v = ap (λ b. v == 0 || b) (any_numbers q v kept [])
 
 -- ---- type after type
 
-lost_twice : (old cur new : OwnerCells) → LosesFinds old cur → LosesFinds cur new → LosesFinds old new
+pub lost_twice : (old cur new : OwnerCells) → LosesFinds old cur → LosesFinds cur new → LosesFinds old new
 lost_twice old cur new first then = record {
   count = omega (arith, first.count, then.count);
   places = λ scope has. first.places scope (then.places scope has);

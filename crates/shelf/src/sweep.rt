@@ -1,11 +1,14 @@
 //! The sweep: it removes expired finds, and the versions that no kept flush needs, at once or some names at a time.
 
-ghost use Rattle.std.specs.Prelude.{◌≡◌, ◌<◌, ◌≤◌, ◌+◌, ℕ, Bool, None, true, false, length, slice_index_or, vec_capacity};
+ghost use Rattle.std.specs.Prelude.{◌≡◌, ◌<◌, ◌≤◌, ◌+◌, ◌==◌, ℕ, Bool, None, true, false, is_some, length, map, slice_index_or, vec_capacity};
 ghost use Rattle.indexmap.specs.IndexMap.{IndexMap};
 ghost use Rattle.dns_name.specs.Labels.{Labels};
 ghost use Rattle.dns_text.specs.declared.record.Question.{Question};
-ghost use Rattle.cell_store.specs.Count.{stored_in, KeepPairs};
+ghost use Rattle.ranked.specs.declared.find.Scope.TheVariants.{One};
+ghost use Rattle.cell_store.specs.Count.{has_place, stored_in, KeepPairs, LosesFinds};
 ghost use Rattle.cell_store.specs.Ends.{latest};
+ghost use Rattle.cell_store.specs.Owner.{cell_in, column_of, KeepsSettling, KeepsUpTo};
+ghost use Rattle.cell_store.specs.Prune.{is_asked};
 ghost use Rattle.cell_store.specs.declared.owner.OwnerCells.{OwnerCells};
 ghost use Rattle.cell_store.specs.declared.seed.NameSeed.{NameSeed};
 ghost use Rattle.cell_store.specs.Sweep.{alive_at};
@@ -34,6 +37,36 @@ fn collect(kept: &[KeptFlush], owner: &Name, kind: u16, numbers: &mut Vec<u64>)
     }
 }
 
+// Removes the finds of a type that have expired at a moment, and its versions that no kept flush needs. The flushes are asked only if
+// the column of the type has more than one entry.
+fn sweep_type(
+    cells: &mut OwnerCells,
+    name: &Name,
+    kind: u16,
+    kept: &[KeptFlush],
+    numbers: &mut Vec<u64>,
+    moment: u64,
+)
+    requires room { length kept.now ≤ vec_capacity numbers.old }
+    ensures cells { (k v : ℕ) →
+        ((kind == k) ≡ true → is_asked (numbers_of kept.now (record { owner = name.now; kind = kind })) v ≡ true) →
+        alive_at moment (cell_in cells.new k v) ≡ alive_at moment (cell_in cells.old k v) }
+    ensures seen { has_place cells.new (One kind) ≡ true →
+        (v : ℕ) × ((is_asked (numbers_of kept.now (record { owner = name.now; kind = kind })) v ≡ true)
+        × (is_some (alive_at moment (cell_in cells.new kind v)) ≡ true)) }
+    ensures others { (k : ℕ) → (kind == k) ≡ false → column_of cells.new.kinds.items k ≡ column_of cells.old.kinds.items k }
+    ensures kinds { map (λ own. own.kind) cells.new.kinds.items ≡ map (λ own. own.kind) cells.old.kinds.items }
+    ensures whole { cells.new.whole ≡ cells.old.whole }
+    ensures kept { KeepsUpTo cells.old cells.new × KeepsSettling cells.old cells.new × LosesFinds cells.old cells.new }
+    ensures capacity { vec_capacity numbers.new ≡ vec_capacity numbers.old }
+{
+    if cells.sweep_if_even(kind, moment) {
+        return;
+    }
+    collect(kept, name, kind, numbers);
+    cells.sweep_kind(kind, numbers, moment);
+}
+
 // Removes the finds of a name that have expired at a moment, and the versions that no kept flush needs.
 fn sweep_name(
     cells: &mut OwnerCells,
@@ -50,14 +83,13 @@ fn sweep_name(
     let mut place = 0;
     while place < cells.kinds.len() {
         let kind = cells.kinds[place].kind;
-        collect(kept, name, kind, numbers);
-        cells.sweep_kind(kind, numbers, moment);
+        sweep_type(cells, name, kind, kept, numbers, moment);
         place += 1;
     }
 }
 
 // Sweeps the name at a place, and returns the moment of its next sweep. It is later than this one, but that of a name without finds.
-// It also returns whether that moment is right only as long as no kept flush goes.
+// It also returns whether that moment is right only as long as no kept flush that covers the name goes.
 fn sweep_at(
     owners: &mut Owners,
     stored: &mut u64,

@@ -1,4 +1,4 @@
-use Rattle.std.proofs.Common.{[], ap, ◌∙◌, arith}
+use Rattle.std.proofs.Common.{[], refl, ap, ◌∙◌, arith}
 use Rattle.std.proofs.lemmas.List.{get_or_default}
 use Rattle.cell_store.specs.declared.owner.KindColumn.{KindColumn}
 use Rattle.shelf.proofs.SweepLaws.{swept_more, swept_all}
@@ -8,10 +8,10 @@ pub loop-place-preserved : goal.loop-place-preserved
 loop-place-preserved c =
     let kinds = c.loop-place.cells.kinds.items in
     let place = c.loop-place.place in (
-      swept_more c.args.kept.now c.args.moment c.args.name.now place c.args.cells.now c.loop-place.cells c.sweep_kind.new.self c.index.result.now.kind c.deref.result.now c.loop-place.invariant.0
+      swept_more c.args.kept.now c.args.moment c.args.name.now place c.args.cells.now c.loop-place.cells c.sweep_type.new.cells c.index.result.now.kind _ c.loop-place.invariant.0
           (λ d. ap (λ (own : KindColumn). own.kind) (c.index.ensures ∙ get_or_default kinds place c.index.result.now d (omega arith)))
-          (c.deref.ensures.value ∙ c.collect.ensures.items) c.sweep_kind.ensures.cells c.sweep_kind.ensures.seen c.sweep_kind.ensures.others c.sweep_kind.ensures.kinds c.sweep_kind.ensures.whole c.sweep_kind.ensures.upto c.sweep_kind.ensures.settles c.sweep_kind.ensures.lost,
-      c.collect.ensures.capacity ∙ c.loop-place.invariant.1,
+          refl c.sweep_type.ensures.cells c.sweep_type.ensures.seen c.sweep_type.ensures.others c.sweep_type.ensures.kinds c.sweep_type.ensures.whole c.sweep_type.ensures.kept.0 c.sweep_type.ensures.kept.1 c.sweep_type.ensures.kept.2,
+      c.sweep_type.ensures.capacity ∙ c.loop-place.invariant.1,
     )
 
 pub returns-clause-swept : goal.returns-clause-swept
