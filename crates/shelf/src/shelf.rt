@@ -131,13 +131,16 @@ impl Shelf {
     fn version(&self, owner: &Name, kind: u16) -> u64
         ensures { result ≡ shown_version self.now.kept.items (record { owner = owner.now; kind = kind }) }
     {
-        let mut version = 0;
-        for own in &self.kept {
+        // Of the flushes that cover the question, the newest in force decides.
+        let mut place = self.kept.len();
+        while place > 0 {
+            place -= 1;
+            let own = &self.kept[place];
             if own.shown && own.flush.covers(owner, kind) {
-                version = own.number;
+                return own.number;
             }
         }
-        version
+        0
     }
 
     /// The number of counted places. It is at most the limit, and at most the number of different pairs among the admissions so far:

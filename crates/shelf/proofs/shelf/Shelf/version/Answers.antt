@@ -1,0 +1,16 @@
+use Rattle.std.proofs.Common.{◌≡◌, ◌&&◌, ◌-◌, true, cond, take, sym, ap, ◌∙◌}
+use Rattle.dns_text.specs.declared.record.Question.{Question}
+use Rattle.ranked.specs.Flush.{covers}
+use Rattle.shelf.specs.Told.{shown_version}
+use Rattle.shelf.proofs.ShownLaws.{last_shown}
+use Rattle.shelf.proofs.shelf.Shelf.version.Goals as goal
+
+pub returns-then-covers : goal.returns-then-covers
+returns-then-covers c =
+    let q : Question = record { owner = c.args.owner.now; kind = c.args.kind } in
+    let kept = c.args.self.now.kept.items in
+    let own = c.index-own.result.now in
+    let decides : (own.shown && covers own.flush q) ≡ true = ap (λ b. b && covers own.flush q) c.if-own.true ∙ sym c.if-covers.ensures in
+    sym (c.loop-place.invariant.same
+    ∙ (last_shown kept q c.loop-place.place own c.loop-place-test.true c.loop-place.invariant.low c.index-own.ensures
+    ∙ ap (λ b. cond b own.number (shown_version (take (c.loop-place.place - 1) kept) q)) decides))
