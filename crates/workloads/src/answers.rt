@@ -3,8 +3,8 @@
 ghost use Rattle.std.specs.Prelude.{◌<◌};
 
 use crate::draws::{below, draws_of, skewed};
-use crate::finds::{Class, class_of, finds_of, rarer_kind};
-use crate::names::{push_domain, push_name};
+use crate::finds::{Class, class_of, finds_of, names_up_to, rarer_kind, soa_record};
+use crate::names::push_domain;
 use crate::spelled::Spelled;
 use crate::worker::Worker;
 use dns_name::Name;
@@ -25,33 +25,33 @@ fn kind_asked(rng: &mut Pcg32, seed: u32, number: u32) -> u16 {
     rarer_kind(seed, number).unwrap_or(A)
 }
 
-/// The octets of the names up to a number.
-pub fn spelled_names(alloc: Global, seed: u32, names: u32) -> anyhow::Result<Spelled> {
+/// The octets of names.
+fn spelled_names(alloc: Global, names: &[Name]) -> anyhow::Result<Spelled> {
     let mut spelled = Spelled::new(alloc);
-    let mut text = Vec::new(alloc);
-    for number in 0..names {
-        text.clear();
-        push_name(&mut text, seed, number)?;
-        spelled.push(alloc, text.as_slice())?;
+    for name in names {
+        spelled.push(name)?;
     }
     Ok(spelled)
 }
 
-/// Caches what there is about so many names.
+/// Caches what there is about so many names, and returns the octets of these names.
 pub fn fill<D: Numbered + Drop>(
     alloc: Global,
     worker: &mut Worker<D>,
     seed: u32,
-    names: u32,
-) -> anyhow::Result<()>
-    requires { 0 < names }
+    count: u32,
+) -> anyhow::Result<Spelled>
+    requires { 0 < count }
 {
-    for number in 0..names {
-        for find in finds_of(alloc, seed, number, names, TTL)? {
+    let names = names_up_to(alloc, seed, count)?;
+    let soa = soa_record(alloc)?;
+    for number in 0..count {
+        let finds = finds_of(alloc, seed, number, count, names.as_slice(), &soa, TTL)?;
+        for find in finds {
             worker.admit(find)?;
         }
     }
-    Ok(())
+    spelled_names(alloc, names.as_slice())
 }
 
 /// So many questions for cached names. The names that are asked for most are spread over the cache.
@@ -111,8 +111,7 @@ pub fn answer<D: Numbered + Drop>(
     if names == 0 {
         return Ok(());
     }
-    fill(alloc, worker, seed, names)?;
-    let spelled = spelled_names(alloc, seed, names)?;
+    let spelled = fill(alloc, worker, seed, names)?;
     let mut rng = draws_of(seed, 7, 0);
     ask_many(worker, &mut rng, &spelled, seed, names, count / 2)?;
     flush_some(alloc, worker, seed, names)?;

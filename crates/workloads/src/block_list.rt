@@ -2,7 +2,7 @@
 
 ghost use Rattle.std.specs.Prelude.{◌≡◌, ◌<◌};
 
-use crate::answers::{ask_many, fill, spelled_names};
+use crate::answers::{ask_many, fill};
 use crate::draws::{below, draws_of, skewed};
 use crate::names::{push_domain, push_letters};
 use crate::outside::SetClock;
@@ -175,7 +175,7 @@ fn spelled_list(alloc: Global, seed: u32, records: u32) -> anyhow::Result<Spelle
                 push_zone(&mut text, seed, zone_of(record, records))?;
             }
         }
-        spelled.push(alloc, text.as_slice())?;
+        spelled.push_text(text.as_slice())?;
     }
     Ok(spelled)
 }
@@ -209,8 +209,7 @@ pub fn block<D: Numbered + Drop>(
     if records == 0 || names == 0 {
         return Ok(());
     }
-    fill(alloc, worker, seed, names)?;
-    let spelled = spelled_names(alloc, seed, names)?;
+    let spelled = fill(alloc, worker, seed, names)?;
     let listed = spelled_list(alloc, seed, records)?;
     let lines = lines_of(alloc, seed, records)?;
     obey(alloc, worker, lines.as_slice())?;

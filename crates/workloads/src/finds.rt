@@ -7,7 +7,7 @@ use crate::names::push_name;
 use anyhow::anyhow;
 use dns_name::Name;
 use dns_text::types::{A, AAAA, CNAME, MX, SOA, SRV, TXT};
-use dns_text::{Items, Shared, read_data, read_record};
+use dns_text::{Data, Items, Record, Shared, read_data, read_record};
 use rand_core::Rng;
 use rand_pcg::Pcg32;
 use ranked::{Find, Rank, SharedFind};
@@ -43,11 +43,21 @@ pub fn kind_of(rng: &mut Pcg32) -> u16 {
     }
 }
 
-/// The name of a number.
-pub fn name_of(alloc: Global, seed: u32, number: u32) -> anyhow::Result<Name> {
-    let mut text = Vec::new(alloc);
-    push_name(&mut text, seed, number)?;
+/// The name of a number. Its text replaces what a buffer holds.
+pub fn name_of(alloc: Global, text: &mut Vec<u8>, seed: u32, number: u32) -> anyhow::Result<Name> {
+    text.clear();
+    push_name(text, seed, number)?;
     Ok(Name::from_text(alloc, text.as_slice())?)
+}
+
+/// The names up to a number.
+pub fn names_up_to(alloc: Global, seed: u32, count: u32) -> anyhow::Result<Vec<Name>> {
+    let mut names = Vec::new(alloc);
+    let mut text = Vec::new(alloc);
+    for number in 0..count {
+        names.push(name_of(alloc, &mut text, seed, number)?)?;
+    }
+    Ok(names)
 }
 
 /// A set of one or two data, which may be alike.
@@ -56,43 +66,57 @@ fn set_of(
     owner: Name,
     kind: u16,
     ttl: u32,
-    first: &[u8],
-    second: &[u8],
+    one: Data,
+    other: Data,
 ) -> anyhow::Result<SharedFind> {
-    let one = read_data(alloc, kind, first)?;
-    let other = read_data(alloc, kind, second)?;
+    if !one.has_form(kind) || !other.has_form(kind) {
+        drop(owner);
+        drop(one);
+        drop(other);
+        return Err(anyhow!("data of another type"));
+    }
     let data = Items::new(vec![in alloc; one, other]?);
-    let found = Find::new(owner, kind, Rank::AuthoritativeAnswer, ttl, data);
-    Ok(SharedFind::new(alloc, found.ok_or(anyhow!("no find"))?)?)
+    match Find::new(owner, kind, Rank::AuthoritativeAnswer, ttl, data) {
+        Some(found) => Ok(SharedFind::new(alloc, found)?),
+        None => Err(anyhow!("no find")),
+    }
 }
 
-/// A negative answer: there is no such name, or it has no data of a type.
+/// The SOA record of every negative answer.
+pub fn soa_record(alloc: Global) -> anyhow::Result<Record> {
+    Ok(read_record(
+        alloc,
+        b"example 300 SOA ns.example hostmaster.example 7 3600 900 604800 300",
+    )?)
+}
+
+/// A negative answer with an SOA record: there is no such name, or it has no data of a type.
 pub fn denial(
     alloc: Global,
     owner: Name,
     kind: Option<u16>,
     ttl: u32,
+    soa: &Record,
 ) -> anyhow::Result<SharedFind> {
-    let soa = read_record(
-        alloc,
-        b"example 300 SOA ns.example hostmaster.example 7 3600 900 604800 300",
-    )?;
-    if soa.kind != SOA {
-        drop(soa);
+    if soa.kind != SOA || !soa.body.has_form(SOA) {
+        drop(owner);
         return Err(anyhow!("it is no SOA record"));
     }
-    let soa = Shared::new(alloc, soa)?;
+    let soa = Shared::new(alloc, soa.copy(alloc)?)?;
     let found = match kind {
         Some(kind) => Find::no_data(owner, kind, ttl, soa),
         None => Find::no_name(owner, ttl, soa),
     };
-    Ok(SharedFind::new(alloc, found.ok_or(anyhow!("no find"))?)?)
+    match found {
+        Some(found) => Ok(SharedFind::new(alloc, found)?),
+        None => Err(anyhow!("no find")),
+    }
 }
 
-/// The text of an address.
-fn address(alloc: Global, drawn: u32) -> anyhow::Result<String> {
+/// An address.
+fn address(drawn: u32) -> Data {
     let [a, b, c, _] = drawn.to_be_bytes();
-    Ok(format!(in alloc; "192.{a}.{b}.{c}")?)
+    Data::A([192, a, b, c])
 }
 
 /// A set of one or two addresses.
@@ -102,15 +126,10 @@ pub fn addresses(
     owner: Name,
     ttl: u32,
 ) -> anyhow::Result<SharedFind> {
-    let one = address(alloc, rng.next_u32())?;
-    let other = address(alloc, rng.next_u32())?;
-    let first = one.as_str().as_bytes();
-    let second = if rng.next_u32() % 2 == 0 {
-        first
-    } else {
-        other.as_str().as_bytes()
-    };
-    set_of(alloc, owner, A, ttl, first, second)
+    let one = rng.next_u32();
+    let drawn = rng.next_u32();
+    let other = if rng.next_u32() % 2 == 0 { one } else { drawn };
+    set_of(alloc, owner, A, ttl, address(one), address(other))
 }
 
 /// The type that a name with sets has beside addresses, by its number: a third have one, most of these IPv6 addresses.
@@ -140,45 +159,61 @@ fn rarer(
         SRV => format!(in alloc; "1 {number} 5060 sip.example")?,
         _ => format!(in alloc; "2001:db8::{number:x}")?,
     };
-    let text = text.as_str().as_bytes();
-    set_of(alloc, owner, kind, ttl, text, text)
+    let one = read_data(alloc, kind, text.as_str().as_bytes())?;
+    let other = one.copy(alloc)?;
+    set_of(alloc, owner, kind, ttl, one, other)
 }
 
-/// The alias of a name: the next name that has sets, of so many names.
-fn alias(alloc: Global, seed: u32, number: u32, names: u32, ttl: u32) -> anyhow::Result<SharedFind>
-    requires { 0 < names }
+/// The number of the name that an alias leads to: the next one that has sets, of so many names.
+fn target_of(seed: u32, number: u32, count: u32) -> u32
+    requires { 0 < count }
 {
-    let mut target = number;
     for step in 1..64u32 {
-        let next = number.wrapping_add(step) % names;
+        let next = number.wrapping_add(step) % count;
         if class_of(seed, next) == Class::Sets {
-            target = next;
-            break;
+            return next;
         }
     }
-    let mut text = Vec::new(alloc);
-    push_name(&mut text, seed, target)?;
-    let owner = name_of(alloc, seed, number)?;
-    set_of(alloc, owner, CNAME, ttl, text.as_slice(), text.as_slice())
+    number
 }
 
-/// What is cached about a name by its number, of so many names.
+/// An alias.
+fn alias(alloc: Global, owner: Name, target: Name, ttl: u32) -> anyhow::Result<SharedFind> {
+    let one = Data::One(target);
+    let other = one.copy(alloc)?;
+    set_of(alloc, owner, CNAME, ttl, one, other)
+}
+
+/// A copy of a name by its number.
+fn copy_of(names: &[Name], number: u32) -> anyhow::Result<Name> {
+    match names.get(number as usize) {
+        Some(name) => Ok(name.clone()?),
+        None => Err(anyhow!("there is no such name")),
+    }
+}
+
+/// What is cached about a name by its number. There are so many names.
 pub fn finds_of(
     alloc: Global,
     seed: u32,
     number: u32,
-    names: u32,
+    count: u32,
+    names: &[Name],
+    soa: &Record,
     ttl: u32,
 ) -> anyhow::Result<Vec<SharedFind>>
-    requires { 0 < names }
+    requires { 0 < count }
 {
     let mut rng = draws_of(seed, 4, number);
     let mut finds = Vec::new(alloc);
-    let owner = name_of(alloc, seed, number)?;
+    let owner = copy_of(names, number)?;
     match class_of(seed, number) {
-        Class::NoName => finds.push(denial(alloc, owner, None, ttl)?)?,
-        Class::NoData => finds.push(denial(alloc, owner, Some(A), ttl)?)?,
-        Class::Alias => finds.push(alias(alloc, seed, number, names, ttl)?)?,
+        Class::NoName => finds.push(denial(alloc, owner, None, ttl, soa)?)?,
+        Class::NoData => finds.push(denial(alloc, owner, Some(A), ttl, soa)?)?,
+        Class::Alias => {
+            let target = copy_of(names, target_of(seed, number, count))?;
+            finds.push(alias(alloc, owner, target, ttl)?)?;
+        }
         Class::Sets => {
             if let Some(kind) = rarer_kind(seed, number) {
                 let drawn = rng.next_u32();

@@ -1,7 +1,7 @@
 //! Names as octets, as a query has them, one after another in one block.
 
 use dns_name::Name;
-use std::alloc::Global;
+use std::alloc::{AllocError, Global};
 
 /// The labels of many names, each preceded by its length, and without the zero octet that ends a name.
 #[derive(Drop)]
@@ -19,12 +19,35 @@ impl Spelled {
         }
     }
 
-    /// Adds the name of a text.
-    pub fn push(&mut self, alloc: Global, text: &[u8]) -> anyhow::Result<()> {
-        let name = Name::from_text(alloc, text)?;
+    /// Adds a name.
+    pub fn push(&mut self, name: &Name) -> Result<(), AllocError> {
         name.push_spelled(&mut self.octets)?;
         self.ends.push(self.octets.len())?;
         Ok(())
+    }
+
+    /// Adds the name of a text that has no escapes, and no dot at its end.
+    pub fn push_text(&mut self, text: &[u8]) -> Result<(), AllocError> {
+        let mut label = self.octets.len();
+        self.octets.push(0)?;
+        for octet in text {
+            if *octet == b'.' {
+                label = self.octets.len();
+                self.octets.push(0)?;
+            } else {
+                self.octets.push(*octet)?;
+                self.lengthen(label);
+            }
+        }
+        self.ends.push(self.octets.len())?;
+        Ok(())
+    }
+
+    /// Adds one to the length of the label that begins at a place.
+    fn lengthen(&mut self, label: usize) {
+        if let Some(length) = self.octets.get_mut(label) {
+            *length = length.wrapping_add(1);
+        }
     }
 
     /// The number of names.

@@ -2,10 +2,10 @@
 
 use crate::digest::Digest;
 use crate::draws::{below, draws_of};
-use crate::finds::{addresses, denial, kind_of, name_of};
+use crate::finds::{addresses, denial, kind_of, name_of, soa_record};
 use anyhow::anyhow;
 use dns_name::Name;
-use dns_text::{Items, Question};
+use dns_text::{Items, Question, Record};
 use history::{Ask, Book, Event, Look, Reply, Seen, Settings, StepFault};
 use rand_pcg::Pcg32;
 use ranked::SharedFind;
@@ -18,11 +18,15 @@ const TTLS: [u32; 8] = [30, 60, 60, 300, 300, 3_600, 3_600, 86_400];
 /// How many new names come in a second.
 const EACH_SECOND: u32 = 100;
 
-/// The find that comes next. One in five is the denial of a name that a stranger made up, and all of these have one TTL.
-fn next_find(alloc: Global, rng: &mut Pcg32, seed: u32, number: u32) -> anyhow::Result<SharedFind> {
-    let owner = name_of(alloc, seed, number)?;
+/// A find of a new name. One in five is the denial of a name that a stranger made up, and all of these have one TTL.
+fn next_find(
+    alloc: Global,
+    rng: &mut Pcg32,
+    owner: Name,
+    soa: &Record,
+) -> anyhow::Result<SharedFind> {
     if below(rng, 5) == 0 {
-        return denial(alloc, owner, None, 900);
+        return denial(alloc, owner, None, 900, soa);
     }
     let ttl = TTLS[below(rng, 8) as usize];
     addresses(alloc, rng, owner, ttl)
@@ -103,11 +107,14 @@ fn take_many<B: Book>(
 ) -> anyhow::Result<u64> {
     let mut digest = Digest::new();
     let mut rng = draws_of(seed, 9, 0);
+    let mut text = Vec::new(alloc);
+    let soa = soa_record(alloc)?;
     for number in 0..room.saturating_add(count) {
         let moment = u64::from(number / EACH_SECOND);
-        let find = next_find(alloc, &mut rng, seed, number)?;
+        let owner = name_of(alloc, &mut text, seed, number)?;
+        let find = next_find(alloc, &mut rng, owner.clone()?, &soa)?;
         let question = Question {
-            owner: name_of(alloc, seed, number)?,
+            owner,
             kind: kind_of(&mut rng),
         };
         take(alloc, &mut book, &mut digest, moment, &question, &find)?;
