@@ -22,6 +22,7 @@ mod outside; // clients and name servers of a worker without sockets
 mod worker; // a worker without sockets
 mod shared; // a worker at a shared book
 mod streams_in_memory; // readers and writers over memory
+mod noted; // a book whose replies go into a digest
 mod answers; // answers from the cache
 mod resolving; // resolution
 mod turnover; // new names for a full cache

@@ -11,6 +11,7 @@ use dns_wire::{Asked, WireFault, decode, encode, read_question};
 use rand_core::Rng;
 use rand_pcg::Pcg32;
 use std::alloc::{AllocError, Global};
+use std::cmp::Ordering;
 
 /// The letters from which labels are cut.
 const LETTERS: &[u8; 128] =
@@ -240,7 +241,11 @@ fn compare_names(
     let text = owner.to_text(alloc)?;
     let name = Name::from_text(alloc, text.as_slice())?;
     digest.octets(text.as_slice());
-    digest.number(u64::from(name.cmp(before).is_le()));
+    digest.number(match name.cmp(before) {
+        Ordering::Less => 1,
+        Ordering::Equal => 2,
+        Ordering::Greater => 3,
+    });
     digest.number(u64::from(name.at_or_below(before)));
     *before = name;
     Ok(())

@@ -105,6 +105,19 @@ impl Network {
         self.digest.octets(octets);
     }
 
+    /// Takes into the digest whom a query asks, over what, and its octets.
+    fn note_query(&mut self, server: &Addr, over: Over, query: &[u8])
+        ensures port { self.new.port ≡ self.old.port }
+        ensures counts { self.new.counts ≡ self.old.counts }
+    {
+        self.digest.addr(server);
+        self.digest.number(match over {
+            Over::Udp => 1,
+            Over::Tcp => 2,
+        });
+        self.digest.octets(query);
+    }
+
     /// The response to a query, or none.
     fn response(&self, server: &Addr, over: Over, query: &[u8]) -> Listened {
         let Some(internet) = &self.internet else {
@@ -143,6 +156,7 @@ impl<D: Numbered> Outside<D, Wire, SetClock, Asker> for Network {
         over: Over,
         query: Shared<Octets>,
     ) -> Option<Wire> {
+        self.note_query(server, over, query.get().as_slice());
         if self.internet.is_none() || self.keys.push_back(key).is_err() {
             return None;
         }

@@ -1,12 +1,11 @@
 //! New names for a full cache: it sweeps what has ended, and forgets the name that ends first.
 
-use crate::digest::Digest;
 use crate::draws::{below, draws_of};
 use crate::finds::{addresses, denial, kind_of, name_of, soa_record};
-use anyhow::anyhow;
+use crate::noted::Noted;
 use dns_name::Name;
 use dns_text::{Items, Question, Record};
-use history::{Ask, Book, Event, Look, Reply, Seen, Settings, StepFault};
+use history::{Book, Settings};
 use rand_pcg::Pcg32;
 use ranked::SharedFind;
 use std::alloc::Global;
@@ -32,80 +31,15 @@ fn next_find(
     addresses(alloc, rng, owner, ttl)
 }
 
-/// Admits a find, and returns whether there was room.
-fn is_taken<B: Book>(
-    book: &mut B,
-    digest: &mut Digest,
-    moment: u64,
-    find: &SharedFind,
-) -> anyhow::Result<bool> {
-    let find = find.share()?;
-    match book.step(Event::Admit { moment, find }) {
-        Ok(reply) => {
-            digest.reply(&reply);
-            drop(reply);
-            Ok(true)
-        }
-        Err(StepFault::Full { .. }) => Ok(false),
-        Err(fault) => Err(fault.into()),
-    }
-}
-
-/// Gives a book an event.
-fn give<B: Book>(book: &mut B, event: Event) -> anyhow::Result<()> {
-    let reply = book.step(event)?;
-    drop(reply);
-    Ok(())
-}
-
-/// The name that ends first.
-fn oldest<B: Book>(book: &mut B, moment: u64) -> anyhow::Result<Name> {
-    let ask = Ask::Oldest;
-    match book.step(Event::Look { moment, ask })? {
-        Reply::Seen(Seen::Oldest(Some(name))) => Ok(name),
-        other => {
-            drop(other);
-            Err(anyhow!("no name ends first"))
-        }
-    }
-}
-
-/// Takes a find as the service does: it looks the name up, admits the find, sweeps if there is no room, and forgets the name that ends
-/// first if there still is none.
-fn take<B: Book>(
-    alloc: Global,
-    book: &mut B,
-    digest: &mut Digest,
-    moment: u64,
-    question: &Question,
-    find: &SharedFind,
-) -> anyhow::Result<()> {
-    digest.number(u64::from(matches!(book.look(question, moment), Look::Unknown)));
-    if is_taken(book, digest, moment, find)? {
-        return Ok(());
-    }
-    give(book, Event::Sweep { moment })?;
-    if is_taken(book, digest, moment, find)? {
-        digest.number(1);
-        return Ok(());
-    }
-    let owner = oldest(book, moment)?;
-    digest.octets(owner.to_text(alloc)?.as_slice());
-    give(book, Event::Forget { moment, owner })?;
-    let taken = is_taken(book, digest, moment, find)?;
-    digest.number(u64::from(taken));
-    Ok(())
-}
-
 /// Takes so many finds of new names, and so many more as there is room for.
 fn take_many<B: Book>(
     alloc: Global,
-    mut book: B,
+    book: B,
     seed: u32,
     room: u32,
     count: u32,
 ) -> anyhow::Result<u64> {
-    let mut digest = Digest::new();
+    let mut noted = Noted::new(alloc, book);
     let mut rng = draws_of(seed, 9, 0);
     let mut text = Vec::new(alloc);
     let soa = soa_record(alloc)?;
@@ -117,9 +51,10 @@ fn take_many<B: Book>(
             owner,
             kind: kind_of(&mut rng),
         };
-        take(alloc, &mut book, &mut digest, moment, &question, &find)?;
+        noted.look(&question, moment)?;
+        noted.take(moment, &find)?;
     }
-    Ok(digest.sum())
+    Ok(noted.digest.sum())
 }
 
 /// Gives new names to a cache of so many cells, and returns the digest of what happened.

@@ -17,6 +17,7 @@ const MOST_EXCHANGES: usize = 512;
 /// A desk, and the questions of its clients.
 #[derive(Drop)]
 pub struct Worker<D: Numbered + Drop> {
+    alloc: Global,
     pub desk: D,
     flight: Flight<D, Wire, SetClock, Pcg32, Asker>,
     pub network: Network,
@@ -40,6 +41,7 @@ impl<D: Numbered + Drop> Worker<D> {
         };
         let ids = Pcg32::new(u64::from(seed), 5);
         Ok(Worker {
+            alloc,
             desk,
             flight: Flight::new(alloc, clock, ids, MOST_EXCHANGES),
             network: Network::new(alloc, internet),
@@ -106,8 +108,8 @@ impl<D: Numbered + Drop> Worker<D> {
     /// Hands an event to the desk. Its reply is dropped by a call, since the prover follows any other drop variant by variant.
     pub fn call(&mut self, event: Event) -> anyhow::Result<()> {
         let reply = self.desk.call(event)?;
-        self.network.digest.reply(&reply);
+        let noted = self.network.digest.reply(self.alloc, &reply);
         drop(reply);
-        Ok(())
+        Ok(noted?)
     }
 }
