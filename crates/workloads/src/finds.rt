@@ -13,6 +13,9 @@ use rand_pcg::Pcg32;
 use ranked::{Find, Rank, SharedFind};
 use std::alloc::Global;
 
+/// The rank of what is cached beside negative answers: it came in reply to a question for it.
+const RANK: Rank = Rank::AuthoritativeAnswer;
+
 /// What a name has.
 #[derive(Clone, Copy, PartialEq, Eq)]
 pub enum Class {
@@ -65,6 +68,7 @@ fn set_of(
     alloc: Global,
     owner: Name,
     kind: u16,
+    rank: Rank,
     ttl: u32,
     one: Data,
     other: Data,
@@ -76,7 +80,7 @@ fn set_of(
         return Err(anyhow!("data of another type"));
     }
     let data = Items::new(vec![in alloc; one, other]?);
-    match Find::new(owner, kind, Rank::AuthoritativeAnswer, ttl, data) {
+    match Find::new(owner, kind, rank, ttl, data) {
         Some(found) => Ok(SharedFind::new(alloc, found)?),
         None => Err(anyhow!("no find")),
     }
@@ -124,12 +128,32 @@ pub fn addresses(
     alloc: Global,
     rng: &mut Pcg32,
     owner: Name,
+    rank: Rank,
     ttl: u32,
 ) -> anyhow::Result<SharedFind> {
     let one = rng.next_u32();
     let drawn = rng.next_u32();
     let other = if rng.next_u32() % 2 == 0 { one } else { drawn };
-    set_of(alloc, owner, A, ttl, address(one), address(other))
+    set_of(alloc, owner, A, rank, ttl, address(one), address(other))
+}
+
+/// An IPv6 address.
+fn ipv6_address(drawn: u32) -> Data {
+    let [a, b, c, d] = drawn.to_be_bytes();
+    Data::Aaaa([0x20, 1, 0xd, 0xb8, 0, 0, 0, 0, 0, 0, 0, 0, a, b, c, d])
+}
+
+/// A set of two IPv6 addresses.
+pub fn ipv6_addresses(
+    alloc: Global,
+    rng: &mut Pcg32,
+    owner: Name,
+    rank: Rank,
+    ttl: u32,
+) -> anyhow::Result<SharedFind> {
+    let one = ipv6_address(rng.next_u32());
+    let other = ipv6_address(rng.next_u32());
+    set_of(alloc, owner, AAAA, rank, ttl, one, other)
 }
 
 /// The type that a name with sets has beside addresses, by its number: a third have one, most of these IPv6 addresses.
@@ -161,7 +185,7 @@ fn rarer(
     };
     let one = read_data(alloc, kind, text.as_str().as_bytes())?;
     let other = one.copy(alloc)?;
-    set_of(alloc, owner, kind, ttl, one, other)
+    set_of(alloc, owner, kind, RANK, ttl, one, other)
 }
 
 /// The number of the name that an alias leads to: the next one that has sets, of so many names.
@@ -181,11 +205,11 @@ fn target_of(seed: u32, number: u32, count: u32) -> u32
 fn alias(alloc: Global, owner: Name, target: Name, ttl: u32) -> anyhow::Result<SharedFind> {
     let one = Data::One(target);
     let other = one.copy(alloc)?;
-    set_of(alloc, owner, CNAME, ttl, one, other)
+    set_of(alloc, owner, CNAME, RANK, ttl, one, other)
 }
 
 /// A copy of a name by its number.
-fn copy_of(names: &[Name], number: u32) -> anyhow::Result<Name> {
+pub fn copy_of(names: &[Name], number: u32) -> anyhow::Result<Name> {
     match names.get(number as usize) {
         Some(name) => Ok(name.clone()?),
         None => Err(anyhow!("there is no such name")),
@@ -219,7 +243,7 @@ pub fn finds_of(
                 let drawn = rng.next_u32();
                 finds.push(rarer(alloc, drawn, owner.clone()?, kind, ttl)?)?;
             }
-            finds.push(addresses(alloc, &mut rng, owner, ttl)?)?;
+            finds.push(addresses(alloc, &mut rng, owner, RANK, ttl)?)?;
         }
     }
     Ok(finds)

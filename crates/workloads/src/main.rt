@@ -6,6 +6,7 @@
 //! | `answers` | cached names | questions | answers questions from the cache, from octets to octets, also with flushes that can be undone |
 //! | `resolving` | zones | questions | resolves questions over an internet in memory, from the root down |
 //! | `turnover` | cells | new names | gives new names to a full cache, which sweeps and forgets |
+//! | `sweeping` | cells | steps | sweeps some names at a time between lookups, admissions, flushes, undos and redos |
 //! | `block_list` | local records | questions | loads a block list by lines, answers questions around it, and changes it |
 //! | `script` | names | lines | obeys the lines of a script |
 //! | `messages` | records of the largest message | messages | reads and writes messages, awkward ones among them |
@@ -26,6 +27,7 @@ mod noted; // a book whose replies go into a digest
 mod answers; // answers from the cache
 mod resolving; // resolution
 mod turnover; // new names for a full cache
+mod sweeping; // sweeps beside flushes
 mod block_list; // local zones and records
 mod script; // the lines of a script
 mod messages; // messages from octets and as octets
@@ -37,13 +39,15 @@ use shared::{Job, shared_job};
 use std::alloc::Global;
 use std::env;
 use std::sync::Wait;
+use sweeping::sweep_by_turns;
 use turnover::turn_over;
 
 /// Every word, with a small size and a small count.
-const WORDS: [(&str, u32, u32); 6] = [
+const WORDS: [(&str, u32, u32); 7] = [
     ("answers", 200, 400),
     ("resolving", 40, 200),
     ("turnover", 100, 300),
+    ("sweeping", 600, 3_000),
     ("block_list", 320, 400),
     ("script", 100, 400),
     ("messages", 100, 60),
@@ -63,6 +67,7 @@ fn work<R: Wait>(
         "resolving" => shared_job(rt, alloc, Job::Resolving, seed, size, count),
         "block_list" => shared_job(rt, alloc, Job::BlockList, seed, size, count),
         "turnover" => turn_over(alloc, seed, size, count),
+        "sweeping" => sweep_by_turns(alloc, seed, size, count),
         "script" => obey_script(alloc, seed, size, count),
         "messages" => messages(alloc, seed, size, count),
         _ => Err(anyhow!("there is no such word")),

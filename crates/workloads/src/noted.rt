@@ -100,4 +100,12 @@ impl<B: Book> Noted<B> {
         self.is_taken(moment, find)?;
         Ok(())
     }
+
+    /// Frees some of what has ended, as the sweeper of the service does by turns. False if nothing is left.
+    pub fn sweep_some(&mut self) -> bool {
+        let more = self.book.sweep_some();
+        self.digest.number(u64::from(more));
+        self.digest.number(self.book.stored() as u64);
+        more
+    }
 }

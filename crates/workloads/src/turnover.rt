@@ -7,7 +7,7 @@ use dns_name::Name;
 use dns_text::{Items, Question, Record};
 use history::{Book, Settings};
 use rand_pcg::Pcg32;
-use ranked::SharedFind;
+use ranked::{Rank, SharedFind};
 use std::alloc::Global;
 use undo_book::ShelfBook;
 
@@ -28,7 +28,7 @@ fn next_find(
         return denial(alloc, owner, None, 900, soa);
     }
     let ttl = TTLS[below(rng, 8) as usize];
-    addresses(alloc, rng, owner, ttl)
+    addresses(alloc, rng, owner, Rank::AuthoritativeAnswer, ttl)
 }
 
 /// Takes so many finds of new names, and so many more as there is room for.
