@@ -87,8 +87,7 @@ length_piece piece b (itself graphic dot slash e) = omega (arith, ap length e)
 length_piece piece b (quoted graphic digit e) = omega (arith, ap length e)
 length_piece piece b (numbered x y z dx dy dz is small e) = omega (arith, ap length e)
 
--- an octet that fits is added to the label being read
-pub octet_fits : (before : Labels) (part : List ℕ) (b : ℕ) → length part < MAX_LABEL_OCTETS → wire_len_with before (length part + 1) ≤ MAX_NAME_OCTETS → after_atom before part (Octet b) ≡ Ok (before, part ++ b ∷ [])
+octet_fits : (before : Labels) (part : List ℕ) (b : ℕ) → length part < MAX_LABEL_OCTETS → wire_len_with before (length part + 1) ≤ MAX_NAME_OCTETS → after_atom before part (Octet b) ≡ Ok (before, part ++ b ∷ [])
 octet_fits before part b few room = rw (ne_eqb (length part) MAX_LABEL_OCTETS (λ e. omega arith), le-ltb MAX_NAME_OCTETS (wire_len_with before (length part + 1)) room) refl
 
 read_piece : (before : Labels) (part piece : List ℕ) (b : ℕ) (rest : List ℕ) → IsOctetText piece b → length part < MAX_LABEL_OCTETS → wire_len_with before (length part + 1) ≤ MAX_NAME_OCTETS → read before part 0 (piece ++ rest) ≡ read before (part ++ b ∷ []) 0 rest
