@@ -25,16 +25,6 @@ reaches (OneType kind) name question = name_eq name question.owner && kind == qu
 reaches Name name question = name_eq name question.owner && is_flushed question.kind
 reaches Zone name question = is_at_or_below question.owner name
 
--- whether a flush of a name may empty a cell of an owner, of some type: the name is the owner's, or the flush is of a zone and the owner is at or below the name
-abbrev pub may_reach : Reach → Labels → Labels → Bool
-may_reach (OneType kind) name owner = name_eq name owner
-may_reach Name name owner = name_eq name owner
-may_reach Zone name owner = is_at_or_below owner name
-
 -- whether a flush empties the cell of a question
 abbrev pub covers : Flush → Question → Bool
 covers flush question = reaches flush.reach flush.name question
-
--- whether a flush may empty a cell of an owner, of some type: its name is the owner's, or it is of a zone and the owner is at or below its name
-abbrev pub reaches_owner : Flush → Labels → Bool
-reaches_owner flush owner = may_reach flush.reach flush.name owner

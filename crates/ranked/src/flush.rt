@@ -1,6 +1,6 @@
 //! A flush: the cache cells that one command empties.
 
-ghost use Rattle.std.specs.Prelude.{◌≡◌, ℕ, true, IfOk};
+ghost use Rattle.std.specs.Prelude.{◌≡◌, IfOk};
 ghost use Rattle.ranked.specs.Flush.{is_flushed};
 
 use dns_name::{Name, NoMemory};
@@ -41,7 +41,7 @@ pub struct Flush {
 }
 
 impl Flush {
-    ghost use Rattle.ranked.specs.Flush.{covers, reaches_owner};
+    ghost use Rattle.ranked.specs.Flush.{covers};
     ghost use Rattle.dns_text.specs.declared.record.Question.{Question};
 
     /// A copy. It allocates if the name is long.
@@ -53,17 +53,6 @@ impl Flush {
             name,
             reach: self.reach,
         })
-    }
-
-    /// Whether it may empty a cell of this owner, of some type.
-    pub fn reaches(&self, owner: &Name) -> bool
-        ensures exact { result ≡ reaches_owner self.now owner.now }
-        ensures all { (kind : ℕ) → covers self.now (record { owner = owner.now; kind = kind }) ≡ true → result ≡ true }
-    {
-        match self.reach {
-            Reach::OneType(_) | Reach::Name => self.name == *owner,
-            Reach::Zone => owner.at_or_below(&self.name),
-        }
     }
 
     /// Whether it empties the cell of this owner and type.

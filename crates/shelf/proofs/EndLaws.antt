@@ -28,8 +28,8 @@ use Rattle.ranked.specs.declared.flush.Flush.{Flush}
 use Rattle.ranked.specs.Flush.{covers}
 use Rattle.shelf.specs.declared.shelf.Shelf.{Shelf}
 use Rattle.shelf.specs.declared.shelf.KeptFlush.{KeptFlush}
-use Rattle.shelf.specs.Kept.{is_version}
-use Rattle.shelf.specs.Clean.{dropped, evens, fitted, touched, AreBy, AreEnds, AreKeyed, IsClean, IsEnd}
+use Rattle.shelf.specs.Kept.{is_kept, is_version}
+use Rattle.shelf.specs.Clean.{dropped, evens, fitted, touched, AreBy, AreEnds, AreEvened, AreKeyed, IsClean, IsEnd}
 use Rattle.shelf.specs.Lasts.{last_at, AreLow, AreWinners, IsShaped}
 use Rattle.shelf.specs.declared.ends.Ends.{Ends}
 use Rattle.shelf.specs.declared.lasts.Lasts.{Lasts}
@@ -228,17 +228,12 @@ keyed_map P Q step entries ends keyed = record {
 pub end_zero : (kept : List KeptFlush) (e : Labels × OwnerCells) → IsEnd kept e 0
 end_zero kept e t low = absurd (omega arith)
 
--- each version of a name is one still
-pub clean_named : (kept more : List KeptFlush) (t : ℕ) (name : Labels) (cells : OwnerCells)
-    → ((k v : ℕ) → is_version kept (record { owner = name; kind = k }) v ≡ true → is_version more (record { owner = name; kind = k }) v ≡ true) → IsClean kept t name cells → IsClean more t name cells
-clean_named kept more t name cells step is = record {
-  kinds = λ k has. let was = is.kinds k has in (was.0, (step k was.0 was.1.0, was.1.1));
+clean_kept : (kept more : List KeptFlush) → ((q : Question) (v : ℕ) → is_version kept q v ≡ true → is_version more q v ≡ true) → (t : ℕ) (name : Labels) (cells : OwnerCells) → IsClean kept t name cells → IsClean more t name cells
+clean_kept kept more step t name cells is = record {
+  kinds = λ k has. let was = is.kinds k has in (was.0, (step (record { owner = name; kind = k }) was.0 was.1.0, was.1.1));
   whole = is.whole;
   counted = is.counted;
 }
-
-clean_kept : (kept more : List KeptFlush) → ((q : Question) (v : ℕ) → is_version kept q v ≡ true → is_version more q v ≡ true) → (t : ℕ) (name : Labels) (cells : OwnerCells) → IsClean kept t name cells → IsClean more t name cells
-clean_kept kept more step t name cells is = clean_named kept more t name cells (λ k v there. step (record { owner = name; kind = k }) v there) is
 
 -- ---- the moments and those of the names that are not mixed
 
@@ -281,6 +276,22 @@ ends_by kept old new f was ends step still names by is = record {
 pub ends_zero : (kept : List KeptFlush) (entries : List (Labels × OwnerCells)) (was ends : Ends) → AreEnds kept entries was → AreBy (λ l. replicate (length l) 0) was ends → AreEnds kept entries ends
 ends_zero kept entries was ends is by = ends_by kept entries entries (λ l. replicate (length l) 0) was ends
     (λ P start l keyed. keyed_zero P start entries (length l) keyed.size) (λ l size i. inl (zero_at (length l) i)) refl by is
+
+or_false : (a b : Bool) → (a || false) ≡ true → (a || b) ≡ true
+or_false true b is = refl
+or_false false b is = let no : false ≡ true = is in absurd cc
+
+-- a flush has gone: only names that are mixed are to be visited
+pub ends_mixed : (kept more : List KeptFlush) (entries : List (Labels × OwnerCells)) (was ends : Ends) → AreEnds kept entries was → AreEvened was ends → AreEnds more entries ends
+ends_mixed kept more entries was ends is by = record {
+  now = subst (λ (l : List ℕ). AreKeyed (IsEnd more) entries l) (sym by.moments) (keyed_kept [] more (λ q v there. or_false (v == 0) (is_kept more q v) there) entries (evens was) is.ever);
+  ever = subst (λ (l : List ℕ). AreKeyed (IsEnd []) entries l) (sym by.unmixed) is.ever;
+  flags = by.flags;
+  low = low_by more entries (λ l. l) (λ l. l) (evens was) ends.moments was.lasts.ends.items ends.lasts.ends.items by.moments by.lasts.0
+      (low_kept [] more (λ q v there. or_false (v == 0) (is_kept more q v) there) entries (evens was) was.lasts.ends.items is.low_ever);
+  low_ever = low_by [] entries (λ l. l) (λ l. l) (evens was) (evens ends) was.lasts.ends.items ends.lasts.ends.items by.unmixed by.lasts.0 is.low_ever;
+  winners = winners_same entries was.lasts ends.lasts by.lasts is.winners;
+}
 
 or_more : (a b c : Bool) → (a || b) ≡ true → (a || (b || c)) ≡ true
 or_more true b c is = refl

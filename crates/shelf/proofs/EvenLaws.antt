@@ -3,9 +3,8 @@ use Rattle.std.proofs.Common.{◌≡◌, ℕ, zero, suc, ◌+◌, ◌-◌, ◌<�
 use Rattle.std.specs.Prelude.{nat_lt, replicate, swap_remove, IfSome}
 use Rattle.std.proofs.Math.ListN.{set, length-set, length-append}
 use Rattle.std.proofs.lemmas.List.{length-replicate, length-take-le}
-use Rattle.std.proofs.lemmas.Bool.{false≢true}
 use Rattle.std.proofs.lemmas.Bool.Decides.{nat_tests}
-use Rattle.shelf.specs.Clean.{evens, evens_of, fitted, touched, touched_at, AreBy}
+use Rattle.shelf.specs.Clean.{evens, evens_of, fitted, touched, touched_at, AreBy, AreEvened}
 use Rattle.shelf.specs.Lasts.{AreSameLasts}
 use Rattle.shelf.specs.declared.ends.Ends.{Ends}
 
@@ -14,7 +13,7 @@ evens_length [] mixed = refl
 evens_length (e ∷ ends) [] = ap suc (evens_length ends [])
 evens_length (e ∷ ends) (m ∷ mixed) = ap suc (evens_length ends mixed)
 
-pub either_zero : (m : Bool) → cond {A = ℕ} m 0 0 ≡ 0
+either_zero : (m : Bool) → cond {A = ℕ} m 0 0 ≡ 0
 either_zero true = refl
 either_zero false = refl
 
@@ -67,12 +66,51 @@ evens_none zero mixed = refl
 evens_none (suc n) [] = ap (λ (l : List ℕ). 0 ∷ l) (evens_none n [])
 evens_none (suc n) (m ∷ mixed) = (λ i. either_zero m i ∷ evens_none n mixed i)
 
--- the moment of a mixed name is 0
-pub evens_mixed : (ends : List ℕ) (mixed : List Bool) (i : ℕ) → get_or mixed i false ≡ true → evens_of (set ends i 0) mixed ≡ evens_of ends mixed
-evens_mixed [] mixed i is = refl
-evens_mixed (e ∷ ends) [] i is = absurd (false≢true is)
-evens_mixed (e ∷ ends) (m ∷ mixed) zero is = ap (λ n. n ∷ evens_of ends mixed) (ap (λ b. cond {A = ℕ} b 0 0) is ∙ sym (ap (λ b. cond b 0 e) is))
-evens_mixed (e ∷ ends) (m ∷ mixed) (suc i) is = ap (λ (l : List ℕ). cond m 0 e ∷ l) (evens_mixed ends mixed i is)
+-- the moments of the first names alone
+abbrev pub evens_to : ℕ → List ℕ → List Bool → List ℕ
+evens_to zero ends mixed = ends
+evens_to (suc i) [] mixed = []
+evens_to (suc i) (end ∷ ends) [] = 0 ∷ evens_to i ends []
+evens_to (suc i) (end ∷ ends) (mixed ∷ more) = cond mixed 0 end ∷ evens_to i ends more
+
+pub to_length : (i : ℕ) (ends : List ℕ) (mixed : List Bool) → length (evens_to i ends mixed) ≡ length ends
+to_length zero ends mixed = refl
+to_length (suc i) [] mixed = refl
+to_length (suc i) (e ∷ ends) [] = ap suc (to_length i ends [])
+to_length (suc i) (e ∷ ends) (m ∷ mixed) = ap suc (to_length i ends mixed)
+
+pub to_all : (i : ℕ) (ends : List ℕ) (mixed : List Bool) → length ends ≤ i → evens_to i ends mixed ≡ evens_of ends mixed
+to_all zero [] mixed high = refl
+to_all zero (e ∷ ends) mixed high = absurd (omega arith)
+to_all (suc i) [] mixed high = refl
+to_all (suc i) (e ∷ ends) [] high = ap (λ (l : List ℕ). 0 ∷ l) (to_all i ends [] (omega arith))
+to_all (suc i) (e ∷ ends) (m ∷ mixed) high = ap (λ (l : List ℕ). cond m 0 e ∷ l) (to_all i ends mixed (omega arith))
+
+to_zero : (i : ℕ) (ends : List ℕ) (mixed : List Bool) (d : Bool) → i < length mixed → get_or mixed i d ≡ true → evens_to (suc i) ends mixed ≡ set (evens_to i ends mixed) i 0
+to_zero i ends [] d low is = absurd (omega arith)
+to_zero zero [] (m ∷ mixed) d low is = refl
+to_zero (suc i) [] (m ∷ mixed) d low is = refl
+to_zero zero (e ∷ ends) (m ∷ mixed) d low is = ap (λ b. cond b 0 e ∷ ends) is
+to_zero (suc i) (e ∷ ends) (m ∷ mixed) d low is = ap (λ (l : List ℕ). cond m 0 e ∷ l) (to_zero i ends mixed d (omega arith) is)
+
+to_same : (i : ℕ) (ends : List ℕ) (mixed : List Bool) (d : Bool) → i < length mixed → get_or mixed i d ≡ false → evens_to (suc i) ends mixed ≡ evens_to i ends mixed
+to_same i ends [] d low is = absurd (omega arith)
+to_same zero [] (m ∷ mixed) d low is = refl
+to_same (suc i) [] (m ∷ mixed) d low is = refl
+to_same zero (e ∷ ends) (m ∷ mixed) d low is = ap (λ b. cond b 0 e ∷ ends) is
+to_same (suc i) (e ∷ ends) (m ∷ mixed) d low is = ap (λ (l : List ℕ). cond m 0 e ∷ l) (to_same i ends mixed d (omega arith) is)
+
+pub next_zero : (i : ℕ) (ends : List ℕ) (mixed : List Bool) (d : Bool) → i < length mixed → get_or mixed i d ≡ true → evens_to (i + 1) ends mixed ≡ set (evens_to i ends mixed) i 0
+next_zero i ends mixed d low is = let next : i + 1 ≡ suc i = omega arith in ap (λ n. evens_to n ends mixed) next ∙ to_zero i ends mixed d low is
+
+pub next_same : (i : ℕ) (ends : List ℕ) (mixed : List Bool) (d : Bool) → i < length mixed → get_or mixed i d ≡ false → evens_to (i + 1) ends mixed ≡ evens_to i ends mixed
+next_same i ends mixed d low is = let next : i + 1 ≡ suc i = omega arith in ap (λ n. evens_to n ends mixed) next ∙ to_same i ends mixed d low is
+
+pub evens_twice : (ends : List ℕ) (mixed : List Bool) → evens_of (evens_of ends mixed) mixed ≡ evens_of ends mixed
+evens_twice [] mixed = refl
+evens_twice (e ∷ ends) [] = ap (λ (l : List ℕ). 0 ∷ l) (evens_twice ends [])
+evens_twice (e ∷ ends) (true ∷ mixed) = ap (λ (l : List ℕ). 0 ∷ l) (evens_twice ends mixed)
+evens_twice (e ∷ ends) (false ∷ mixed) = ap (λ (l : List ℕ). e ∷ l) (evens_twice ends mixed)
 
 -- ---- the place of a name
 
@@ -206,3 +244,13 @@ module _ (was ends : Ends) (flags : length was.mixed.items ≡ length was.moment
     flags = omega (arith, ap length mixed, flags, ap length moments, length-replicate {A = ℕ} (length was.moments) 0);
     lasts = same;
   }
+
+  pub by_evened : (place : ℕ) → length was.moments ≤ place → ends.moments ≡ evens_to place was.moments was.mixed.items → ends.mixed.items ≡ was.mixed.items → AreEvened was ends
+  by_evened place high moments mixed =
+      let all : ends.moments ≡ evens was = moments ∙ to_all place was.moments was.mixed.items high in
+      record {
+        moments = all;
+        unmixed = (λ i. evens_of (all i) (mixed i)) ∙ evens_twice was.moments was.mixed.items;
+        flags = omega (arith, ap length mixed, flags, ap length all, evens_length was.moments was.mixed.items);
+        lasts = same;
+      }

@@ -43,19 +43,14 @@ low_lasts kept entries moments lasts more same is i some = omega (arith, same i,
 
 -- ---- other kept flushes
 
--- each version of a name is one still
-pub life_named : (kept more : List KeptFlush) (name : Labels) (cells : OwnerCells)
-    → ((k v : ℕ) → is_version kept (record { owner = name; kind = k }) v ≡ true → is_version more (record { owner = name; kind = k }) v ≡ true) → name_life None kept name cells ≤ name_life None more name cells
-life_named kept more name cells step =
-    let own = name_there None kept name cells in
-    let k = own.0 in
-    let v = own.1.0 in
-    omega (arith, own.1.1.1, name_most None more name cells k v (step k v own.1.1.0))
-
-pub life_kept : (kept more : List KeptFlush) → ((q : Question) (v : ℕ) → is_version kept q v ≡ true → is_version more q v ≡ true) → (o : Option (Labels × OwnerCells))
+life_kept : (kept more : List KeptFlush) → ((q : Question) (v : ℕ) → is_version kept q v ≡ true → is_version more q v ≡ true) → (o : Option (Labels × OwnerCells))
     → option_map_or (λ e. name_life None kept e.0 e.1) o 0 ≤ option_map_or (λ e. name_life None more e.0 e.1) o 0
 life_kept kept more step None = omega arith
-life_kept kept more step (Some e) = life_named kept more e.0 e.1 (λ k v there. step (record { owner = e.0; kind = k }) v there)
+life_kept kept more step (Some e) =
+    let own = name_there None kept e.0 e.1 in
+    let k = own.0 in
+    let v = own.1.0 in
+    omega (arith, own.1.1.1, name_most None more e.0 e.1 k v (step (record { owner = e.0; kind = k }) v own.1.1.0))
 
 pub low_kept : (kept more : List KeptFlush) → ((q : Question) (v : ℕ) → is_version kept q v ≡ true → is_version more q v ≡ true) → (entries : List (Labels × OwnerCells)) (moments lasts : List ℕ)
     → AreLow kept entries moments lasts → AreLow more entries moments lasts

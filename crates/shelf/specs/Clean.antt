@@ -1,9 +1,6 @@
 -- The names that need no sweep, and the moment from which each may need one.
-use Rattle.std.specs.Prelude.{◌≡◌, ◌<◌, ◌≤◌, ℕ, Bool, true, false, nat_lt, ◌-◌, ◌++◌, ◌&&◌, [], ◌∷◌, is_some, IfSome, Option, None, Some, List, length, take, slice_get, slice_index_or, slice_set, swap_remove, if◌then◌else◌}
-use Rattle.std.specs.Option.{option_map_or}
+use Rattle.std.specs.Prelude.{◌≡◌, ◌<◌, ◌≤◌, ℕ, Bool, true, false, nat_lt, ◌-◌, ◌++◌, [], ◌∷◌, is_some, IfSome, Option, None, Some, List, length, take, slice_get, slice_index_or, slice_set, swap_remove, if◌then◌else◌}
 use Rattle.dns_name.specs.Labels.{Labels}
-use Rattle.ranked.specs.Flush.{reaches_owner}
-use Rattle.ranked.specs.declared.flush.Flush.{Flush}
 use Rattle.ranked.specs.declared.find.Scope.TheVariants.{One}
 use Rattle.cell_store.specs.declared.owner.OwnerCells.{OwnerCells}
 use Rattle.cell_store.specs.Owner.{cell_in}
@@ -68,21 +65,14 @@ pub record AreBy (f : List ℕ → List ℕ) (old new : Ends) : Type 0 where
   pub flags : length new.mixed.items ≡ length new.moments
   pub lasts : AreSameLasts old.lasts new.lasts
 
--- whether there is a name at a place, and a flush may cover it
-abbrev pub is_reached : Flush → List (Labels × OwnerCells) → ℕ → Bool
-is_reached flush entries place = option_map_or (λ entry. reaches_owner flush entry.0) (slice_get entries place) false
-
--- The moments of the mixed names that a flush may cover are 0, and nothing else has changed.
-pub record AreEndedBy (flush : Flush) (entries : List (Labels × OwnerCells)) (old new : Ends) : Type 0 where
-  pub size : length new.moments ≡ length old.moments
-  pub moments : (i : ℕ) → slice_index_or new.moments i 0
-      ≡ (if slice_index_or old.mixed.items i false && is_reached flush entries i then 0 else slice_index_or old.moments i 0)
+-- The moments of the names that are mixed are 0, and the others are as they were.
+pub record AreEvened (old new : Ends) : Type 0 where
+  pub moments : new.moments ≡ evens old
   pub unmixed : evens new ≡ evens old
-  pub flags : new.mixed ≡ old.mixed
-  pub lasts : new.lasts ≡ old.lasts
+  pub flags : length new.mixed.items ≡ length new.moments
+  pub lasts : AreSameLasts old.lasts new.lasts
 
--- No name needs a sweep before its moment. That of a mixed name is right only as long as no kept flush that covers the name goes.
--- A name that is not mixed needs no sweep whatever flushes are kept: version 0 alone says so.
+-- No name needs a sweep before its moment. A name that is not mixed needs none whatever flushes are kept: version 0 alone says so.
 -- The last find of a name does not end before the second that the last visit noted, unless the next sweep is to visit it.
 pub record AreEnds (kept : List KeptFlush) (entries : List (Labels × OwnerCells)) (ends : Ends) : Type 0 where
   pub now : AreKeyed (IsEnd kept) entries ends.moments

@@ -1,5 +1,5 @@
 -- The kept flushes: whether they are in force, and the versions that they give.
-use Rattle.std.specs.Prelude.{ℕ, Bool, false, Option, None, Some, List, [], ◌∷◌, ◌==◌, ◌&&◌, ◌||◌, if◌then◌else◌}
+use Rattle.std.specs.Prelude.{ℕ, Bool, false, List, [], ◌∷◌, ◌==◌, ◌&&◌, ◌||◌, if◌then◌else◌}
 use Rattle.std.specs.List.{list_any}
 use Rattle.dns_text.specs.declared.record.Question.{Question}
 use Rattle.ranked.specs.Flush.{covers}
@@ -13,11 +13,6 @@ with_shown number shown own = record { flush = own.flush; number = own.number; s
 abbrev pub stands_first : ℕ → List KeptFlush → Bool
 stands_first number [] = false
 stands_first number (own ∷ later) = own.number == number && own.shown
-
--- the kept flush of a number
-abbrev pub kept_of : ℕ → List KeptFlush → Option KeptFlush
-kept_of number [] = None
-kept_of number (own ∷ later) = if own.number == number then Some own else kept_of number later
 
 -- whether a kept flush of this number covers the question
 abbrev pub is_kept : List KeptFlush → Question → ℕ → Bool

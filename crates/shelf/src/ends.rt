@@ -2,14 +2,13 @@
 
 ghost use Rattle.std.specs.Prelude.{◌≡◌, ◌<◌, [], List, None, true, length, replicate, slice_set, swap_remove, is_some, IfSome, IsOk, OnOk, OnErr, if◌then◌else◌};
 ghost use Rattle.cell_store.specs.Store.{name_place};
-ghost use Rattle.shelf.specs.Clean.{dropped, evens, fitted, is_reached, touched_at, AreBy, AreEndedBy, AreEnds};
+ghost use Rattle.shelf.specs.Clean.{dropped, evens, fitted, touched_at, AreBy, AreEnds, AreEvened};
 ghost use Rattle.shelf.specs.Lasts.{HaveRoom};
 ghost use Rattle.shelf.specs.declared.shelf.KeptFlush.{KeptFlush};
 
 use crate::lasts::Lasts;
 use cell_store::Owners;
 use dns_name::Name;
-use ranked::Flush;
 use std::alloc::{AllocError, Global};
 use winner_tree::WinnerTree;
 
@@ -17,7 +16,7 @@ use winner_tree::WinnerTree;
 #[derive(Drop)]
 pub struct Ends {
     pub moments: WinnerTree,
-    /// Whether the moment is right only as long as no kept flush that covers the name goes.
+    /// Whether the moment is right only as long as no kept flush goes.
     pub mixed: Vec<bool>,
     pub lasts: Lasts,
 }
@@ -122,27 +121,15 @@ pub(crate) fn end_all(ends: &mut Ends)
     ends.moments.end_all();
 }
 
-// Lets the next sweep visit each name whose moment may be wrong once a flush is kept no more: the mixed ones that it may cover.
-// It takes no memory.
-pub(crate) fn end_covered(owners: &Owners, ends: &mut Ends, flush: &Flush)
-    ensures { AreEndedBy flush.now owners.now.entries ends.old ends.new }
+// Lets the next sweep visit each name whose moment may be wrong once a kept flush has gone. It takes no memory.
+pub(crate) fn end_mixed(ends: &mut Ends)
+    ensures { length ends.old.mixed.items ≡ length ends.old.moments → AreEvened ends.old ends.new }
 {
     let mut place = 0;
     while place < ends.mixed.len() && place < ends.moments.len() {
-        // The next sweep visits some of them already.
-        if ends.mixed[place] && ends.moments.end(place) > 0 && is_reached(owners, flush, place) {
+        if ends.mixed[place] {
             ends.moments.set(place, 0);
         }
         place += 1;
-    }
-}
-
-// Whether a flush may cover the name at a place.
-fn is_reached(owners: &Owners, flush: &Flush, place: usize) -> bool
-    ensures { result ≡ is_reached flush.now owners.now.entries place }
-{
-    match owners.get_index(place) {
-        Some((name, _)) => flush.reaches(name),
-        None => false,
     }
 }

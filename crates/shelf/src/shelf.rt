@@ -14,14 +14,14 @@ ghost use Rattle.cell_store.specs.Count.{has_place_for, one_if, KeepPairs};
 ghost use Rattle.cell_store.specs.Owner.{held_now};
 ghost use Rattle.cell_store.specs.Sweep.{alive_at};
 ghost use Rattle.shelf.specs.declared.shelf.KeptFlush.{KeptFlush};
-ghost use Rattle.shelf.specs.Kept.{kept_of, with_shown, stands_first};
+ghost use Rattle.shelf.specs.Kept.{with_shown, stands_first};
 ghost use Rattle.shelf.specs.Room.{fate_of, kind_fate, is_taken, is_wanted, room_for, IsFault};
 ghost use Rattle.shelf.specs.Settling.{names_left, reached_at_once};
 ghost use Rattle.shelf.specs.Sweep.{AreAlive};
 ghost use Rattle.shelf.specs.Told.{without};
 ghost use Rattle.ranked.specs.declared.find.Scope.{Scope};
 
-use crate::ends::{Ends, drop_end, end_covered, fit, no_ends, reset, touch};
+use crate::ends::{Ends, drop_end, end_mixed, fit, no_ends, reset, touch};
 use crate::fault::StoreFault;
 use crate::flushing::{open_flush, reserve, settle_flush};
 use crate::room::Room;
@@ -540,7 +540,7 @@ impl Shelf {
             return;
         }
         let own = self.kept.remove(0);
-        end_covered(&self.owners, &mut self.ends, &own.flush);
+        end_mixed(&mut self.ends);
         settle_flush(
             &mut self.owners,
             &mut self.ends,
@@ -563,9 +563,8 @@ impl Shelf {
         ensures stored { self.new.stored ≡ self.old.stored }
         ensures owners { self.new.owners ≡ self.old.owners }
     {
-        if let Some(own) = remove_number(&mut self.kept, number) {
-            end_covered(&self.owners, &mut self.ends, &own.flush);
-        }
+        remove_number(&mut self.kept, number);
+        end_mixed(&mut self.ends);
     }
 }
 
@@ -579,17 +578,16 @@ fn stands_first(kept: &[KeptFlush], number: u64) -> bool
     }
 }
 
-// Removes the flush of a number, if it is kept.
-fn remove_number(kept: &mut Vec<KeptFlush>, number: u64) -> Option<KeptFlush>
-    ensures left { kept.new.items ≡ without number kept.old.items }
-    ensures gone { result ≡ kept_of number kept.old.items }
+// Removes the flush of a number.
+fn remove_number(kept: &mut Vec<KeptFlush>, number: u64)
+    ensures { kept.new.items ≡ without number kept.old.items }
 {
     let mut place = 0;
     while place < kept.len() {
         if kept[place].number == number {
-            return Some(kept.remove(place));
+            kept.remove(place);
+            return;
         }
         place += 1;
     }
-    None
 }

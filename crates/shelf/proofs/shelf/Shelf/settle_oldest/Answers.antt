@@ -1,5 +1,6 @@
-use Rattle.std.proofs.Common.{◌≤◌, Bool, Vec, Global, length, sym, ap, ◌∙◌, arith}
-use Rattle.shelf.proofs.CoveredLaws.{ends_covered, version_removed}
+use Rattle.std.proofs.Common.{◌≤◌, length, ap, ◌∙◌, arith}
+use Rattle.shelf.proofs.EndLaws.{ends_mixed}
+use Rattle.shelf.proofs.EvenLaws.{evens_length}
 use Rattle.shelf.specs.Settling.{settled_cell}
 use Rattle.shelf.specs.Told.{cell_at, CanSettleFlush}
 use Rattle.shelf.proofs.FaceLaws.{removed_face, removed_kept, all_removed, ascending_removed, all_first}
@@ -11,8 +12,8 @@ settle_flush-requires c = record {
   low = (
     within_names c.args.self.now.top c.args.self.now.owners c.args.self.now.settling c.requires.whole.settling,
     (
-      c.end_covered.ensures.size ∙ c.requires.whole.ends.now.size,
-      ap (λ (v : Vec Bool Global). length v.items) c.end_covered.ensures.flags ∙ (c.requires.whole.ends.flags ∙ sym c.end_covered.ensures.size),
+      ap length (c.end_mixed.ensures c.requires.whole.ends.flags).moments ∙ (evens_length c.args.self.now.ends.moments c.args.self.now.ends.mixed.items ∙ c.requires.whole.ends.now.size),
+      (c.end_mixed.ensures c.requires.whole.ends.flags).flags,
     ),
   );
   counted = c.requires.whole.counted;
@@ -46,8 +47,6 @@ returns-clause-whole c =
       few = omega (arith, c.settle_flush.ensures.counted.1, whole.few);
       small = whole.small;
       room = omega (arith, c.remove-own.ensures.len, whole.room);
-      ends = c.settle_flush.ensures.ends c.remove-own.new.self.items
-          (ends_covered self.kept.items c.remove-own.new.self.items c.remove-own.result.flush
-          (version_removed self.kept.items c.remove-own.new.self.items c.remove-own.result c.remove-own.ensures.items (omega arith) c.remove-own.ensures.value) self.owners.entries self.ends c.end_covered.new.ends whole.ends c.end_covered.ensures);
+      ends = c.settle_flush.ensures.ends c.remove-own.new.self.items (ends_mixed self.kept.items c.remove-own.new.self.items self.owners.entries self.ends c.end_mixed.new.ends whole.ends (c.end_mixed.ensures whole.ends.flags));
       settling = moved.settling;
     }
