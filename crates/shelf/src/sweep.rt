@@ -89,7 +89,7 @@ fn sweep_name(
 }
 
 // Sweeps the name at a place, and returns the moment of its next sweep. It is later than this one, but that of a name without finds.
-// It also returns whether that moment is right only as long as no kept flush that covers the name goes.
+// It also returns whether that moment is right only as long as no kept flush goes.
 fn sweep_at(
     owners: &mut Owners,
     stored: &mut u64,
