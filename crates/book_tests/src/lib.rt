@@ -9,6 +9,8 @@ mod cells; // finds and cells at their edges
 #[cfg(test)]
 mod shelves; // the cache without a history
 #[cfg(test)]
+mod turns; // a sweep in turns, after a flush has gone
+#[cfg(test)]
 mod outcome; // the reply of a book, without its data
 #[cfg(test)]
 mod books; // the plain book

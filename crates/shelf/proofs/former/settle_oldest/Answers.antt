@@ -1,0 +1,41 @@
+use Rattle.std.proofs.Common.{◌≤◌, length, ap, ◌∙◌, arith}
+use Rattle.shelf.proofs.EndLaws.{ends_mixed}
+use Rattle.shelf.proofs.EvenLaws.{evens_length}
+use Rattle.shelf.specs.Told.{CanSettleFlush}
+use Rattle.shelf.proofs.FaceLaws.{all_removed, ascending_removed, all_first}
+use Rattle.shelf.proofs.SettlingLaws.{within_names}
+use Rattle.shelf.proofs.former.settle_oldest.Goals as goal
+
+pub settle_flush-requires : goal.settle_flush-requires
+settle_flush-requires c = record {
+  low = (
+    within_names c.args.shelf.now.top c.args.shelf.now.owners c.args.shelf.now.settling c.requires.whole.settling,
+    (
+      ap length (c.end_mixed.ensures c.requires.whole.ends.flags).moments ∙ (evens_length c.args.shelf.now.ends.moments c.args.shelf.now.ends.mixed.items ∙ c.requires.whole.ends.now.size),
+      (c.end_mixed.ensures c.requires.whole.ends.flags).flags,
+    ),
+  );
+  counted = c.requires.whole.counted;
+  settles = all_first (λ own. CanSettleFlush c.args.shelf.now.owners own.number own.flush) c.args.shelf.now.kept.items c.remove-own.result (omega arith) c.remove-own.ensures.value c.requires.whole.settles;
+}
+
+pub returns : goal.returns
+returns c =
+    let shelf = c.args.shelf.now in
+    let whole = c.requires.whole in
+    let older = all_first (λ own. own.number ≤ shelf.top) shelf.kept.items c.remove-own.result (omega arith) c.remove-own.ensures.value whole.numbers in
+    let moved = c.settle_flush.ensures.moved shelf.top older whole.upto whole.settling in
+    record {
+      upto = moved.upto;
+      about = moved.about whole.about;
+      numbers = all_removed (λ own. own.number ≤ shelf.top) shelf.kept.items c.remove-own.new.self.items c.remove-own.ensures.items whole.numbers;
+      ascending = ascending_removed shelf.kept.items c.remove-own.new.self.items c.remove-own.ensures.items whole.ascending;
+      settles = c.settle_flush.ensures.settles c.remove-own.new.self.items
+          (all_removed (λ own. CanSettleFlush shelf.owners own.number own.flush) shelf.kept.items c.remove-own.new.self.items c.remove-own.ensures.items whole.settles);
+      counted = c.settle_flush.ensures.counted.0;
+      few = omega (arith, c.settle_flush.ensures.counted.1, whole.few);
+      small = whole.small;
+      room = omega (arith, c.remove-own.ensures.len, whole.room);
+      ends = c.settle_flush.ensures.ends c.remove-own.new.self.items (ends_mixed shelf.kept.items c.remove-own.new.self.items shelf.owners.entries shelf.ends c.end_mixed.new.ends whole.ends (c.end_mixed.ensures whole.ends.flags));
+      settling = moved.settling;
+    }

@@ -1,0 +1,421 @@
+//! Drawn calls to two caches, of which one lets flushes go as the first form of `Shelf::settle` did.
+//!
+//! Once a flush has gone, each mixed name waits for a visit, whether the flush covers it or not. It uses up a part of the next
+//! `sweep_some`. So callers see how many names wait: by what `sweep_some` returns, by the number of cells after it, and by which admission
+//! is refused.
+
+ghost use Rattle.std.specs.Prelude.{◌<◌};
+ghost use Rattle.shelf.specs.Told.{IsShelf};
+
+use crate::ends::Ends;
+use crate::former::former_settle;
+use crate::settling::Settling;
+use crate::shelf::Shelf;
+use dns_name::Name;
+use dns_text::{Items, Question, read_record, types};
+use ranked::{Find, Flush, Rank, Reach, SharedFind};
+use std::alloc::Global;
+use std::process::Abort;
+use std::test::Fail;
+use winner_tree::WinnerTree;
+
+/// Numbers by chance, from a seed.
+#[derive(Drop)]
+struct Draws {
+    state: u64,
+}
+
+impl Draws {
+    fn below(&mut self, end: u64) -> u64
+        requires { 0 < end }
+        ensures { result < end }
+    {
+        let grown = self.state.wrapping_mul(6_364_136_223_846_793_005);
+        self.state = grown.wrapping_add(1_442_695_040_888_963_407);
+        (self.state >> 33) % end
+    }
+
+    fn number(&mut self, names: u64) -> u64 {
+        if names == 0 { 0 } else { self.below(names) }
+    }
+
+    fn rank(&mut self) -> Rank {
+        match self.below(3) {
+            0 => Rank::Additional,
+            1 => Rank::Answer,
+            _ => Rank::AuthoritativeAnswer,
+        }
+    }
+
+    fn ttl(&mut self) -> u32 {
+        self.below(1_000) as u32 + 1
+    }
+}
+
+/// A name of two labels. Each zone of one label has every twentieth.
+fn name(alloc: Global, number: u64) -> Result<Name, Fail> {
+    let first = b'a' + (number / 20 % 20) as u8;
+    let second = b'a' + (number % 20) as u8;
+    Ok(Name::from_text(alloc, &[first, b'.', second])?)
+}
+
+fn zone(alloc: Global, number: u64) -> Result<Name, Fail> {
+    Ok(Name::from_text(alloc, &[b'a' + (number % 20) as u8])?)
+}
+
+fn address(alloc: Global, owner: Name, rank: Rank, ttl: u32) -> Result<SharedFind, Fail> {
+    let record = read_record(alloc, b"a.test A 192.0.2.1")?;
+    let data = Items::new(vec![in alloc; record.body]?);
+    let find = Find::new(owner, record.kind, rank, ttl, data).ok_or("a find")?;
+    Ok(SharedFind::new(alloc, find)?)
+}
+
+fn long_address(alloc: Global, owner: Name, rank: Rank, ttl: u32) -> Result<SharedFind, Fail> {
+    let record = read_record(alloc, b"a.test AAAA 2001:db8::1")?;
+    let data = Items::new(vec![in alloc; record.body]?);
+    let find = Find::new(owner, record.kind, rank, ttl, data).ok_or("a find")?;
+    Ok(SharedFind::new(alloc, find)?)
+}
+
+fn drawn_find(alloc: Global, draws: &mut Draws, names: u64) -> Result<SharedFind, Fail> {
+    let owner = name(alloc, draws.number(names))?;
+    let rank = draws.rank();
+    let ttl = draws.ttl();
+    if draws.below(4) == 0 {
+        long_address(alloc, owner, rank, ttl)
+    } else {
+        address(alloc, owner, rank, ttl)
+    }
+}
+
+fn drawn_flush(alloc: Global, draws: &mut Draws, names: u64) -> Result<Flush, Fail> {
+    let number = draws.number(names);
+    match draws.below(16) {
+        0 => Ok(Flush {
+            name: Name::root(alloc),
+            reach: Reach::Zone,
+        }),
+        1..=7 => Ok(Flush {
+            name: zone(alloc, number)?,
+            reach: Reach::Zone,
+        }),
+        8..=11 => Ok(Flush {
+            name: name(alloc, number)?,
+            reach: Reach::Name,
+        }),
+        _ => Ok(Flush {
+            name: name(alloc, number)?,
+            reach: Reach::OneType(types::A),
+        }),
+    }
+}
+
+/// The number of a kept flush, or 0 if none is kept.
+fn drawn_number(draws: &mut Draws, shelf: &Shelf) -> u64 {
+    let place = draws.number(shelf.kept.len() as u64) as usize;
+    match shelf.kept.get(place) {
+        Some(own) => own.number,
+        None => 0,
+    }
+}
+
+/// The name at a place of the index.
+fn name_at(shelf: &Shelf, place: usize) -> Option<&Name> {
+    match shelf.owners.get_index(place) {
+        Some((name, _)) => Some(name),
+        None => None,
+    }
+}
+
+fn is_same_name(name: Option<&Name>, other: Option<&Name>) -> bool {
+    match name {
+        Some(name) => match other {
+            Some(other) => *name == *other,
+            None => false,
+        },
+        None => other.is_none(),
+    }
+}
+
+fn are_moments_alike(one: &WinnerTree, other: &WinnerTree) -> bool {
+    if one.len() != other.len() {
+        return false;
+    }
+    for place in 0..one.len() {
+        if place >= other.len() || one.end(place) != other.end(place) {
+            return false;
+        }
+    }
+    true
+}
+
+fn are_ends_alike(one: &Ends, other: &Ends) -> bool {
+    are_moments_alike(&one.moments, &other.moments)
+        && one.mixed == other.mixed
+        && one.lasts.ends == other.lasts.ends
+        && one.lasts.winners == other.lasts.winners
+}
+
+/// Whether a permanent flush has reached the same names, and has the same left to reach.
+fn is_settling_alike(one: &Option<Settling>, other: &Option<Settling>) -> bool {
+    match one {
+        Some(one) => match other {
+            Some(other) => {
+                one.number == other.number && one.left == other.left && one.zone == other.zone
+            }
+            None => false,
+        },
+        None => other.is_none(),
+    }
+}
+
+/// The seconds that a find has left, and how far it is trusted.
+fn shown(shelf: &Shelf, question: &Question, moment: u64) -> Option<(u32, u8)> {
+    match shelf.show(&question.owner, question.kind, moment) {
+        Some(held) => Some((held.left, held.rank.level())),
+        None => None,
+    }
+}
+
+fn is_question_alike(one: &Shelf, other: &Shelf, question: &Question, moment: u64) -> bool {
+    shown(one, question, moment) == shown(other, question, moment)
+        && one.kept(question) == other.kept(question)
+}
+
+fn is_name_alike(one: &Shelf, other: &Shelf, name: &Name, moment: u64) -> Result<bool, Fail> {
+    let short = Question {
+        owner: name.clone()?,
+        kind: types::A,
+    };
+    let long = Question {
+        owner: name.clone()?,
+        kind: types::AAAA,
+    };
+    Ok(
+        is_question_alike(one, other, &short, moment)
+            && is_question_alike(one, other, &long, moment),
+    )
+}
+
+fn is_place_alike(one: &Shelf, other: &Shelf, place: usize, moment: u64) -> Result<bool, Fail> {
+    let name = name_at(one, place);
+    if !is_same_name(name, name_at(other, place)) {
+        return Ok(false);
+    }
+    match name {
+        Some(name) => is_name_alike(one, other, name, moment),
+        None => Ok(true),
+    }
+}
+
+/// Two caches that get the same calls. The second lets flushes go in the first form.
+#[derive(Drop)]
+struct Both {
+    one: Shelf,
+    other: Shelf,
+}
+
+impl Both {
+    fn admit<R: Abort>(&mut self, rt: &R, find: SharedFind, moment: u64) -> Result<(), Fail>
+        requires { IsShelf self.old.one × IsShelf self.old.other }
+        ensures { IsShelf self.new.one × IsShelf self.new.other }
+    {
+        let copy = find.share()?;
+        let first = self.one.admit(copy, moment);
+        let second = self.other.admit(find, moment);
+        assert!(rt; first == second);
+        Ok(())
+    }
+
+    fn open(&mut self, flush: Flush) -> Result<(), Fail>
+        requires { IsShelf self.old.one × IsShelf self.old.other }
+        ensures { IsShelf self.new.one × IsShelf self.new.other }
+    {
+        let top = self.one.top.max(self.other.top);
+        if top == u64::MAX {
+            return Ok(());
+        }
+        self.one.open_flush(flush.copy()?, top + 1)?;
+        self.other.open_flush(flush, top + 1)?;
+        Ok(())
+    }
+
+    /// Undoes a flush, or redoes it.
+    fn show(&mut self, number: u64, shown: bool) -> Result<(), Fail>
+        requires { IsShelf self.old.one × IsShelf self.old.other }
+        ensures { IsShelf self.new.one × IsShelf self.new.other }
+    {
+        if shown {
+            self.one.unhide(number);
+            self.other.unhide(number);
+            return Ok(());
+        }
+        self.one.hide(number);
+        self.other.hide(number);
+        Ok(())
+    }
+
+    /// Lets a flush go, or none if the number is not kept.
+    fn settle(&mut self, number: u64) -> Result<(), Fail>
+        requires { IsShelf self.old.one × IsShelf self.old.other }
+        ensures { IsShelf self.new.one × IsShelf self.new.other }
+    {
+        self.one.settle(number);
+        former_settle(&mut self.other, number);
+        Ok(())
+    }
+
+    fn sweep(&mut self, moment: u64) -> Result<(), Fail>
+        requires { IsShelf self.old.one × IsShelf self.old.other }
+        ensures { IsShelf self.new.one × IsShelf self.new.other }
+    {
+        self.one.sweep(moment);
+        self.other.sweep(moment);
+        Ok(())
+    }
+
+    fn sweep_some<R: Abort>(&mut self, rt: &R, moment: u64) -> Result<(), Fail>
+        requires { IsShelf self.old.one × IsShelf self.old.other }
+        ensures { IsShelf self.new.one × IsShelf self.new.other }
+    {
+        let first = self.one.sweep_some(moment);
+        let second = self.other.sweep_some(moment);
+        assert!(rt; first == second);
+        Ok(())
+    }
+
+    fn forget(&mut self, owner: &Name) -> Result<(), Fail>
+        requires { IsShelf self.old.one × IsShelf self.old.other }
+        ensures { IsShelf self.new.one × IsShelf self.new.other }
+    {
+        self.one.forget(owner);
+        self.other.forget(owner);
+        Ok(())
+    }
+
+    fn compare<R: Abort>(&self, rt: &R, moment: u64)
+        requires { IsShelf self.now.one × IsShelf self.now.other }
+    {
+        assert!(rt; self.one.stored() == self.other.stored());
+        assert!(rt; self.one.owners.len() == self.other.owners.len());
+        assert!(rt; is_same_name(self.one.oldest(moment), self.other.oldest(moment)));
+        assert!(rt; are_ends_alike(&self.one.ends, &self.other.ends));
+        assert!(rt; is_settling_alike(&self.one.settling, &self.other.settling));
+    }
+
+    fn compare_names<R: Abort>(&self, rt: &R, moment: u64) -> Result<(), Fail> {
+        for place in 0..self.one.owners.len() {
+            assert!(rt; is_place_alike(&self.one, &self.other, place, moment)?);
+        }
+        Ok(())
+    }
+
+    /// Caches another address of a name with a lower rank, mostly.
+    fn mix<R: Abort>(
+        &mut self,
+        rt: &R,
+        alloc: Global,
+        draws: &mut Draws,
+        number: u64,
+    ) -> Result<(), Fail>
+        requires { IsShelf self.old.one × IsShelf self.old.other }
+        ensures { IsShelf self.new.one × IsShelf self.new.other }
+    {
+        if draws.below(8) == 0 {
+            return Ok(());
+        }
+        let owner = name(alloc, number)?;
+        let find = address(alloc, owner, Rank::Answer, draws.ttl())?;
+        self.admit(rt, find, 0)
+    }
+
+    /// Caches so many names, flushes them all, and caches most of them again with a lower rank, so that they are mixed.
+    fn fill<R: Abort>(
+        &mut self,
+        rt: &R,
+        alloc: Global,
+        draws: &mut Draws,
+        names: u64,
+    ) -> Result<(), Fail>
+        requires { IsShelf self.old.one × IsShelf self.old.other }
+        ensures { IsShelf self.new.one × IsShelf self.new.other }
+    {
+        for number in 0..names {
+            let owner = name(alloc, number)?;
+            let find = address(alloc, owner, Rank::AuthoritativeAnswer, draws.ttl())?;
+            self.admit(rt, find, 0)?;
+        }
+        self.open(Flush {
+            name: Name::root(alloc),
+            reach: Reach::Zone,
+        })?;
+        self.open(drawn_flush(alloc, draws, names)?)?;
+        self.open(drawn_flush(alloc, draws, names)?)?;
+        for number in 0..names {
+            self.mix(rt, alloc, draws, number)?;
+        }
+        self.sweep(0)
+    }
+
+    /// A drawn call.
+    fn step<R: Abort>(
+        &mut self,
+        rt: &R,
+        alloc: Global,
+        draws: &mut Draws,
+        names: u64,
+        moment: u64,
+    ) -> Result<(), Fail>
+        requires { IsShelf self.old.one × IsShelf self.old.other }
+        ensures { IsShelf self.new.one × IsShelf self.new.other }
+    {
+        let number = drawn_number(draws, &self.one);
+        match draws.below(24) {
+            0..=4 => self.admit(rt, drawn_find(alloc, draws, names)?, moment),
+            5..=8 => self.open(drawn_flush(alloc, draws, names)?),
+            9 | 10 => self.show(number, false),
+            11 => self.show(number, true),
+            12..=14 => self.settle(number),
+            // No flush has this number.
+            15 => self.settle(u64::MAX),
+            16..=21 => self.sweep_some(rt, moment),
+            22 => self.sweep(moment),
+            _ => self.forget(&name(alloc, draws.number(names))?),
+        }
+    }
+
+    fn run<R: Abort>(&mut self, rt: &R, alloc: Global, seed: u64, names: u64) -> Result<(), Fail>
+        requires { IsShelf self.old.one × IsShelf self.old.other }
+    {
+        let mut draws = Draws { state: seed };
+        let mut moment = 0u64;
+        self.fill(rt, alloc, &mut draws, names)?;
+        for _ in 0..40u8 {
+            moment = moment.saturating_add(draws.below(8));
+            self.step(rt, alloc, &mut draws, names, moment)?;
+            self.compare(rt, moment);
+            self.compare_names(rt, moment)?;
+        }
+        Ok(())
+    }
+}
+
+fn course<R: Abort>(rt: &R, alloc: Global, seed: u64, names: u16) -> Result<(), Fail> {
+    let limit = u64::from(names) + u64::from(names / 8);
+    let mut both = Both {
+        one: Shelf::new(alloc, limit),
+        other: Shelf::new(alloc, limit),
+    };
+    both.run(rt, alloc, seed, u64::from(names))
+}
+
+/// Each mixed name waits for a visit once a flush has gone, of fewer than 256 such names and of more.
+#[test]
+fn mixed_names_wait_for_a_visit(rt: HostRuntime) -> Result<(), Fail> {
+    for seed in 0..5u64 {
+        for names in [60, 200, 320, 380] {
+            course(&rt, rt.alloc(), seed, names)?;
+        }
+    }
+    Ok(())
+}
