@@ -18,7 +18,7 @@ use Rattle.cell_store.specs.Column.{Cells, place_in, is_counted}
 use Rattle.cell_store.specs.Owner.{column_of, whole_cell, place_held, column_held, IsWholeUpTo, IsLeftWithin, IsOwn, IsUpTo, CanSettleColumn, IsPlaceOf}
 use Rattle.cell_store.specs.Count.{one_if}
 use Rattle.cell_store.specs.Prune.{is_asked}
-use Rattle.cell_store.specs.Sweep.{alive_at, swept, is_dead, whole_swept, IsSeenAt}
+use Rattle.cell_store.specs.Sweep.{alive_at, swept, is_dead, whole_swept, IsSeenAt, IsSweptColumn, IsSweptKind}
 use Rattle.cell_store.proofs.OwnerLaws.{column_put, column_here}
 use Rattle.cell_store.proofs.PlaceLaws.{or_right}
 
@@ -166,6 +166,15 @@ module _ (w : Option WholeFind) (kinds : List KindColumn) (kind place : ℕ) (le
   pub swept_kind_first : (is_counted column ≡ true → is_some (place_in column 0).cell.held ≡ true) → option_map_or is_counted (column_of (slice_set kinds place (record { kind = lent.kind; column = column })) kind) false ≡ true
       → is_some (alive_at t (column_held w (column_of (slice_set kinds place (record { kind = lent.kind; column = column })) kind) 0)) ≡ true
   swept_kind_first seen has = seen_in 0 refl (seen (counted_in has))
+
+  pub swept_kind_even : IsSweptColumn t lent.column column → IsSweptKind t (column_of kinds kind) (column_of (slice_set kinds place (record { kind = lent.kind; column = column })) kind)
+  swept_kind_even swept =
+      subst (λ (o : Option Cells). IsSweptKind t o (column_of (slice_set kinds place (record { kind = lent.kind; column = column })) kind)) (sym was)
+      (subst (λ (o : Option Cells). IsSweptKind t (Some lent.column) o) (sym now) swept)
+
+-- a type that has no column
+pub swept_kind_none : (t : ℕ) (column : Option Cells) → column ≡ None → IsSweptKind t column column
+swept_kind_none t column is = subst (λ (o : Option Cells). IsSweptKind t o o) (sym is) tt
 
 -- a column whose versions are all swept, whichever are in use
 pub swept_even_cell : (w : Option WholeFind) (kinds : List KindColumn) (kind place : ℕ) (lent : KindColumn) (column : Cells) (t : ℕ) → IsPlaceOf kinds kind place → lent ≡ get_or kinds place lent

@@ -44,10 +44,10 @@ place_put kinds kind place lent column is read k =
     split true = refl
     split false = refl
 
--- the column of a type that has more than one entry
-pub mixed_here : (kinds : List KindColumn) (kind place : ℕ) (lent : KindColumn) → IsPlaceOf kinds kind place → lent ≡ get_or kinds place lent → is_mixed lent.column ≡ true → option_map_or is_mixed (column_of kinds kind) false ≡ true
-mixed_here kinds kind place lent is read mixed =
-    ap (λ (o : Option Cells). option_map_or is_mixed o false) (column_here kinds kind place lent is) ∙ (ap (λ (own : KindColumn). is_mixed own.column) (sym read) ∙ mixed)
+-- whether the column of a type has more than one entry
+pub mixed_here : (kinds : List KindColumn) (kind place : ℕ) (lent : KindColumn) (mixed : Bool) → IsPlaceOf kinds kind place → lent ≡ get_or kinds place lent → is_mixed lent.column ≡ mixed → option_map_or is_mixed (column_of kinds kind) false ≡ mixed
+mixed_here kinds kind place lent mixed is read same =
+    ap (λ (o : Option Cells). option_map_or is_mixed o false) (column_here kinds kind place lent is) ∙ (ap (λ (own : KindColumn). is_mixed own.column) (sym read) ∙ same)
 
 -- a fact of each scope
 pub by_scope : (P : Scope → Type 0) → ((k : ℕ) → P (One k)) → P Whole → (scope : Scope) → P scope

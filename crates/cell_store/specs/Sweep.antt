@@ -22,6 +22,16 @@ swept t place = if place.left then whole else own (alive_at t place.cell.held)
 abbrev pub version_swept : {B : Type 0} → ℕ → Version B → Version B
 version_swept t version = record { from = version.from; place = swept t version.place }
 
+-- Each version of a column has its old content without a find that is dead at a moment, and admissions have reached the same versions.
+abbrev pub IsSweptColumn : ℕ → Cells → Cells → Type 0
+IsSweptColumn t old new = ((v : ℕ) → place_in new v ≡ swept t (place_in old v)) × (new.upto ≡ old.upto)
+
+-- If a type had a column, that column is swept now. If it had none, it has none now.
+abbrev pub IsSweptKind : ℕ → Option Cells → Option Cells → Type 0
+IsSweptKind t None None = Unit {0}
+IsSweptKind t (Some old) (Some new) = IsSweptColumn t old new
+IsSweptKind t _ _ = ⊥
+
 -- A version in use has a find.
 abbrev pub IsSeenAt : List ℕ → Cells → Type 0
 IsSeenAt numbers cells = (v : ℕ) × ((is_asked numbers v ≡ true) × (is_some (place_in cells v).cell.held ≡ true))

@@ -16,7 +16,7 @@ ghost use Rattle.cell_store.specs.Count.{count_kinds, is_counted, one_if};
 ghost use Rattle.cell_store.specs.Ends.{cell_end, name_end};
 ghost use Rattle.cell_store.specs.Mixed.{is_mixed};
 ghost use Rattle.cell_store.specs.Prune.{is_asked};
-ghost use Rattle.cell_store.specs.Sweep.{alive_at, is_dead, whole_swept};
+ghost use Rattle.cell_store.specs.Sweep.{alive_at, is_dead, whole_swept, IsSweptKind};
 
 use crate::column::Column;
 use crate::version::Sight;
@@ -469,8 +469,9 @@ impl OwnerCells {
         }
     }
 
-    /// Drops the finds of a type that are dead at a moment, unless its column has more than one entry: then it returns false, and nothing
-    /// changes. The versions of a column with one entry are alike, so it does not matter which are in use. It takes no memory.
+    /// Drops the finds of a type that are dead at a moment, and returns true, unless its column has more than one entry: then it returns
+    /// false, and nothing changes. The versions of a column with one entry are alike, so it does not matter which are in use.
+    /// It takes no memory.
     pub fn sweep_if_even(&mut self, kind: u16, moment: u64) -> bool
         ensures cells { (k v : ℕ) → alive_at moment (cell_in self.new k v) ≡ alive_at moment (cell_in self.old k v) }
         ensures seen { result ≡ true → has_place self.new (One kind) ≡ true →
@@ -482,6 +483,8 @@ impl OwnerCells {
         ensures lost { LosesFinds self.old self.new }
         ensures same { result ≡ false → (self.new ≡ self.old)
             × (option_map_or is_mixed (column_of self.old.kinds.items kind) false ≡ true) }
+        ensures even { (result ≡ not (option_map_or is_mixed (column_of self.old.kinds.items kind) false))
+            × (result ≡ true → IsSweptKind moment (column_of self.old.kinds.items kind) (column_of self.new.kinds.items kind)) }
     {
         match place_of(&self.kinds, kind) {
             Some(place) => {

@@ -1,15 +1,20 @@
-use Rattle.std.proofs.Common.{◌≤◌, [], List, refl, ap, subst, sym, ◌∙◌, arith, inl}
+use Rattle.std.proofs.Common.{◌≡◌, ◌≤◌, None, [], List, Option, false, true, refl, ap, subst, sym, ◌∙◌, arith, inl}
+use Rattle.std.specs.Prelude.{not}
+use Rattle.std.specs.Option.{option_map_or}
+use Rattle.std.proofs.lemmas.Bool.{false≢true}
 use Rattle.ranked.specs.declared.find.Find.{Find}
 use Rattle.cell_store.specs.declared.version.Place.{Place}
 use Rattle.cell_store.specs.declared.owner.KindColumn.{KindColumn}
-use Rattle.cell_store.specs.Owner.{IsPlaceOf}
+use Rattle.cell_store.specs.Column.{Cells}
+use Rattle.cell_store.specs.Mixed.{is_mixed}
+use Rattle.cell_store.specs.Owner.{column_of, IsPlaceOf}
 use Rattle.cell_store.proofs.OwnerLaws.{all_at}
 use Rattle.cell_store.proofs.CountLaws.{count_lost}
 use Rattle.cell_store.proofs.OwnLaws.{own_swept}
 use Rattle.cell_store.proofs.PlaceLaws.{kept_put, less_put, lost_from, mixed_here}
 use Rattle.cell_store.proofs.SettleLaws.{settles_put, left_put}
 use Rattle.cell_store.proofs.SweepLaws.{left_of}
-use Rattle.cell_store.proofs.OwnerSweepLaws.{swept_even_cell, swept_kind_others, swept_kind_first, same_kinds}
+use Rattle.cell_store.proofs.OwnerSweepLaws.{swept_even_cell, swept_kind_others, swept_kind_even, swept_kind_first, swept_kind_none, same_kinds}
 use Rattle.cell_store.proofs.owner.OwnerCells.sweep_if_even.Goals as goal
 
 pub returns-then-is_mixed-clause-same : goal.returns-then-is_mixed-clause-same
@@ -17,7 +22,30 @@ returns-then-is_mixed-clause-same c = λ uneven.
     let self = c.args.self.now in
     let is = subst (λ (l : List KindColumn). IsPlaceOf l c.args.kind c.in-Some.place) c.deref.ensures.value c.in-Some.ensures.some in (
       refl,
-      mixed_here self.kinds.items c.args.kind c.in-Some.place c.index.result.now is c.index.ensures (sym c.is_mixed.ensures.value ∙ c.if-is_mixed.true),
+      mixed_here self.kinds.items c.args.kind c.in-Some.place c.index.result.now true is c.index.ensures (sym c.is_mixed.ensures.value ∙ c.if-is_mixed.true),
+    )
+
+pub returns-then-is_mixed-clause-even : goal.returns-then-is_mixed-clause-even
+returns-then-is_mixed-clause-even c =
+    let self = c.args.self.now in
+    let is = subst (λ (l : List KindColumn). IsPlaceOf l c.args.kind c.in-Some.place) c.deref.ensures.value c.in-Some.ensures.some in (
+      ap not (sym (mixed_here self.kinds.items c.args.kind c.in-Some.place c.index.result.now true is c.index.ensures (sym c.is_mixed.ensures.value ∙ c.if-is_mixed.true))),
+      λ even. absurd (false≢true even),
+    )
+
+pub returns-else-is_mixed-clause-even : goal.returns-else-is_mixed-clause-even
+returns-else-is_mixed-clause-even c =
+    let self = c.args.self.now in
+    let is = subst (λ (l : List KindColumn). IsPlaceOf l c.args.kind c.in-Some.place) c.deref.ensures.value c.in-Some.ensures.some in (
+      ap not (sym (mixed_here self.kinds.items c.args.kind c.in-Some.place c.index.result.now false is c.index.ensures (sym c.is_mixed.ensures.value ∙ c.if-is_mixed.false))),
+      λ even. swept_kind_even self.whole self.kinds.items c.args.kind c.in-Some.place c.index_mut.result.now c.sweep_even.new.self [] c.args.moment is c.index_mut.ensures.value (λ v asked. c.sweep_even.ensures.places v) (c.sweep_even.ensures.places, c.sweep_even.ensures.upto),
+    )
+
+pub returns-in-None-clause-even : goal.returns-in-None-clause-even
+returns-in-None-clause-even c =
+    let none = subst (λ (l : List KindColumn). column_of l c.args.kind ≡ None) c.deref.ensures.value c.in-None.ensures.none in (
+      ap (λ (o : Option Cells). not (option_map_or is_mixed o false)) (sym none),
+      λ even. swept_kind_none c.args.moment _ none,
     )
 
 pub returns-else-is_mixed-clause-cells : goal.returns-else-is_mixed-clause-cells
