@@ -1,12 +1,12 @@
 -- A bound on the octets of the names of a list, after each change; and the names that are too short to be there.
-use Rattle.std.proofs.Common.{◌≡◌, ℕ, zero, suc, ◌+◌, ◌<◌, ◌≤◌, Bool, true, false, not, cond, List, [], ◌∷◌, ◌++◌, length, map, min, insert, remove, Option, Some, None, refl, ap, sym, subst, ◌∙◌, arith, length-append, inl, inr}
+use Rattle.std.proofs.Common.{◌≡◌, ℕ, zero, suc, ◌<◌, ◌≤◌, true, false, List, [], ◌∷◌, ◌++◌, length, min, insert, remove, Option, None, refl, ap, sym, subst, ◌∙◌, arith, length-append, inl, inr}
 use Rattle.std.specs.List.{AllByRecursion}
 use Rattle.std.specs.Option.{option_or}
 use Rattle.std.proofs.lemmas.Bool.{cases_Bool, false≢true}
 use Rattle.dns_name.specs.Labels.{Labels, octets_of, with_length}
 use Rattle.dns_name.specs.Octets.{octets_of-child}
 use Rattle.dns_name.specs.Order.{name_eq, name_eq_exact}
-use Rattle.named_list.specs.Named.{has_named, list_with, list_without, names_of}
+use Rattle.named_list.specs.Named.{has_named, list_with, list_without}
 use Rattle.named_list.specs.NamedLaws.{names_over}
 use Rattle.named_list.specs.Closest.{closest_of, find_named}
 use Rattle.named_list.specs.Keyed.{AreAsLong}

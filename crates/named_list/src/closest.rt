@@ -23,20 +23,20 @@ pub(crate) fn closest<'a, T: Named>(
     ensures { option_map (λ x. x.now) result ≡ closest_of T.named (values things.now) name.now }
 {
     let mut octets = name.octets();
-    // Most services have no local zone, and no stub.
+    // Most services have no local zone, and no stub: no name is long enough, and its labels need not be found.
     if octets.len() < least {
         return None;
     }
     let mut labels = name.labels();
     loop {
-        if octets.len() < least {
-            return None;
-        }
         if let Some(thing) = things.get(octets) {
             return Some(thing);
         }
         let label = labels.next()?;
         let end = octets.len() - label.len() - 1;
+        if end < least {
+            return None;
+        }
         octets = &octets[..end];
     }
 }
