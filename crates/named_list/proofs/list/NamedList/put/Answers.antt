@@ -12,7 +12,7 @@ pub invariant_of-self : goal.invariant_of-self
 invariant_of-self g c =
     let name_of = g.T.Named.named in
     let before = values_of c.self.inside.things.entries in
-    let less = long_less name_of c.self.inside.least c.min-self-inside.result before (min_first c.self.inside.least (length c.octets.result.now) c.min-self-inside.result c.min-self-inside.ensures) c.self.invariant.2 in
+    let less = long_less name_of c.self.inside.least c.min-self-inside.result before (min_first c.self.inside.least _ c.min-self-inside.result c.min-self-inside.ensures) c.self.invariant.2 in
     let same = ap length c.octets.ensures.value ∙ ap (λ (n : Labels). length (octets_of n)) (c.name.ensures ∙ ap name_of c.get.ensures) in
     let low = min_second c.self.inside.least (length c.octets.result.now) c.min-self-inside.result (length (octets_of (name_of c.args.new))) c.min-self-inside.ensures same in (
       either c.put.result c.put.ensures.ok c.put.ensures.err
