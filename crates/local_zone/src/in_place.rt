@@ -1,4 +1,4 @@
-//! Takes few records out of the list, or puts few back, without a second list.
+//! Takes few records out of a long list, or puts few back, without a second list.
 
 ghost use Rattle.std.specs.Prelude.{◌≡◌, ◌≤◌, ◌+◌, ◌-◌, ◌++◌, List, take, drop, length};
 ghost use Rattle.std.specs.Vec.{vec_len, vec_capacity};
@@ -11,7 +11,17 @@ use crate::taken::Taken;
 
 /// The most records that are taken out, or put back, without a second list. The work grows with the square of their number,
 /// which this bounds.
-pub(crate) const MOST_IN_PLACE: usize = 64;
+const MOST_IN_PLACE: usize = 64;
+
+/// How many records stay, at least, for each that is taken out, or put back, without a second list. Most moves clear the 4,096 octets
+/// through which a rotation goes, so one pass over a shorter list can be quicker.
+const STAY_FOR_EACH: usize = 32;
+
+/// Whether `moved` records are taken out of a list, or put back, without a second list, where `stay` others are in it.
+pub(crate) fn moves_in_place(room: usize, stay: usize, moved: usize) -> bool {
+    // A list that has become much shorter than its room goes into a second one, which has less.
+    moved <= MOST_IN_PLACE && moved <= stay / STAY_FOR_EACH && room / 4 <= stay
+}
 
 /// Moves `count` records, which begin at `front`, behind the `gap` records that follow them.
 fn shift(list: &mut [LocalRecord], front: usize, count: usize, gap: usize)

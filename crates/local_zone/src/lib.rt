@@ -18,8 +18,8 @@ mod zone_list;
 mod closest;
 mod zones;
 // The records in order with an index by owner. `passes` takes many out, or puts them back, in one walk. `in_place` does so with
-// few, which costs less. `groups` moves their owners' groups out of the index, or back. `counts_below` says of a name whether
-// records lie strictly below it.
+// few of a long list, which costs less. `groups` moves their owners' groups out of the index, or back. `counts_below` says of a
+// name whether records lie strictly below it.
 mod counts_below;
 mod groups;
 mod in_place;

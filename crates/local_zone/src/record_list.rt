@@ -15,7 +15,7 @@ ghost use Rattle.local_zone.specs.Index.{of_owner, items_in, under, IsGrouped, I
 
 use crate::counts_below::CountsBelow;
 use crate::groups::{move_groups, put_groups};
-use crate::in_place::{MOST_IN_PLACE, put_few, take_few};
+use crate::in_place::{moves_in_place, put_few, take_few};
 use crate::passes::{push_gaps, put_pass, take_pass};
 use crate::record::LocalRecord;
 use crate::removed::Removed;
@@ -130,7 +130,7 @@ fn pop_under(owners: &mut IndexMap<Vec<u8>, Vec<LocalRecord>>, owner: &Name) -> 
     }
 }
 
-/// Takes the records at the gaps out of a list: few in place, many in one pass. If memory is refused, nothing has changed.
+/// Takes the records at the gaps out of a list: few of many in place, others in one pass. If memory is refused, nothing has changed.
 fn cut_out(
     alloc: Global,
     list: &mut Vec<LocalRecord>,
@@ -143,8 +143,8 @@ fn cut_out(
     ensures taken { OnOk result (taken.new.items ≡ taken.old.items ++ at_gaps gaps.now list.old.items) }
     ensures err { OnErr result ((list.new.items ≡ list.old.items) × (taken.new.items ≡ taken.old.items)) }
 {
-    // A list that has become much shorter than its room goes into a second one, which has less.
-    if gaps.len() <= MOST_IN_PLACE && list.capacity() / 4 <= list.len() {
+    let stay = list.len() - gaps.len();
+    if moves_in_place(list.capacity(), stay, gaps.len()) {
         take_few(list, gaps, taken);
         return Ok(());
     }
@@ -155,8 +155,8 @@ fn cut_out(
     Ok(())
 }
 
-/// Room for records that go back into a list: in the list itself if they are few, and it has not become much shorter than its
-/// room, else a second list.
+/// Room for records that go back into a list: in the list itself if they are few of many, and it has not become much shorter than
+/// its room, else a second list.
 fn room_for(
     alloc: Global,
     list: &mut Vec<LocalRecord>,
@@ -166,7 +166,7 @@ fn room_for(
     ensures room { IfOk result (λ second. MatchOption second (vec_len list.new + length taken.now ≤ vec_capacity list.new)
         (λ to. (to.items ≡ []) × (vec_len list.new + length taken.now ≤ vec_capacity to))) }
 {
-    if taken.len() <= MOST_IN_PLACE && list.capacity() / 4 <= list.len() + taken.len() {
+    if moves_in_place(list.capacity(), list.len(), taken.len()) {
         list.reserve_exact(taken.len())?;
         return Ok(None);
     }
