@@ -91,7 +91,7 @@ impl ZoneList {
         self.list.as_slice()
     }
 
-    /// The longest zone at or above a name: one lookup for each label. It takes no memory.
+    /// The longest zone at or above a name: at most one lookup for each label. It takes no memory.
     pub(crate) fn closest(&self, name: &Name) -> Option<&Shared<Zone>>
         ensures { option_map (λ z. z.now) result ≡ closest self.now name.now }
     {
