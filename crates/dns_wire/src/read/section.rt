@@ -24,10 +24,10 @@ pub(crate) trait SectionItem: Drop {
 /// The most items for which a section has room before one of them is read.
 const MOST_ROOM: usize = 64;
 
-/// The room with which a section begins, by the number of its items and the octets that are left for them. A message that
-/// counts more items than its octets can hold gets no more room than these need, and for 64 items at most.
+/// The room with which a section begins: for as many items as the header counts, but for 64 at most, and for no more than the shortest
+/// questions that the octets left could hold. So a message that counts more items than it has gets little room.
 fn first_room(count: u16, left: usize) -> usize {
-    // A question takes five octets at least, and a record more.
+    // A question takes five octets at least. A record takes eleven, so records may get room for up to 2.2 times as many as fit.
     usize::from(count).min(left / 5).min(MOST_ROOM)
 }
 
