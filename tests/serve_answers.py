@@ -435,14 +435,14 @@ def check_nothing_left(checks):
     """After a load the service has as many threads and descriptors as before it."""
     with NameServers(WORKED | {TEST: WORKED[TEST] | {"*": "aa rcode 3 | authority test. 60 SOA ns. host. 1 2 3 4 60"}}) as servers:
         with serving(servers, "--udp", "2", "--tcp", "3") as service:
-            until(lambda: service.threads() == 7)
+            until(lambda: service.threads() == 8)
             before = (service.threads(), service.idle_descriptors())
             load = Load(service, servers)
             until(lambda: load.answered > 200)
             load.end()
             is_as_before = until(lambda: (service.threads(), service.descriptors()) == before)
             checks.check("nothing is left after a load", None if is_as_before else f"{before} became {(service.threads(), service.descriptors())}")
-            checks.equal("threads: one for each worker, the sweeper's and the operator's", before[0], 7)
+            checks.equal("threads: one for each worker, those of the sweeper, the log and the operator", before[0], 8)
             checks.equal("nothing is left: stopped", service.stop(), STOPPED)
 
 

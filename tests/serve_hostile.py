@@ -443,7 +443,7 @@ def check_descriptors(checks):
     """Without free descriptors questions fail and connections wait. Once there are some again, all goes on."""
     with NameServers({HOST: {"*": lambda asked: [good(asked)]}}) as servers, Service([f"{HOST}@{servers.port}"]) as service:
         service.obey("local_data held.test. 60 A 192.0.2.1")
-        until(lambda: service.threads() == 4)
+        until(lambda: service.threads() == 5)
         service.idle_descriptors()
         service.limit(service.first_free())
         replies = {service.ask(f"asked{place}.test.").words() for place in range(40)}

@@ -324,7 +324,7 @@ def outlive_want():
     ended, and its answer afterwards."""
     with Service(["192.0.2.1"]) as service:
         service.obey("local_data held.test. 60 A 192.0.2.1")
-        until(lambda: service.threads() == 4)
+        until(lambda: service.threads() == 5)
         service.idle_descriptors()
         service.limit(service.first_free())
         # A worker that waits has the descriptor of its next connection; the connection after that needs one.

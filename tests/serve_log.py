@@ -1,6 +1,9 @@
 """The log of a service: what a line says, when it is written, and what becomes of a text that comes again."""
 
+import fcntl
+import os
 import re
+import socket
 import time
 from datetime import datetime, timezone
 
@@ -11,6 +14,8 @@ from lib.nameserver import NameServers
 from lib.service import HOST, MORE, STOPPED, TIME, Service, until
 
 FAULT = b"resolver: device fault"
+
+NO_ROOM = re.compile(rb"resolver: standard error took no lines: \d+ found no room, at ")
 
 
 def texts(service):
@@ -69,17 +74,82 @@ def check_repeats(checks):
 
 
 def check_many_texts(checks):
-    """Names whose servers are all different: 64 texts are written, the others are counted, and what an operator does still shows."""
+    """Names whose servers are all different: eight servers are named beside one cause, the others are counted, and another cause still
+    shows, as does what an operator does."""
     with Service(["192.0.2.1"], "--udp", "2") as service:
-        service.obey(*(f"stub_add z{place}.test. 127.0.1.{place}@9" for place in range(1, 151)))
+        service.obey(*(f"stub_add z{place}.test. 127.0.1.{place}@9" for place in range(1, 151)), "stub_add none.test. 0.0.0.0@53")
         for place in range(1, 151):
             service.ask(f"a.z{place}.test.")
+        service.ask("a.none.test.")
         lines = [line for line in texts(service) if line.startswith(FAULT)]
-        checks.check("many texts: written", None if len(lines) <= 64 else f"{len(lines)} lines")
+        named = [line for line in lines if b"unreachable" in line]
+        checks.equal("many texts: servers that are named", len(named), 8)
+        checks.equal("many texts: another cause", sum(b"its address is never asked" in line for line in lines), 1)
         checks.equal("many texts: stopped", service.stop(), STOPPED)
-        left_out = sum(int(found[1]) for line in service.log().splitlines() if b"too many different lines" in line and (found := MORE.search(line)))
-        checks.equal("many texts: none is lost", len(lines) + left_out, 150)
+        others = [line for line in service.log().splitlines() if line.startswith(FAULT + b": unreachable, other servers, ")]
+        checks.equal("many texts: none is lost", [int(MORE.search(line)[1]) for line in others], [142])
         checks.equal("many texts: the last line", texts(service)[-1], b"resolver: stopped")
+
+
+def read_all(pipe):
+    """What a pipe holds."""
+    octets = b""
+    while True:
+        try:
+            piece = os.read(pipe, 65_536)
+        except BlockingIOError:
+            return octets
+        if not piece:
+            return octets
+        octets += piece
+
+
+def unread():
+    """A pipe that is full, and its other end. It takes 4,096 octets."""
+    reads, writes = os.pipe()
+    fcntl.fcntl(writes, fcntl.F_SETPIPE_SZ, 4096)
+    os.set_blocking(reads, False)
+    os.write(writes, b"x" * 4095 + b"\n")
+    return reads, open(writes, "wb", buffering=0)
+
+
+def fail_each(service, port, turn):
+    """Questions whose exchanges fail for two causes, at nine servers each, and one whose server is silent."""
+    for place in range(1, 10):
+        service.obey(f"stub_add x{place}.test. 127.0.1.{place}@9", f"stub_add y{place}.test. 0.0.0.{place}@53")
+        service.ask(f"a{turn}.x{place}.test.")
+        service.ask(f"a{turn}.y{place}.test.")
+    service.obey(f"stub_add silent.test. {HOST}@{port}")
+    service.ask(f"a{turn}.silent.test.")
+    with socket.create_connection((HOST, service.control_port), timeout=10) as sock:
+        sock.sendall(b"POST / HTTP/1.1\r\n\r\n")
+
+
+def check_unread(checks):
+    """Nobody reads standard error, and it takes no line. Names in the cache are answered over UDP and TCP all the time, operators are
+    obeyed, also behind a stranger whose connection is logged, and `stop` ends the service. Once somebody reads, the lines come that found
+    room, and the number of those that did not."""
+    reads, errors = unread()
+    with NameServers({HOST: {"*": None}}) as servers, Service(["192.0.2.1"], "--udp", "2", errors=errors) as service:
+        service.obey("local_data held.test. 60 A 192.0.2.1")
+        answers = []
+        for turn in range(3):
+            fail_each(service, servers.port, turn)
+            for over in ("udp", "tcp"):
+                answers.append(service.ask("held.test.", "A", over).words())
+            answers.append(service.obey("undo")[0].split()[0])
+            time.sleep(10.2)
+        checks.equal("unread: answers", sorted(set(answers)), ["aa | answer held.test. A 192.0.2.1", "undone"])
+        told = bytearray()
+
+        def is_said():
+            told.extend(read_all(reads))
+            return NO_ROOM.search(told) is not None
+
+        checks.equal("unread: said once it is read", until(is_said), True)
+        checks.check("unread: lines that found room", None if told.count(b"\n") > 40 else repr(told))
+        checks.equal("unread: stopped", service.stop(), STOPPED)
+    os.close(reads)
 
 
 def check_full(checks):
@@ -105,6 +175,7 @@ def main():
     checks.make(check_lines)
     checks.make(check_repeats)
     checks.make(check_many_texts)
+    checks.make(check_unread)
     checks.make(check_full)
     checks.end()
 

@@ -19,6 +19,9 @@ HOST = "127.0.0.1"
 CANNOT_LISTEN = b"resolver: cannot listen on "
 IN_USE = b"\nresolver: Address already in use (os error 98)\n"
 
+# The seconds after which a line of the log has been written, on a busy machine too.
+LOG_SECONDS = 0.25
+
 
 def free_port(host=HOST):
     """A port that is free over UDP and TCP."""
@@ -144,16 +147,17 @@ class Service:
 
     def __init__(
         self, hints, *options, host=HOST, listens=None, environment=None, most_descriptors=None, program=RESOLVER, prefix=(), ports=None,
+        errors=None,
     ):
         """It gets queries and lines at `host`, and listens there, or at `listens`; its two ports are given, or free ones. In the options
-        `{port}` is the port of queries. A prefix is a command that starts it."""
+        `{port}` is the port of queries. A prefix is a command that starts it. Its standard error is a file of its own, or `errors`."""
         self.host, self.listens = host, listens or host
         self.command = [*prefix, program, "serve"]
         if most_descriptors:
             self.command = ["prlimit", f"--nofile={most_descriptors}", *self.command]
         for _ in range(20):
             self.port, self.control_port = ports or (free_port(host), free_port(host))
-            self.errors = tempfile.TemporaryFile()
+            self.errors = errors or tempfile.TemporaryFile()
             self._start([*(word.format(port=self.port) for word in options), *hints], environment or {})
             if self._is_ready():
                 return
@@ -215,7 +219,9 @@ class Service:
         return {name: int(value) for name, _, value in (line.partition("=") for line in lines)}
 
     def log(self):
-        """The text on standard error so far."""
+        """The text on standard error so far. A thread of the service writes a line some fifty milliseconds after it came."""
+        if self.process.poll() is None:
+            time.sleep(LOG_SECONDS)
         size = os.fstat(self.errors.fileno()).st_size
         return os.pread(self.errors.fileno(), size, 0)
 

@@ -8,7 +8,7 @@ pub mod c_address;
 pub mod options;
 // The UDP sockets of the service, one for each worker.
 pub mod udp_binding;
-// The TCP socket of the service, and the connection that wakes a worker.
+// The TCP sockets of the service, and the connection that wakes a worker.
 pub mod tcp_binding;
 // The test whether a reply to a datagram can be sent.
 pub mod answerable;

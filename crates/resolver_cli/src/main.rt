@@ -36,8 +36,12 @@ mod own_lines;
 mod operators;
 // Sweeps of a service's cache.
 mod sweeper;
+// The texts that the log wrote lately.
+mod recent_texts;
 // The log of a service.
 mod service_log;
+// The thread that writes the log.
+mod log_writer;
 // The runtime of a service, which logs there.
 mod service_runtime;
 // A reader of a file, which keeps why a read failed.

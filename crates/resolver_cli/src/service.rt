@@ -9,6 +9,7 @@ use crate::book_figures::WatchedBook;
 use crate::fault::CliFault;
 use crate::first_lines::obey_file;
 use crate::gauges::Gauges;
+use crate::log_writer::write_often;
 use crate::operators::obey_operators;
 use crate::service_log::ServiceLog;
 use crate::service_runtime::ServiceRuntime;
@@ -66,8 +67,8 @@ fn obey<L: CallLedger, R: Wait + Clock + Log + Print>(
     Ok(())
 }
 
-/// Runs the sweeper and each worker in a thread of its own, and obeys operators in this one. After `stop` it wakes all workers,
-/// and waits until the last of them has ended.
+/// Runs the sweeper, the writer of the log and each worker in a thread of its own, and obeys operators in this one. After `stop` it wakes
+/// all workers, and waits until the last of them has ended.
 fn run<L: CallLedger + Send + Sync, R>(
     rt: &R,
     alloc: Global,
@@ -94,6 +95,7 @@ where
         let mut started = scope
             .spawn(move || sweep_often(rt, alloc, lent, sweeper))
             .is_ok();
+        started &= scope.spawn(move || write_often(rt, lent)).is_ok();
         for worker in udp {
             started &= scope
                 .spawn(move || run_udp(rt, alloc, lent, worker))
@@ -146,6 +148,7 @@ fn serve_over<L: CallLedger + Send + Sync, R, F: Files>(
     record_limit: u64,
     terms: Terms,
     gauges: &Gauges,
+    stop: &AtomicBool,
     bound: Bound,
     commands: &Option<String>,
 ) -> Result<(), CliFault>
@@ -190,14 +193,13 @@ where
             listeners,
         )?,
         wakers,
-        tcp: tcp_workers(rt, alloc, &shared, &mut pass, &terms, &gauges.tcp)?,
+        tcp: tcp_workers(rt, alloc, &shared, &mut pass, &terms, &gauges.tcp, stop)?,
     };
-    let stop = AtomicBool::new(false);
     let lent = Lent {
         book: &shared,
         gauges,
         sockets: &sockets,
-        stop: &stop,
+        stop,
         terms,
     };
     let pass = obey_first(rt, files, alloc, &shared, terms.start, commands, pass)?;
@@ -259,6 +261,7 @@ where
     };
     let book = WatchedBook::new(book, figures);
     let blank = Blank::new(PARTS);
+    let stop = AtomicBool::new(false);
     serve_over::<Brand, R, F>(
         rt,
         files,
@@ -268,6 +271,7 @@ where
         record_limit,
         terms,
         &gauges,
+        &stop,
         bound,
         &service.commands,
     )
@@ -294,8 +298,12 @@ where
         return Err(CliFault::no_memory());
     };
     let logged = ServiceRuntime::new(rt, &log);
-    serve(&logged, rt, alloc, service)?;
-    log.finish();
-    info!(logged; "resolver: stopped");
-    Ok(())
+    let served = serve(&logged, rt, alloc, service);
+    if served.is_ok() {
+        log.finish();
+        info!(logged; "resolver: stopped");
+    }
+    // All other threads have ended.
+    logged.flush();
+    served
 }

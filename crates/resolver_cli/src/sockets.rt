@@ -3,21 +3,13 @@
 ghost use Rattle.std.specs.Prelude.{◌≡◌, Ok, IfOk, vec_len};
 
 use crate::fault::CliFault;
-use dns_sockets::{bind_tcp, place_of, wake_tcp};
+use dns_sockets::{bind_clients, bind_tcp, place_of, wake_tcp};
 use dns_text::Addr;
 use flight_sockets::{UdpListener, Waker, listen_each};
 use std::alloc::Global;
+use std::io;
 use std::io::ErrorKind;
 use std::net::{Net, SocketAddr, TcpListener, TcpStream};
-use std::rt::Clock;
-use std::sync::Wait;
-use std::time::Duration;
-use std::{io, thread};
-
-/// How often waking a worker is tried, and the milliseconds between two tries: five seconds in all.
-const MOST_TRIES: u64 = 500;
-
-const TRY_MILLISECONDS: u64 = 10;
 
 /// The sockets that all threads of a service share.
 #[derive(Drop)]
@@ -62,7 +54,7 @@ impl Bound {
     {
         let place = place_of(listen);
         let (listeners, wakers) = listening(alloc, listen, listen_each(rt, alloc, place, udp))?;
-        let tcp = listening(alloc, listen, bind_tcp(rt, place))?;
+        let tcp = listening(alloc, listen, bind_clients(rt, place))?;
         let control = listening(alloc, control, bind_tcp(rt, place_of(control)))?;
         Ok(Bound {
             sockets: Sockets { tcp, control },
@@ -92,29 +84,12 @@ pub(crate) fn hold_descriptors(
     Ok(())
 }
 
-/// Wakes a worker that waits at the TCP socket, by a connection. It needs a descriptor: if there is none, it tries again, since each
-/// worker over UDP that ends leaves some.
-fn wake_at_socket<R: Net<Stream = TcpStream> + Wait + Clock>(rt: &R, place: SocketAddr) {
-    for _ in 0..MOST_TRIES {
-        if wake_tcp(rt, place).is_ok() {
-            return;
-        }
-        thread::sleep(rt, Duration::from_millis(TRY_MILLISECONDS));
-    }
-}
-
-/// Wakes each worker that waits, so that it sees the stop flag. A worker that this does not reach has a connection to accept,
-/// or looks at the flag by itself within half a second.
-pub(crate) fn wake_all<R: Net<Stream = TcpStream> + Wait + Clock>(
-    rt: &R,
-    wakers: &[Waker],
-    place: SocketAddr,
-    tcp: u8,
-) {
+/// Wakes each worker that waits, so that it sees the stop flag. Whoever is not reached looks at the flag within half a second.
+pub(crate) fn wake_all<R: Net>(rt: &R, wakers: &[Waker], place: SocketAddr, tcp: u8) {
     for waker in wakers {
         let _ = waker.wake();
     }
     for _ in 0..tcp {
-        wake_at_socket(rt, place);
+        let _ = wake_tcp(rt, place);
     }
 }

@@ -46,7 +46,6 @@ pub(crate) fn sweep_often<L: CallLedger, R: Wait + std::rt::Clock + Log>(
             return;
         }
         thread::sleep(rt, Duration::from_millis(GLANCE_MILLISECONDS));
-        rt.flush();
         let began = clock.millis();
         if began >= due {
             let moment = clock.now();

@@ -70,7 +70,7 @@ pub(crate) struct OverUdp<'a, L: CallLedger, R: Net<Stream = TcpStream> + Log + 
 pub(crate) struct OverTcp<'a, L: CallLedger, R: Net<Stream = TcpStream> + Clock> {
     pass: Pass<L>,
     ids: StdRng,
-    exchange: SocketExchange<'a, R>,
+    exchange: SocketExchange<'a, R, AtomicBool>,
     tally: &'a Tally,
 }
 
@@ -137,6 +137,7 @@ pub(crate) fn tcp_workers<'a, L: CallLedger, R>(
     pass: &mut Pass<L>,
     terms: &Terms,
     tallies: &'a [Tally],
+    stop: &'a AtomicBool,
 ) -> Result<Vec<OverTcp<'a, L, R>>, CliFault>
 where
     R: Wait + Clock + Log + RandomSource + Net<Stream = TcpStream>,
@@ -146,7 +147,7 @@ where
     for (number, tally) in (terms.udp..terms.udp + terms.tcp).zip(tallies) {
         let own = pass_of(rt, book, pass)?;
         let ids = generator(rt, terms.seed, number)?;
-        let Ok(exchange) = SocketExchange::new(rt, alloc, terms.place) else {
+        let Ok(exchange) = SocketExchange::new(rt, alloc, terms.place, stop) else {
             return Err(CliFault::no_memory());
         };
         let worker = OverTcp {

@@ -6,7 +6,7 @@ ghost use Rattle.dns_sockets.specs.Descriptors.{LacksDescriptors};
 use crate::clients::descriptors::lacks_descriptors;
 use crate::clients::frame_reader::FrameReader;
 use crate::clients::frame_writer::{FrameWriter, StreamWriter};
-use crate::deadline::REST_SECONDS;
+use crate::deadline::{REST_SECONDS, is_wait_over};
 use crate::stop_flag::StopFlag;
 use front_workers::{DEVICE_FAULT, DeviceFault, Listener};
 use log::{Log, warn};
@@ -32,7 +32,7 @@ pub struct Connections<'a, R: Clock, F: StopFlag> {
 }
 
 impl<'a, R: Clock, F: StopFlag> Connections<'a, R, F> {
-    /// A listener at a socket of `bind_tcp`.
+    /// A listener at a socket of `bind_clients`.
     pub fn new(
         rt: &'a R,
         alloc: Global,
@@ -78,6 +78,9 @@ impl<'a, R: Wait + Clock + Log, F: StopFlag> Connections<'a, R, F> {
             match self.next() {
                 Ok(connection) => return Ok(Some(connection)),
                 Err(error) => {
+                    if is_wait_over(&error) {
+                        continue;
+                    }
                     if !lacks_descriptors(&error) {
                         return Err(error);
                     }
@@ -92,7 +95,7 @@ impl<'a, R: Wait + Clock + Log, F: StopFlag> Connections<'a, R, F> {
 
 impl<'a, R: Wait + Clock + Log, F: StopFlag> Listener<
     FrameReader<'a, R, F, TcpStream>,
-    FrameWriter<'a, R, TcpStream>,
+    FrameWriter<'a, R, F, TcpStream>,
 > for Connections<'a, R, F> {
     // It ends only if the flag is set. Nothing is known of who connects.
     ghost accepts = { λ _ came _. IfOk came (λ came. IsNone came → F.stopped) };
@@ -105,7 +108,7 @@ impl<'a, R: Wait + Clock + Log, F: StopFlag> Listener<
         Option<
             (
                 FrameReader<'a, R, F, TcpStream>,
-                FrameWriter<'a, R, TcpStream>,
+                FrameWriter<'a, R, F, TcpStream>,
             ),
         >,
         DeviceFault,
@@ -119,13 +122,13 @@ impl<'a, R: Wait + Clock + Log, F: StopFlag> Listener<
                 return Err(DeviceFault::Device);
             }
         };
-        // This connection came to wake the worker.
+        // It came to wake the worker, or too late.
         if self.stop.is_set() {
             return Ok(None);
         }
         match FrameReader::new(self.rt, self.alloc, stream, self.stop) {
             Ok(reader) => {
-                let writer = CountedWriter::new(StreamWriter::new(self.rt, other));
+                let writer = CountedWriter::new(StreamWriter::new(self.rt, other, self.stop));
                 Ok(Some((reader, writer)))
             }
             Err(_) => Err(DeviceFault::NoMemory),

@@ -16,14 +16,14 @@ use crate::stop_flag::StopFlag;
 use crate::timeouts::Timeouts;
 use std::alloc::Global;
 use std::io;
-use std::io::{BufRead, BufReader, Read};
+use std::io::{BufRead, BufReader, ErrorKind, Read};
 use std::rt::Clock;
 use streams::{ReadFailed, Source};
 
 /// A reader of messages preceded by their lengths (RFC 1035, section 4.2.2), which reads ahead of what it hands out.
 ///
 /// If a message has not come whole `PATIENCE_SECONDS` after the reader first waited for it, the read fails, which ends the
-/// connection. If the stop flag is set where a message would begin, the connection is at its end.
+/// connection. If the stop flag is set where a message would begin, the connection is at its end, and inside a message a read fails.
 #[derive(Drop)]
 pub struct FrameReader<'a, R: Clock, F: StopFlag, S: Read> {
     rt: &'a R,
@@ -127,8 +127,11 @@ impl<'a, R: Clock, F: StopFlag, S: Read + Timeouts> FrameReader<'a, R, F, S> {
         ensures one { IfOk result (λ came. IfSome came (λ count. IsOfOneMessage self.old.spot (take count room.new))) }
         ensures counts { (self.new.calls ≡ self.old.calls) × (self.new.failures ≡ self.old.failures) }
     {
-        if self.spot == Spot::Beginning && self.stop.is_set() {
-            return Ok(None);
+        if self.stop.is_set() {
+            if self.spot == Spot::Beginning {
+                return Ok(None);
+            }
+            return Err(io::Error::from(ErrorKind::TimedOut));
         }
         if !self.fill()? {
             return Ok(None);

@@ -5,7 +5,8 @@ ghost use Rattle.std.specs.Io.KnownBytes.{WriteAppends};
 ghost use Rattle.dns_sockets.specs.Spots.{spot_after, IsOfOneMessage};
 
 use crate::clients::spot::Spot;
-use crate::deadline::{Deadline, begin_wait};
+use crate::deadline::{Deadline, begin_wait, glance};
+use crate::stop_flag::{StopFlag, put_off};
 use crate::timeouts::Timeouts;
 use std::io;
 use std::io::Write;
@@ -14,26 +15,29 @@ use streams::CountedWriter;
 
 /// A writer of messages preceded by their lengths (RFC 1035, section 4.2.2).
 ///
-/// If a message has not left whole `PATIENCE_SECONDS` after its first write, the write fails, which ends the connection.
-pub type FrameWriter<'a, R, S> = CountedWriter<StreamWriter<'a, R, S>>;
+/// If a message has not left whole `PATIENCE_SECONDS` after its first write, or if it waits when the stop flag is set, the write fails,
+/// which ends the connection.
+pub type FrameWriter<'a, R, F, S> = CountedWriter<StreamWriter<'a, R, F, S>>;
 
 /// The connection of a `FrameWriter`.
 #[derive(Drop)]
-pub struct StreamWriter<'a, R: Clock, S> {
+pub struct StreamWriter<'a, R: Clock, F: StopFlag, S> {
     rt: &'a R,
+    stop: &'a F,
     stream: S,
     spot: Spot,
     /// The deadline of the message, once its first write began.
     deadline: Option<Deadline>,
 }
 
-impl<'a, R: Clock, S: Write + Timeouts> StreamWriter<'a, R, S> {
+impl<'a, R: Clock, F: StopFlag, S: Write + Timeouts> StreamWriter<'a, R, F, S> {
     /// A writer at the start of a connection.
-    pub(crate) fn new(rt: &'a R, stream: S) -> StreamWriter<'a, R, S>
+    pub(crate) fn new(rt: &'a R, stream: S, stop: &'a F) -> StreamWriter<'a, R, F, S>
         ensures { result.stream ≡ stream }
     {
         StreamWriter {
             rt,
+            stop,
             stream,
             spot: Spot::Beginning,
             deadline: None,
@@ -50,8 +54,11 @@ impl<'a, R: Clock, S: Write + Timeouts> StreamWriter<'a, R, S> {
         let mut end = self.spot;
         let most = end.go_on(octets);
         let left = begin_wait(self.rt, &mut self.deadline)?.left(self.rt)?;
-        self.stream.limit_write(left)?;
-        let count = self.stream.write(&octets[..most])?;
+        self.stream.limit_write(left.min(glance()))?;
+        let count = match self.stream.write(&octets[..most]) {
+            Ok(count) => count,
+            Err(error) => return Err(put_off(self.stop, error)),
+        };
         self.spot = self.spot.after(&octets[..count]);
         if self.spot == Spot::Beginning {
             self.deadline = None;
@@ -60,7 +67,7 @@ impl<'a, R: Clock, S: Write + Timeouts> StreamWriter<'a, R, S> {
     }
 }
 
-impl<'a, R: Clock, S: Write + Timeouts> Write for StreamWriter<'a, R, S> {
+impl<'a, R: Clock, F: StopFlag, S: Write + Timeouts> Write for StreamWriter<'a, R, F, S> {
     // It holds what the connection holds.
     ghost contents = { λ writer. S.contents writer.stream };
 

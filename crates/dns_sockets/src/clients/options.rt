@@ -5,11 +5,12 @@ ghost use Rattle.libc.specs.Net.{SockOption};
 
 use crate::clients::c_address::encode;
 use libc::net as c;
-use libc::types::rlimit;
+use libc::types::{pollfd, rlimit};
 use os::FromRawFd;
 use std::io;
-use std::net::{Net, SocketAddr, UdpSocket};
+use std::net::{Net, SocketAddr, TcpListener, UdpSocket};
 use std::os::fd::AsRawFd;
+use std::time::Duration;
 
 /// The octets of the datagrams that may wait at a socket. With the system's default, bursts of some hundred are lost.
 const RECEIVE_BUFFER: i32 = 1 << 20;
@@ -31,6 +32,33 @@ fn set_option(socket: &UdpSocket, name: i32, value: i32) -> io::Result<()>
     let mut octets = [0u8; 16];
     octets[..4].copy_from_slice(&value.to_ne_bytes());
     check(unsafe { c::setsockopt(socket.as_raw_fd(), c::SOL_SOCKET, name, &octets, 4) })
+}
+
+/// Limits the time that accepting a connection waits, by the option `SO_RCVTIMEO`: a `timeval`, of seconds and microseconds.
+pub(crate) fn limit_accept(listener: &TcpListener, most: Duration) -> io::Result<()> {
+    let mut octets = [0u8; 16];
+    octets[..8].copy_from_slice(&most.as_secs().to_ne_bytes());
+    octets[8..].copy_from_slice(&u64::from(most.subsec_micros()).to_ne_bytes());
+    check(unsafe {
+        c::setsockopt(
+            listener.as_raw_fd(),
+            c::SOL_SOCKET,
+            c::SO_RCVTIMEO,
+            &octets,
+            16,
+        )
+    })
+}
+
+/// Whether a descriptor takes octets now (`poll(2)`): a pipe that does takes a line of up to 4,096 octets without waiting. A descriptor
+/// that would fail takes them too, since that call does not wait either.
+pub fn takes_octets(descriptor: i32) -> bool {
+    let mut watched = [pollfd {
+        fd: descriptor,
+        events: c::POLLOUT,
+        revents: 0,
+    }];
+    c::poll(&mut watched, 0) > 0
 }
 
 /// Lets more datagrams wait at a socket. The system gives less than this if it allows less.

@@ -1,13 +1,12 @@
-//! The TCP socket of the service, and the connection that wakes a worker.
+//! The TCP sockets of the service, and the connection that wakes a worker.
 
+use crate::clients::options::limit_accept;
+use crate::deadline::glance;
+use mio::net;
 use std::io;
 use std::net::{Net, SocketAddr, TcpListener, TcpStream};
-use std::time::Duration;
 
-/// The seconds that waking a worker by a connection may take.
-const MOST_WAKING_SECONDS: u64 = 1;
-
-/// A socket for `Connections`. `[::]` takes IPv4 as well.
+/// A socket at which connections come in. `[::]` takes IPv4 as well.
 pub fn bind_tcp<R: Net<Stream = TcpStream, Listener = TcpListener>>(
     rt: &R,
     addr: SocketAddr,
@@ -15,8 +14,19 @@ pub fn bind_tcp<R: Net<Stream = TcpStream, Listener = TcpListener>>(
     TcpListener::bind(rt, addr)
 }
 
-/// Wakes one worker that waits at a TCP socket, by a connection.
-pub fn wake_tcp<R: Net<Stream = TcpStream>>(rt: &R, addr: SocketAddr) -> io::Result<()> {
-    let _ = TcpStream::connect_timeout(rt, &addr, Duration::from_secs(MOST_WAKING_SECONDS))?;
+/// A socket for `Connections`. Accepting waits no longer than `glance`, so that whoever waits there sees the stop flag.
+pub fn bind_clients<R: Net<Stream = TcpStream, Listener = TcpListener>>(
+    rt: &R,
+    addr: SocketAddr,
+) -> io::Result<TcpListener> {
+    let listener = bind_tcp(rt, addr)?;
+    limit_accept(&listener, glance())?;
+    Ok(listener)
+}
+
+/// Wakes one worker that waits at a TCP socket, by a connection that is begun and not waited for. If the socket's queue is full, the
+/// connection does not come about, and no worker waits.
+pub fn wake_tcp<R: Net>(rt: &R, addr: SocketAddr) -> io::Result<()> {
+    drop(net::TcpStream::connect(rt, addr)?);
     Ok(())
 }

@@ -9,13 +9,14 @@ ghost use Rattle.dns_sockets.specs.Asked.{ByDatagrams, ByStream, IsAskedOf};
 ghost use Rattle.dns_sockets.specs.Fits.{Fits};
 ghost use Rattle.dns_sockets.specs.Own.{MayAskAt, MayAskServer};
 
-use crate::deadline::Deadline;
+use crate::deadline::{Deadline, glance};
 use crate::lengths::MOST_FRAMED;
 use crate::name_servers::fitting::fits;
 use crate::name_servers::own::{check_host, check_other, may_be_own};
 use crate::name_servers::place::place_of;
 use crate::name_servers::server_net::ServerNet;
 use crate::name_servers::timed::Timed;
+use crate::stop_flag::{StopFlag, put_off};
 use dns_query::Over;
 use dns_text::{Addr, NoMemory, Octets};
 use front_workers::{DEVICE_FAULT, DeviceFault, Exchange, MOST_MESSAGE};
@@ -38,9 +39,11 @@ const MOST_DATAGRAMS: u32 = 65_536;
 ///   does not fit.
 ///
 /// An exchange with an address that belongs to no host, or with the service itself, fails at once. Each exchange that fails is logged.
+/// Once the stop flag is set each exchange fails, one under way soon after, unless it is still connecting.
 #[derive(Drop)]
-pub struct SocketExchange<'a, R> {
+pub struct SocketExchange<'a, R, F: StopFlag> {
     rt: &'a R,
+    stop: &'a F,
     alloc: Global,
     service: SocketAddr,
     room: Vec<u8>,
@@ -48,19 +51,21 @@ pub struct SocketExchange<'a, R> {
     ghost whole: { vec_len room ≡ MOST_FRAMED },
 }
 
-impl<'a, R> SocketExchange<'a, R> {
+impl<'a, R, F: StopFlag> SocketExchange<'a, R, F> {
     /// A client with room for the longest message. It is part of the service that listens at `service`.
     pub fn new(
         rt: &'a R,
         alloc: Global,
         service: SocketAddr,
-    ) -> Result<SocketExchange<'a, R>, NoMemory>
+        stop: &'a F,
+    ) -> Result<SocketExchange<'a, R, F>, NoMemory>
         ensures failures { IfOk result (λ exchange. exchange.failures ≡ 0) }
         ensures service { IfOk result (λ exchange. exchange.service ≡ service) }
     {
         let room = Vec::from_elem(alloc, 0u8, MOST_FRAMED)?;
         Ok(SocketExchange {
             rt,
+            stop,
             alloc,
             service,
             room,
@@ -70,8 +75,9 @@ impl<'a, R> SocketExchange<'a, R> {
 }
 
 /// One exchange over UDP: the number of octets at the front of the room that the reply fills.
-fn ask_udp<R: ServerNet + Clock>(
+fn ask_udp<R: ServerNet + Clock, F: StopFlag>(
     rt: &R,
+    stop: &F,
     service: SocketAddr,
     place: SocketAddr,
     query: &[u8],
@@ -89,13 +95,15 @@ fn ask_udp<R: ServerNet + Clock>(
     check_other(service, rt.place_of_socket(&socket)?, place)?;
     rt.send_datagram(&socket, query)?;
     for _ in 0..MOST_DATAGRAMS {
-        match rt.take_datagram(&socket, room, deadline.left(rt)?) {
+        let left = deadline.left(rt)?;
+        match rt.take_datagram(&socket, room, left.min(glance())) {
             Ok(count) => {
                 if count <= MOST_MESSAGE && fits(query, &room[..count]) {
                     return Ok(count);
                 }
             }
             Err(error) => {
+                let error = put_off(stop, error);
                 if error.kind() != ErrorKind::Interrupted {
                     return Err(error);
                 }
@@ -142,8 +150,9 @@ fn read_framed<S: Read>(stream: &mut S, room: &mut [u8]) -> io::Result<usize>
 }
 
 /// One exchange over TCP: the number of octets at the front of the room that the reply fills.
-fn ask_tcp<R: ServerNet + Clock>(
+fn ask_tcp<R: ServerNet + Clock, F: StopFlag>(
     rt: &R,
+    stop: &F,
     service: SocketAddr,
     place: SocketAddr,
     query: &[u8],
@@ -162,6 +171,7 @@ fn ask_tcp<R: ServerNet + Clock>(
     check_other(service, rt.place_of_connection(&stream)?, place)?;
     let mut stream = Timed {
         rt,
+        stop,
         stream,
         deadline,
     };
@@ -174,8 +184,9 @@ fn ask_tcp<R: ServerNet + Clock>(
 }
 
 /// One exchange: the number of octets at the front of the room that the reply fills.
-fn ask_over<R: ServerNet + Clock>(
+fn ask_over<R: ServerNet + Clock, F: StopFlag>(
     rt: &R,
+    stop: &F,
     service: SocketAddr,
     server: &Addr,
     over: Over,
@@ -189,14 +200,17 @@ fn ask_over<R: ServerNet + Clock>(
         over server.now query.now (take count room.new)) }
     ensures may_ask { OnOk result (MayAskServer R.opened R.is_at R.connected R.connected_at over service server.now) }
 {
+    if stop.is_set() {
+        return Err(io::Error::from(ErrorKind::TimedOut));
+    }
     let place = place_of(server);
     match over {
-        Over::Udp => ask_udp(rt, service, place, query, room),
-        Over::Tcp => ask_tcp(rt, service, place, query, room),
+        Over::Udp => ask_udp(rt, stop, service, place, query, room),
+        Over::Tcp => ask_tcp(rt, stop, service, place, query, room),
     }
 }
 
-impl<'a, R: ServerNet + Clock + Log> Exchange for SocketExchange<'a, R> {
+impl<'a, R: ServerNet + Clock + Log, F: StopFlag> Exchange for SocketExchange<'a, R, F> {
     // The reply fits the query, and came from the server's place, over the transport, after the query. The service may ask
     // that server, and has not moved.
     ghost asks = { λ before server over query came after. (after.service ≡ before.service)
@@ -207,7 +221,15 @@ impl<'a, R: ServerNet + Clock + Log> Exchange for SocketExchange<'a, R> {
     ghost failures = { λ exchange. exchange.failures };
 
     fn ask(&mut self, server: &Addr, over: Over, query: &[u8]) -> Result<Octets, DeviceFault> {
-        match ask_over(self.rt, self.service, server, over, query, &mut self.room) {
+        match ask_over(
+            self.rt,
+            self.stop,
+            self.service,
+            server,
+            over,
+            query,
+            &mut self.room,
+        ) {
             Ok(count) => match Vec::from_slice(self.alloc, &self.room[..count]) {
                 Ok(reply) => Ok(Octets::new(reply)),
                 Err(_) => Err(DeviceFault::NoMemory),
