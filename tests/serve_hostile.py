@@ -12,6 +12,7 @@ import time
 from concurrent.futures import ThreadPoolExecutor
 
 from lib.checks import Checks
+from lib.long_messages import DEAR, HONEST
 from lib.messages import number, question_of
 from lib.nameserver import Asked, NameServers, Piece, framed, receive
 from lib.replies import reply_in
@@ -143,6 +144,28 @@ def check_large(checks, settings):
         wanted = [f'"{place:03}{"x" * 250}"' for place in range(230)]
         checks.equal(f"59 KiB over TCP, {settings}", [record.data for record in reply.records], wanted)
         checks.equal(f"59 KiB: asked once, {settings}", len(servers.asked), 2)
+
+
+def check_dear(checks, over):
+    """A response that would take too long to read fails its exchange, and no other. Long responses of honest servers are read."""
+    dear = {f"{how}.test. A": cut(lambda asked, makes=makes: [makes(asked.query)]) for how, makes in DEAR.items()}
+    honest = {f"{how}.test. {kind}": cut(lambda asked, makes=makes: [makes(asked.query)]) for how, (kind, makes) in HONEST.items()}
+    with NameServers({HOST: dear | honest | {"good.test. A": good}}) as servers, Service([f"{HOST}@{servers.port}"]) as service:
+        for question in dear:
+            checks.equal(f"{question} over {over}", service.ask(*question.split(), over).words(), "rcode 2")
+            if over == "udp":
+                cause = f"too dear to read, server {HOST}@{servers.port}".encode()
+                checks.equal(f"{question}: logged", service.logged(cause), True)
+        faults = service.times(b"device fault")
+        for question in honest:
+            # The mail exchanges fit no reply, since names in data are written whole. Then it is a header alone.
+            with service.client(over) as client:
+                client.send(query(*question.split()))
+                client.octets()
+            checks.equal(f"{question} over {over}: is read", servers.count(question, "tcp"), 1)
+        checks.equal(f"dear responses over {over}: others", service.ask("good.test.", "A", over).words(), MEANT["good"].format(name="good.test."))
+        checks.equal(f"dear responses over {over}: stopped", service.stop(), STOPPED)
+        checks.equal(f"honest responses over {over}: faults", service.times(b"device fault"), faults)
 
 
 # The ways in which the calls of a service's sockets are disturbed.
@@ -480,6 +503,8 @@ def main():
     checks.make(check_early)
     checks.make(check_large, {})
     checks.make(check_large, {"SIGNALS": 1, "PIECE": 10_000})
+    for over in ("udp", "tcp"):
+        checks.make(check_dear, over)
     checks.make(check_many_targets)
     checks.make(check_dead_ports)
     for over in ("udp", "tcp"):

@@ -16,6 +16,7 @@ use dns_query::Over;
 use dns_sockets::{ReadyNet, TcpLine, UdpLine, place_of};
 use dns_text::{Addr, Octets, Shared};
 use flight::{Counts, InFlight, Listened};
+use front_workers::is_dear;
 use log::Log;
 use mio::{Registry, Token};
 use std::alloc::Global;
@@ -26,7 +27,8 @@ use std::net::SocketAddr;
 /// An exchange over a socket of its own. Contracts see the query that went out, and the token of the socket.
 ///
 /// A reply fits if it has the query's identifier and question. Over UDP each datagram that does not fit is dropped. Over TCP
-/// the exchange breaks if the first message does not fit. An exchange that has ended is closed.
+/// the exchange breaks if the first message does not fit. It also breaks if its reply would take too long to read. An exchange that
+/// has ended is closed.
 #[derive(Drop)]
 pub(crate) struct SocketLine<R: ReadyNet> {
     server: Addr,
@@ -34,6 +36,16 @@ pub(crate) struct SocketLine<R: ReadyNet> {
     query: Shared<Octets>,
     token: Token,
     way: Way<R::Datagrams, R::Connection>,
+    /// Whether a reply came that would take too long to read.
+    dear: bool,
+}
+
+/// Whether a reply came that would take too long to read.
+fn is_too_dear(heard: &Listened) -> bool {
+    match heard {
+        Listened::Came(reply) => is_dear(reply.as_slice()),
+        _ => false,
+    }
 }
 
 impl<R: ReadyNet> Model for SocketLine<R> {
@@ -103,6 +115,7 @@ impl<R: ReadyNet> SocketLine<R> {
             query,
             token,
             way,
+            dear: false,
         })
     }
 
@@ -118,8 +131,11 @@ impl<R: ReadyNet> SocketLine<R> {
         log_exchange(rt, alloc, cause, &self.server, self.query.get().as_slice());
     }
 
-    /// The cause for which an exchange breaks before its time is up: the system reports no other one.
+    /// The cause for which an exchange broke before its time was up. Of a socket that broke, the system reports no other one.
     pub fn cause(&self) -> &'static str {
+        if self.dear {
+            return "too dear to read";
+        }
         match self.over {
             Over::Udp => "unreachable",
             Over::Tcp => "refused or closed",
@@ -139,6 +155,10 @@ impl<R: ReadyNet> SocketLine<R> {
             Listened::Nothing => Listened::Nothing,
             heard => {
                 self.way = Way::Closed;
+                if is_too_dear(&heard) {
+                    self.dear = true;
+                    return Listened::Broken;
+                }
                 heard
             }
         }

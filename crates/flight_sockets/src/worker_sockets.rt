@@ -178,7 +178,7 @@ impl<'a, R: Log, S: ServiceSocket> WorkerSockets<'a, R, S> {
         ensures port { self.new.server_port ≡ self.old.server_port }
         ensures counts { self.new.counts ≡ self.old.counts }
     {
-        if wants_reply(self.alloc, front) {
+        if wants_reply(front) {
             self.tally.take();
             self.tally.sort();
             self.send(peer, report_of(front, Rcode::FORMAT_ERROR));

@@ -6,5 +6,6 @@ mod Framed
 pub mod Headers
 pub mod Leading
 mod Parts
+mod Sizes
 mod Streaming
 mod Telling

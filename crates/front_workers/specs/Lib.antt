@@ -1,6 +1,7 @@
 pub mod Counts
 pub mod Leads
 pub mod Lending
+pub mod Sizing
 pub mod Serves
 pub mod Turning
 pub mod Framing

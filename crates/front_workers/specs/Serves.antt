@@ -16,7 +16,7 @@ use Rattle.iterate.specs.declared.answer.Answer.{Answer}
 use Rattle.iterate.specs.declared.answer.Answer.TheVariants.{Reply as Replies, Silent}
 use Rattle.iterate.specs.declared.answer.Soa.{Soa}
 use Rattle.iterate.specs.declared.answer.AnswerSet.{AnswerSet}
-use Rattle.front_workers.specs.declared.limits.TheConstants.{MOST_MESSAGE, MOST_UDP_REPLY}
+use Rattle.front_workers.specs.declared.limits.TheConstants.{MOST_DATAGRAM, MOST_MESSAGE, MOST_UDP_REPLY}
 use Rattle.front_workers.specs.Leads.{Calls, Asks, Ticks, Lent, EndsInAnswer, BreaksOff}
 use Rattle.front_workers.specs.Lending.{answer_parts, authority_parts}
 
@@ -53,11 +53,13 @@ Tells over m query (Replies rcode aa aliases last authority) (Some out) = Writte
 Tells over m query Silent None = Unit {0}
 Tells over m query _ _ = ⊥
 
--- Octets got this reply, or none: the desk, the exchange, the clock and the generator before, the reply, the same after.
+-- Octets got this reply, or none: the desk, the exchange, the clock and the generator before, the reply, the same after. Only octets that are longer than any datagram that is read whole may be too dear to read: they get SERVFAIL (2).
 pub data Serves {D X C : Type 0} (calls : Calls D) (asks : Asks X) (ticks : Ticks C) (port : ℕ) (over : Over) (m : List ℕ) (desk : D) (exchange : X) (lent : Lent C)
     : Option (List ℕ) → D → X → Lent C → Type 0 where
   dropped : AsksFor m Drop → Serves calls asks ticks port over m desk exchange lent None desk exchange lent
   faulty : {rcode : ℕ} {out : List ℕ} → AsksFor m (Fault rcode) → out ≡ fault_octets m rcode
+      → Serves calls asks ticks port over m desk exchange lent (Some out) desk exchange lent
+  too_dear : {out : List ℕ} → MOST_DATAGRAM < length m → ¬ (AsksFor m Drop) → out ≡ fault_octets m 2
       → Serves calls asks ticks port over m desk exchange lent (Some out) desk exchange lent
   silent : {query : Query} {d : D} {x : X} {l : Lent C} → AsksFor m (Good query) → EndsInAnswer calls asks ticks port query.question desk exchange lent Silent d x l
       → Serves calls asks ticks port over m desk exchange lent None d x l

@@ -21,12 +21,16 @@ mod tools;
 mod run;
 // The records of an answer, lent as the sections of a reply.
 mod lending;
+// The size of a reply before it is written.
+mod sizing;
 // Replies as octets.
 mod reply;
-// A query, from its octets to its reply.
-mod query;
 // The test whether octets get a reply.
 mod owed;
+// The test whether a message would take too long to read.
+mod dear;
+// A query, from its octets to its reply.
+mod query;
 // The faults that end a stream.
 mod fault;
 // Messages preceded by their length.
@@ -40,6 +44,7 @@ mod tcp_worker;
 // A worker that serves datagrams, for tests and readers: the service has `fly_udp` of `flight_sockets`.
 mod udp_worker;
 
+pub use dear::is_dear;
 pub use device::DeviceFault;
 pub use exchange::Exchange;
 pub use fault::StreamFault;

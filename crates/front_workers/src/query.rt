@@ -6,7 +6,9 @@ ghost use Rattle.dns_wire.specs.Server.Asking.{AsksFor};
 ghost use Rattle.front_workers.specs.Serves.{most_octets};
 ghost use Rattle.front_workers.specs.States.{QueryServed, QueryUnserved};
 
+use crate::dear::is_dear;
 use crate::exchange::Exchange;
+use crate::owed::wants_reply;
 use crate::reply::{write_answer, write_fault};
 use crate::run::run_task;
 use crate::tools::Tools;
@@ -14,7 +16,7 @@ use command_text::Clock;
 use dns_name::NoMemory;
 use dns_query::Over;
 use dns_text::Question;
-use dns_wire::{Asked, Query, read_question};
+use dns_wire::{Asked, Query, Rcode, read_question};
 use history::Desk;
 use rand_core::Rng;
 use std::alloc::Global;
@@ -41,7 +43,7 @@ fn answer_query<D: Desk, X: Exchange, C: Clock, R: Rng>(
 }
 
 /// Serves the query in these octets: returns its reply, or None if it gets none. Octets that are no well-formed query get a
-/// fault, a header with the RCODE alone. It fails only if no memory is left.
+/// fault, a header with the RCODE alone. So does a query that would take too long to read. It fails only if no memory is left.
 pub fn serve_query<D: Desk, X: Exchange, C: Clock, R: Rng>(
     alloc: Global,
     desk: &mut D,
@@ -55,6 +57,9 @@ pub fn serve_query<D: Desk, X: Exchange, C: Clock, R: Rng>(
         desk.old tools.old desk.new tools.new) }
     ensures unserved { OnErr result (QueryUnserved D.calls X.asks C.ticks R.stream octets.now desk.old tools.old desk.new tools.new) }
 {
+    if is_dear(octets) && wants_reply(octets) {
+        return Ok(Some(write_fault(alloc, octets, Rcode::SERVER_FAILURE)?));
+    }
     match read_question(alloc, octets)? {
         Asked::Drop => Ok(None),
         Asked::Fault(rcode) => Ok(Some(write_fault(alloc, octets, rcode)?)),

@@ -1,29 +1,42 @@
 //! Replies as octets.
 
-ghost use Rattle.std.specs.Prelude.{◌≡◌, true, false, ◌≤◌, length, option_map, IfOk, IfSome};
+ghost use Rattle.std.specs.Prelude.{◌≡◌, true, false, ◌<◌, ◌≤◌, ◌^◌, ℕ, List, length, option_map, IfOk, IfSome, IsTrue};
 ghost use Rattle.std.specs.List.{AllByRecursion};
+ghost use Rattle.dns_query.specs.declared.over.Over.TheVariants.{Udp};
 ghost use Rattle.dns_wire.specs.declared.server.query.Asked.TheVariants.{Good};
-ghost use Rattle.dns_wire.specs.Lent.{lent_reply};
+ghost use Rattle.dns_wire.specs.Lent.{Parts, lent_reply};
 ghost use Rattle.dns_wire.specs.Server.Asking.{AsksFor};
-ghost use Rattle.dns_wire.specs.WellFormed.{HasItsForm};
+ghost use Rattle.dns_wire.specs.WellFormed.{HasItsForm, IsHead};
 ghost use Rattle.iterate.specs.Told.{IsFit};
 ghost use Rattle.front_workers.specs.declared.limits.TheConstants.{MOST_MESSAGE};
+ghost use Rattle.front_workers.specs.Lending.{answer_parts, authority_parts};
+ghost use Rattle.front_workers.specs.Sizing.{MustBeCut};
 ghost use Rattle.front_workers.specs.Serves.{fault_octets, head_told, most_octets, IsSent, Tells, Written};
 
 use crate::lending::{AnswerSection, AuthoritySection};
+use crate::sizing::must_be_cut;
 use dns_name::NoMemory;
 use dns_query::Over;
+use dns_text::Items;
 use dns_wire::{
-    EncodeFault, Head, Opcode, Query, Rcode, Reserved, Section, cut_for_udp, encode_lent,
-    fault_reply,
+    EncodeFault, Head, NoRecords, Opcode, Query, Rcode, Reserved, Section, cut_for_udp,
+    encode_lent, fault_reply, written_is_read,
 };
-use iterate::Answer;
+use iterate::{Answer, AnswerSet, Soa};
 use std::alloc::{AllocError, Global};
+
+/// An identifier has 16 bits (RFC 1035, section 4.1.1).
+fn id_law(id: u16)
+    ensures { id < 2 ^ 16 }
+{}
 
 /// The head of a reply to a query.
 fn head_of(query: &Query, rcode: Rcode, aa: bool) -> Head
-    ensures { result ≡ head_told query.now rcode aa }
+    ensures told { result ≡ head_told query.now rcode aa }
+    ensures fits { IsHead result }
 {
+    id_law(query.id);
+    let _number = rcode.number();
     Head {
         id: query.id,
         qr: true,
@@ -59,6 +72,42 @@ fn cut(over: Over, query: &Query, mut out: Vec<u8>) -> Vec<u8>
             cut_for_udp(&mut out, query);
             out
         }
+    }
+}
+
+/// Whether a reply goes out over UDP and must be cut. Some that must be cut are written whole first: see `must_be_cut`.
+fn is_cut(
+    over: Over,
+    query: &Query,
+    aliases: &Items<AnswerSet>,
+    last: &Option<AnswerSet>,
+    authority: &Option<Soa>,
+) -> bool
+    ensures { IsTrue result → (over ≡ Udp)
+        × MustBeCut query.now (answer_parts aliases.now last.now) (authority_parts authority.now) }
+{
+    match over {
+        Over::Tcp => false,
+        Over::Udp => must_be_cut(query, aliases, last, authority),
+    }
+}
+
+/// Writes the header of a reply, with TC set, and the question, in place of what a buffer holds. That is the reply over UDP if it must
+/// be cut.
+fn write_cut(buffer: Vec<u8>, query: &Query, head: &Head) -> Result<Vec<u8>, NoMemory>
+    requires { IsHead head.now }
+    ensures short { IfOk result (λ out. length out.items ≤ most_octets Udp) }
+    ensures written { IfOk result (λ out. (m : List ℕ) (answer authority : Parts) → MustBeCut query.now answer authority
+        → Written Udp m query.now (lent_reply head.now query.now.question answer authority) out.items) }
+{
+    written_is_read();
+    let _len = query.question.owner.wire_len();
+    let mut head = *head;
+    head.tc = true;
+    match encode_lent(buffer, query, &head, &NoRecords, &NoRecords) {
+        Ok(out) => Ok(out),
+        // A header and a question are never too long, so memory ran out.
+        Err(_) => Err(AllocError),
     }
 }
 
@@ -113,6 +162,10 @@ pub fn write_answer(
             authority,
         } => {
             let head = head_of(query, *rcode, *aa);
+            // The records of a reply that UDP cannot carry are not written first.
+            if is_cut(over, query, aliases, last, authority) {
+                return Ok(Some(write_cut(buffer, query, &head)?));
+            }
             let answer = AnswerSection { aliases, last };
             let authority = AuthoritySection { authority };
             let out = write_reply(

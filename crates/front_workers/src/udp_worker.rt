@@ -65,7 +65,7 @@ pub(crate) fn serve_datagram<D: Desk, P: Port, X: Exchange, C: Clock, G: Rng, R:
     ensures failures { P.failures port.old ≤ P.failures port.new }
 {
     if octets.len() > MOST_DATAGRAM {
-        if wants_reply(alloc, octets) {
+        if wants_reply(octets) {
             give_fault(rt, port, peer, octets, Rcode::FORMAT_ERROR);
         }
         return;

@@ -19,7 +19,7 @@ use crate::name_servers::timed::Timed;
 use crate::stop_flag::{StopFlag, put_off};
 use dns_query::Over;
 use dns_text::{Addr, NoMemory, Octets};
-use front_workers::{DEVICE_FAULT, DeviceFault, Exchange, MOST_MESSAGE};
+use front_workers::{DEVICE_FAULT, DeviceFault, Exchange, MOST_MESSAGE, is_dear};
 use log::{Log, warn};
 use std::alloc::Global;
 use std::io;
@@ -38,8 +38,9 @@ const MOST_DATAGRAMS: u32 = 65_536;
 /// - Over TCP each message is preceded by its length in two octets (RFC 1035, section 4.2.2). The exchange fails if the first message
 ///   does not fit.
 ///
-/// An exchange with an address that belongs to no host, or with the service itself, fails at once. Each exchange that fails is logged.
-/// Once the stop flag is set each exchange fails, one under way soon after, unless it is still connecting.
+/// An exchange fails if the reply would take too long to read. One with an address that belongs to no host, or with the
+/// service itself, fails at once. Each exchange that fails is logged. Once the stop flag is set each exchange fails, one under way soon
+/// after, unless it is still connecting.
 #[derive(Drop)]
 pub struct SocketExchange<'a, R, F: StopFlag> {
     rt: &'a R,
@@ -99,6 +100,9 @@ fn ask_udp<R: ServerNet + Clock, F: StopFlag>(
         match rt.take_datagram(&socket, room, left.min(glance())) {
             Ok(count) => {
                 if count <= MOST_MESSAGE && fits(query, &room[..count]) {
+                    if is_dear(&room[..count]) {
+                        return Err(io::Error::from(ErrorKind::InvalidData));
+                    }
                     return Ok(count);
                 }
             }
@@ -177,7 +181,7 @@ fn ask_tcp<R: ServerNet + Clock, F: StopFlag>(
     };
     send_framed(&mut stream, query, room)?;
     let count = read_framed(&mut stream, room)?;
-    if !fits(query, &room[..count]) {
+    if !fits(query, &room[..count]) || is_dear(&room[..count]) {
         return Err(io::Error::from(ErrorKind::InvalidData));
     }
     Ok(count)
