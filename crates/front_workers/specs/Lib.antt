@@ -1,8 +1,8 @@
 pub mod Counts
 pub mod Leads
 pub mod Lending
-pub mod Sizing
 pub mod Serves
+pub mod Sizing
 pub mod Turning
 pub mod Framing
 pub mod Stream

@@ -11,7 +11,9 @@ use Rattle.dns_wire.specs.Lent.{Parts, lent_reply}
 use Rattle.dns_wire.specs.Write.Message.{octets_with, IsTooLong}
 use Rattle.dns_wire.specs.Write.Rdata.{data_octets}
 use Rattle.dns_wire.specs.Write.Record.{records_octets}
+use Rattle.dns_query.specs.declared.over.Over.TheVariants.{Udp}
 use Rattle.front_workers.specs.declared.limits.TheConstants.{MOST_UDP_REPLY}
+use Rattle.front_workers.specs.Serves.{Written}
 
 -- a count that stays at its last value
 abbrev pub capped : ℕ → ℕ
@@ -30,3 +32,8 @@ abbrev pub MustBeCut : Query → Parts → Parts → Type 0
 MustBeCut query answer authority = (head : Head) →
     (MOST_UDP_REPLY < length (octets_with query.octets (lent_reply head query.question answer authority)))
     × ¬ (IsTooLong (lent_reply head query.question answer authority))
+
+-- These octets are what goes out over UDP in place of each reply to the query with this head that must be cut.
+abbrev pub IsCutReply : Query → Head → List ℕ → Type 0
+IsCutReply query head out = (m : List ℕ) (answer authority : Parts) → MustBeCut query answer authority
+    → Written Udp m query (lent_reply head query.question answer authority) out

@@ -1,16 +1,16 @@
 //! Replies as octets.
 
-ghost use Rattle.std.specs.Prelude.{◌≡◌, true, false, ◌<◌, ◌≤◌, ◌^◌, ℕ, List, length, option_map, IfOk, IfSome, IsTrue};
+ghost use Rattle.std.specs.Prelude.{◌≡◌, true, false, ◌<◌, ◌≤◌, ◌^◌, length, option_map, IfOk, IfSome, IsTrue};
 ghost use Rattle.std.specs.List.{AllByRecursion};
 ghost use Rattle.dns_query.specs.declared.over.Over.TheVariants.{Udp};
 ghost use Rattle.dns_wire.specs.declared.server.query.Asked.TheVariants.{Good};
-ghost use Rattle.dns_wire.specs.Lent.{Parts, lent_reply};
+ghost use Rattle.dns_wire.specs.Lent.{lent_reply};
 ghost use Rattle.dns_wire.specs.Server.Asking.{AsksFor};
 ghost use Rattle.dns_wire.specs.WellFormed.{HasItsForm, IsHead};
 ghost use Rattle.iterate.specs.Told.{IsFit};
 ghost use Rattle.front_workers.specs.declared.limits.TheConstants.{MOST_MESSAGE};
 ghost use Rattle.front_workers.specs.Lending.{answer_parts, authority_parts};
-ghost use Rattle.front_workers.specs.Sizing.{MustBeCut};
+ghost use Rattle.front_workers.specs.Sizing.{IsCutReply, MustBeCut};
 ghost use Rattle.front_workers.specs.Serves.{fault_octets, head_told, most_octets, IsSent, Tells, Written};
 
 use crate::lending::{AnswerSection, AuthoritySection};
@@ -97,8 +97,7 @@ fn is_cut(
 fn write_cut(buffer: Vec<u8>, query: &Query, head: &Head) -> Result<Vec<u8>, NoMemory>
     requires { IsHead head.now }
     ensures short { IfOk result (λ out. length out.items ≤ most_octets Udp) }
-    ensures written { IfOk result (λ out. (m : List ℕ) (answer authority : Parts) → MustBeCut query.now answer authority
-        → Written Udp m query.now (lent_reply head.now query.now.question answer authority) out.items) }
+    ensures written { IfOk result (λ out. IsCutReply query.now head.now out.items) }
 {
     written_is_read();
     let _len = query.question.owner.wire_len();
