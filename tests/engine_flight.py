@@ -10,6 +10,10 @@ A row of tests/flight begins with a root server at 127.0.0.1@5301:
     look 0 aa | answer ..              a response for that key (tests/lib/messages.py), or `nothing`, `broken`, `no_memory`
     = 1 - | answer a.test. A 192.0.2.1 the reply to client 1 (tests/lib/replies.py)
     ! 1 too_many                       it gets SERVFAIL, for this reason
+    network 7                          the clients from here on are of this network
+    now 2000                           the milliseconds that have passed
+    kept                               what the questions that wait keep, in octets
+    relieve                            ends those that keep most, if all keep too much
     - 1                                it gets no reply
 """
 
@@ -19,7 +23,7 @@ import subprocess
 from collections import Counter
 
 from lib.checks import Checks
-from lib.messages import question_octets, question_of, response
+from lib.messages import name_octets, question_octets, question_of, response
 from lib.programs import PATIENCE, PLAY, TOP, run
 from lib.replies import reply_in
 from lib.rows import query_words, rows_in
@@ -223,7 +227,7 @@ class Drawn:
         self.checks.equal("how many clients came", len(self.asked) > DRAWN // 4, True)
         wrong = {client: self.often[client] for client in self.asked if self.often[client] != 1}
         self.checks.equal("how often clients are settled that are not settled once", wrong, {})
-        self.checks.equal("how they were settled", sorted(self.kinds), ["no_memory", "reply", "too_many"])
+        self.checks.equal("how they were settled", sorted(self.kinds), ["no_memory", "reply", "too_long", "too_many"])
 
 
 def drawn(checks):
@@ -235,35 +239,131 @@ def drawn(checks):
 
 # ---- the places of a worker
 
-# How many there are, how many of them are kept for servers with less than their share, and that share.
-PLACES, KEPT, SHARE = 64, 4, 4
+# How many there are, and how many times the places that are free those of one zone may be, and those of one network.
+PLACES, ZONE_TIMES, NETWORK_TIMES = 64, 16, 32
 
-SERVERS = 4
+# In how many milliseconds no other network may have asked for a place, so that one may have all of them, and those from one client
+# to the next.
+ALONE, STEP = 60_000, 1_000
+
+# The zones and the networks of clients. In turn, one zone has the load, most exchanges end, one network has the load, and all have.
+KINDS = 4
+
+
+def may_begin(taken, zone, network, alone):
+    """Whether a question may begin an exchange if so many places are taken, and so many of them by its zone and by its network."""
+    free = PLACES - taken
+    return zone < ZONE_TIMES * free and (network < NETWORK_TIMES * free or alone and network == taken)
 
 
 def places(checks):
-    """Questions for four servers: whether each begins an exchange, or gets SERVFAIL while places are free or none is. In turn, one
-    server is asked alone while many exchanges end, and all are while few do."""
-    some, talker, under_way, kinds = random.Random(11), Talker(), {}, Counter()
-    for line in [f"limit {PLACES}", HINTS, *(f"stub_add s{n}.test. 127.0.1.{n}@5301" for n in range(SERVERS))]:
+    """Questions of four zones and of four networks: whether each begins an exchange, or gets SERVFAIL while places are free or none is."""
+    some, talker, under_way, kinds, asker, asks_since = random.Random(11), Talker(), {}, Counter(), 0, 0
+    for line in (f"limit {PLACES}", HINTS):
         talker.say(line)
-    for client in range(1_500):
-        one = client % 100 < 60
-        server = 0 if one else some.randrange(SERVERS)
-        taken, own = len(under_way), list(under_way.values()).count(server)
-        begins = taken < PLACES - KEPT or taken < PLACES and own < SHARE
-        told = talker.say(f"client {client} {query(client, f'n{client}.s{server}.test. A').hex()}")
+    for client in range(3_000):
+        turn = client // 150 % 4
+        zone = 0 if turn == 0 else some.randrange(KINDS)
+        network = 0 if turn == 2 else some.randrange(KINDS)
+        taken = len(under_way)
+        in_zone = sum(one == zone for one, _ in under_way.values())
+        in_network = sum(one == network for _, one in under_way.values())
+        if network != asker:
+            asker, asks_since = network, STEP * client
+        alone = STEP * client >= asks_since + ALONE
+        begins = may_begin(taken, in_zone, in_network, alone)
+        talker.say(f"now {STEP * client}")
+        talker.say(f"network {network}")
+        told = talker.say(f"client {client} {query(client, f'n{client}.z{zone}.test. A').hex()}")
         wanted = "open" if begins else f"failed {client} too_many"
-        checks.equal(f"{taken} places are taken, {own} of them for server {server}", told[0][: len(wanted)], wanted)
+        checks.equal(f"{taken} are taken, {in_zone} by zone {zone}, {in_network} by network {network}", told[0][: len(wanted)], wanted)
         if begins:
-            under_way[told[0].split()[1]] = server
-        kinds["begins" if begins else "full" if taken == PLACES else "kept"] += 1
-        if some.random() < (0.6 if one else 0.1):
-            key = some.choice([*under_way])
-            talker.say(f"look {key} broken")
-            del under_way[key]
+            under_way[told[0].split()[1]] = zone, network
+        for kind, is_of in (
+            ("begins", begins),
+            ("full", taken == PLACES),
+            ("its zone", taken < PLACES and not may_begin(taken, in_zone, 0, alone)),
+            ("its network", taken < PLACES and may_begin(taken, in_zone, 0, alone) and not begins),
+            ("alone", begins and not may_begin(taken, in_zone, in_network, False)),
+        ):
+            kinds[kind] += is_of
+        for _ in range(some.choice((0, 0, 1)) if turn != 1 else 2):
+            if under_way:
+                key = some.choice([*under_way])
+                talker.say(f"look {key} broken")
+                del under_way[key]
     checks.equal("the places of a worker: status", talker.end(), 0)
-    checks.check("the places of a worker: each case", None if min(kinds[kind] for kind in ("begins", "full", "kept")) > 20 else str(kinds))
+    few = {kind: kinds[kind] for kind in ("begins", "full", "its zone", "its network", "alone") if kinds[kind] < 20}
+    checks.equal("the places of a worker: cases that are rare", few, {})
+
+
+# ---- what the questions that wait keep
+
+# The octets that one may keep, all at any moment, and all after `relieve`. And what counts for a step and for a piece, and in a list
+# of servers for a name and for an address.
+ONE_KEPT, ALL_KEPT, KEPT_AT_REST = 393_216, 25_165_824, 18_874_368
+STEP_OCTETS, PIECE_OCTETS, NAME_OCTETS, ADDRESS_OCTETS = 352, 128, 384, 80
+
+# A question has taken four steps when it sends its first query: a lookup of its name, one for an alias, one for the servers, and the
+# query. After a referral it has taken three more: an admission for each of its two sets, and the query.
+FIRST_STEPS, STEPS = 4, 7
+
+
+def kept_first(asked):
+    """What a question keeps that asks for the first time: its query, and the list of the root's one server."""
+    return STEP_OCTETS * FIRST_STEPS + PIECE_OCTETS + len(asked) + PIECE_OCTETS + ADDRESS_OCTETS
+
+
+def kept_by(asked, name, servers, referral):
+    """What a question keeps that asks for the second time, after a referral to so many servers, of which one has an address."""
+    zone = name.split(".", 1)[1]
+    listed = NAME_OCTETS * servers + ADDRESS_OCTETS
+    hosts = [len(name_octets(f"n{nth}.{zone}")) for nth in range(servers)]
+    finds = PIECE_OCTETS + len(name_octets(zone)) + sum(PIECE_OCTETS + host for host in hosts)
+    finds += PIECE_OCTETS + hosts[0] + PIECE_OCTETS + 4
+    return kept_first(asked) + STEP_OCTETS * (STEPS - FIRST_STEPS) + PIECE_OCTETS + len(asked) + len(referral) + listed + finds
+
+
+def relieve(checks, talker, waiting):
+    """The questions that keep most end until all keep few enough, the largest first."""
+    told = talker.say("relieve")
+    ended = [int(line.split()[1]) for line in told if line.startswith("failed ") and line.endswith(" too_large")]
+    checks.equal("to relieve a worker ends questions alone", len(told), len(ended))
+    for client in ended:
+        checks.equal("they keep too much", sum(waiting.values()) > KEPT_AT_REST, True)
+        most = max(waiting.values())
+        checks.equal("the one that ends keeps most", waiting.pop(client), most)
+    checks.equal("they keep few enough", sum(waiting.values()) <= KEPT_AT_REST, True)
+    return len(ended)
+
+
+def bounds(checks):
+    """Questions with large referrals: what they keep, which may not wait, and which end when the worker is relieved."""
+    some, talker, waiting, kinds = random.Random(13), Talker(), {}, Counter()
+    for line in ("limit 200", HINTS):
+        talker.say(line)
+    for client in range(190):
+        name, servers = f"a.z{client}.", some.randrange(400, 760)
+        asked = query(client, f"{name} A")
+        begins = sum(waiting.values()) + kept_first(asked) <= ALL_KEPT
+        told = talker.say(f"client {client} {asked.hex()}")[0]
+        checks.equal("a question begins an exchange", told.startswith("open "), begins)
+        if begins:
+            zone = name.split(".", 1)[1]
+            referral = response(f"{name} A", f"| {servers} authority {zone} 60 NS n%.{zone} | additional n0.{zone} 60 A 192.0.2.53")
+            kept = kept_by(asked, name, servers, referral)
+            one, all_kept = kept <= ONE_KEPT, sum(waiting.values()) + kept <= ALL_KEPT
+            told = talker.say(f"look {told.split()[1]} came {referral.hex()}")[0]
+            wanted = "open" if one and all_kept else f"failed {client} too_large"
+            checks.equal(f"{servers} servers, {kept} octets of {sum(waiting.values())}", told[: len(wanted)], wanted)
+            if wanted == "open":
+                waiting[client] = kept
+            kinds["one" if not one else "waits" if all_kept else "all"] += 1
+        checks.equal("what all keep", talker.say("kept"), [f"kept {sum(waiting.values())}"])
+        if client % 95 == 94:
+            kinds["ended"] += relieve(checks, talker, waiting)
+    checks.equal("what questions keep: status", talker.end(), 0)
+    checks.equal("what questions keep: cases", sorted(kind for kind in kinds if kinds[kind] > 3), ["all", "ended", "one", "waits"])
 
 
 def main():
@@ -277,6 +377,7 @@ def main():
             refuse_each(checks, about, lines)
     drawn(checks)
     places(checks)
+    bounds(checks)
     checks.end()
 
 

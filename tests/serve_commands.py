@@ -1,10 +1,12 @@
 """`resolver serve --commands FILE`: the lines of a file, which the service obeys before it is ready. A line that is refused ends the
 start."""
 
+import contextlib
 import os
 import socket
 import subprocess
 import tempfile
+import threading
 
 from lib.checks import Checks
 from lib.nameserver import PATIENCE, bound
@@ -192,11 +194,32 @@ def refused_start(path, nth):
         return True, None if is_right else str(fault)
 
 
-def check_no_memory(checks, folder):
+@contextlib.contextmanager
+def written(path, octets):
+    """A FIFO to which octets are written once it has a reader. At the end it has one, whoever came before."""
+    def write():
+        with contextlib.suppress(BrokenPipeError), open(path, "wb", buffering=0) as fifo:
+            fifo.write(octets)
+
+    writer = threading.Thread(target=write)
+    writer.start()
+    try:
+        yield path
+    finally:
+        reader = os.open(path, os.O_RDONLY | os.O_NONBLOCK)
+        writer.join(PATIENCE)
+        os.close(reader)
+
+
+def check_no_memory(checks, folder, is_fifo):
     """Each allocation up to `ready` is refused in turn: the start fails, or the service has obeyed each line."""
-    path = file_of(folder, f"{ZONE}\n{RECORD}\nlist_local_data\nundo\n".encode())
+    text = f"{ZONE}\n{RECORD}\nlist_local_data\nundo\n".encode()
+    path = os.path.join(folder, "fifo") if is_fifo else file_of(folder, text)
+    if is_fifo:
+        os.mkfifo(path)
     for nth in range(1, MOST_GROWTHS):
-        was_refused, fault = refused_start(path, nth)
+        with written(path, text) if is_fifo else contextlib.nullcontext():
+            was_refused, fault = refused_start(path, nth)
         if not was_refused:
             break
         checks.check(f"allocation {nth} refused", fault)
@@ -205,11 +228,12 @@ def check_no_memory(checks, folder):
 
 def main():
     checks = Checks()
-    for check in (
-        check_obeyed, check_undone, check_refused, check_unread, check_elsewhere, check_before_ready, check_kept, check_no_memory,
+    for check, *arguments in (
+        (check_obeyed,), (check_undone,), (check_refused,), (check_unread,), (check_elsewhere,), (check_before_ready,), (check_kept,),
+        (check_no_memory, False), (check_no_memory, True),
     ):
         with tempfile.TemporaryDirectory() as folder:
-            checks.make(check, folder)
+            checks.make(check, folder, *arguments)
     checks.end()
 
 

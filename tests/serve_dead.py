@@ -1,12 +1,13 @@
-"""`resolver serve` with name servers that are dead: each costs its time once, is tried again after a pause, and is in no other
-server's way. What an undo or a new stub gives back shows at once."""
+"""`resolver serve` with name servers that are dead: each is passed over for a question that it left unanswered, and after two minutes
+of silence for every question. It is tried again after a pause, and is in no other server's way. What an undo or a new stub gives back shows
+at once."""
 
 import time
 from concurrent.futures import ThreadPoolExecutor
 
 from lib.checks import Checks
 from lib.nameserver import NameServers
-from lib.service import STOPPED, Service
+from lib.service import STOPPED, Service, query
 
 DEAD = ["127.0.0.2", "127.0.0.3", "127.0.0.5"]
 ALIVE, OTHER = "127.0.0.4", "127.0.0.9"
@@ -16,6 +17,9 @@ FAILED = "rcode 2"
 # The seconds that an exchange may take, and those for which a server is passed over at first.
 EXCHANGE = 2
 FIRST_PAUSE = 10
+
+# The seconds of silence after which a server is passed over for every question.
+SILENT = 120
 
 # What takes less than this many seconds has waited for no exchange.
 AT_ONCE = 1.5
@@ -34,10 +38,10 @@ def count(servers, address, over="udp"):
     return sum(server == address and o == over for server, o, _ in list(servers.asked))
 
 
-def timed(service, name, over="udp"):
+def timed(service, name, over="udp", kind="A"):
     """The reply to a question, and the seconds that it took."""
     began = time.monotonic()
-    reply = service.ask(name, "A", over).words()
+    reply = service.ask(name, kind, over).words()
     return reply, time.monotonic() - began
 
 
@@ -46,51 +50,51 @@ def takes(checks, what, took, least=0.0, most=float("inf")):
 
 
 def check_first_of_three(checks):
-    """The first of three servers is dead: the first question waits for it, and no other does."""
+    """The first of three servers is dead: each question waits for it once, and does not wait when it is asked again."""
     zones = {DEAD[0]: {"*": None}, ALIVE: {"*": good}, OTHER: {"*": good}}
     with NameServers(zones) as servers, Service([f"{address}@{servers.port}" for address in zones]) as service:
-        reply, took = timed(service, "first.test.")
-        checks.equal("one of three is dead: the first name", reply, answered("first.test."))
-        takes(checks, "one of three is dead: the first name", took, EXCHANGE)
-        names = [f"later{place}.test." for place in range(20)]
-        began = time.monotonic()
-        replies = [service.ask(name).words() for name in names]
-        takes(checks, "one of three is dead: 20 names later", time.monotonic() - began, 0, EXCHANGE)
-        checks.equal("one of three is dead: the later names", replies, [answered(name) for name in names])
-        checks.equal("one of three is dead: queries to it", count(servers, DEAD[0]), 1)
-        checks.equal("one of three is dead: queries to the next", count(servers, ALIVE), 21)
-        checks.equal("one of three is dead: queries to the last", count(servers, OTHER), 0)
+        for name in ("first.test.", "second.test.", "third.test.", "fourth.test."):
+            reply, took = timed(service, name)
+            checks.equal(f"one of three is dead: {name}", reply, answered(name))
+            takes(checks, f"one of three is dead: {name}", took, EXCHANGE)
+            service.obey(f"flush_type {name} A")
+            reply, took = timed(service, name)
+            checks.equal(f"one of three is dead: {name} again", reply, answered(name))
+            takes(checks, f"one of three is dead: {name} again", took, 0, AT_ONCE)
+        checks.equal("one of three is dead: queries to it", count(servers, DEAD[0]), 4)
+        checks.equal("one of three is dead: queries to the next", count(servers, ALIVE), 8)
         checks.equal("one of three is dead: stopped", service.stop(), STOPPED)
 
 
 def check_all(checks):
-    """All three servers are dead: the first question takes the time of each, and no other takes any. One line is logged for each
-    query. What is asked of servers that live is answered beside it, and what a stub or an undo gives back shows at once."""
+    """All three servers are dead: a question takes the time of each, and takes none when it is asked again. One line is logged for each
+    server. What is asked of servers that live is answered beside it, and what a stub or an undo gives back shows at once."""
     zones = {**{address: {"*": None} for address in DEAD}, ALIVE: {"*": good}}
     with NameServers(zones) as servers:
         dead = [f"{address}@{servers.port}" for address in DEAD]
         with Service([f"{ALIVE}@{servers.port}"]) as service:
             service.obey(f"stub_add dead.test. {' '.join(dead)}", f"stub_add dead-too.test. {dead[2]} {dead[0]}")
             with ThreadPoolExecutor(2) as pool:
-                waits = pool.submit(timed, service, "a.dead.test.")
+                waits = [pool.submit(timed, service, f"{word}.dead.test.") for word in "ac"]
                 beside = [timed(service, f"beside{place}.test.") for place in range(20)]
                 checks.equal("all are dead: names beside", {reply == answered(f"beside{n}.test.") for n, (reply, _) in enumerate(beside)}, {True})
                 takes(checks, "all are dead: names beside", max(took for _, took in beside), 0, AT_ONCE)
-                reply, took = waits.result()
-            checks.equal("all are dead: the first question", reply, FAILED)
-            takes(checks, "all are dead: the first question", took, 3 * EXCHANGE)
-            for name in ("a.dead.test.", "b.dead.test.", "c.dead-too.test."):
-                reply, took = timed(service, name)
-                checks.equal(f"all are dead: {name} after it", reply, FAILED)
-                takes(checks, f"all are dead: {name} after it", took, 0, AT_ONCE)
-            checks.equal("all are dead: queries to each", [count(servers, address) for address in DEAD], [1, 1, 1])
+                for one in waits:
+                    reply, took = one.result()
+                    checks.equal("all are dead: the first questions", reply, FAILED)
+                    takes(checks, "all are dead: the first questions", took, 3 * EXCHANGE)
+            for word in "ac":
+                reply, took = timed(service, f"{word}.dead.test.")
+                checks.equal(f"all are dead: {word} again", reply, FAILED)
+                takes(checks, f"all are dead: {word} again", took, 0, AT_ONCE)
+            checks.equal("all are dead: queries to each", [count(servers, address) for address in DEAD], [2, 2, 2])
             checks.equal("all are dead: lines", service.log().count(b"device fault"), 3)
             checks.equal("another stub", service.obey(f"stub_add dead.test. {ALIVE}@{servers.port}"), ["ok 3"])
             reply, took = timed(service, "a.dead.test.")
             checks.equal("another stub: the question that failed", reply, answered("a.dead.test."))
             takes(checks, "another stub: the question that failed", took, 0, AT_ONCE)
             checks.equal("an undo of it", service.obey("undo"), ["undone 3"])
-            reply, took = timed(service, "b.dead.test.")
+            reply, took = timed(service, "c.dead.test.")
             checks.equal("an undo of it: the dead servers again", reply, FAILED)
             takes(checks, "an undo of it: the dead servers again", took, 0, AT_ONCE)
             checks.equal("an undo of the first stub", service.obey("undo", "undo"), ["undone 2", "undone 1"])
@@ -101,23 +105,23 @@ def check_all(checks):
 
 
 def check_comes_back(checks):
-    """A server comes back: it is not asked while it is passed over. Then one question tries it, others pass it over until it
-    answers, and from then on it is asked as before."""
+    """A server comes back: it is not asked a question while it is passed over for it. Then one query tries it, others pass it over until
+    it answers, and from then on it is asked as before."""
     zone = {"*": None}
     with NameServers({DEAD[0]: zone}) as servers, Service([f"{DEAD[0]}@{servers.port}"]) as service:
         checks.equal("before it comes back", service.ask("a.test.").words(), FAILED)
         noted = time.monotonic()
         while time.monotonic() < noted + FIRST_PAUSE - 1:
-            reply, took = timed(service, "b.test.")
+            reply, took = timed(service, "a.test.")
             checks.equal("before its pause is over", reply, FAILED)
             takes(checks, "before its pause is over", took, 0, AT_ONCE)
             time.sleep(1)
         checks.equal("before its pause is over: queries", count(servers, DEAD[0]), 1)
         time.sleep(noted + FIRST_PAUSE + 0.5 - time.monotonic())
         with ThreadPoolExecutor(2) as pool:
-            trial = pool.submit(timed, service, "c.test.")
-            checks.equal("a trial: it is asked", servers.wait_for("c.test. A"), True)
-            replies = [timed(service, f"beside{place}.test.") for place in range(10)]
+            trial = pool.submit(timed, service, "a.test.")
+            checks.equal("a trial: it is asked", servers.wait_for("a.test. A", 2), True)
+            replies = [timed(service, "a.test.") for _ in range(10)]
             checks.equal("beside a trial", {reply for reply, _ in replies}, {FAILED})
             takes(checks, "beside a trial", max(took for _, took in replies), 0, AT_ONCE)
             reply, took = trial.result()
@@ -126,13 +130,73 @@ def check_comes_back(checks):
         noted = time.monotonic()
         zone["*"] = good
         time.sleep(FIRST_PAUSE + 1)
-        checks.equal("a pause is twice as long after a trial in vain", service.ask("d.test.").words(), FAILED)
+        checks.equal("a pause is twice as long after a trial in vain", service.ask("a.test.").words(), FAILED)
         checks.equal("a trial in vain: queries", count(servers, DEAD[0]), 2)
+        checks.equal("another name meanwhile", service.ask("b.test.").words(), answered("b.test."))
         time.sleep(noted + 2 * FIRST_PAUSE + 0.5 - time.monotonic())
-        names = [f"back{place}.test." for place in range(20)]
+        names = ["a.test.", *(f"back{place}.test." for place in range(20))]
         replies = [service.ask(name).words() for name in names]
         checks.equal("after it came back", replies, [answered(name) for name in names])
         checks.equal("after it came back: stopped", service.stop(), STOPPED)
+
+
+def check_closed(checks):
+    """A server whose port is closed is not asked again for a second."""
+    with NameServers({ALIVE: {"*": good}}) as servers:
+        with Service([f"{DEAD[0]}@{servers.port}", f"{ALIVE}@{servers.port}"]) as service:
+            for name, seconds, wanted in (("a.test.", 0, 2), ("b.test.", 0, 1), ("c.test.", 1.5, 2)):
+                time.sleep(seconds)
+                before = service.figures()["num.query.udpout"]
+                checks.equal(f"a closed port: {name}", service.ask(name).words(), answered(name))
+                checks.equal(f"a closed port: queries for {name}", service.figures()["num.query.udpout"] - before, wanted)
+            checks.equal("a closed port: stopped", service.stop(), STOPPED)
+
+
+def check_silent(checks):
+    """A dead server of four zones: for two minutes each new name waits for it, and then none does. Once it is back, so are all zones."""
+    zone = {"*": None}
+    with NameServers({ALIVE: {"*": good}, DEAD[0]: zone}) as servers, Service([f"{ALIVE}@{servers.port}"]) as service:
+        service.obey(*(f"stub_add z{place}.test. {DEAD[0]}@{servers.port}" for place in range(4)))
+        began = time.monotonic()
+        for word, seconds in (("a", 0), ("b", EXCHANGE + SILENT + 1)):
+            time.sleep(max(0, began + seconds - time.monotonic()))
+            reply, took = timed(service, f"{word}.z0.test.")
+            checks.equal(f"a dead server of four zones: {word}", reply, FAILED)
+            takes(checks, f"a dead server of four zones: {word}", took, EXCHANGE)
+            if word == "a":
+                for place in range(1, 4):
+                    takes(checks, f"a dead server of four zones: {place}", timed(service, f"a.z{place}.test.")[1], EXCHANGE)
+        noted = time.monotonic()
+        for place in range(4):
+            reply, took = timed(service, f"c.z{place}.test.")
+            checks.equal(f"a silent server: {place}", reply, FAILED)
+            takes(checks, f"a silent server: {place}", took, 0, AT_ONCE)
+        zone["*"] = good
+        time.sleep(max(0, noted + FIRST_PAUSE + 0.5 - time.monotonic()))
+        for place in range(4):
+            checks.equal(f"a silent server is back: {place}", service.ask(f"d.z{place}.test.").words(), answered(f"d.z{place}.test."))
+        checks.equal("a silent server: stopped", service.stop(), STOPPED)
+
+
+def check_dropped_kind(checks):
+    """Both servers of a zone drop one kind of question. A stranger who asks it again and again silences no other name, nor other types
+    of the same name."""
+
+    def does(asked):
+        if not asked.question.endswith(" TYPE65"):
+            yield from good(asked)
+
+    zones = {ALIVE: {"*": does}, OTHER: {"*": does}}
+    with NameServers(zones) as servers, Service([f"{address}@{servers.port}" for address in zones]) as service:
+        with service.client() as stranger:
+            for place in range(30):
+                for name in ("same.test.", f"new{place}.test."):
+                    stranger.send(query(name, "TYPE65"))
+                if place % 5 == 4:
+                    for name in (f"honest{place}.test.", f"new{place}.test."):
+                        checks.equal(f"a kind that servers drop: {name}", service.ask(name).words(), answered(name))
+                time.sleep(0.5)
+        checks.equal("a kind that servers drop: stopped", service.stop(), STOPPED)
 
 
 def check_lively(checks):
@@ -173,7 +237,7 @@ def check_over_tcp(checks):
         checks.equal("no answer over TCP", reply, FAILED)
         takes(checks, "no answer over TCP", took, EXCHANGE)
         for place in range(1, 5):
-            reply, took = timed(service, f"long{place}.test.")
+            reply, took = timed(service, "long0.test.")
             checks.equal("no answer over TCP, again", reply, FAILED)
             takes(checks, "no answer over TCP, again", took, 0, AT_ONCE)
             checks.equal("over UDP beside it", service.ask(f"short{place}.test.").words(), answered(f"short{place}.test."))
@@ -181,25 +245,21 @@ def check_over_tcp(checks):
         checks.equal("no answer over TCP: stopped", service.stop(), STOPPED)
 
 
-def check_four_zones(checks):
-    """One dead server of four zones costs its time once."""
-    with NameServers({ALIVE: {"*": good}, DEAD[0]: {"*": None}}) as servers, Service([f"{ALIVE}@{servers.port}"]) as service:
-        service.obey(*(f"stub_add z{place}.test. {DEAD[0]}@{servers.port}" for place in range(4)))
-        replies = [timed(service, f"a.z{place}.test.") for place in range(4)]
-        checks.equal("a dead server of four zones", [reply for reply, _ in replies], [FAILED] * 4)
-        takes(checks, "a dead server of four zones: the first", replies[0][1], EXCHANGE)
-        takes(checks, "a dead server of four zones: the others", max(took for _, took in replies[1:]), 0, AT_ONCE)
-        checks.equal("a dead server of four zones: stopped", service.stop(), STOPPED)
-
-
 def main():
-    checks = Checks()
-    checks.make(check_first_of_three)
-    checks.make(check_all)
-    checks.make(check_comes_back)
-    checks.make(check_lively)
-    checks.make(check_over_tcp)
-    checks.make(check_four_zones)
+    checks, aside = Checks(), Checks()
+    with ThreadPoolExecutor(1) as pool:
+        # It takes two minutes, and hardly anything else.
+        silent = pool.submit(aside.make, check_silent)
+        checks.make(check_first_of_three)
+        checks.make(check_all)
+        checks.make(check_comes_back)
+        checks.make(check_closed)
+        checks.make(check_lively)
+        checks.make(check_dropped_kind)
+        checks.make(check_over_tcp)
+        silent.result()
+    checks.passed += aside.passed
+    checks.failed += aside.failed
     checks.end()
 
 

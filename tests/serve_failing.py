@@ -1,10 +1,11 @@
 """`resolver serve` while calls of its sockets fail: each call by itself, one run for each. A query may get SERVFAIL or no reply then, or
-its connection may end. But the service goes on: right after that it answers every question and obeys every line, and `stop` ends
-it. `tests/run` tries every call; `python3 tests/serve_failing.py CALL..` tries some."""
+its connection may end. But the service goes on: right after that, or a second later if a port seemed closed, it answers every
+question and obeys every line, and `stop` ends it. `tests/run` tries every call; `python3 tests/serve_failing.py CALL..` tries some."""
 
 import errno
 import re
 import sys
+import time
 from concurrent.futures import ThreadPoolExecutor
 
 from lib.checks import Checks
@@ -29,6 +30,9 @@ ERRORS = {
 
 # The seconds for which a client waits for a reply that may never come, and the runs at once.
 PATIENCE, AT_ONCE = 3.0, 8
+
+# The seconds for which a name server is passed over if its port seems to be closed, and a little more.
+CLOSED_PAUSE = 1.1
 
 # The questions while a call fails. The name server cuts those of `t` over UDP.
 QUESTIONS = (("udp", "a"), ("tcp", "b"), ("udp", "t"), ("tcp", "tt"), ("udp", "c"), ("tcp", "d"))
@@ -78,7 +82,7 @@ def settle(service):
     until(lambda: try_to_ask(service, "udp", "ready.test.") == LOCAL)
 
 
-def fault_of(service):
+def fault_of(service, pause):
     """What is wrong while a call fails, or right after it."""
     service.obey("local_data ready.test. 60 A 192.0.2.9")
     for over, label in QUESTIONS:
@@ -90,6 +94,7 @@ def fault_of(service):
     if told not in (None, "ok 2"):
         return f"`flush` is answered {told}"
     settle(service)
+    time.sleep(pause)
     for over in ("udp", "tcp"):
         for label in ("a", "t", f"later-{over}"):
             found = try_to_ask(service, over, f"{label}.test.")
@@ -107,7 +112,8 @@ def failing(call, error, at):
     settings = {"LD_PRELOAD": library("failing"), "TELL": "2", "CALL": call, "ERROR": str(error), "AT": str(at)}
     with NameServers({HOST: {"*": zone}}) as servers:
         with Service([f"{HOST}@{servers.port}"], "--server-port", str(servers.port), environment=settings) as service:
-            fault = fault_of(service)
+            # What fails on the socket of an exchange looks like a closed port.
+            fault = fault_of(service, CLOSED_PAUSE if call in ("recv_udp", "epoll_ctl") else 0)
             count = re.search(rb"^called (\d+)$", service.log(), re.MULTILINE)
             return int(count[1]) if count else 0, fault
 

@@ -124,8 +124,8 @@ def check_long_datagrams(checks):
 
 
 def check_under_way(checks):
-    """600 questions at once for one server, which may have 480 of a worker's exchanges: those under way, those refused, and later
-    all those in vain."""
+    """600 questions at once of one network, which may have 497 of a worker's 512 exchanges, 32 times the free ones and one more: those
+    under way, those refused, and later all those in vain."""
     with LateServer(never) as server, Service([server.hint]) as service, Crowd(service) as crowd:
         crowd.send_all(f"n{place}.test." for place in range(600))
         until(lambda: service.figures()["total.num.queries"] == 600)
@@ -134,7 +134,7 @@ def check_under_way(checks):
         # The first exchanges may have ended by now, if the machine is slow.
         in_vain = told["num.exchange.unanswered"]
         checks.equal("under way: misses, refused, failed", found, [600, 600 - told["num.query.udpout"], found[1] + in_vain])
-        checks.check("under way: room", None if 480 <= told["num.query.udpout"] <= 480 + in_vain else str(told["num.query.udpout"]))
+        checks.check("under way: room", None if 497 <= told["num.query.udpout"] <= 497 + in_vain else str(told["num.query.udpout"]))
         under_way = told["num.query.udpout"] - in_vain
         checks.equal("under way: now", (told["total.requestlist.current.all"], told["num.exchange.current"]), (under_way, under_way))
         checks.check("under way: status", None if re.search(r"/ queries: \d+ under way /", service.obey("status")[0]) else "no line")

@@ -146,6 +146,21 @@ def check_large(checks, settings):
         checks.equal(f"59 KiB: asked once, {settings}", len(servers.asked), 2)
 
 
+def check_kept(checks):
+    """A question that keeps too much of a response ends, with a line in the log. Others are answered, and none waits then."""
+    referral = "| 1700 authority c.test. 60 NS n%.c.test. | additional n0.c.test. 60 A 192.0.2.1"
+    zone = {"a.c.test. A": cut(lambda asked: [asked.response(referral)]), "good.test. A": lambda asked: [good(asked)]}
+    with NameServers({HOST: zone}) as servers, Service([f"{HOST}@{servers.port}"]) as service:
+        with service.client() as client:
+            client.send(query("a.c.test.", "A"))
+            # SERVFAIL by the header alone.
+            checks.equal("1,700 servers", client.octets()[3] & 15, 2)
+        checks.equal("1,700 servers: logged", service.logged(b"resolver: a question kept too much"), True)
+        checks.equal("1,700 servers: others", service.ask("good.test.").words(), MEANT["good"].format(name="good.test."))
+        checks.equal("1,700 servers: none waits", service.figures()["num.exchange.current"], 0)
+        checks.equal("1,700 servers: stopped", service.stop(), STOPPED)
+
+
 def check_dear(checks, over):
     """A response that would take too long to read fails its exchange, and no other. Long responses of honest servers are read."""
     dear = {f"{how}.test. A": cut(lambda asked, makes=makes: [makes(asked.query)]) for how, makes in DEAR.items()}
@@ -162,6 +177,8 @@ def check_dear(checks, over):
                 client.send(query(*question.split()))
                 client.octets()
             checks.equal(f"{question} over {over}: is read", servers.count(question, "tcp"), 1)
+        if over == "udp":
+            checks.equal("exchanges.test. MX: is logged", service.logged(b"no message holds the reply, set exchanges.test. MX"), True)
         checks.equal(f"dear responses over {over}: others", service.ask("good.test.", "A", over).words(), MEANT["good"].format(name="good.test."))
         checks.equal(f"dear responses over {over}: stopped", service.stop(), STOPPED)
         checks.equal(f"dear responses over {over}: faults, theirs alone", service.times(b"device fault"), len(dear))
@@ -504,6 +521,7 @@ def main():
     checks.make(check_large, {"SIGNALS": 1, "PIECE": 10_000})
     for over in ("udp", "tcp"):
         checks.make(check_dear, over)
+    checks.make(check_kept)
     checks.make(check_many_targets)
     checks.make(check_dead_ports)
     for over in ("udp", "tcp"):

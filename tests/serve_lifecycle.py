@@ -13,6 +13,7 @@ from lib.programs import RESOLVER, library, run
 from lib.service import CANNOT_LISTEN, HOST, IN_USE, STOPPED, TIME, NotReady, Service, free_port, query, until
 
 FORM = "not an IP address; the form is IP@PORT, or IP for port 53"
+RANGE = "not a range of addresses; the form is IP/BITS, or IP for one address; the most bits are 32, for IPv6 128"
 MANY = "too many workers; the most are 16 together"
 PORT = "the port is not a number from 1 to 65535"
 NOT_LOOPBACK = b"resolver: control must be loopback\n"
@@ -68,6 +69,13 @@ def check_addresses(checks):
         ("localhost", "localhost", [hint], bad(f"--listen localhost: {FORM}")),
         ("localhost", control, ["ns.test."], bad(f"HINT ns.test.: {FORM}")),
         (listen, control, ["ns.test."], bad(f"HINT ns.test.: {FORM}")),
+        *(
+            (listen, control, ["--do-not-query", "10.0.0.0/8", "--do-not-query", word, hint], bad(f"--do-not-query {word}: {RANGE}"))
+            for word in (
+                "10.0.0.0/33", "::/129", "10.0.0.0/", "10.0.0.0/-1", "10.0.0.0/8/8", "10.0.0.0/255.0.0.0", "10/8", "/8", "", "inner.test",
+                "10.0.0.0@53", "10.0.0.0@53/8", "10.0.0.0/8@53", "10.0.0.0/4294967304",
+            )
+        ),
         (listen, control, [], bad("HINT: missing; a service needs the address of a root server")),
         (listen, control, [hint] * 17, bad("HINT: 17 addresses; the most are 16")),
         (listen, control, ["--udp", "16", hint], bad(f"--udp 16 and --tcp 1: {MANY}")),
@@ -124,6 +132,7 @@ def check_ranges(checks):
         ["--udp=1", "--tcp=15", "--journal", "256", "--cells", "1000000", "--record", "1000000"],
         ["--journal", "1", "--cells", "1", "--record", "1", "--server-port", "1", "--seed", "0"],
         ["--server-port", "65535", "--seed", "4294967295"],
+        ["--do-not-query", "0.0.0.0/0", "--do-not-query=::/0", "--do-not-query", "10.0.0.0/32", "--do-not-query", "fe80::1/128"],
     ):
         with Service(["192.0.2.1"], *options) as service:
             service.obey("local_data a. 60 A 192.0.2.1")

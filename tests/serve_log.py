@@ -32,7 +32,7 @@ def texts(service):
 
 def check_lines(checks):
     """What a line says of an exchange that failed: cause, server and question. A server may be silent, or not be there at all. The
-    silent one is passed over when it is asked for again, and that has no line."""
+    silent one is passed over when the question is asked again, and that has no line."""
     with NameServers({HOST: {"*": None}}) as servers, Service([f"{HOST}@{servers.port}"]) as service:
         service.obey(
             f"stub_add away.test. 127.0.0.2@{servers.port}", f"stub_add six.test. 127.0.0.3@{servers.port}",
@@ -40,7 +40,7 @@ def check_lines(checks):
         )
         for name in ("a.away.test.", "B.Six.test.", "c.none.test.", "d.own.test.", "e.test."):
             service.ask(name, "TXT")
-        service.ask("f.test.", "TYPE65280")
+        service.ask("e.test.", "TXT")
         checks.equal("lines: stopped", service.stop(), STOPPED)
         silent = f"timed out, server {HOST}@{servers.port}"
         wanted = [

@@ -1,14 +1,19 @@
-"""How soon `stop` ends a service, whatever clients, operators and whoever reads its log do: it is answered within three seconds, and the
-process and its ports are gone within a second of the reply."""
+"""How soon `stop` ends a service, whatever clients, operators, whoever reads its log and whoever writes its first lines do: it is answered
+within three seconds, and the process and its ports are gone within a second of the reply."""
 
+import contextlib
 import fcntl
 import os
+import signal
 import socket
+import subprocess
+import tempfile
 import time
 
 from lib.checks import Checks
 from lib.nameserver import PATIENCE, NameServers, framed
-from lib.service import HOST, Control, Service, query
+from lib.programs import RESOLVER
+from lib.service import HOST, Control, Service, free_port, query, until
 
 ANSWER_SECONDS = 3
 END_SECONDS = 1
@@ -116,6 +121,134 @@ def check_log(checks):
     os.close(reads)
 
 
+@contextlib.contextmanager
+def fifo():
+    """The path of a FIFO."""
+    with tempfile.TemporaryDirectory() as folder:
+        path = os.path.join(folder, "fifo")
+        os.mkfifo(path)
+        yield path
+
+
+def accepts(port):
+    """Whether a connection is accepted at a port."""
+    try:
+        socket.create_connection((HOST, port), PATIENCE).close()
+    except ConnectionRefusedError:
+        return False
+    return True
+
+
+@contextlib.contextmanager
+def starting(path, given=subprocess.DEVNULL):
+    """A service that obeys the lines of a file first, once it accepts operators; and its two ports."""
+    port, control_port = free_port(), free_port()
+    places = ["--listen", f"{HOST}@{port}", "--control", f"{HOST}@{control_port}"]
+    command = [RESOLVER, "serve", *places, "--commands", path, "192.0.2.1"]
+    with subprocess.Popen(command, stdin=given, stdout=subprocess.PIPE, stderr=subprocess.PIPE, env={}) as process:
+        try:
+            until(lambda: accepts(control_port))
+            yield process, port, control_port
+        finally:
+            process.kill()
+
+
+def writer_of(path, octets):
+    """The writer of a FIFO, once it has a reader and has written these octets."""
+    writer = os.open(path, os.O_WRONLY)
+    os.write(writer, octets)
+    time.sleep(0.2)
+    return open(writer, "wb", buffering=0)
+
+
+def check_early_end(checks, name, started, others=1):
+    """Sends `stop` to a service that is not ready, while other operators wait. It says that it has stopped, and nothing else."""
+    process, port, control_port = started
+    with contextlib.ExitStack() as waiting:
+        for _ in range(others):
+            waiting.enter_context(Control(control_port)).sock.sendall(b"list_local_zones\n")
+        check_end(checks, name, process, port, control_port)
+    checks.equal(f"{name}: standard output", process.stdout.read(), b"")
+    lines = process.stderr.read().splitlines()
+    checks.equal(f"{name}: the log", [line.partition(b", at ")[0] for line in lines], [b"resolver: stopped"])
+
+
+def check_no_writer(checks, others):
+    """First lines that come from a FIFO, which nobody has opened to write to it."""
+    with fifo() as path, starting(path) as started:
+        check_early_end(checks, f"a FIFO without a writer, {others} other operators", started, others)
+
+
+def check_silent_writer(checks, name, octets):
+    """First lines that come from a FIFO, whose writer has written these octets."""
+    with fifo() as path, starting(path) as started, writer_of(path, octets):
+        check_early_end(checks, name, started)
+
+
+def check_endless_writer(checks):
+    """First lines that come from a FIFO, whose writer never pauses."""
+    with fifo() as path, starting(path) as started:
+        with open(path, "wb") as writer, subprocess.Popen(["yes", "#"], stdout=writer):
+            time.sleep(0.2)
+            check_early_end(checks, "a FIFO whose writer never pauses", started)
+
+
+def check_silent_pipe(checks):
+    """First lines that come from a pipe, whose writer is silent."""
+    reads, writes = os.pipe()
+    with open(reads, "rb") as given, open(writes, "wb"), starting("/dev/stdin", given) as started:
+        check_early_end(checks, "a pipe whose writer is silent", started)
+
+
+def check_signal(checks):
+    """A signal ends a service that waits for the writer of a FIFO."""
+    with fifo() as path, starting(path) as (process, _, _):
+        process.terminate()
+        checks.equal("a FIFO without a writer: SIGTERM", process.wait(PATIENCE), -signal.SIGTERM)
+
+
+def check_words(checks):
+    """`stop` may have blanks and a carriage return around it. A line that only begins with the word, or has not come whole, waits."""
+    for octets in (b"stopping\n", b"stop now\n", b"stop", b"status\nstop\n"):
+        with fifo() as path, starting(path) as (process, _, control_port), Control(control_port) as control:
+            control.sock.sendall(octets)
+            time.sleep(0.3)
+            checks.equal(f"{octets}: the process", process.poll(), None)
+            with Control(control_port) as other:
+                other.sock.sendall(b" \tstop \r\n")
+                checks.equal(f"{octets}: another operator's stop", (other.line(), process.wait(PATIENCE)), ("ok stopping", 0))
+
+
+def check_obeyed(checks):
+    """A FIFO that ends is obeyed as a file is. Whoever came before gets a reply after its lines."""
+    with fifo() as path, starting(path) as (process, port, control_port), Control(control_port) as waiting:
+        waiting.sock.sendall(b"list_local_zones\n")
+        with writer_of(path, b"local_zone a. static\nlocal_zo") as writer:
+            writer.write(b"ne b. static")
+        checks.equal("a FIFO that has ended: standard output", process.stdout.readline(), b"ready\n")
+        replies = [waiting.line() for _ in range(3)]
+        checks.equal("a FIFO that has ended: who came before", replies, ["a. static", "b. static", "end"])
+        check_end(checks, "a FIFO that has ended", process, port, control_port)
+
+
+def check_empty(checks):
+    """A FIFO and a pipe whose writers write nothing are empty files."""
+    with fifo() as path, starting(path) as (process, _, _):
+        writer_of(path, b"").close()
+        checks.equal("an empty FIFO: standard output", process.stdout.readline(), b"ready\n")
+    reads, writes = os.pipe()
+    os.close(writes)
+    with open(reads, "rb") as given, starting("/dev/stdin", given) as (process, _, _):
+        checks.equal("an empty pipe: standard output", process.stdout.readline(), b"ready\n")
+
+
+def check_refused(checks):
+    """A line of a FIFO that is refused ends the start, even if the FIFO does not end."""
+    with fifo() as path, starting(path) as (process, _, _), writer_of(path, b"undo\n"):
+        told = f"resolver: cannot start\nresolver: --commands {path}: line 1: error nothing_to_undo: undo\n".encode()
+        checks.equal("a FIFO with a line that is refused", (process.wait(PATIENCE), process.stderr.read()), (1, told))
+
+
 def main():
     checks = Checks()
     for workers in (1, 4):
@@ -124,6 +257,17 @@ def main():
     checks.make(check_half)
     checks.make(check_operator)
     checks.make(check_log)
+    for others in (1, 200):
+        checks.make(check_no_writer, others)
+    checks.make(check_silent_writer, "a FIFO whose writer is silent", b"")
+    checks.make(check_silent_writer, "a FIFO whose writer stopped in the middle of a line", b"local_zone a. static\nlocal_zone b. st")
+    checks.make(check_endless_writer)
+    checks.make(check_silent_pipe)
+    checks.make(check_signal)
+    checks.make(check_words)
+    checks.make(check_obeyed)
+    checks.make(check_empty)
+    checks.make(check_refused)
     checks.end()
 
 

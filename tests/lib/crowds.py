@@ -113,6 +113,8 @@ class LateServer:
             return
         connection.setblocking(False)
         connection.setsockopt(socket.IPPROTO_TCP, socket.TCP_NODELAY, 1)
+        # Room for a message of any length: a send that would wait is lost.
+        connection.setsockopt(socket.SOL_SOCKET, socket.SO_SNDBUF, 1 << 17)
         came = bytearray()
         self._selector.register(connection, selectors.EVENT_READ, partial(self._follow, address, came))
 

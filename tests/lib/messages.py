@@ -64,6 +64,8 @@ def question_of(octets):
 def response(asked, text):
     """A response to a query for NAME TYPE, in words: those of its header, and its records, each after a bar and its section.
 
+    A number before a section repeats the record, with each `%` as 0, 1, 2 and so on.
+
     The header has words such as `aa`, `tc`, `rcode 3`, `opcode 1`, `query`, `id 1` (the difference of the identifier), `asks NAME
     TYPE` (another question), `questions 2` (the question twice).
     """
@@ -92,7 +94,7 @@ def response(asked, text):
             raise ValueError(f"no header has {word}")
     sections = {section: [] for section in SECTIONS}
     for part in parts:
-        section, record = part.split(" ", 1)
-        sections[section].append(record_octets(record))
+        times, section, record = part.split(" ", 2) if part[0].isdigit() else ("1", *part.split(" ", 1))
+        sections[section] += [record_octets(record.replace("%", str(nth))) for nth in range(int(times))]
     header = number(identifier) + number(flags) + number(questions) + b"".join(number(len(sections[s])) for s in SECTIONS)
     return header + question * questions + b"".join(b"".join(sections[s]) for s in SECTIONS)

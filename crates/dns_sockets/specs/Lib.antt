@@ -7,6 +7,8 @@ pub mod Line
 pub mod Moments
 pub mod Own
 pub mod Place
+pub mod Ranges
 pub mod Reads
 pub mod Spots
 pub mod Wanting
+pub mod Withheld

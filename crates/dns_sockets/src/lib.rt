@@ -17,6 +17,8 @@ mod timeouts;
 mod stop_flag;
 // Sockets at which clients' queries come in.
 mod clients;
+// Files whose octets come when another program writes them.
+mod polled_file;
 // Sockets by which queries go out to name servers.
 mod name_servers;
 
@@ -31,11 +33,14 @@ pub use deadline::{REST_SECONDS, glance};
 pub use monotonic::{Elapsing, MonotonicClock};
 pub use name_servers::fitting::fits;
 pub use name_servers::place::place_of;
+pub use name_servers::range::AddressRange;
 pub use name_servers::ready_net::{ReadyConnection, ReadyNet, ReadySocket};
 pub use name_servers::server_net::ServerNet;
 pub use name_servers::socket_exchange::SocketExchange;
 pub use name_servers::tcp_line::TcpLine;
 pub use name_servers::udp_line::UdpLine;
+pub use name_servers::withheld::{MOST_LISTED, is_of_strangers, is_withheld, limits_law};
+pub use polled_file::PolledFile;
 pub use stop_flag::StopFlag;
 pub use timeouts::Timeouts;
 pub use waiting::would_wait;

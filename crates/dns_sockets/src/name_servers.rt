@@ -18,6 +18,10 @@ pub mod socket_exchange;
 pub mod ready_net;
 // The places that the service never asks: addresses that belong to no host, and its own.
 pub mod own;
+// A range of IP addresses.
+pub mod range;
+// Servers that are not asked, because of the list that named their address.
+pub mod withheld;
 // A query and its reply over UDP, without waiting.
 pub mod udp_line;
 // A query preceded by its length, and the count of octets that have left.

@@ -1,18 +1,19 @@
 -- What is in flight, as exchanges begin and end.
-use Rattle.std.proofs.Common.{◌≡◌, ◌≢◌, ◌∙◌, ◌⊎◌, ◌<◌, ◌≤◌, ◌+◌, ℕ, max, map, List, [], ◌∷◌, ◌++◌, Option, Some, None, ap, sym, arith, inl, inr}
+use Rattle.std.proofs.Common.{◌≡◌, ◌≢◌, ◌∙◌, ◌⊎◌, ◌<◌, ◌≤◌, ◌+◌, ℕ, max, map, List, [], ◌∷◌, ◌++◌, Option, Some, None, ap, refl, subst, sym, arith, inl, inr}
 use Rattle.std.proofs.lemmas.Bool.{cases_eq}
 use Rattle.std.proofs.lemmas.List.{map-append}
 use Rattle.std.specs.Prelude.{slice_index_or}
 use Rattle.slab.specs.Slab.{Slab, get, slab_len, Updates}
 use Rattle.flight.specs.declared.table.Wait.{Wait}
 use Rattle.flight.proofs.Counting.{time_over, fewer_over_then}
-use Rattle.flight.specs.Waiting.{FlightState, UnderWay, Begins, EarlyGoOn, GoesOnOrBegins, WaitsFrom, exchange_at, outstanding, since_at, since_in, since_of}
+use Rattle.flight.specs.Origin.{Origin}
+use Rattle.flight.specs.Waiting.{FlightState, UnderWay, Begins, EarlyGoOn, GoesOnOrBegins, HasQuestion, KeepsOrigins, WaitsFrom, exchange_at, outstanding, since_at, since_in, since_of}
 
 -- An exchange begins under the key of a question that is kept, and is watched under it.
-pub begins : (now : ℕ) (old new : FlightState) (before after : Slab UnderWay) (exchange : UnderWay) (since : ℕ)
+pub begins : (now : ℕ) (of : Origin → Type 0) (old new : FlightState) (before after : Slab UnderWay) (exchange : UnderWay) (since : ℕ)
     → before.slots ≡ old.exchanges → new.exchanges ≡ after.slots → get before before.vacant_key ≡ None → Updates before after before.vacant_key (Some exchange) → slab_len after ≡ slab_len before + 1
-    → exchange.since ≡ since → exchange.key ≡ before.vacant_key → since ≡ max now old.latest → new.begun ≡ old.begun ++ since ∷ [] → new.latest ≡ since → new.limit ≡ old.limit → Begins now old new
-begins now old new before after exchange since same is vacant updates more began watched now_is begun latest limit =
+    → exchange.since ≡ since → exchange.key ≡ before.vacant_key → of exchange.origin → since ≡ max now old.latest → new.begun ≡ old.begun ++ since ∷ [] → new.latest ≡ since → new.limit ≡ old.limit → Begins now of old new
+begins now of old new before after exchange since same is vacant updates more began watched origin now_is begun latest limit =
     record {
       key = before.vacant_key;
       vacant = sym (ap (λ (list : List (Option UnderWay)). since_in list before.vacant_key) same) ∙ ap since_of vacant;
@@ -20,6 +21,10 @@ begins now old new before after exchange since same is vacant updates more began
       watched = λ one here.
           let there : Some one ≡ Some exchange = sym here ∙ ap (λ (list : List (Option UnderWay)). slice_index_or list before.vacant_key None) is ∙ updates.changed in
           cc (there, watched);
+      origin = λ one here.
+          let there : Some one ≡ Some exchange = sym here ∙ ap (λ (list : List (Option UnderWay)). slice_index_or list before.vacant_key None) is ∙ updates.changed in
+          let equal : one ≡ exchange = cc there in
+          subst (λ (e : UnderWay). of e.origin) (sym equal) origin;
       others = λ other differs.
           ap (λ (list : List (Option UnderWay)). slice_index_or list other None) is ∙ updates.others other differs ∙ ap (λ (list : List (Option UnderWay)). slice_index_or list other None) same;
       one_more = rw (is, ← same) more;
@@ -42,28 +47,46 @@ pub begun_behind : (before after : List Wait) (last : Wait) (begun : List ℕ) �
 begun_behind before after last begun is were = ap (map (λ (wait : Wait). wait.since)) is ∙ map-append (λ (wait : Wait). wait.since) before (last ∷ []) ∙ ap (λ (list : List ℕ). list ++ last.since ∷ []) were
 
 -- What is under way goes on, whatever begins.
-pub goes_on_under : (now : ℕ) (old new : FlightState) → WaitsFrom now old new → (key since : ℕ) → since_at old key ≡ Some since → since_at new key ≡ Some since
-goes_on_under now old new waits key since here =
+pub goes_on_under : (now : ℕ) (of : Origin → Type 0) (old new : FlightState) → WaitsFrom now of old new → (key since : ℕ) → since_at old key ≡ Some since → since_at new key ≡ Some since
+goes_on_under now of old new waits key since here =
     elim waits [
       | inl same ↦ rw same here
       | inr begins ↦ ap since_of (begins.others key (λ (same : key ≡ begins.key). absurd (cc (begins.vacant, ap (since_at old) same)))) ∙ here
     ]
 
+-- A question waits of which less is said.
+pub waits_as : (now : ℕ) (of of' : Origin → Type 0) (old new : FlightState) → WaitsFrom now of old new → ((origin : Origin) → of origin → of' origin) → WaitsFrom now of' old new
+waits_as now of of' old new waits implies = elim waits [
+  | inl same ↦ inl same
+  | inr begins ↦ inr (record {
+    key = begins.key;
+    vacant = begins.vacant;
+    begins = begins.begins;
+    watched = begins.watched;
+    origin = λ exchange here. implies exchange.origin (begins.origin exchange here);
+    others = begins.others;
+    one_more = begins.one_more;
+    begun = begins.begun;
+    latest = begins.latest;
+    limit = begins.limit;
+  })
+]
+
 -- One was taken out, and one begins or not: there are no more than before.
-pub no_more_then : (now taken : ℕ) (old new : FlightState) → outstanding old + 1 ≡ taken → WaitsFrom now old new → outstanding new ≤ taken
-no_more_then now taken old new one waits =
+pub no_more_then : (now taken : ℕ) (of : Origin → Type 0) (old new : FlightState) → outstanding old + 1 ≡ taken → WaitsFrom now of old new → outstanding new ≤ taken
+no_more_then now taken of old new one waits =
     elim waits [ inl same ↦ omega (arith, ap outstanding same) | inr begins ↦ omega (arith, begins.one_more) ]
 
 -- What is not due goes on where what was taken out was due.
-pub early_then : (patience now key due : ℕ) (first old between new : FlightState) → EarlyGoOn patience now first old
-    → since_at old key ≡ Some due → due + patience ≤ now → ((other : ℕ) → other ≢ key → since_at between other ≡ since_at old other) → WaitsFrom now between new → EarlyGoOn patience now first new
-early_then patience now key due first old between new early was is_due others waits = λ at since here left.
+pub early_then : (patience now key due : ℕ) (of : Origin → Type 0) (first old between new : FlightState) → EarlyGoOn patience now first old
+    → since_at old key ≡ Some due → due + patience ≤ now → ((other : ℕ) → other ≢ key → since_at between other ≡ since_at old other) → WaitsFrom now of between new → EarlyGoOn patience now first new
+early_then patience now key due of first old between new early was is_due others waits = λ at since here left.
     let still = early at since here left in
     let differs : at ≢ key = λ same.
     let is : since ≡ due = cc (still, was, ap (since_at old) same) in
     omega arith
     in
-    goes_on_under now between new waits at since (others at differs ∙ still)
+    goes_on_under now of between new waits at since (others at differs ∙ still)
 
 -- What is under way goes on or begins now: where all goes on as it was,
 pub as_it_was : (now : ℕ) (old new : FlightState) → ((key : ℕ) → exchange_at new key ≡ exchange_at old key) → new.latest ≡ old.latest → GoesOnOrBegins now old new
@@ -90,8 +113,8 @@ taken_out now key old new none others latest =
     }
 
 -- where one begins or not,
-begun_now : (now : ℕ) (old new : FlightState) → Begins now old new → GoesOnOrBegins now old new
-begun_now now old new begins =
+begun_now : (now : ℕ) (of : Origin → Type 0) (old new : FlightState) → Begins now of old new → GoesOnOrBegins now old new
+begun_now now of old new begins =
     record {
       under_way = λ at since here. elim (cases_eq at begins.key) [
         | inl same ↦ inr (cc (begins.begins, here, ap (since_at new) same))
@@ -104,11 +127,11 @@ begun_now now old new begins =
       latest = inr begins.latest;
     }
 
-pub begun_or_not : (now : ℕ) (old new : FlightState) → WaitsFrom now old new → GoesOnOrBegins now old new
-begun_or_not now old new waits =
+pub begun_or_not : (now : ℕ) (of : Origin → Type 0) (old new : FlightState) → WaitsFrom now of old new → GoesOnOrBegins now old new
+begun_or_not now of old new waits =
     elim waits [
       | inl same ↦ as_it_was now old new (λ key. ap (λ (state : FlightState). exchange_at state key) same) (ap (λ (state : FlightState). state.latest) same)
-      | inr begins ↦ begun_now now old new begins
+      | inr begins ↦ begun_now now of old new begins
     ]
 
 -- and where both happens at one moment.
@@ -131,9 +154,38 @@ on_or_begun_then now old between new first second =
     }
 
 -- Exchanges are less over their time, together, without the first of the queue, also where one begins.
-pub less_over : (now since : ℕ) (old between new : FlightState) → old.begun ≡ since ∷ between.begun → since + 2000 ≤ now → WaitsFrom now between new → time_over now new.begun < time_over now old.begun
-less_over now since old between new first due waits =
+pub less_over : (now since : ℕ) (of : Origin → Type 0) (old between new : FlightState) → old.begun ≡ since ∷ between.begun → since + 2000 ≤ now → WaitsFrom now of between new → time_over now new.begun < time_over now old.begun
+less_over now since of old between new first due waits =
     fewer_over_then now since (max now between.latest) old.begun between.begun new.begun first due (omega arith) (elim waits [
       | inl same ↦ inl (ap (λ (state : FlightState). state.begun) same)
       | inr begins ↦ inr begins.begun
     ])
+
+-- Each question that waits did so before: where the same exchanges are under way,
+pub origins_same : (old new : FlightState) → ((key : ℕ) → exchange_at new key ≡ exchange_at old key) → KeepsOrigins old new
+origins_same old new same = λ key exchange here. (key, exchange, sym (same key) ∙ here, refl)
+
+-- where one was taken out, and waits again or does not,
+module _ (now key : ℕ) (job : UnderWay) (old between new : FlightState) (was : exchange_at old key ≡ Some job) (none : exchange_at between key ≡ None)
+    (others : (other : ℕ) → other ≢ key → exchange_at between other ≡ exchange_at old other) where
+  waited_before : (at : ℕ) (exchange : UnderWay) → exchange_at between at ≡ Some exchange → HasQuestion old exchange.origin
+  waited_before at exchange here = elim (cases_eq at key) [
+    | inl same ↦ absurd (let there : None ≡ Some exchange = sym none ∙ ap (exchange_at between) (sym same) ∙ here in cc there)
+    | inr differs ↦ (at, exchange, sym (others at differs) ∙ here, refl)
+  ]
+
+  pub origins_then : WaitsFrom now (λ o. o ≡ job.origin) between new → KeepsOrigins old new
+  origins_then waits = λ at exchange here. elim waits [
+    | inl same ↦ waited_before at exchange (ap (λ (state : FlightState). exchange_at state at) (sym same) ∙ here)
+    | inr begins ↦ elim (cases_eq at begins.key) [
+      | inl same ↦ (key, job, was, sym (begins.origin exchange (ap (exchange_at new) (sym same) ∙ here)))
+      | inr differs ↦ waited_before at exchange (sym (begins.others at differs) ∙ here)
+    ]
+  ]
+
+-- and where one thing happens after another.
+pub origins_on : (old between new : FlightState) → KeepsOrigins old between → KeepsOrigins between new → KeepsOrigins old new
+origins_on old between new first second = λ key exchange here.
+    let was = second key exchange here in
+    let before = first was.0 was.1 was.2 in
+    (before.0, before.1, before.2, before.3 ∙ was.3)

@@ -1,5 +1,5 @@
 -- What leaves for clients, one call after another.
-use Rattle.std.proofs.Common.{◌≡◌, ◌+◌, ◌++◌, ℕ, List, [], ◌∷◌, Option, refl, subst, length-append, arith}
+use Rattle.std.proofs.Common.{◌≡◌, ◌+◌, ◌++◌, ℕ, List, [], ◌∷◌, refl, subst, length-append, arith}
 use Rattle.flight.specs.Leaving.{AllLeave, End, Ends, Leaves}
 
 module _ {O K : Type 0} {sends : K → List ℕ → Type 0} (posts : O → K → List ℕ → O → Type 0) where

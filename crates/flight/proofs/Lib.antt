@@ -9,4 +9,9 @@ mod Looking
 mod Keeping
 mod Leaving
 mod Settling
+mod Summing
+mod Bounds
 mod Places
+mod Relieving
+mod Ages
+mod Zones

@@ -1,135 +1,170 @@
--- The exchanges with a server, as exchanges begin and end.
-use Rattle.std.proofs.Common.{◌≡◌, ◌≢◌, ◌∙◌, ◌⊎◌, ◌≤◌, ◌+◌, ℕ, zero, suc, Bool, true, false, List, [], ◌∷◌, get_or, Option, Some, None, cond, count_by, refl, sym, ap, arith, inl, inr}
+-- The questions that wait, as exchanges begin and end, and the places that they hold.
+use Rattle.std.proofs.Common.{◌≡◌, ◌≢◌, ◌∙◌, ◌⊎◌, ◌<◌, ◌≤◌, ◌+◌, ℕ, Bool, true, false, List, [], ◌∷◌, get_or, Option, Some, None, is_some, cond, count_by, refl, sym, ap, arith, inl, inr}
+use Rattle.std.specs.Prelude.{◌-◌, ◌/◌, ◌↔◌, IsTrue}
+use Rattle.std.specs.Int.{from_bool}
+use Rattle.std.proofs.lemmas.Bool.{eqb-true}
 use Rattle.std.proofs.lemmas.List.Sums.{sum_by-cons}
 use Rattle.slab.specs.Slab.{entries_from}
-use Rattle.dns_text.specs.declared.addr.Addr.{Addr}
-use Rattle.dns_text.specs.Equal.{addr_eq}
-use Rattle.dns_text.specs.EqualLaws.{addr_eq_exact}
-use Rattle.flight.specs.Places.{HasPlace, KeepsPlaces, share_of, kept_of}
-use Rattle.flight.specs.Waiting.{FlightState, UnderWay, count_with, is_with, outstanding, with_server}
+use Rattle.dns_name.specs.Labels.{Labels}
+use Rattle.dns_name.specs.Order.{name_eq_exact}
+use Rattle.flight.specs.Origin.{Origin}
+use Rattle.flight.specs.declared.table.Asker.{Asker}
+use Rattle.flight.specs.Places.{HasPlace, IsAlone, KeepsPlaces, free_of, is_in_network, is_in_zone, network_most, zone_most}
+use Rattle.flight.specs.Waiting.{FlightState, JoinsNone, UnderWay, WaitsFrom, count_for, exchange_at, is_for, outstanding, since_of, waiting_for}
+use Rattle.flight.proofs.Summing.{one_summed}
 
 abbrev one_if : Bool → ℕ
 one_if b = cond b 1 0
 
--- what an exchange counts, of those with a server
-abbrev counted : Addr → Option UnderWay → ℕ
-counted server exchange = cond (is_with server exchange) 1 0
-
-after_first : (key : ℕ) → suc key ≢ 0
-after_first key is = omega arith
-
-before_others : (key : ℕ) → 0 ≢ suc key
-before_others key is = omega arith
-
-apart : (other key : ℕ) → other ≢ key → suc other ≢ suc key
-apart other key differs is = differs (omega arith)
-
--- None is with a server if none is under way.
-none_counted : (server : Addr) (exchanges : List (Option UnderWay)) → ((key : ℕ) → get_or exchanges key None ≡ None) → count_with server exchanges ≡ 0
-none_counted server [] none = refl
-none_counted server (first ∷ rest) none =
-    omega (arith, none_counted server rest (λ key. none (suc key)), sum_by-cons (counted server) first rest, ap (counted server) (none 0))
-
--- As many are if the same are under way.
-same_counted : (server : Addr) (old new : List (Option UnderWay)) → ((key : ℕ) → get_or new key None ≡ get_or old key None) → count_with server new ≡ count_with server old
-same_counted server [] new same = none_counted server new same
-same_counted server (first ∷ rest) [] same = sym (none_counted server (first ∷ rest) (λ key. sym (same key)))
-same_counted server (first ∷ rest) (first' ∷ rest') same =
-    omega (arith, same_counted server rest rest' (λ key. same (suc key)), sum_by-cons (counted server) first rest, sum_by-cons (counted server) first' rest', ap (counted server) (same 0))
+-- what an exchange counts, of those whose question passes a test
+abbrev counted : (Origin → Bool) → Option UnderWay → ℕ
+counted test exchange = cond (is_for test exchange) 1 0
 
 -- One that begins is counted.
-pub one_counted : (server : Addr) (old new : List (Option UnderWay)) (key : ℕ) (exchange : UnderWay) → get_or old key None ≡ None → get_or new key None ≡ Some exchange
-    → ((other : ℕ) → other ≢ key → get_or new other None ≡ get_or old other None) → count_with server new ≡ count_with server old + counted server (Some exchange)
-one_counted server old [] key exchange vacant begins others = absurd (cc begins)
-one_counted server [] (first' ∷ rest') zero exchange vacant begins others =
-    omega (arith, none_counted server rest' (λ at. others (suc at) (after_first at)), sum_by-cons (counted server) first' rest', ap (counted server) begins)
-one_counted server [] (first' ∷ rest') (suc key) exchange vacant begins others =
-    omega (
-      arith,
-      one_counted server [] rest' key exchange refl begins (λ at differs. others (suc at) (apart at key differs)),
-      sum_by-cons (counted server) first' rest',
-      ap (counted server) (others 0 (before_others key)),
-    )
-one_counted server (first ∷ rest) (first' ∷ rest') zero exchange vacant begins others =
-    omega (
-      arith,
-      same_counted server rest rest' (λ at. others (suc at) (after_first at)),
-      sum_by-cons (counted server) first rest,
-      sum_by-cons (counted server) first' rest',
-      ap (counted server) vacant,
-      ap (counted server) begins,
-    )
-one_counted server (first ∷ rest) (first' ∷ rest') (suc key) exchange vacant begins others =
-    omega (
-      arith,
-      one_counted server rest rest' key exchange vacant begins (λ at differs. others (suc at) (apart at key differs)),
-      sum_by-cons (counted server) first rest,
-      sum_by-cons (counted server) first' rest',
-      ap (counted server) (others 0 (before_others key)),
-    )
+pub one_counted : (test : Origin → Bool) (old new : List (Option UnderWay)) (key : ℕ) (exchange : UnderWay) → get_or old key None ≡ None → get_or new key None ≡ Some exchange
+    → ((other : ℕ) → other ≢ key → get_or new other None ≡ get_or old other None) → count_for test new ≡ count_for test old + counted test (Some exchange)
+one_counted test old new key exchange vacant begins others = one_summed (counted test) refl old new key exchange vacant begins others
 
--- whether an entry of the table is an exchange with a server
-abbrev pub entry_with : Addr → ℕ × UnderWay → Bool
-entry_with server entry = is_with server (Some entry.1)
+-- whether the question of an entry of the table passes a test
+abbrev pub entry_for : (Origin → Bool) → ℕ × UnderWay → Bool
+entry_for test entry = is_for test (Some entry.1)
 
 -- A walk of the entries counts them.
-pub entries_counted : (server : Addr) (key : ℕ) (exchanges : List (Option UnderWay)) → count_by (entry_with server) (entries_from key exchanges) ≡ count_with server exchanges
-entries_counted server key [] = refl
-entries_counted server key (None ∷ rest) = omega (arith, entries_counted server (key + 1) rest, sum_by-cons (counted server) None rest)
-entries_counted server key (Some exchange ∷ rest) =
+pub entries_counted : (test : Origin → Bool) (key : ℕ) (exchanges : List (Option UnderWay)) → count_by (entry_for test) (entries_from key exchanges) ≡ count_for test exchanges
+entries_counted test key [] = refl
+entries_counted test key (None ∷ rest) = omega (arith, entries_counted test (key + 1) rest, sum_by-cons (counted test) None rest)
+entries_counted test key (Some exchange ∷ rest) =
     omega (
       arith,
-      entries_counted server (key + 1) rest,
-      sum_by-cons (counted server) (Some exchange) rest,
-      sum_by-cons (λ entry. cond (entry_with server entry) 1 0) (key, exchange) (entries_from (key + 1) rest),
+      entries_counted test (key + 1) rest,
+      sum_by-cons (counted test) (Some exchange) rest,
+      sum_by-cons (λ entry. cond (entry_for test entry) 1 0) (key, exchange) (entries_from (key + 1) rest),
     )
+
+byte_is : (b : Bool) → from_bool b ≡ one_if b
+byte_is true = refl
+byte_is false = refl
+
+-- What is counted, with what the entries that are left count, stays the same from one entry to the next.
+pub counted_on : (test : Origin → Bool) (so_far one key : ℕ) (exchange : UnderWay) (all rest : List (ℕ × UnderWay)) (passes : Bool) → all ≡ (key, exchange) ∷ rest → passes ≡ test exchange.origin → one ≡ from_bool passes
+    → so_far + one + count_by (entry_for test) rest ≡ so_far + count_by (entry_for test) all
+counted_on test so_far one key exchange all rest passes is tests adds =
+    let added : one ≡ one_if (test exchange.origin) = adds ∙ byte_is passes ∙ ap one_if tests in
+    let first : count_by (entry_for test) all ≡ one_if (test exchange.origin) + count_by (entry_for test) rest =
+    ap (count_by (entry_for test)) is ∙ sum_by-cons (λ entry. cond (entry_for test entry) 1 0) (key, exchange) rest in
+    omega (arith, added, first)
+
+-- What is counted when none is left is what all hold.
+pub all_counted : (test : Origin → Bool) (so_far total : ℕ) (rest : List (ℕ × UnderWay)) → rest ≡ [] → so_far + count_by (entry_for test) rest ≡ total → so_far ≡ total
+all_counted test so_far total rest none is = omega (arith, ap (count_by (entry_for test)) none, is)
 
 either : (b : Bool) → (b ≡ true) ⊎ (b ≡ false)
 either true = inl refl
 either false = inr refl
 
--- No server takes places that are kept for others: where none has more exchanges,
-pub kept_fewer : (old new : FlightState) → ((server : Addr) → with_server server new ≤ with_server server old) → KeepsPlaces old new
-kept_fewer old new fewer = record { for_each = λ server. inl (fewer server) }
+-- Those that pass a test are no more than all.
+at_most_one : (b : Bool) → one_if b ≤ 1
+at_most_one true = omega arith
+at_most_one false = omega arith
 
+pub no_more_for : (test : Origin → Bool) (exchanges : List (Option UnderWay)) → count_for test exchanges ≤ count_by is_some exchanges
+no_more_for test [] = omega arith
+no_more_for test (None ∷ rest) = omega (arith, no_more_for test rest, sum_by-cons (counted test) None rest, sum_by-cons (λ o. cond (is_some o) 1 0) None rest)
+no_more_for test (Some exchange ∷ rest) =
+    omega (
+      arith,
+      no_more_for test rest,
+      at_most_one (test exchange.origin),
+      sum_by-cons (counted test) (Some exchange) rest,
+      sum_by-cons (λ o. cond (is_some o) 1 0) (Some exchange) rest,
+    )
+
+-- A test that is true decides what holds.
+pub true_decides : {P : Type 0} → P → IsTrue true ↔ P
+true_decides is = (λ yes. is, λ place. refl)
+
+module _ (now : ℕ) (origin : Origin) (asker : Asker) (exchanges : List (Option UnderWay)) (limit free : ℕ) (some : count_by is_some exchanges < limit) (is : free ≡ limit - count_by is_some exchanges) where
+  -- It has one where all that are taken are few enough beside those that are free,
+  pub place_beside : count_by is_some exchanges / 16 < free → HasPlace now origin asker exchanges limit
+  place_beside few = record {
+    free = some;
+    zone = omega (arith, no_more_for (is_in_zone origin.zone) exchanges);
+    network = inl (omega (arith, no_more_for (is_in_network origin.network) exchanges));
+  }
+
+  -- and where its zone holds few enough, but its network all that are taken and too many, if that is alone.
+  pub alone_decides : count_for (is_in_zone origin.zone) exchanges / 16 < free → free ≤ count_for (is_in_network origin.network) exchanges / 32
+      → count_for (is_in_network origin.network) exchanges ≡ count_by is_some exchanges → (result : Bool) → IsTrue result ↔ IsAlone now origin.network asker → IsTrue result ↔ HasPlace now origin asker exchanges limit
+  alone_decides few many all result decides = (
+    λ yes. record { free = some; zone = omega arith; network = inr (decides.0 yes, all) },
+    λ place. elim place.network [
+      | inl less ↦ absurd (omega (arith, less))
+      | inr alone ↦ decides.1 alone.0
+    ],
+  )
+
+-- No zone and no network takes places that others need: where nothing changes,
 pub kept_same : (old new : FlightState) → new ≡ old → KeepsPlaces old new
-kept_same old new same = record { for_each = λ server. inl (omega (arith, ap (with_server server) same)) }
+kept_same old new same = record {
+  zones = λ zone. inl (omega (arith, ap (waiting_for (is_in_zone zone)) same));
+  networks = λ network. inl (omega (arith, ap (waiting_for (is_in_network network)) same));
+}
 
--- where an exchange begins for which there was a place,
-begun_for : (server : Addr) (exchange : UnderWay) (old new : FlightState) → exchange.asked.server ≡ server → HasPlace server old.exchanges new.limit → outstanding new ≡ outstanding old + 1
-    → (other : Addr) → with_server other new ≡ with_server other old + counted other (Some exchange)
-    → (with_server other new ≤ with_server other old) ⊎ ((with_server other new ≤ share_of new.limit) ⊎ (outstanding new + kept_of new.limit ≤ new.limit))
-begun_for server exchange old new asked place more other counts = elim (either (addr_eq exchange.asked.server other)) [
-  | inl its ↦
-      let is : server ≡ other = sym asked ∙ addr_eq_exact exchange.asked.server other its in
-      elim place.own [
-        | inl few ↦ inr (inr (omega (arith, few, more)))
-        | inr less ↦ inr (inl (omega (arith, less, ap (λ (at : Addr). with_server at old) is, counts, ap one_if its)))
-      ]
-  | inr others ↦ inl (omega (arith, counts, ap one_if others))
+-- and where an exchange begins for which there was a place.
+module _ (now : ℕ) (origin : Origin) (asker : Asker) (exchange : UnderWay) (old new : FlightState) (asked : exchange.origin ≡ origin) (place : HasPlace now origin asker old.exchanges new.limit)
+    (counts : (test : Origin → Bool) → waiting_for test new ≡ waiting_for test old + counted test (Some exchange)) (more : outstanding new ≡ outstanding old + 1) where
+  begun_in_zone : (zone : Labels) → (waiting_for (is_in_zone zone) new ≤ waiting_for (is_in_zone zone) old) ⊎ (waiting_for (is_in_zone zone) new ≤ zone_most (free_of new + 1))
+  begun_in_zone zone = elim (either (is_in_zone zone exchange.origin)) [
+    | inl its ↦
+        let is : origin.zone ≡ zone = ap (λ (o : Origin). o.zone) (sym asked) ∙ name_eq_exact exchange.origin.zone zone its in
+        inr (omega (arith, place.free, place.zone, more, ap (λ (z : Labels). waiting_for (is_in_zone z) old) is, counts (is_in_zone zone), ap one_if its))
+    | inr others ↦ inl (omega (arith, counts (is_in_zone zone), ap one_if others))
+  ]
+
+  begun_in_network : (network : ℕ) → (waiting_for (is_in_network network) new ≤ waiting_for (is_in_network network) old)
+      ⊎ ((waiting_for (is_in_network network) new ≤ network_most (free_of new + 1)) ⊎ (waiting_for (is_in_network network) new ≡ outstanding new))
+  begun_in_network network = elim (either (is_in_network network exchange.origin)) [
+    | inl its ↦
+        let is : origin.network ≡ network = ap (λ (o : Origin). o.network) (sym asked) ∙ eqb-true exchange.origin.network network its in
+        let same = ap (λ (n : ℕ). waiting_for (is_in_network n) old) is in
+        inr (elim place.network [
+          | inl few ↦ inl (omega (arith, place.free, few, more, same, counts (is_in_network network), ap one_if its))
+          | inr all ↦ inr (omega (arith, all.1, more, same, counts (is_in_network network), ap one_if its))
+        ])
+    | inr others ↦ inl (omega (arith, counts (is_in_network network), ap one_if others))
+  ]
+
+  pub kept_begun : KeepsPlaces old new
+  kept_begun = record { zones = begun_in_zone; networks = begun_in_network }
+
+-- an exchange is under way where one began, and none where none did
+some_at : (exchange : Option UnderWay) (since : ℕ) → since_of exchange ≡ Some since → (one : UnderWay) × (exchange ≡ Some one)
+some_at None since is = absurd (cc is)
+some_at (Some one) since is = (one, refl)
+
+none_at : (exchange : Option UnderWay) → since_of exchange ≡ None → exchange ≡ None
+none_at None is = refl
+none_at (Some one) is = absurd (cc is)
+
+-- A question of this origin waits, or nothing changes: it is counted once at most.
+joined : (now : ℕ) (origin : Origin) (old new : FlightState) → WaitsFrom now (λ o. o ≡ origin) old new → (test : Origin → Bool) → waiting_for test new ≤ waiting_for test old + one_if (test origin)
+joined now origin old new waits test = elim waits [
+  | inl same ↦ omega (arith, ap (waiting_for test) same)
+  | inr begins ↦
+      let one = some_at (exchange_at new begins.key) _ begins.begins in
+      let more = one_counted test old.exchanges new.exchanges begins.key one.0 (none_at (exchange_at old begins.key) begins.vacant) one.1 begins.others in
+      omega (arith, more, ap (λ (o : Origin). one_if (test o)) (begins.origin one.0 one.1))
 ]
 
-pub kept_begun : (server : Addr) (exchange : UnderWay) (old new : FlightState) → exchange.asked.server ≡ server → HasPlace server old.exchanges new.limit
-    → ((other : Addr) → with_server other new ≡ with_server other old + counted other (Some exchange)) → outstanding new ≡ outstanding old + 1 → KeepsPlaces old new
-kept_begun server exchange old new asked place counts more = record { for_each = λ other. begun_for server exchange old new asked place more other (counts other) }
+-- None joins those that wait: where one was taken out, and waits again or does not,
+pub joins_none_then : (now : ℕ) (job : UnderWay) (old between new : FlightState) → ((test : Origin → Bool) → waiting_for test old ≡ waiting_for test between + counted test (Some job))
+    → WaitsFrom now (λ o. o ≡ job.origin) between new → JoinsNone old new
+joins_none_then now job old between new taken waits = λ test. omega (arith, taken test, joined now job.origin between new waits test)
 
--- where one ends before,
-pub kept_after : (old between new : FlightState) → KeepsPlaces between new → ((server : Addr) → with_server server between ≤ with_server server old) → KeepsPlaces old new
-kept_after old between new keeps fewer = record {
-  for_each = λ server. elim (keeps.for_each server) [ inl no_more ↦ inl (omega (arith, no_more, fewer server)) | inr other ↦ inr other ];
-}
+-- where the same are under way,
+pub joins_none_same : (old new : FlightState) → new.exchanges ≡ old.exchanges → JoinsNone old new
+joins_none_same old new same = λ test. omega (arith, ap (count_for test) same)
 
--- and where one thing happens after another that left no more places.
-pub kept_then : (old between new : FlightState) → KeepsPlaces old between → KeepsPlaces between new → outstanding new ≤ outstanding between → new.limit ≡ between.limit → KeepsPlaces old new
-kept_then old between new first second no_more limit = record {
-  for_each = λ server. elim (second.for_each server) [
-    | inl fewer ↦ elim (first.for_each server) [
-      | inl before ↦ inl (omega (arith, fewer, before))
-      | inr other ↦ elim other [
-        | inl share ↦ inr (inl (omega (arith, fewer, share, limit)))
-        | inr free ↦ inr (inr (omega (arith, free, no_more, limit)))
-      ]
-    ]
-    | inr other ↦ inr other
-  ];
-}
+-- and where one thing happens after another.
+pub joins_none_on : (old between new : FlightState) → JoinsNone old between → JoinsNone between new → JoinsNone old new
+joins_none_on old between new first second = λ test. omega (arith, first test, second test)

@@ -1,5 +1,5 @@
 -- The queue of exchanges as they begin and end.
-use Rattle.std.proofs.Common.{◌≡◌, ◌≢◌, ◌∙◌, ◌<◌, ◌≤◌, ℕ, suc, Bool, true, false, List, [], ◌∷◌, ◌++◌, length, drop, get_or, Option, Some, None, is_some, count_by, cond, refl, sym, ap, arith, inl, inr}
+use Rattle.std.proofs.Common.{◌≡◌, ◌≢◌, ◌∙◌, ◌<◌, ◌≤◌, ◌+◌, ℕ, suc, Bool, true, false, List, [], ◌∷◌, ◌++◌, length, drop, get_or, Option, Some, None, is_some, count_by, cond, refl, sym, ap, arith, inl, inr}
 use Rattle.std.specs.Prelude.{◌-◌, ◌==◌, ◌&&◌, ◌||◌, IsTrue}
 use Rattle.std.proofs.lemmas.Bool.{and_from, and_parts, cases_eq, eq-eqb, eqb-true, or_cases}
 use Rattle.std.proofs.lemmas.List.Elements.{All-push, All-tail, All-weaker}
@@ -80,6 +80,10 @@ module _ (exchanges : List (Option UnderWay)) (waits : List Wait) (latest : ℕ)
       let first : (get_or waits 0 found.1).since ≡ wait.since = ap (λ (list : List Wait). (get_or list 0 found.1).since) is in
       let here : (get_or waits found.0 found.1).since ≡ found.1.since = ap (λ (at : Wait). at.since) found.3 in
       omega (arith, eqb-true found.1.since since both.1)
+
+  -- If the first is not due, none is.
+  pub none_due : (now patience : ℕ) (wait : Wait) (rest : List Wait) → waits ≡ wait ∷ rest → now < wait.since + patience → (key since : ℕ) → since_in exchanges key ≡ Some since → now < since + patience
+  none_due now patience wait rest is left key since here = omega (arith, first_began wait rest is key since here)
 
   -- None is under way but those that were.
   pub queue_without : (exchanges' : List (Option UnderWay)) → ((key since : ℕ) → since_in exchanges' key ≡ Some since → since_in exchanges key ≡ Some since) → IsQueue exchanges' waits latest

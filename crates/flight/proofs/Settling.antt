@@ -1,15 +1,17 @@
 -- A client that is settled.
 use Rattle.std.proofs.Common.{◌≡◌, ◌∙◌, ℕ, List, [], ◌∷◌, Option, is_some, count_by, ap, inl, inr, refl, subst, sym, arith}
 use Rattle.flight.specs.declared.counts.Counts.{Counts}
+use Rattle.flight.specs.Bounds.{kept_all, kept_by}
 use Rattle.flight.specs.Clients.{LosesNone, Settles, SettlesOrWaits}
 use Rattle.flight.specs.Counted.{CountsSettled}
 use Rattle.std.specs.Prelude.{slice_index_or, None}
 use Rattle.flight.specs.Leaving.{End, Leaves}
+use Rattle.flight.specs.Origin.{Origin}
 use Rattle.flight.specs.Told.{Keeps}
-use Rattle.flight.specs.Waiting.{FlightState, IsAccounted, UnderWay, count_with, exchange_at, outstanding}
+use Rattle.flight.specs.Waiting.{FlightState, IsAccounted, UnderWay, exchange_at, outstanding}
 use Rattle.flight.proofs.Leaving.{none_ends, one_left}
-use Rattle.flight.proofs.Flights.{as_it_was, on_or_begun_then}
-use Rattle.flight.proofs.Places.{kept_fewer, kept_same, kept_then}
+use Rattle.flight.proofs.Flights.{as_it_was, on_or_begun_then, origins_on, origins_same, waits_as}
+use Rattle.flight.proofs.Places.{joins_none_on, joins_none_same, kept_same}
 
 -- what is seen of the questions in flight, by its parts
 abbrev state_of : List (Option UnderWay) → List ℕ → ℕ → ℕ → FlightState
@@ -42,9 +44,9 @@ accounted_settled waiting old new settles =
 
 -- It does not wait where nothing in flight has changed, and nothing was counted before.
 pub settled_there : {W O K : Type 0} {sends : K → List ℕ → Type 0} {server_port : W → ℕ} {counts : W → Counts} {outbox : W → O} {posts : O → K → List ℕ → O → Type 0} {client : K} {reply : Option (List ℕ)}
-    (now : ℕ) (flight flight' : FlightState) (old mid new : W)
+    {of : Origin → Type 0} (now : ℕ) (flight flight' : FlightState) (old mid new : W)
     → (octets : List ℕ) → sends client octets → Keeps server_port outbox old mid → counts mid ≡ counts old → flight' ≡ flight → Settles server_port counts outbox posts client reply mid new
-    → SettlesOrWaits sends server_port counts outbox posts now client flight old flight' new
+    → SettlesOrWaits sends server_port counts outbox posts now client of flight old flight' new
 settled_there {sends = sends} {counts = counts} {outbox = outbox} {posts = posts} {client = client} {reply = reply} now flight flight' old mid new octets own keeps counted same settles =
     let end : End sends = record { client = client; octets = octets; own = own; reply = reply } in
     record {
@@ -61,19 +63,38 @@ settled_there {sends = sends} {counts = counts} {outbox = outbox} {posts = posts
       waits = inl same;
       within = λ few. rw same few;
       places = kept_same flight flight' same;
+      bounded = λ few. omega (arith, few, ap kept_all same);
       limit = ap (λ (state : FlightState). state.limit) same;
     }
 
 -- The same of the same client.
-pub own_client : {W O K : Type 0} {sends : K → List ℕ → Type 0} {server_port : W → ℕ} {counts : W → Counts} {outbox : W → O} {posts : O → K → List ℕ → O → Type 0} {client client' : K} {now : ℕ} {flight flight' : FlightState} {old new : W}
-    → client' ≡ client → SettlesOrWaits sends server_port counts outbox posts now client' flight old flight' new → SettlesOrWaits sends server_port counts outbox posts now client flight old flight' new
-own_client {K = K} {sends = sends} {server_port = server_port} {counts = counts} {outbox = outbox} {posts = posts} {now = now} {flight = flight} {flight' = flight'} {old = old} {new = new} same is =
-    subst (λ (c : K). SettlesOrWaits sends server_port counts outbox posts now c flight old flight' new) same is
+pub own_client : {W O K : Type 0} {sends : K → List ℕ → Type 0} {server_port : W → ℕ} {counts : W → Counts} {outbox : W → O} {posts : O → K → List ℕ → O → Type 0} {client client' : K} {now : ℕ} {of : Origin → Type 0} {flight flight' : FlightState} {old new : W}
+    → client' ≡ client → SettlesOrWaits sends server_port counts outbox posts now client' of flight old flight' new → SettlesOrWaits sends server_port counts outbox posts now client of flight old flight' new
+own_client {K = K} {sends = sends} {server_port = server_port} {counts = counts} {outbox = outbox} {posts = posts} {now = now} {of = of} {flight = flight} {flight' = flight'} {old = old} {new = new} same is =
+    subst (λ (c : K). SettlesOrWaits sends server_port counts outbox posts now c of flight old flight' new) same is
+
+-- The same of a question of which less is said.
+pub said_less : {W O K : Type 0} {sends : K → List ℕ → Type 0} {server_port : W → ℕ} {counts : W → Counts} {outbox : W → O} {posts : O → K → List ℕ → O → Type 0} {client : K} {now : ℕ} {of of' : Origin → Type 0}
+    {flight flight' : FlightState} {old new : W}
+    → SettlesOrWaits sends server_port counts outbox posts now client of flight old flight' new → ((origin : Origin) → of origin → of' origin) → SettlesOrWaits sends server_port counts outbox posts now client of' flight old flight' new
+said_less {now = now} {of = of} {of' = of'} {flight = flight} {flight' = flight'} is implies = record {
+  port = is.port;
+  ends = is.ends;
+  own = is.own;
+  accounted = is.accounted;
+  unheard = is.unheard;
+  unexpired = is.unexpired;
+  waits = waits_as now of of' flight flight' is.waits implies;
+  within = is.within;
+  places = is.places;
+  bounded = is.bounded;
+  limit = is.limit;
+}
 
 -- So it is where nothing happened before.
 pub settled_now : {W O K : Type 0} {sends : K → List ℕ → Type 0} {server_port : W → ℕ} {counts : W → Counts} {outbox : W → O} {posts : O → K → List ℕ → O → Type 0} {client : K} {reply : Option (List ℕ)}
-    (now : ℕ) (flight flight' : FlightState) (old new : W)
-    → (octets : List ℕ) → sends client octets → flight' ≡ flight → Settles server_port counts outbox posts client reply old new → SettlesOrWaits sends server_port counts outbox posts now client flight old flight' new
+    {of : Origin → Type 0} (now : ℕ) (flight flight' : FlightState) (old new : W)
+    → (octets : List ℕ) → sends client octets → flight' ≡ flight → Settles server_port counts outbox posts client reply old new → SettlesOrWaits sends server_port counts outbox posts now client of flight old flight' new
 settled_now now flight flight' old new octets own same settles = settled_there now flight flight' old old new octets own (record { port = refl; silent = refl }) refl same settles
 
 -- A client is settled, where nothing was told or counted before.
@@ -102,7 +123,9 @@ loses_as_before {counts = counts} now first old new before between so_far exchan
       accounted = subst (λ (waiting : ℕ). IsAccounted 0 (outstanding first) (counts before) waiting (counts between)) (sym many) so_far.accounted;
       begins = on_or_begun_then now first old new so_far.begins (as_it_was now old new (λ key. ap (λ (list : List (Option UnderWay)). slice_index_or list key None) exchanges) latest);
       no_more = omega (arith, many, so_far.no_more);
-      places = kept_then first old new so_far.places (kept_fewer old new (λ server. omega (arith, ap (count_with server) exchanges))) (omega (arith, many)) limit;
+      origins = origins_on first old new so_far.origins (origins_same old new (λ key. ap (λ (list : List (Option UnderWay)). slice_index_or list key None) exchanges));
+      joins_none = joins_none_on first old new so_far.joins_none (joins_none_same old new exchanges);
+      bounded = λ few. omega (arith, so_far.bounded few, ap kept_by exchanges);
       limit = limit ∙ so_far.limit;
     }
 
@@ -120,6 +143,8 @@ none_lost now flight flight' outside same =
       };
       begins = as_it_was now flight flight' (λ key. ap (λ (state : FlightState). exchange_at state key) same) (ap (λ (state : FlightState). state.latest) same);
       no_more = omega (arith, many);
-      places = kept_same flight flight' same;
+      origins = origins_same flight flight' (λ key. ap (λ (state : FlightState). exchange_at state key) same);
+      joins_none = joins_none_same flight flight' (ap (λ (state : FlightState). state.exchanges) same);
+      bounded = λ few. omega (arith, few, ap kept_all same);
       limit = ap (λ (state : FlightState). state.limit) same;
     }

@@ -11,9 +11,15 @@ use Rattle.iterate.specs.declared.want.Want.TheVariants.{Book}
 use Rattle.history.specs.declared.event.Ask.TheVariants.{Answer as Asked}
 use Rattle.history.specs.declared.event.Event.TheVariants.{Look}
 use Rattle.front_workers.specs.Leads.{Calls, Ticks}
+use Rattle.flight.specs.declared.asking.Asking.{Asking}
 use Rattle.flight.specs.declared.outside.Listened.{Listened}
 use Rattle.flight.specs.Flight.{Sent, Hears, Answered, Awaits}
+use Rattle.flight.specs.Origin.{Origin, origin_of}
 use Rattle.flight.specs.Told.{IsOutcome}
+
+-- what counts of a question while it waits
+abbrev pub origin_in : {K : Type 0} → (K → ℕ) → Asking K → Origin
+origin_in network asking = origin_of asking.began asking.query.question.owner (network asking.client)
 
 -- The client may have sent these octets, they are this query, and the task is for its question.
 pub record IsAskedBy {K : Type 0} (sends : K → List ℕ → Type 0) (port : ℕ) (octets : List ℕ) (client : K) (query : Query) (task : State) : Type 0 where

@@ -2,10 +2,12 @@
 use Rattle.std.specs.Prelude.{◌≡◌, ◌≤◌, ℕ, Option, List}
 use Rattle.std.specs.List.{AllByRecursion}
 use Rattle.flight.specs.declared.counts.Counts.{Counts}
+use Rattle.flight.specs.Bounds.{IsBounded}
 use Rattle.flight.specs.Counted.{CountsSettled}
 use Rattle.flight.specs.Leaving.{Ends, Leaves}
+use Rattle.flight.specs.Origin.{Origin}
 use Rattle.flight.specs.Places.{KeepsPlaces}
-use Rattle.flight.specs.Waiting.{FlightState, GoesOnOrBegins, IsAccounted, WaitsFrom, outstanding}
+use Rattle.flight.specs.Waiting.{FlightState, KeepsOrigins, GoesOnOrBegins, IsAccounted, JoinsNone, WaitsFrom, outstanding}
 
 -- One client is settled: this reply leaves, or none, and nothing else does. No other counter changes, and the port of name servers is the same.
 pub record Settles {W O K : Type 0} (server_port : W → ℕ) (counts : W → Counts) (outbox : W → O) (posts : O → K → List ℕ → O → Type 0) (client : K) (reply : Option (List ℕ))
@@ -14,8 +16,8 @@ pub record Settles {W O K : Type 0} (server_port : W → ℕ) (counts : W → Co
   pub settled : CountsSettled (counts old) (counts new)
   pub left : Leaves posts client reply (outbox old) (outbox new)
 
--- This client is settled, or waits for an exchange that begins now. Nothing leaves but its reply. No exchange is listened to, and none expires. The limit of exchanges is kept if it was kept before, and no server takes places that are kept for others.
-pub record SettlesOrWaits {W O K : Type 0} (sent : K → List ℕ → Type 0) (server_port : W → ℕ) (counts : W → Counts) (outbox : W → O) (posts : O → K → List ℕ → O → Type 0) (now : ℕ) (client : K)
+-- This client is settled, or waits with such a question for an exchange that begins now. Nothing leaves but its reply. No exchange is listened to, and none expires. The limit of exchanges is kept if it was kept before, and so is the bound of what questions keep. No zone and no network takes places that others need.
+pub record SettlesOrWaits {W O K : Type 0} (sent : K → List ℕ → Type 0) (server_port : W → ℕ) (counts : W → Counts) (outbox : W → O) (posts : O → K → List ℕ → O → Type 0) (now : ℕ) (client : K) (of : Origin → Type 0)
     (flight : FlightState) (old : W) (flight' : FlightState) (new : W) : Type 0 where
   pub port : server_port new ≡ server_port old
   pub ends : Ends sent posts 1 (outstanding flight) (outbox old) (outstanding flight') (outbox new)
@@ -23,12 +25,13 @@ pub record SettlesOrWaits {W O K : Type 0} (sent : K → List ℕ → Type 0) (s
   pub accounted : IsAccounted 1 (outstanding flight) (counts old) (outstanding flight') (counts new)
   pub unheard : (counts new).listened ≡ (counts old).listened
   pub unexpired : (counts new).expired ≡ (counts old).expired
-  pub waits : WaitsFrom now flight flight'
+  pub waits : WaitsFrom now of flight flight'
   pub within : outstanding flight ≤ flight.limit → outstanding flight' ≤ flight.limit
   pub places : KeepsPlaces flight flight'
+  pub bounded : IsBounded flight → IsBounded flight'
   pub limit : flight'.limit ≡ flight.limit
 
--- No client is lost, and none is answered twice: each that waited is settled, or still waits. Nothing leaves but the replies of those that are settled. Each exchange under way was under way before or begins now, and there are no more of them. No server takes places that are kept for others.
+-- No client is lost, and none is answered twice: each that waited is settled, or still waits. Nothing leaves but the replies of those that are settled. Each exchange under way was under way before or begins now, for a question that waited before. There are no more of them. The bound of what questions keep holds if it held before.
 pub record LosesNone {W O K : Type 0} (sent : K → List ℕ → Type 0) (server_port : W → ℕ) (counts : W → Counts) (outbox : W → O) (posts : O → K → List ℕ → O → Type 0) (now : ℕ)
     (flight : FlightState) (old : W) (flight' : FlightState) (new : W) : Type 0 where
   pub port : server_port new ≡ server_port old
@@ -36,5 +39,7 @@ pub record LosesNone {W O K : Type 0} (sent : K → List ℕ → Type 0) (server
   pub accounted : IsAccounted 0 (outstanding flight) (counts old) (outstanding flight') (counts new)
   pub begins : GoesOnOrBegins now flight flight'
   pub no_more : outstanding flight' ≤ outstanding flight
-  pub places : KeepsPlaces flight flight'
+  pub origins : KeepsOrigins flight flight'
+  pub joins_none : JoinsNone flight flight'
+  pub bounded : IsBounded flight → IsBounded flight'
   pub limit : flight'.limit ≡ flight.limit

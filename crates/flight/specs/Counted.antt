@@ -33,6 +33,14 @@ pub record CountsExpired (old new : Counts) : Type 0 where
   pub listened : new.listened ≡ old.listened
   pub expired : Rises old.expired new.expired
 
+-- One exchange more ended because its question did.
+pub record CountsAbandoned (old new : Counts) : Type 0 where
+  pub settled : new.settled ≡ old.settled
+  pub opened : new.opened ≡ old.opened
+  pub ended : Rises old.ended new.ended
+  pub listened : new.listened ≡ old.listened
+  pub expired : new.expired ≡ old.expired
+
 -- An exchange goes on if nothing was heard of it, and else has ended.
 abbrev pub EndsBy : Listened → ℕ → ℕ → Type 0
 EndsBy Nothing old new = new ≡ old

@@ -1,8 +1,12 @@
 pub mod Flight
 pub mod Told
+pub mod Origin
+pub mod Zones
 pub mod Asking
 pub mod Counted
+pub mod Kept
 pub mod Waiting
+pub mod Bounds
 pub mod Places
 pub mod Leaving
 pub mod Clients

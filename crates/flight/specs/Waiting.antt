@@ -1,16 +1,17 @@
 -- The clients that wait, each for one exchange.
 use Rattle.std.specs.Prelude.{◌≡◌, ◌≢◌, ◌⊎◌, ◌<◌, ◌≤◌, ℕ, ◌+◌, ◌-◌, min, max, Bool, false, Option, Some, None, is_some, count_by, slice_index_or, List, [], ◌∷◌, ◌++◌}
-use Rattle.dns_text.specs.declared.addr.Addr.{Addr}
-use Rattle.dns_text.specs.Equal.{addr_eq}
 use Rattle.flight.specs.declared.counts.Counts.{Counts}
 use Rattle.flight.specs.Counted.{NeverFall, IsFull}
 use Rattle.flight.specs.Flight.{Sent}
+use Rattle.flight.specs.Origin.{Origin}
 
 -- an exchange under way
 pub record UnderWay : Type 0 where
   pub since : ℕ  -- the moment, in milliseconds, at which it began
   pub asked : Sent  -- the query that went out
   pub key : ℕ  -- the key under which it is watched
+  pub origin : Origin  -- the question that waits for it
+  pub kept : ℕ  -- how many octets the steps of that question keep
 
 -- the visible state of the questions in flight
 pub record FlightState : Type 0 where
@@ -44,18 +45,22 @@ IsWatched state = (key : ℕ) (exchange : UnderWay) → exchange_at state key �
 abbrev pub since_at : FlightState → ℕ → Option ℕ
 since_at state key = since_in state.exchanges key
 
--- whether an exchange is with a server
-abbrev pub is_with : Addr → Option UnderWay → Bool
-is_with server None = false
-is_with server (Some exchange) = addr_eq exchange.asked.server server
+-- whether the question of an exchange passes a test
+abbrev pub is_for : (Origin → Bool) → Option UnderWay → Bool
+is_for test None = false
+is_for test (Some exchange) = test exchange.origin
 
--- how many exchanges of a list are with a server
-abbrev pub count_with : Addr → List (Option UnderWay) → ℕ
-count_with server exchanges = count_by (is_with server) exchanges
+-- of how many exchanges of a list the question passes a test
+abbrev pub count_for : (Origin → Bool) → List (Option UnderWay) → ℕ
+count_for test exchanges = count_by (is_for test) exchanges
 
--- how many exchanges with a server are under way
-abbrev pub with_server : Addr → FlightState → ℕ
-with_server server state = count_with server state.exchanges
+-- how many questions that pass a test wait
+abbrev pub waiting_for : (Origin → Bool) → FlightState → ℕ
+waiting_for test state = count_for test state.exchanges
+
+-- This question waits.
+abbrev pub HasQuestion : FlightState → Origin → Type 0
+HasQuestion state origin = (key : ℕ) × (exchange : UnderWay) × (exchange_at state key ≡ Some exchange) × (exchange.origin ≡ origin)
 
 -- Each client waits or was settled once: those that waited before, and so many more. Each exchange that began is under way for one of them, or ended once.
 pub record AddUp (more waiting : ℕ) (old : Counts) (waiting' : ℕ) (new : Counts) : Type 0 where
@@ -67,27 +72,36 @@ pub record IsAccounted (more waiting : ℕ) (old : Counts) (waiting' : ℕ) (new
   pub never_fall : NeverFall old new
   pub add_up : AddUp more waiting old waiting' new ⊎ IsFull new
 
--- An exchange begins under a vacant key, no earlier than those before, and is watched under it. Each other goes on.
-pub record Begins (now : ℕ) (old new : FlightState) : Type 0 where
+-- An exchange of such a question begins under a vacant key, no earlier than those before, and is watched under it. Each other goes on.
+pub record Begins (now : ℕ) (of : Origin → Type 0) (old new : FlightState) : Type 0 where
   pub key : ℕ
   pub vacant : since_at old key ≡ None
   pub begins : since_at new key ≡ Some (max now old.latest)
   pub watched : (exchange : UnderWay) → exchange_at new key ≡ Some exchange → exchange.key ≡ key
+  pub origin : (exchange : UnderWay) → exchange_at new key ≡ Some exchange → of exchange.origin
   pub others : (other : ℕ) → other ≢ key → exchange_at new other ≡ exchange_at old other
   pub one_more : outstanding new ≡ outstanding old + 1
   pub begun : new.begun ≡ old.begun ++ max now old.latest ∷ []
   pub latest : new.latest ≡ max now old.latest
   pub limit : new.limit ≡ old.limit
 
--- One client more waits for an exchange that begins now, or nothing changes.
-abbrev pub WaitsFrom : ℕ → FlightState → FlightState → Type 0
-WaitsFrom now old new = (new ≡ old) ⊎ Begins now old new
+-- One such question more waits for an exchange that begins now, or nothing changes.
+abbrev pub WaitsFrom : ℕ → (Origin → Type 0) → FlightState → FlightState → Type 0
+WaitsFrom now of old new = (new ≡ old) ⊎ Begins now of old new
 
 -- Each exchange under way was under way before, or begins now, no earlier than those before. Each is watched under its own key.
 pub record GoesOnOrBegins (now : ℕ) (old new : FlightState) : Type 0 where
   pub under_way : (key since : ℕ) → since_at new key ≡ Some since → (since_at old key ≡ Some since) ⊎ (since ≡ max now old.latest)
   pub watched : IsWatched old → IsWatched new
   pub latest : (new.latest ≡ old.latest) ⊎ (new.latest ≡ max now old.latest)
+
+-- Each question that waits did so before: none grows younger, or changes its zone or its client.
+abbrev pub KeepsOrigins : FlightState → FlightState → Type 0
+KeepsOrigins old new = (key : ℕ) (exchange : UnderWay) → exchange_at new key ≡ Some exchange → HasQuestion old exchange.origin
+
+-- No question joins those that wait: of no kind are there more.
+abbrev pub JoinsNone : FlightState → FlightState → Type 0
+JoinsNone old new = (test : Origin → Bool) → waiting_for test new ≤ waiting_for test old
 
 -- Each exchange under another key goes on.
 abbrev pub OthersGoOn : ℕ → FlightState → FlightState → Type 0
@@ -100,6 +114,10 @@ EarlyGoOn patience now old new = (key since : ℕ) → since_at old key ≡ Some
 -- Each exchange under way began less than so many milliseconds ago.
 abbrev pub IsPatient : ℕ → ℕ → FlightState → Type 0
 IsPatient patience now state = (key since : ℕ) → since_at state key ≡ Some since → now < since + patience
+
+-- Each exchange under way is of a question that began less than so many milliseconds ago.
+abbrev pub IsTimely : ℕ → ℕ → FlightState → Type 0
+IsTimely most now state = (key : ℕ) (exchange : UnderWay) → exchange_at state key ≡ Some exchange → now < exchange.origin.began + most
 
 -- Until this moment no exchange is under way for more than so many milliseconds.
 abbrev pub IsPatientUntil : ℕ → ℕ → FlightState → Type 0

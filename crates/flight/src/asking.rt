@@ -17,6 +17,8 @@ pub(crate) struct Asking<K> {
     pub(crate) query: Query,
     /// The port of name servers with which the task began.
     pub(crate) port: u16,
+    /// The moment at which it began, in milliseconds.
+    pub(crate) began: u64,
     pub(crate) task: Task,
     /// The number of the desk's latest call when this question last called it.
     pub(crate) seen: u64,

@@ -1,10 +1,11 @@
 //! The beginning of a question: its first lookup, then its task.
 
-ghost use Rattle.std.specs.Prelude.{◌≤◌};
+ghost use Rattle.std.specs.Prelude.{◌≤◌, max};
 ghost use Rattle.dns_wire.specs.declared.server.query.Asked.TheVariants.{Good};
 ghost use Rattle.dns_wire.specs.Server.Asking.{AsksFor};
 ghost use Rattle.flight.specs.Asking.{HasLooked};
 ghost use Rattle.flight.specs.Clients.{SettlesOrWaits};
+ghost use Rattle.flight.specs.Origin.{IsOriginOf};
 
 use crate::asking::{Asking, ask};
 use crate::engine::Flight;
@@ -30,7 +31,8 @@ impl<D: Numbered, L: InFlight, C: Clock, G: Rng, K: Client> Flight<D, L, C, G, K
     )
         requires own { K.sent client octets.now }
         requires good { AsksFor octets.now (Good query) }
-        ensures { SettlesOrWaits K.sent O.server_port O.counts O.outbox O.posts now client self.old outside.old self.new outside.new }
+        ensures { SettlesOrWaits K.sent O.server_port O.counts O.outbox O.posts now client
+            (IsOriginOf octets.now (max now self.old.latest) (K.network client)) self.old outside.old self.new outside.new }
     {
         resolved_law();
         if desk.seen() < client.since() {
@@ -86,7 +88,8 @@ impl<D: Numbered, L: InFlight, C: Clock, G: Rng, K: Client> Flight<D, L, C, G, K
         requires good { AsksFor octets.now (Good query) }
         requires looked { HasLooked D.calls D.seen L.hears C.ticks (K.since client) query.question moment came seen }
         requires known { seen ≤ D.seen desk.old }
-        ensures { SettlesOrWaits K.sent O.server_port O.counts O.outbox O.posts now client self.old outside.old self.new outside.new }
+        ensures { SettlesOrWaits K.sent O.server_port O.counts O.outbox O.posts now client
+            (IsOriginOf octets.now (max now self.old.latest) (K.network client)) self.old outside.old self.new outside.new }
     {
         let port = outside.server_port();
         let Ok(question) = query.question.clone() else {
@@ -97,10 +100,12 @@ impl<D: Numbered, L: InFlight, C: Clock, G: Rng, K: Client> Flight<D, L, C, G, K
             outside.fail(client, octets, Unserved::NoMemory);
             return;
         };
+        let began = self.table.since(now);
         let asking = Asking {
             client,
             query,
             port,
+            began,
             task,
             seen,
         };

@@ -1,7 +1,7 @@
 //! The counters of a worker.
 
 ghost use Rattle.std.specs.Prelude.{◌≡◌};
-ghost use Rattle.flight.specs.Counted.{CountsExpired, CountsListened, CountsOpened, CountsSettled, no_counts};
+ghost use Rattle.flight.specs.Counted.{CountsAbandoned, CountsExpired, CountsListened, CountsOpened, CountsSettled, no_counts};
 
 use crate::outside::Listened;
 
@@ -12,7 +12,7 @@ pub struct Counts {
     pub settled: u64,
     /// Exchanges that began.
     pub opened: u64,
-    /// Exchanges that ended: a reply came, the exchange broke, or its time was up.
+    /// Exchanges that ended: a reply came, the exchange broke, its time was up, or its question ended.
     pub ended: u64,
     /// Calls that listened to an exchange.
     pub listened: u64,
@@ -64,5 +64,12 @@ impl Counts {
     {
         self.ended = self.ended.saturating_add(1);
         self.expired = self.expired.saturating_add(1);
+    }
+
+    /// Counts an exchange that ended because its question did.
+    pub fn abandon(&mut self)
+        ensures { CountsAbandoned self.old self.new }
+    {
+        self.ended = self.ended.saturating_add(1);
     }
 }

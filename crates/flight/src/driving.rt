@@ -2,11 +2,11 @@
 
 ghost use Rattle.std.specs.Prelude.{◌≡◌, ◌≤◌, ◌+◌};
 ghost use Rattle.front_workers.specs.Counts.{Rises};
-ghost use Rattle.flight.specs.Asking.{HasHeard, IsAskedBy};
+ghost use Rattle.flight.specs.Asking.{origin_in, HasHeard, IsAskedBy};
+ghost use Rattle.flight.specs.Bounds.{IsBounded};
 ghost use Rattle.flight.specs.Flight.{Flies};
 ghost use Rattle.flight.specs.Leaving.{Ends};
 ghost use Rattle.flight.specs.Clients.{SettlesOrWaits};
-ghost use Rattle.flight.specs.Places.{KeepsPlaces};
 ghost use Rattle.flight.specs.Waiting.{IsAccounted, WaitsFrom, outstanding};
 ghost use Rattle.iterate.specs.declared.want.Want.{Want};
 
@@ -36,8 +36,8 @@ impl<D: Numbered, L: InFlight, C: Clock, G: Rng, K: Client> Flight<D, L, C, G, K
         ensures ends { Ends K.sent O.posts 0 (outstanding self.old + 1) (O.outbox outside.old) (outstanding self.new) (O.outbox outside.new) }
         ensures accounted { IsAccounted 0 (outstanding self.old + 1) (O.counts outside.old) (outstanding self.new) (O.counts outside.new) }
         ensures heard { Rises (O.counts outside.old).listened (O.counts outside.new).listened }
-        ensures waits { WaitsFrom now self.old self.new }
-        ensures places { KeepsPlaces self.old self.new }
+        ensures waits { WaitsFrom now (λ origin. origin ≡ job.origin) self.old self.new }
+        ensures bounded { IsBounded self.old → IsBounded self.new }
         ensures limit { self.new.limit ≡ self.old.limit }
     {
         let Job {
@@ -68,7 +68,8 @@ impl<D: Numbered, L: InFlight, C: Clock, G: Rng, K: Client> Flight<D, L, C, G, K
         requires asked { IsAskedBy K.sent asking.port octets asking.client asking.query asking.task }
         requires heard { HasHeard D.calls D.seen L.hears C.ticks (K.since asking.client) asking.port asking.query.question
             asking.task.steps.items heard asking.seen }
-        ensures { SettlesOrWaits K.sent O.server_port O.counts O.outbox O.posts now asking.client self.old outside.old self.new outside.new }
+        ensures { SettlesOrWaits K.sent O.server_port O.counts O.outbox O.posts now asking.client
+            (λ origin. origin ≡ origin_in K.network asking) self.old outside.old self.new outside.new }
     {
         let input = match heard {
             Listened::Came(reply) => Input::Came(reply),
@@ -84,6 +85,7 @@ impl<D: Numbered, L: InFlight, C: Clock, G: Rng, K: Client> Flight<D, L, C, G, K
                 outside,
                 desk,
                 &self.table,
+                now,
                 asking,
                 octets.as_slice(),
                 Unserved::Elsewhere,
@@ -108,7 +110,8 @@ impl<D: Numbered, L: InFlight, C: Clock, G: Rng, K: Client> Flight<D, L, C, G, K
             asking.task.steps.items first asking.seen }
         requires port { asking.port ≡ O.server_port outside.old }
         requires known { asking.seen ≤ D.seen desk.old }
-        ensures { SettlesOrWaits K.sent O.server_port O.counts O.outbox O.posts now asking.client self.old outside.old self.new outside.new }
+        ensures { SettlesOrWaits K.sent O.server_port O.counts O.outbox O.posts now asking.client
+            (λ origin. origin ≡ origin_in K.network asking) self.old outside.old self.new outside.new }
     {
         due_law();
         let mut asking = asking;
@@ -140,13 +143,14 @@ impl<D: Numbered, L: InFlight, C: Clock, G: Rng, K: Client> Flight<D, L, C, G, K
                     over,
                     bytes,
                 } => {
-                    let copy = match self.table.make_room(&server, octets) {
-                        Ok(copy) => copy,
+                    let room = match self.table.make_room(now, &asking, octets) {
+                        Ok(room) => room,
                         Err(why) => {
                             refuse::<D, L, C, K, O>(
                                 outside,
                                 desk,
                                 &self.table,
+                                now,
                                 asking,
                                 octets,
                                 why,
@@ -155,13 +159,20 @@ impl<D: Numbered, L: InFlight, C: Clock, G: Rng, K: Client> Flight<D, L, C, G, K
                         }
                     };
                     let key = self.table.vacant_key();
-                    if let Some(line) = outside.open(key, &server, over, bytes) {
+                    if let Some(line) = outside.open(
+                        key,
+                        &server,
+                        asking.task.hunt(),
+                        over,
+                        bytes,
+                    ) {
                         let since = self.table.since(now);
                         self.table.keep(Job {
                             asking,
-                            octets: copy,
+                            octets: room.octets,
                             line,
                             since,
+                            kept: room.kept,
                             desk: PhantomData,
                             clock: PhantomData,
                         });

@@ -1,18 +1,21 @@
 //! The questions of one worker that are in flight.
 
-ghost use Rattle.std.specs.Prelude.{◌≡◌, ◌⊎◌, ◌+◌, [], None, IfSome};
+ghost use Rattle.std.specs.Prelude.{◌≡◌, ◌⊎◌, ◌<◌, ◌≤◌, ◌+◌, [], ℕ, max, None, IfSome};
 ghost use Rattle.dns_wire.specs.declared.server.query.Asked.TheVariants.{Good};
 ghost use Rattle.front_workers.specs.Counts.{Rises};
+ghost use Rattle.flight.specs.Bounds.{AllGoOn, EachIsSmall, EndsLargest, Relieves, kept_all};
 ghost use Rattle.flight.specs.Clients.{LosesNone, SettlesOrWaits};
-ghost use Rattle.flight.specs.Waiting.{EarlyGoOn, IsPatient, IsPatientUntil, OthersGoOn, outstanding, since_at, time_left};
+ghost use Rattle.flight.specs.Origin.{IsOriginOf};
+ghost use Rattle.flight.specs.Waiting.{EarlyGoOn, IsPatient, IsPatientUntil, IsTimely, OthersGoOn, outstanding, since_at, time_left};
 
 use crate::job::Job;
+use crate::kept::{MOST_ALL_KEPT, MOST_AT_REST};
 use crate::line::InFlight;
 use crate::numbered::Numbered;
 use crate::outside::{Client, Listened, Outside, Unserved};
 use crate::reply::ReplyOctets;
-use crate::table::{PATIENCE, Table};
-use crate::telling::fault_of;
+use crate::table::{PATIENCE, QUESTION_PATIENCE, Table};
+use crate::telling::{fault_of, give_up};
 use command_text::Clock;
 use dns_wire::{Asked, read_question};
 use rand_core::Rng;
@@ -63,6 +66,15 @@ impl<D: Numbered, L: InFlight, C: Clock, G: Rng, K: Client> Flight<D, L, C, G, K
         self.table.jobs.len()
     }
 
+    /// The octets that the steps of all questions keep which wait, together. Each keeps at most `MOST_KEPT`.
+    pub fn kept(&self) -> usize
+        ensures sum { result ≡ kept_all self.now }
+        ensures most { result ≤ MOST_ALL_KEPT }
+        ensures each { EachIsSmall self.now.exchanges }
+    {
+        self.table.kept()
+    }
+
     /// The milliseconds until `expire` has something to do: the time that the oldest exchange has left. That exchange may have
     /// ended since. Returns `None` only if no exchange is under way.
     pub fn next_expiry(&self, now: u64) -> Option<u64>
@@ -83,7 +95,8 @@ impl<D: Numbered, L: InFlight, C: Clock, G: Rng, K: Client> Flight<D, L, C, G, K
         octets: &[u8],
     )
         requires own { K.sent client octets.now }
-        ensures { SettlesOrWaits K.sent O.server_port O.counts O.outbox O.posts now client self.old outside.old self.new outside.new }
+        ensures { SettlesOrWaits K.sent O.server_port O.counts O.outbox O.posts now client
+            (IsOriginOf octets.now (max now self.old.latest) (K.network client)) self.old outside.old self.new outside.new }
     {
         let Ok(asked) = read_question(self.alloc, octets) else {
             outside.fail(client, octets, Unserved::NoMemory);
@@ -122,6 +135,7 @@ impl<D: Numbered, L: InFlight, C: Clock, G: Rng, K: Client> Flight<D, L, C, G, K
             octets,
             mut line,
             since,
+            kept,
             desk: of,
             clock,
         } = job;
@@ -131,6 +145,7 @@ impl<D: Numbered, L: InFlight, C: Clock, G: Rng, K: Client> Flight<D, L, C, G, K
                 octets,
                 line,
                 since,
+                kept,
                 desk: of,
                 clock,
             }),
@@ -141,9 +156,11 @@ impl<D: Numbered, L: InFlight, C: Clock, G: Rng, K: Client> Flight<D, L, C, G, K
         }
     }
 
-    /// Ends each exchange that has taken `PATIENCE` milliseconds. A reply that is there by now is still used.
+    /// Ends each exchange that has taken `PATIENCE` milliseconds. A reply that is there by now is still used. No question that
+    /// began `QUESTION_PATIENCE` milliseconds ago waits then.
     pub fn expire<O: Outside<D, L, C, K>>(&mut self, desk: &mut D, outside: &mut O, now: u64)
         ensures patient { IsPatient PATIENCE now self.new }
+        ensures timely { IsTimely QUESTION_PATIENCE now self.new }
         ensures early { EarlyGoOn PATIENCE now self.old self.new }
         ensures loses_none { LosesNone K.sent O.server_port O.counts O.outbox O.posts now self.old outside.old self.new outside.new }
     {
@@ -152,5 +169,38 @@ impl<D: Numbered, L: InFlight, C: Clock, G: Rng, K: Client> Flight<D, L, C, G, K
                 self.end(desk, outside, now, job);
             }
         }
+    }
+
+    /// Ends the question that keeps most in memory, one after another, until all that wait keep at most `MOST_AT_REST` octets. The
+    /// clients get SERVFAIL.
+    pub fn relieve<O: Outside<D, L, C, K>>(&mut self, outside: &mut O)
+        ensures relieved { kept_all self.new ≤ MOST_AT_REST }
+        ensures relieves { Relieves MOST_AT_REST self.old self.new }
+        ensures go_on { AllGoOn self.old self.new }
+        ensures loses_none { (now : ℕ)
+            → LosesNone K.sent O.server_port O.counts O.outbox O.posts now self.old outside.old self.new outside.new }
+        ensures unheard { (O.counts outside.new).listened ≡ (O.counts outside.old).listened }
+        ensures unexpired { (O.counts outside.new).expired ≡ (O.counts outside.old).expired }
+    {
+        while self.kept() > MOST_AT_REST {
+            self.end_largest(outside);
+        }
+    }
+
+    /// Ends the question that keeps most.
+    fn end_largest<O: Outside<D, L, C, K>>(&mut self, outside: &mut O)
+        requires { 0 < kept_all self.old }
+        ensures largest { EndsLargest self.old self.new }
+        ensures fewer { outstanding self.new + 1 ≡ outstanding self.old }
+        ensures loses_none { (now : ℕ)
+            → LosesNone K.sent O.server_port O.counts O.outbox O.posts now self.old outside.old self.new outside.new }
+        ensures unheard { (O.counts outside.new).listened ≡ (O.counts outside.old).listened }
+        ensures unexpired { (O.counts outside.new).expired ≡ (O.counts outside.old).expired }
+    {
+        let key = self.table.largest();
+        let Some(job) = self.table.take(key) else {
+            unreachable!()
+        };
+        give_up::<D, L, C, K, O>(outside, job);
     }
 }

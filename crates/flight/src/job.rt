@@ -4,11 +4,12 @@ use crate::asking::Asking;
 use crate::line::InFlight;
 use crate::numbered::Numbered;
 use crate::outside::Client;
+use crate::zone::zone_octets;
 use command_text::Clock;
-use dns_text::{Addr, Octets};
+use dns_text::Octets;
 use std::marker::{Model, PhantomData};
 
-/// A question that waits for the reply of one exchange. Contracts see that exchange.
+/// A question that waits for the reply of one exchange. Contracts see that exchange, and what counts of the question.
 #[derive(Drop)]
 pub(crate) struct Job<D: Numbered, L: InFlight, C: Clock, K: Client> {
     pub(crate) asking: Asking<K>,
@@ -17,33 +18,60 @@ pub(crate) struct Job<D: Numbered, L: InFlight, C: Clock, K: Client> {
     pub(crate) line: L,
     /// The moment at which its exchange began, in milliseconds.
     pub(crate) since: u64,
+    /// The octets that the steps of its task keep.
+    pub(crate) kept: usize,
     /// Only the invariant needs the desk and the clock.
     pub(crate) desk: PhantomData<D>,
     pub(crate) clock: PhantomData<C>,
 }
 
 impl<D: Numbered, L: InFlight, C: Clock, K: Client> Model for Job<D, L, C, K> {
-    ghost use Rattle.flight.specs.Asking.{IsAskedBy};
+    ghost use Rattle.std.specs.Prelude.{◌≡◌};
+    ghost use Rattle.flight.specs.Asking.{origin_in, IsAskedBy};
     ghost use Rattle.flight.specs.Flight.{Awaits};
+    ghost use Rattle.flight.specs.Kept.{kept_in};
     ghost use Rattle.flight.specs.Waiting.{UnderWay};
 
     ghost Value = { UnderWay };
 
-    ghost view = { λ job. record { since = job.since; asked = L.asked job.line; key = L.key job.line } };
+    ghost view = { λ job. record {
+      since = job.since;
+      asked = L.asked job.line;
+      key = L.key job.line;
+      origin = origin_in K.network job.asking;
+      kept = kept_in job.asking.task.steps.items;
+    } };
 
     ghost invariant = { λ job. IsAskedBy K.sent job.asking.port job.octets job.asking.client job.asking.query job.asking.task
         × Awaits D.calls D.seen L.hears C.ticks (K.since job.asking.client) job.asking.port job.asking.query.question
-        job.asking.task.steps.items (L.asked job.line) job.asking.seen };
+        job.asking.task.steps.items (L.asked job.line) job.asking.seen
+        × (job.kept ≡ kept_in job.asking.task.steps.items) };
 }
 
 impl<D: Numbered, L: InFlight, C: Clock, K: Client> Job<D, L, C, K> {
-    ghost use Rattle.std.specs.Prelude.{◌≡◌, Some};
-    ghost use Rattle.flight.specs.Waiting.{is_with};
+    ghost use Rattle.std.specs.Prelude.{◌≡◌};
+    ghost use Rattle.flight.specs.Asking.{origin_in};
+    ghost use Rattle.flight.specs.Places.{is_in_network, is_in_zone};
 
-    /// Whether the exchange is with this server.
-    pub(crate) fn is_with(&self, server: &Addr) -> bool
-        ensures { result ≡ is_with server.now (Some self.now) }
+    /// The octets that the steps of its task keep.
+    pub(crate) fn kept(&self) -> usize
+        ensures { result ≡ self.now.kept }
     {
-        self.line.server() == *server
+        self.kept
+    }
+
+    /// Whether its name is in the same zone as that of another question.
+    pub(crate) fn is_in_zone_of(&self, other: &Asking<K>) -> bool
+        ensures { result ≡ is_in_zone (origin_in K.network other.now).zone self.now.origin }
+    {
+        let zone = zone_octets(&self.asking.query.question.owner);
+        zone == zone_octets(&other.query.question.owner)
+    }
+
+    /// Whether its client is of the same network as that of another question.
+    pub(crate) fn is_in_network_of(&self, other: &Asking<K>) -> bool
+        ensures { result ≡ is_in_network (origin_in K.network other.now).network self.now.origin }
+    {
+        self.asking.client.network() == other.client.network()
     }
 }

@@ -14,8 +14,12 @@ mod counts;
 mod reply;
 // The clients of a worker, and its sockets.
 mod outside;
+// The zone of a question's name.
+mod zone;
 // A client's question and its task.
 mod asking;
+// What the questions that wait keep in memory.
+mod kept;
 // A client's question that waits for the reply to an upstream query.
 mod job;
 // The questions that wait, and when each began to.
@@ -34,9 +38,10 @@ mod laws;
 
 pub use counts::Counts;
 pub use engine::Flight;
+pub use kept::{MOST_ALL_KEPT, MOST_AT_REST, MOST_KEPT, kept_law};
 pub use laws::{fall_law, later_law, rise_law};
 pub use line::InFlight;
 pub use numbered::Numbered;
 pub use outside::{Client, Listened, Outside, Unserved};
 pub use reply::ReplyOctets;
-pub use table::{PATIENCE, limits_law};
+pub use table::{PATIENCE, QUESTION_PATIENCE, limits_law};

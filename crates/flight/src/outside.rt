@@ -7,7 +7,7 @@ ghost use Rattle.front_workers.specs.declared.limits.TheConstants.{MOST_UDP_REPL
 ghost use Rattle.front_workers.specs.Serves.{fault_octets};
 ghost use Rattle.flight.specs.declared.counts.Counts.{Counts};
 ghost use Rattle.flight.specs.Clients.{Settles};
-ghost use Rattle.flight.specs.Counted.{CountsExpired, CountsListened, CountsOpened};
+ghost use Rattle.flight.specs.Counted.{CountsAbandoned, CountsExpired, CountsListened, CountsOpened};
 ghost use Rattle.flight.specs.Flight.{query_to};
 ghost use Rattle.flight.specs.Told.{octets_of, IsHeard, IsTold, IsUntold, Keeps};
 
@@ -17,6 +17,7 @@ use crate::reply::ReplyOctets;
 use command_text::Clock;
 use dns_query::Over;
 use dns_text::{Addr, Octets, Shared};
+use iterate::Hunt;
 
 /// A client that is owed a reply. It cannot be cloned and every outcome consumes it, so it is answered at most once.
 pub trait Client: Drop {
@@ -26,9 +27,16 @@ pub trait Client: Drop {
     /// The number of the latest call that the desk knew of when the octets were taken.
     ghost since: { Self → ℕ };
 
+    /// The network that the client is of, as a number. Clients of one network share the places of exchanges.
+    ghost network: { Self → ℕ };
+
     /// The number of the latest call that the desk knew of when the octets were taken.
     fn since(&self) -> u64
         ensures { result ≡ since self.now };
+
+    /// The network that the client is of, as a number.
+    fn network(&self) -> u64
+        ensures { result ≡ network self.now };
 }
 
 /// The result of listening to an exchange.
@@ -49,8 +57,12 @@ pub enum Listened {
 pub enum Unserved {
     /// There is no memory.
     NoMemory,
-    /// No place is free for an exchange, or only places that are kept for other servers are.
+    /// No place is free for an exchange, or only places that other zones or other clients may take are.
     TooMany,
+    /// The question may begin no further exchange: its time is up.
+    TooLong,
+    /// The question keeps too much in memory: more than one may, or most of all that wait, which keep more than they may.
+    TooLarge,
     /// The desk or the port of name servers is not the one with which the question began.
     Elsewhere,
 }
@@ -82,8 +94,16 @@ pub trait Outside<D: Numbered, L: InFlight, C: Clock, K: Client> {
         ensures counts { counts self.new ≡ counts self.old }
         ensures keeps { Keeps server_port outbox self.old self.new };
 
-    /// Begins an exchange, which is watched under the key. Returns `None` if it could not begin.
-    fn open(&mut self, key: usize, server: &Addr, over: Over, query: Shared<Octets>) -> Option<L>
+    /// Begins an exchange, which is watched under the key. `hunt` is the list of servers that has the server, if it is known. Returns
+    /// `None` if it could not begin.
+    fn open(
+        &mut self,
+        key: usize,
+        server: &Addr,
+        hunt: Option<&Hunt>,
+        over: Over,
+        query: Shared<Octets>,
+    ) -> Option<L>
         ensures asked { IfSome result (λ line. L.asked line ≡ query_to server.now over query) }
         ensures watched { IfSome result (λ line. L.key line ≡ key) }
         ensures opened { OnSome result (CountsOpened (counts self.old) (counts self.new)) }
@@ -103,6 +123,11 @@ pub trait Outside<D: Numbered, L: InFlight, C: Clock, K: Client> {
     fn expire(&mut self, line: L)
         ensures failed { L.hears (L.asked line) None }
         ensures expired { CountsExpired (counts self.old) (counts self.new) }
+        ensures keeps { Keeps server_port outbox self.old self.new };
+
+    /// Ends an exchange because its question ends.
+    fn abandon(&mut self, line: L)
+        ensures abandoned { CountsAbandoned (counts self.old) (counts self.new) }
         ensures keeps { Keeps server_port outbox self.old self.new };
 
     /// Sends a client the reply to its octets, now or later. It may be lost on the way.

@@ -2,21 +2,25 @@
 
 ghost use Rattle.std.specs.Prelude.{◌≡◌, ◌≢◌, ◌⊎◌, ◌<◌, ◌≤◌, ◌+◌, ◌∷◌, ◌++◌, ◌↔◌, [], ℕ, map, max, None, Some};
 ghost use Rattle.std.specs.Prelude.{IfErr, IfOk, IfSome, IsTrue, OnOk, OnSome};
-ghost use Rattle.dns_text.specs.declared.addr.Addr.{Addr as Server};
 ghost use Rattle.slab.specs.Slab.{HasRoomFor, Updates, get, slab_len};
 ghost use Rattle.std.specs.VecDeque.{deque_capacity, deque_len};
+ghost use Rattle.flight.specs.Asking.{origin_in};
+ghost use Rattle.flight.specs.Bounds.{EachIsSmall, IsWithin, KeepsMost, KeepsTooMuch, MayKeep, kept_by, kept_of};
+ghost use Rattle.flight.specs.Kept.{kept_in};
 ghost use Rattle.flight.specs.Queue.{IsFirstDue, IsQueue, is_queued};
-ghost use Rattle.flight.specs.Places.{HasPlace};
-ghost use Rattle.flight.specs.Table.{FreesKey, OneMore};
-ghost use Rattle.flight.specs.Waiting.{count_with, since_in, time_left};
-ghost use Rattle.flight.specs.declared.outside.Unserved.TheVariants.{Elsewhere, TooMany};
+ghost use Rattle.flight.specs.Places.{HasPlace, IsAlone, MayBegin, asker_after};
+ghost use Rattle.flight.specs.Table.{AreInTime, CountsOneMore, FreesKey, OneMore};
+ghost use Rattle.flight.specs.Waiting.{UnderWay, since_in, time_left};
+ghost use Rattle.flight.specs.declared.outside.Unserved.TheVariants.{Elsewhere, TooLarge, TooLong, TooMany};
 
+use crate::asking::Asking;
 use crate::job::Job;
+use crate::kept::{MOST_ALL_KEPT, MOST_KEPT, kept_in};
 use crate::line::InFlight;
 use crate::numbered::Numbered;
 use crate::outside::{Client, Unserved};
 use command_text::Clock;
-use dns_text::{Addr, Octets};
+use dns_text::Octets;
 use front_workers::PATIENCE_SECONDS;
 use slab::Slab;
 use std::alloc::Global;
@@ -25,17 +29,43 @@ use std::collections::VecDeque;
 /// The milliseconds that an exchange may take.
 pub const PATIENCE: u64 = 1_000 * PATIENCE_SECONDS;
 
-/// One place in so many is kept for servers with less than their share. These are the last places that are taken.
-pub(crate) const KEPT_ONE_IN: usize = 16;
+/// The milliseconds that a question may hold a place, over all its exchanges.
+pub const QUESTION_PATIENCE: u64 = 10_000;
 
-/// The share of a server is so many places at least.
-pub(crate) const LEAST_SHARE: usize = 4;
+/// The milliseconds after the beginning of a question in which an exchange may begin: it may take `PATIENCE` itself.
+pub(crate) const LAST_BEGINNING: u64 = QUESTION_PATIENCE - PATIENCE;
+
+/// The questions of one zone hold at most so many times the places that are free.
+pub(crate) const ZONE_TIMES_FREE: usize = 16;
+
+/// The questions of one network hold at most so many times the places that are free, unless it is alone. That is more than a zone's,
+/// so that the network's questions about other zones find a place beside a zone that holds all it may.
+pub(crate) const NETWORK_TIMES_FREE: usize = 32;
+
+/// The milliseconds in which no other network may have asked for a place, so that one may hold all places.
+pub(crate) const ALONE_AFTER: u64 = 60_000;
+
+/// The network that asked for a place last, and the moment from which on only it has asked.
+#[derive(Clone, Copy)]
+pub(crate) struct Asker {
+    pub(crate) network: u64,
+    pub(crate) since: u64,
+}
 
 /// An entry of the queue: an exchange, and the moment at which it began.
 #[derive(Clone, Copy)]
 pub(crate) struct Wait {
     pub(crate) key: usize,
     pub(crate) since: u64,
+}
+
+/// What a question that may wait takes with it.
+#[derive(Drop)]
+pub(crate) struct Room {
+    /// The octets of its client.
+    pub(crate) octets: Octets,
+    /// The octets that its steps keep.
+    pub(crate) kept: usize,
 }
 
 /// The questions that wait. All exchanges have the same patience, so the queue is in the order in which they began. It may
@@ -48,7 +78,12 @@ pub(crate) struct Table<D: Numbered, L: InFlight, C: Clock, K: Client> {
     /// The latest moment at which an exchange began.
     latest: u64,
     limit: usize,
+    asker: Asker,
+    /// The octets that the questions keep, together.
+    kept: usize,
     ghost queue: { IsQueue jobs.slots waits.items latest },
+    ghost in_time: { AreInTime jobs.slots },
+    ghost within: { IsWithin jobs.slots kept },
 }
 
 impl<D: Numbered, L: InFlight, C: Clock, K: Client> Table<D, L, C, K> {
@@ -65,48 +100,108 @@ impl<D: Numbered, L: InFlight, C: Clock, K: Client> Table<D, L, C, K> {
             waits: VecDeque::new(alloc),
             latest: 0,
             limit,
+            asker: Asker {
+                network: 0,
+                since: 0,
+            },
+            kept: 0,
         }
     }
 
-    /// Whether fewer exchanges than this are under way with a server.
-    fn has_fewer_with(&self, server: &Addr, most: usize) -> bool
-        ensures { IsTrue result ↔ (count_with server.now self.now.jobs.slots < most) }
+    /// Notes that a question asks for a place.
+    fn note(&mut self, now: u64, asking: &Asking<K>)
+        ensures jobs { self.new.jobs ≡ self.old.jobs }
+        ensures waits { self.new.waits ≡ self.old.waits }
+        ensures latest { self.new.latest ≡ self.old.latest }
+        ensures limit { self.new.limit ≡ self.old.limit }
+        ensures asker { self.new.asker ≡ asker_after (max now self.old.latest) (K.network asking.now.client) self.old.asker }
     {
-        let mut left = most;
-        for (_, job) in self.jobs.iter() {
-            if job.is_with(server) {
-                left = left.saturating_sub(1);
-            }
+        let network = asking.client.network();
+        if self.asker.network != network {
+            let since = self.since(now);
+            self.asker = Asker { network, since };
         }
-        left > 0
     }
 
-    /// Whether an exchange with a server may begin. Exchanges are counted only if few places are left.
-    fn has_place(&self, server: &Addr) -> bool
-        ensures { IsTrue result ↔ HasPlace server.now self.now.jobs.slots self.now.limit }
+    /// Whether no network but that of a question has asked for a place for long enough.
+    fn is_alone(&self, now: u64, asking: &Asking<K>) -> bool
+        ensures { IsTrue result ↔ IsAlone (max now self.now.latest) (K.network asking.now.client) self.now.asker }
+    {
+        self.asker.network == asking.client.network()
+            && self.since(now).saturating_sub(self.asker.since) >= ALONE_AFTER
+    }
+
+    /// Whether a question may begin an exchange beside those under way. They are looked through only if few places are free.
+    fn has_place(&self, now: u64, asking: &Asking<K>) -> bool
+        ensures { IsTrue result ↔ HasPlace (max now self.now.latest) (origin_in K.network asking.now) self.now.asker
+            self.now.jobs.slots self.now.limit }
     {
         let taken = self.jobs.len();
         if taken >= self.limit {
             return false;
         }
-        let kept = self.limit / KEPT_ONE_IN;
-        self.limit - taken > kept || self.has_fewer_with(server, kept.max(LEAST_SHARE))
+        let free = self.limit - taken;
+        if taken / ZONE_TIMES_FREE < free {
+            return true;
+        }
+        let mut zone = 0;
+        let mut network = 0;
+        for (_, job) in self.jobs.iter() {
+            zone += usize::from(job.is_in_zone_of(asking));
+            network += usize::from(job.is_in_network_of(asking));
+        }
+        if zone / ZONE_TIMES_FREE >= free {
+            return false;
+        }
+        if network / NETWORK_TIMES_FREE < free {
+            return true;
+        }
+        if network < taken {
+            return false;
+        }
+        self.is_alone(now, asking)
     }
 
-    /// Makes room for one more question, which asks this server, and copies the octets of its client.
-    pub(crate) fn make_room(&mut self, server: &Addr, octets: &[u8]) -> Result<Octets, Unserved>
+    /// Whether a question that keeps so many octets may wait beside those that do.
+    fn may_keep(&self, kept: usize) -> bool
+        ensures yes { IsTrue result → MayKeep kept self.now.jobs.slots }
+        ensures no { ¬ (IsTrue result) → KeepsTooMuch kept self.now.jobs.slots }
+    {
+        kept <= MOST_KEPT && kept <= MOST_ALL_KEPT - self.kept
+    }
+
+    /// Makes room for a question that begins an exchange now, copies the octets of its client, and counts what its steps keep.
+    pub(crate) fn make_room(
+        &mut self,
+        now: u64,
+        asking: &Asking<K>,
+        octets: &[u8],
+    ) -> Result<Room, Unserved>
         ensures room { OnOk result (HasRoomFor self.new.jobs 1) }
         ensures queue_room { OnOk result (deque_len self.new.waits < deque_capacity self.new.waits) }
-        ensures place { OnOk result (HasPlace server.now self.old.jobs.slots self.old.limit) }
-        ensures refused { IfErr result (λ why. (why ≢ Elsewhere) × (why ≡ TooMany → ¬ (HasPlace server.now self.old.jobs.slots self.old.limit))) }
-        ensures octets { IfOk result (λ copy. copy ≡ octets.now) }
+        ensures may_begin { OnOk result (MayBegin (max now self.old.latest) (origin_in K.network asking.now) self.new.asker
+            (kept_in asking.now.task.steps.items) self.old.jobs.slots self.old.limit) }
+        ensures refused { IfErr result (λ why. (why ≢ Elsewhere)
+            × (why ≡ TooMany → ¬ (HasPlace (max now self.old.latest) (origin_in K.network asking.now) self.new.asker
+            self.old.jobs.slots self.old.limit))
+            × (why ≡ TooLong → asking.now.began + LAST_BEGINNING < max now self.old.latest)
+            × (why ≡ TooLarge → KeepsTooMuch (kept_in asking.now.task.steps.items) self.old.jobs.slots)) }
+        ensures takes { IfOk result (λ room. (room.octets ≡ octets.now) × (room.kept ≡ kept_in asking.now.task.steps.items)) }
         ensures jobs { self.new.jobs.slots ≡ self.old.jobs.slots }
         ensures waits { self.new.waits.items ≡ self.old.waits.items }
         ensures latest { self.new.latest ≡ self.old.latest }
         ensures limit { self.new.limit ≡ self.old.limit }
     {
-        if !self.has_place(server) {
+        self.note(now, asking);
+        if self.since(now).saturating_sub(asking.began) > LAST_BEGINNING {
+            return Err(Unserved::TooLong);
+        }
+        if !self.has_place(now, asking) {
             return Err(Unserved::TooMany);
+        }
+        let kept = kept_in(asking.task.steps());
+        if !self.may_keep(kept) {
+            return Err(Unserved::TooLarge);
         }
         let Ok(copy) = Vec::from_slice(self.alloc, octets) else {
             return Err(Unserved::NoMemory);
@@ -114,7 +209,10 @@ impl<D: Numbered, L: InFlight, C: Clock, K: Client> Table<D, L, C, K> {
         if self.waits.reserve(1).is_err() || self.jobs.reserve(1).is_err() {
             return Err(Unserved::NoMemory);
         }
-        Ok(Octets::new(copy))
+        Ok(Room {
+            octets: Octets::new(copy),
+            kept,
+        })
     }
 
     /// The key that the next question gets.
@@ -133,9 +231,11 @@ impl<D: Numbered, L: InFlight, C: Clock, K: Client> Table<D, L, C, K> {
 
     /// Keeps a question whose exchange begins now.
     pub(crate) fn keep(&mut self, job: Job<D, L, C, K>)
+        requires in_time { job.since ≤ job.origin.began + LAST_BEGINNING }
         requires room { HasRoomFor self.old.jobs 1 }
         requires queue_room { deque_len self.old.waits < deque_capacity self.old.waits }
         requires later { self.old.latest ≤ job.since }
+        requires small { MayKeep job.kept self.old.jobs.slots }
         ensures vacant { get self.old.jobs self.old.jobs.vacant_key ≡ None }
         ensures one_more { OneMore self.old.jobs self.new.jobs self.old.jobs.vacant_key job }
         ensures waits { self.new.waits.items ≡ self.old.waits.items ++ record { key = self.old.jobs.vacant_key; since = job.since } ∷ [] }
@@ -143,6 +243,7 @@ impl<D: Numbered, L: InFlight, C: Clock, K: Client> Table<D, L, C, K> {
         ensures limit { self.new.limit ≡ self.old.limit }
     {
         let since = job.since;
+        self.kept += job.kept();
         let key = self.jobs.insert_reserved(job);
         self.waits.push_back_reserved(Wait { key, since });
         self.latest = since;
@@ -159,6 +260,8 @@ impl<D: Numbered, L: InFlight, C: Clock, K: Client> Table<D, L, C, K> {
         ensures latest { self.new.latest ≡ self.old.latest }
         ensures limit { self.new.limit ≡ self.old.limit }
     {
+        let job = self.jobs.get(key)?;
+        self.kept -= job.kept();
         self.jobs.try_remove(key)
     }
 
@@ -166,11 +269,14 @@ impl<D: Numbered, L: InFlight, C: Clock, K: Client> Table<D, L, C, K> {
     pub(crate) fn put_back(&mut self, job: Job<D, L, C, K>)
         requires room { HasRoomFor self.old.jobs 1 }
         requires queued { IsTrue (is_queued self.old.waits.items self.old.jobs.vacant_key job.since) }
+        requires in_time { job.since ≤ job.origin.began + LAST_BEGINNING }
+        requires small { MayKeep job.kept self.old.jobs.slots }
         ensures one_more { OneMore self.old.jobs self.new.jobs self.old.jobs.vacant_key job }
         ensures waits { self.new.waits.items ≡ self.old.waits.items }
         ensures latest { self.new.latest ≡ self.old.latest }
         ensures limit { self.new.limit ≡ self.old.limit }
     {
+        self.kept += job.kept();
         let _ = self.jobs.insert_reserved(job);
     }
 
@@ -178,6 +284,8 @@ impl<D: Numbered, L: InFlight, C: Clock, K: Client> Table<D, L, C, K> {
     pub(crate) fn next_due(&self, now: u64) -> Option<Wait>
         ensures first_due { IfSome result (IsFirstDue PATIENCE now self.now.waits.items) }
         ensures none { result ≡ None → (key since : ℕ) → since_in self.now.jobs.slots key ≡ Some since → now < since + PATIENCE }
+        ensures timely { result ≡ None → (key : ℕ) (exchange : UnderWay) → get self.now.jobs key ≡ Some exchange
+            → now < exchange.origin.began + QUESTION_PATIENCE }
     {
         let wait = *self.waits.front()?;
         if now.saturating_sub(wait.since) < PATIENCE {
@@ -194,7 +302,7 @@ impl<D: Numbered, L: InFlight, C: Clock, K: Client> Table<D, L, C, K> {
         ensures due { IfSome result (λ job. (get self.old.jobs wait.key ≡ Some job) × (job.since + PATIENCE ≤ now)) }
         ensures taken { OnSome result (Updates self.old.jobs self.new.jobs wait.key None) }
         ensures len { OnSome result (slab_len self.new.jobs + 1 ≡ slab_len self.old.jobs) }
-        ensures no_more { (server : Server) → count_with server self.new.jobs.slots ≤ count_with server self.old.jobs.slots }
+        ensures counts { IfSome result (λ job. CountsOneMore self.new.jobs self.old.jobs job) }
         ensures none { result ≡ None → self.new.jobs ≡ self.old.jobs }
         ensures latest { self.new.latest ≡ self.old.latest }
         ensures limit { self.new.limit ≡ self.old.limit }
@@ -204,7 +312,43 @@ impl<D: Numbered, L: InFlight, C: Clock, K: Client> Table<D, L, C, K> {
         if now.saturating_sub(job.since) < PATIENCE {
             return None;
         }
+        self.kept -= job.kept();
         self.jobs.try_remove(wait.key)
+    }
+
+    /// The octets that the questions keep, together.
+    pub(crate) fn kept(&self) -> usize
+        ensures sum { result ≡ kept_by self.now.jobs.slots }
+        ensures most { result ≤ MOST_ALL_KEPT }
+        ensures each { EachIsSmall self.now.jobs.slots }
+    {
+        self.kept
+    }
+
+    /// What the question under a key keeps, or 0 if there is none.
+    fn kept_at(&self, key: usize) -> usize
+        ensures { result ≡ kept_of (get self.now.jobs key) }
+    {
+        match self.jobs.get(key) {
+            Some(job) => job.kept(),
+            None => 0,
+        }
+    }
+
+    /// The key of the question that keeps most.
+    pub(crate) fn largest(&self) -> usize
+        ensures { KeepsMost self.now.jobs.slots result }
+    {
+        let mut largest = 0;
+        let mut most = self.kept_at(0);
+        for key in 0..self.jobs.capacity() {
+            let kept = self.kept_at(key);
+            if most < kept {
+                largest = key;
+                most = kept;
+            }
+        }
+        largest
     }
 
     /// The milliseconds until the time of the first exchange is up.
@@ -219,10 +363,13 @@ impl<D: Numbered, L: InFlight, C: Clock, K: Client> Table<D, L, C, K> {
     }
 }
 
-/// An exchange has two seconds. The last sixteenth of the places is kept for servers with less than a sixteenth, or less than
-/// four, of them.
+/// An exchange has two seconds, and a question ten: it may begin an exchange in the first eight. The questions of one zone hold at
+/// most 16 times the places that are free, and those of one network 32 times. A network is alone if no other asked in the last minute.
 pub fn limits_law()
     ensures patience { PATIENCE ≡ 2000 }
-    ensures kept { KEPT_ONE_IN ≡ 16 }
-    ensures share { LEAST_SHARE ≡ 4 }
+    ensures question { QUESTION_PATIENCE ≡ 10000 }
+    ensures last { LAST_BEGINNING ≡ 8000 }
+    ensures zone { ZONE_TIMES_FREE ≡ 16 }
+    ensures network { NETWORK_TIMES_FREE ≡ 32 }
+    ensures alone { ALONE_AFTER ≡ 60000 }
 {}

@@ -1,25 +1,29 @@
 //! The reply to a client.
 
-ghost use Rattle.std.specs.Prelude.{◌≡◌, ◌≢◌, ◌⊎◌, ◌<◌, List, Option, Some, ℕ};
-ghost use Rattle.dns_text.specs.declared.addr.Addr.{Addr as Server};
+ghost use Rattle.std.specs.Prelude.{◌≡◌, ◌≢◌, ◌⊎◌, ◌<◌, ◌+◌, List, Option, Some, max, ℕ};
 ghost use Rattle.dns_wire.specs.declared.server.query.Asked.TheVariants.{Fault, Good};
 ghost use Rattle.dns_wire.specs.Server.Asking.{AsksFor};
 ghost use Rattle.front_workers.specs.Serves.{fault_octets};
 ghost use Rattle.iterate.specs.declared.answer.Answer.TheVariants.{Silent};
 ghost use Rattle.iterate.specs.Told.{IsFit};
-ghost use Rattle.flight.specs.Asking.{IsAskedBy};
+ghost use Rattle.flight.specs.Asking.{origin_in, IsAskedBy};
+ghost use Rattle.flight.specs.Bounds.{KeepsTooMuch};
 ghost use Rattle.flight.specs.Clients.{Settles};
 ghost use Rattle.flight.specs.Flight.{Lands};
+ghost use Rattle.flight.specs.Leaving.{Ends};
+ghost use Rattle.flight.specs.Waiting.{IsAccounted};
+ghost use Rattle.flight.specs.Kept.{kept_in};
 ghost use Rattle.flight.specs.Places.{HasPlace};
 ghost use Rattle.flight.specs.Told.{IsGiven};
-ghost use Rattle.flight.specs.declared.outside.Unserved.TheVariants.{Elsewhere, TooMany};
+ghost use Rattle.flight.specs.declared.outside.Unserved.TheVariants.{Elsewhere, TooLarge, TooLong, TooMany};
 
 use crate::asking::Asking;
+use crate::job::Job;
 use crate::line::InFlight;
 use crate::numbered::Numbered;
 use crate::outside::{Client, Outside, Unserved};
 use crate::reply::ReplyOctets;
-use crate::table::Table;
+use crate::table::{LAST_BEGINNING, Table};
 use command_text::Clock;
 use dns_query::Over;
 use dns_wire::{Query, Rcode, fault_reply};
@@ -47,21 +51,46 @@ pub(crate) fn lack<D: Numbered, L: InFlight, C: Clock, K: Client, O: Outside<D, 
     outside.fail(asking.client, octets, Unserved::NoMemory);
 }
 
-/// Sends a client SERVFAIL, for a cause that the table, the desk or the outside shows. Only the want of memory shows nowhere.
+/// Sends a client SERVFAIL, for a cause that the table, the time, the desk or the outside shows. Only the want of memory shows nowhere.
 pub(crate) fn refuse<D: Numbered, L: InFlight, C: Clock, K: Client, O: Outside<D, L, C, K>>(
     outside: &mut O,
     desk: &D,
     table: &Table<D, L, C, K>,
+    now: u64,
     asking: Asking<K>,
     octets: &[u8],
     why: Unserved,
 )
     requires asked { IsAskedBy K.sent asking.port octets.now asking.client asking.query asking.task }
-    requires full { why ≡ TooMany → (server : Server) × ¬ (HasPlace server table.now.jobs.slots table.now.limit) }
+    requires full { why ≡ TooMany → ¬ (HasPlace (max now table.now.latest) (origin_in K.network asking) table.now.asker
+        table.now.jobs.slots table.now.limit) }
+    requires late { why ≡ TooLong → asking.began + LAST_BEGINNING < max now table.now.latest }
+    requires large { why ≡ TooLarge → KeepsTooMuch (kept_in asking.task.steps.items) table.now.jobs.slots }
     requires elsewhere { why ≡ Elsewhere → (D.seen desk.now < asking.seen) ⊎ (asking.port ≢ O.server_port outside.old) }
     ensures { Settles O.server_port O.counts O.outbox O.posts asking.client (Some (fault_octets octets.now 2)) outside.old outside.new }
 {
     outside.fail(asking.client, octets, why);
+}
+
+/// Ends a question that waits, because it keeps too much in memory: its exchange ends, and its client gets SERVFAIL.
+pub(crate) fn give_up<D: Numbered, L: InFlight, C: Clock, K: Client, O: Outside<D, L, C, K>>(
+    outside: &mut O,
+    job: Job<D, L, C, K>,
+)
+    ensures port { O.server_port outside.new ≡ O.server_port outside.old }
+    ensures ends { Ends K.sent O.posts 0 1 (O.outbox outside.old) 0 (O.outbox outside.new) }
+    ensures accounted { IsAccounted 0 1 (O.counts outside.old) 0 (O.counts outside.new) }
+    ensures unheard { (O.counts outside.new).listened ≡ (O.counts outside.old).listened }
+    ensures unexpired { (O.counts outside.new).expired ≡ (O.counts outside.old).expired }
+{
+    let Job {
+        asking,
+        octets,
+        line,
+        ..
+    } = job;
+    outside.abandon(line);
+    outside.fail(asking.client, octets.as_slice(), Unserved::TooLarge);
 }
 
 /// Sends a client the answer to its question, which is no silence, or SERVFAIL if there is no memory to write it.

@@ -3,6 +3,7 @@ use Rattle.std.proofs.Common.{◌≡◌, ◌∙◌, ◌≤◌, ◌++◌, ℕ, �
 use Rattle.front_workers.specs.Counts.{Rises}
 use Rattle.front_workers.specs.Working.{HasFailed}
 use Rattle.flight.specs.declared.counts.Counts.{Counts}
+use Rattle.flight.specs.Bounds.{IsBounded}
 use Rattle.flight.specs.Counted.{NeverFall, IsFull}
 use Rattle.flight.specs.Waiting.{FlightState, IsAccounted, outstanding}
 use Rattle.flight_sockets.specs.Accounts.{WorkerState, Accounts, GoesOn}
@@ -86,6 +87,7 @@ module _ {S : Type 0} {takes sends : Moves S} where
   gone_on a b c old mid new before after = record {
     accounts = followed _ _ _ old mid new before.accounts after.accounts;
     within = λ few. omega (arith, after.within (omega (arith, before.within few, before.limit)), before.limit);
+    bounded = λ few. after.bounded (before.bounded few);
     limit = after.limit ∙ before.limit;
     failures = after.failures ∙ before.failures;
   }
@@ -132,10 +134,11 @@ module _ {S : Type 0} {takes sends : Moves S} where
 
   -- No query is taken, no exchange more is under way, and no turn fails.
   pub looked_on : (a b : FlightState) (old new : WorkerState S) → new.taken ≡ old.taken → IsAccounted 0 (outstanding a) old.counts (outstanding b) new.counts
-      → Endings takes sends 0 (outstanding a) old.outbox (outstanding b) new.outbox → outstanding b ≤ outstanding a → b.limit ≡ a.limit → new.failures ≡ old.failures → GoesOn takes sends a old b new
-  looked_on a b old new same accounted ends no_more limit failures = record {
+      → Endings takes sends 0 (outstanding a) old.outbox (outstanding b) new.outbox → outstanding b ≤ outstanding a → (IsBounded a → IsBounded b) → b.limit ≡ a.limit → new.failures ≡ old.failures → GoesOn takes sends a old b new
+  looked_on a b old new same accounted ends no_more bounded limit failures = record {
     accounts = went_on _ _ old new same accounted ends;
     within = λ few. omega (arith, few, no_more);
+    bounded = bounded;
     limit = limit;
     failures = failures;
   }
@@ -146,6 +149,7 @@ module _ {S : Type 0} {takes sends : Moves S} where
   stayed flight old new ends taken counts failures = record {
     accounts = went_on _ _ old new taken (rw counts (same_counts (outstanding flight) old.counts)) ends;
     within = λ few. few;
+    bounded = λ few. few;
     limit = refl;
     failures = failures;
   }
@@ -169,6 +173,7 @@ module _ {S : Type 0} {takes sends : Moves S} where
           ];
         };
         within = λ few. few;
+        bounded = λ few. few;
         limit = refl;
         failures = failures;
       }

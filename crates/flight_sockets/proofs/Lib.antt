@@ -3,7 +3,8 @@ mod Beginning
 mod Durations
 mod Hearing
 mod Moving
-mod Pausing
 mod Posting
 mod Reading
+mod Relieving
+mod Remembering
 mod Watching

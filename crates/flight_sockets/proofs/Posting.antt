@@ -9,7 +9,7 @@ use Rattle.flight.specs.Told.{octets_of}
 use Rattle.flight_sockets.specs.declared.client.UdpClient.{UdpClient}
 use Rattle.flight_sockets.specs.declared.outgoing.Outgoing.{Outgoing}
 use Rattle.flight_sockets.specs.Endings.{Ending, settled, refused, Endings, IsTooLong, Refuses, clients_in, leaving_for, settled_all, with_reply}
-use Rattle.flight_sockets.specs.Moves.{AllMoved, Datagram, Move, Moves, datagram_to, sent, sent_in, taken_in, took}
+use Rattle.flight_sockets.specs.Moves.{AllMoved, Datagram, Moves, datagram_to, sent, sent_in, taken_in, took}
 use Rattle.flight_sockets.specs.Outgoing.{IsSentBy, OutboxState, Posts, PostsTo, datagram_of}
 use Rattle.flight_sockets.proofs.Moving.{all_done_then, all_moved_then, each_sent, each_taken, none_sent, none_taken, only_sent, only_taken, sent_then, taken_then}
 

@@ -1,5 +1,5 @@
 -- How a worker listens to what its poll reports, one after another.
-use Rattle.std.proofs.Common.{◌≡◌, ◌++◌, List, [], ◌∷◌, map, refl, subst, sym}
+use Rattle.std.proofs.Common.{◌++◌, List, [], ◌∷◌, map, refl, subst, sym}
 use Rattle.std.proofs.lemmas.List.{map-append}
 use Rattle.mio.specs.declared.event.event.Event.{Event}
 use Rattle.flight.specs.declared.counts.Counts.{Counts}

@@ -4,6 +4,7 @@ use Rattle.std.specs.declared.time.Instant.{Instant}
 use Rattle.mio.specs.declared.event.event.Event.{Event}
 use Rattle.dns_sockets.specs.Moments.{ClockState}
 use Rattle.flight.specs.declared.counts.Counts.{Counts}
+use Rattle.flight.specs.Bounds.{IsBounded}
 use Rattle.flight.specs.Counted.{NeverFall, IsFull, no_counts}
 use Rattle.flight.specs.Waiting.{FlightState, outstanding}
 use Rattle.flight_sockets.specs.Endings.{Ending, clients_in, leaving_for}
@@ -39,9 +40,10 @@ pub record Accounts {S : Type 0} (takes sends : Moves S) (waiting : ℕ) (old : 
   pub never_fall : NeverFall old.counts new.counts
   pub add_up : AllAddUp waiting old waiting' new ⊎ (IsFull new.counts ⊎ (2 ^ 64 - 1 ≤ new.taken))
 
--- A worker went on with its questions in flight: each is accounted for, the limit of exchanges is kept, and no turn failed.
+-- A worker went on with its questions in flight: each is accounted for, the limit of exchanges is kept, what they keep stays within its bound, and no turn failed.
 pub record GoesOn {S : Type 0} (takes sends : Moves S) (flight : FlightState) (old : WorkerState S) (flight' : FlightState) (new : WorkerState S) : Type 0 where
   pub accounts : Accounts takes sends (outstanding flight) old (outstanding flight') new
   pub within : outstanding flight ≤ flight.limit → outstanding flight' ≤ flight.limit
+  pub bounded : IsBounded flight → IsBounded flight'
   pub limit : flight'.limit ≡ flight.limit
   pub failures : new.failures ≡ old.failures

@@ -1,7 +1,8 @@
 -- The exchanges of a worker, each over a socket of its own.
-use Rattle.std.specs.Prelude.{◌≡◌, ◌⊎◌, ℕ, Option, List}
+use Rattle.std.specs.Prelude.{◌≡◌, ◌⊎◌, ℕ, Bool, Option, List}
 use Rattle.std.specs.declared.net.SocketAddr.{SocketAddr}
 use Rattle.mio.specs.declared.token.Token.{Token}
+use Rattle.dns_name.specs.Labels.{Labels}
 use Rattle.dns_text.specs.declared.addr.Addr.{Addr}
 use Rattle.dns_query.specs.declared.over.Over.{Over}
 use Rattle.dns_query.specs.declared.over.Over.TheVariants.{Udp as OverUdp, Tcp as OverTcp}
@@ -19,6 +20,8 @@ use Rattle.flight_sockets.specs.declared.transport.Way.TheVariants.{Udp, Tcp, Cl
 pub record ExchangeState : Type 0 where
   pub asked : Sent  -- the query that went out
   pub token : Token  -- the token under which the poll reports its socket
+  pub zone : Option Labels  -- the zone about which the server is asked, if strangers may have named the server
+  pub dear : Bool  -- whether a reply came that would take too long to read
 
 -- A socket is connected to the server's address and reported under the token, and the query left by it.
 pub record AsksBy {S : Type 0} (opened : S → SocketAddr → Type 0) (reported : S → Token → Type 0) (sent : S → List ℕ → Type 0) (exchange : ExchangeState) (socket : S) : Type 0 where

@@ -3,10 +3,15 @@ pub mod Begun
 pub mod Descriptors
 pub mod Endings
 pub mod Exchanges
+pub mod Kept
 pub mod Looked
 pub mod Moves
+pub mod Networks
 pub mod Outgoing
 pub mod Patience
 pub mod Pauses
+pub mod Refusals
 pub mod Replies
+pub mod Servers
+pub mod Silences
 pub mod Taken

@@ -1,11 +1,12 @@
 -- The exchanges that the poll reports, to each of which a worker listens.
 use Rattle.std.specs.Prelude.{◌≡◌, ◌≢◌, ◌≤◌, ℕ, IfSome, List, [], ◌∷◌}
 use Rattle.mio.specs.declared.event.event.Event.{Event}
-use Rattle.mio.specs.declared.token.Token.{Token}
 use Rattle.mio.specs.Event.{event_token}
 use Rattle.front_workers.specs.Counts.{Rises}
 use Rattle.flight.specs.declared.counts.Counts.{Counts}
+use Rattle.flight.specs.declared.kept.TheConstants.{MOST_AT_REST}
 use Rattle.flight.specs.declared.table.TheConstants.{PATIENCE}
+use Rattle.flight.specs.Bounds.{Relieves, kept_all}
 use Rattle.flight.specs.Waiting.{EarlyGoOn, FlightState, OthersGoOn, since_at}
 use Rattle.flight_sockets.specs.declared.listener.TheConstants.{SERVICE}
 
@@ -20,10 +21,13 @@ abbrev pub AllLookedAt : List Event → FlightState → Counts → FlightState �
 AllLookedAt [] flight old flight' new = (flight' ≡ flight) × (new ≡ old)
 AllLookedAt (event ∷ rest) flight old flight' new = (between : FlightState) × (mid : Counts) × IsLookedAt event flight old between mid × AllLookedAt rest between mid flight' new
 
--- Each exchange that the poll reported is listened to. Then those are ended whose time is up at this moment, and the others go on.
+-- Each exchange that the poll reported is listened to. Then those are ended whose time is up at this moment, and the others go on. At last the questions end that keep most, one after another, as long as all keep too much.
 pub record LooksAtAll (events : List Event) (now : ℕ) (flight : FlightState) (old : Counts) (flight' : FlightState) (new : Counts) : Type 0 where
   pub between : FlightState
   pub mid : Counts
   pub looked : AllLookedAt events flight old between mid
-  pub early : EarlyGoOn PATIENCE now between flight'
+  pub left : FlightState
+  pub early : EarlyGoOn PATIENCE now between left
+  pub relieves : Relieves MOST_AT_REST left flight'
+  pub relieved : kept_all flight' ≤ MOST_AT_REST
   pub listened : mid.listened ≤ new.listened

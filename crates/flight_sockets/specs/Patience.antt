@@ -1,10 +1,12 @@
 -- The time that a worker waits, and the readings of its clock.
-use Rattle.std.specs.Prelude.{ℕ, ◌*◌, min, Option, Some, None}
+use Rattle.std.specs.Prelude.{◌≤◌, ℕ, ◌*◌, min, Option, Some, None}
 use Rattle.std.specs.declared.time.Duration.{Duration}
 use Rattle.std.specs.declared.time.Instant.{Instant}
 use Rattle.dns_sockets.specs.Moments.{ClockState, IsRead, millis_at}
-use Rattle.flight.specs.declared.table.TheConstants.{PATIENCE}
-use Rattle.flight.specs.Waiting.{FlightState, IsPatient}
+use Rattle.flight.specs.declared.kept.TheConstants.{MOST_AT_REST}
+use Rattle.flight.specs.declared.table.TheConstants.{PATIENCE, QUESTION_PATIENCE}
+use Rattle.flight.specs.Bounds.{kept_all}
+use Rattle.flight.specs.Waiting.{FlightState, IsPatient, IsTimely}
 use Rattle.flight_sockets.specs.Accounts.{WorkerState}
 use Rattle.flight_sockets.specs.Begun.{Runs}
 use Rattle.flight_sockets.specs.Moves.{Moves}
@@ -23,11 +25,13 @@ pub data AreRead (passed : Instant → Option Duration → Type 0) (old : ClockS
 abbrev pub IsReadOn : (Instant → Option Duration → Type 0) → ClockState → ClockState → Type 0
 IsReadOn passed old new = (mid : ClockState) × AreRead passed old mid × IsRead passed mid new
 
--- In a turn the clock was read, and each exchange whose time was up by that reading had ended.
+-- In a turn the clock was read, and each exchange whose time was up by that reading had ended. So had each question whose time was up. Then those that waited kept no more than they may at rest.
 pub record EndsOverdue {S : Type 0} (passed : Instant → Option Duration → Type 0) (takes sends : Moves S) (flight : FlightState) (old : WorkerState S) (flight' : FlightState) (new : WorkerState S) : Type 0 where
   pub between : FlightState
   pub mid : WorkerState S
   pub before : Runs takes sends flight old between mid
   pub read : IsReadOn passed old.clock mid.clock
   pub patient : IsPatient PATIENCE (millis_at mid.clock.last) between
+  pub timely : IsTimely QUESTION_PATIENCE (millis_at mid.clock.last) between
+  pub relieved : kept_all between ≤ MOST_AT_REST
   pub after : Runs takes sends between mid flight' new

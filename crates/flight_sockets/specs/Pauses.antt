@@ -1,74 +1,138 @@
--- The pauses of name servers: how long, and until when, each is passed over. Times are in milliseconds.
-use Rattle.std.specs.Prelude.{◌≡◌, ◌≢◌, ◌<◌, ◌≤◌, ◌⊎◌, ℕ, ◌+◌, ◌-◌, ◌*◌, ◌^◌, min, max, Bool, ◌&&◌, Option, Some, None, IsNone, IsSomeAnd, find, position, slice_index_or, slice_set, List, [], ◌∷◌, ◌++◌, length}
+-- The name servers that a worker passes over: for one question, or for every question. Times are in milliseconds.
+use Rattle.std.specs.Prelude.{◌≡◌, ◌<◌, ◌⊎◌, ℕ, [], Bool, true, false, Option, None, IsNone, IfSome, IsSomeAnd, MatchOption, List, unwrap_or}
+use Rattle.cell_store.specs.declared.seed.NameSeed.{NameSeed}
+use Rattle.indexmap.specs.IndexMap.{IndexMap, get, IsUnchanged, Updates}
+use Rattle.dns_name.specs.Labels.{Labels}
 use Rattle.dns_text.specs.declared.addr.Addr.{Addr}
 use Rattle.dns_query.specs.declared.over.Over.{Over}
-use Rattle.flight_sockets.specs.declared.pause.Pause.{Pause}
-use Rattle.flight_sockets.specs.declared.pauses.TheConstants.{FIRST_PAUSE, LONGEST_PAUSE, MOST_PAUSES}
-use Rattle.flight.specs.declared.table.TheConstants.{PATIENCE}
+use Rattle.dns_query.specs.declared.over.Over.TheVariants.{Udp, Tcp}
 use Rattle.flight.specs.declared.outside.Listened.{Listened}
-use Rattle.flight.specs.declared.outside.Listened.TheVariants.{Came, NoMemory}
-use Rattle.dns_text.specs.Equal.{addr_eq}
-use Rattle.dns_query.specs.contracts.over.OverPartialEq.TheImpl as over_impl
+use Rattle.flight.specs.declared.outside.Listened.TheVariants.{Nothing, Came, Broken, NoMemory}
+use Rattle.flight_sockets.specs.contracts.server.ServerPartialEq.TheImpl as server_impl
+use Rattle.flight_sockets.specs.contracts.server.QuestionAtPartialEq.TheImpl as question_at_impl
+use Rattle.flight_sockets.specs.declared.questions.TheConstants.{MOST_QUESTIONS}
+use Rattle.flight_sockets.specs.declared.pause.Pause.{Pause}
+use Rattle.flight_sockets.specs.declared.pauses.Pauses.{Pauses}
+use Rattle.flight_sockets.specs.declared.server.QuestionAt.{QuestionAt}
+use Rattle.flight_sockets.specs.declared.server.Server.{Server}
+use Rattle.flight_sockets.specs.declared.servers.TheConstants.{MOST_SERVERS}
+use Rattle.flight_sockets.specs.declared.silence.Silence.{Silence}
+use Rattle.flight_sockets.specs.Kept.{Changes, Remembers}
+use Rattle.flight_sockets.specs.Servers.{IsAskedAt}
+use Rattle.flight_sockets.specs.Silences.{no_pause, pause_after, trial_at, unknown, answered_at, closed_at, tried_at, Misses}
 
--- whether a pause is of this server, over this transport
-abbrev pub is_of : Addr → Over → Pause → Bool
-is_of server over pause = addr_eq pause.server server && over_impl.ghosts.eq pause.over over
+-- whether `==` calls two servers equal
+abbrev pub server_eq : Server → Server → Bool
+server_eq = server_impl.ghosts.eq
 
--- The server is passed over at this moment: its pause ends later.
-abbrev pub IsPaused : Addr → Over → ℕ → List Pause → Type 0
-IsPaused server over now pauses = IsSomeAnd (find (is_of server over) pauses) (λ pause. now < pause.until)
+-- whether `==` calls two questions to servers equal
+abbrev pub question_at_eq : QuestionAt → QuestionAt → Bool
+question_at_eq = question_at_impl.ghosts.eq
 
--- No pause ends before the one at this place.
-pub record EndsFirst (pauses : List Pause) (place : ℕ) : Type 0 where
-  pub within : place < length pauses
-  pub first : (other : ℕ) (d : Pause) → other < length pauses → (slice_index_or pauses place d).until ≤ (slice_index_or pauses other d).until
+-- the server at an address, over a transport
+abbrev pub server_at : Addr → Over → Server
+server_at addr over = record { addr = addr; over = over }
 
--- The pause of a server took the place of its last one. If it had none, the new one was added, or took the place of the one that ends first if there was no room.
-pub data Puts (pause : Pause) (old new : List Pause) : Type 0 where
-  own : {place : ℕ} → position (is_of pause.server pause.over) old ≡ Some place → new ≡ slice_set old place pause → Puts pause old new
-  added : position (is_of pause.server pause.over) old ≡ None → length old < MOST_PAUSES → new ≡ old ++ pause ∷ [] → Puts pause old new
-  full : {place : ℕ} → position (is_of pause.server pause.over) old ≡ None → length old ≡ MOST_PAUSES → EndsFirst old place → new ≡ slice_set old place pause → Puts pause old new
+-- the silences of servers
+abbrev pub Silences : Type 0
+Silences = IndexMap Server Silence NameSeed
 
--- the pause of a server that is passed over from now on, for the milliseconds of the last number, up to the moment 2^64 - 1; the next pause doubles the number before it
-abbrev pub pause_from : Addr → Over → ℕ → ℕ → ℕ → Pause
-pause_from server over now millis most = record { server = server; over = over; millis = millis; until = min (now + most) (2 ^ 64 - 1) }
+-- the pauses of questions to servers
+abbrev pub QuestionPauses : Type 0
+QuestionPauses = IndexMap QuestionAt Pause NameSeed
 
--- A server answered at this moment.
-abbrev pub Answers : Addr → Over → ℕ → List Pause → List Pause → Type 0
-Answers server over now old new = Puts (record { server = server; over = over; millis = 0; until = now }) old new
+-- what is known of the silence of a server
+abbrev pub known_silence : Silences → Server → Silence
+known_silence servers server = unwrap_or (get server_eq servers server) unknown
 
--- how long the last pause is, or 0 if there was none
-abbrev pub last_millis : Option Pause → ℕ
-last_millis None = 0
-last_millis (Some pause) = pause.millis
+-- what is known of the pause of a question to a server
+abbrev pub known_pause : QuestionPauses → QuestionAt → Pause
+known_pause questions question = unwrap_or (get question_at_eq questions question) no_pause
 
--- how long the next pause is: twice as long as the last one, but within the bounds of a pause
-abbrev pub next_millis : Option Pause → ℕ
-next_millis last = max (min (2 * last_millis last) LONGEST_PAUSE) FIRST_PAUSE
+-- A server is passed over for every question.
+abbrev pub IsServerPaused : Server → ℕ → Silences → Type 0
+IsServerPaused server now servers = IsSomeAnd (get server_eq servers server) (λ silence. now < silence.pause.until)
 
--- A query that goes unanswered now says nothing new: its server is passed over by now, or answered another query while this one waited.
-abbrev pub IsExcused : Addr → Over → ℕ → List Pause → Type 0
-IsExcused server over now pauses =
-    IsSomeAnd (find (is_of server over) pauses) (λ pause. (now < pause.until) ⊎ ((pause.millis ≡ 0) × (now ≤ pause.until + PATIENCE)))
+-- A server is passed over for one question.
+abbrev pub IsQuestionPaused : QuestionAt → ℕ → QuestionPauses → Type 0
+IsQuestionPaused question now questions = IsSomeAnd (get question_at_eq questions question) (λ pause. now < pause.until)
 
--- A server let a query go unanswered. It is passed over from now on, unless that says nothing new.
-pub record Loses (server : Addr) (over : Over) (now : ℕ) (old new : List Pause) : Type 0 where
-  pub excused : IsExcused server over now old → new ≡ old
-  pub paused : ¬ (IsExcused server over now old)
-      → let millis = next_millis (find (is_of server over) old) in Puts (pause_from server over now millis millis) old new
+-- The silence of a server is this one from now on.
+abbrev pub RemembersServer : ℕ → Server → Silence → Silences → Silences → Type 0
+RemembersServer now = Remembers server_eq (λ (silence : Silence). silence.pause.until) MOST_SERVERS now
 
--- A query to a server may begin. After a pause it is a trial, and the server is passed over as long as the trial may take.
-pub record Tries (server : Addr) (over : Over) (now : ℕ) (old new : List Pause) : Type 0 where
-  pub unpaused : last_millis (find (is_of server over) old) ≡ 0 → new ≡ old
-  pub tried : last_millis (find (is_of server over) old) ≢ 0 → Puts (pause_from server over now (last_millis (find (is_of server over) old)) PATIENCE) old new
+-- The pause of a question to a server is this one from now on.
+abbrev pub RemembersQuestion : ℕ → QuestionAt → Pause → QuestionPauses → QuestionPauses → Type 0
+RemembersQuestion now = Remembers question_at_eq (λ (pause : Pause). pause.until) MOST_QUESTIONS now
 
--- An exchange with a server was wanted. If the server is passed over, none begins, and nothing changes. Else the query may be the trial after a pause.
-pub record HeedsPause {L : Type 0} (result : Option L) (server : Addr) (over : Over) (now : ℕ) (old new : List Pause) : Type 0 where
-  pub paused : IsPaused server over now old → IsNone result × (new ≡ old)
-  pub tries : ¬ (IsPaused server over now old) → Tries server over now old new
+-- A server left a query for a name unanswered.
+pub record MissesAt (now : ℕ) (server : Server) (name : Labels) (old new : Silences) : Type 0 where
+  pub silence : Silence
+  pub misses : Misses name now (known_silence old server) silence
+  pub remembers : RemembersServer now server silence old new
 
--- An exchange with a server was listened to. If something came, the server answered.
-abbrev pub NotesHeard : Listened → Addr → Over → ℕ → List Pause → List Pause → Type 0
-NotesHeard (Came octets) server over now old new = Answers server over now old new
-NotesHeard NoMemory server over now old new = Answers server over now old new
-NotesHeard _ server over now old new = new ≡ old
+-- Nothing is remembered.
+pub record IsBlank (pauses : Pauses) : Type 0 where
+  pub servers : pauses.servers.entries ≡ []
+  pub questions : pauses.questions.entries ≡ []
+
+-- A query is not sent: its server is passed over for every question, or for the question of the query.
+abbrev pub IsPassedOver : Addr → Over → List ℕ → ℕ → Pauses → Type 0
+IsPassedOver addr over query now pauses =
+    IsServerPaused (server_at addr over) now pauses.servers
+    ⊎ ((question : QuestionAt) × IsAskedAt (server_at addr over) query question × IsQuestionPaused question now pauses.questions)
+
+-- A query is sent: neither its server nor its question is passed over. If a pause of either is over, the query is the trial after it. A question is not looked up if there is no memory to read it.
+pub record LetsThrough (addr : Addr) (over : Over) (query : List ℕ) (now : ℕ) (old new : Pauses) : Type 0 where
+  pub question : Option QuestionAt
+  pub asked : IfSome question (IsAskedAt (server_at addr over) query)
+  pub server_free : ¬ (IsServerPaused (server_at addr over) now old.servers)
+  pub question_free : IfSome question (λ question. ¬ (IsQuestionPaused question now old.questions))
+  pub server_tried : Changes server_eq (tried_at now) (server_at addr over) old.servers new.servers
+  pub question_tried : MatchOption question (IsUnchanged old.questions new.questions) (λ question. Changes question_at_eq (trial_at now) question old.questions new.questions)
+
+-- A server answered a query. That ends its pause, and the pause of the question.
+pub record Answers (addr : Addr) (over : Over) (query : List ℕ) (now : ℕ) (old new : Pauses) : Type 0 where
+  pub question : Option QuestionAt
+  pub asked : IfSome question (IsAskedAt (server_at addr over) query)
+  pub server : RemembersServer now (server_at addr over) (answered_at now) old.servers new.servers
+  pub ended : MatchOption question (IsUnchanged old.questions new.questions) (λ question. Updates question_at_eq old.questions new.questions question None)
+
+-- A query with this question went unanswered: its server is passed over for the question, and for every question if it is silent by now.
+pub record LosesQuestion (now : ℕ) (old new : Pauses) (question : QuestionAt) : Type 0 where
+  pub server : MissesAt now question.server question.owner old.servers new.servers
+  pub paused : RemembersQuestion now question (pause_after (known_pause old.questions question) now) old.questions new.questions
+
+-- A server left a query unanswered. If there is no memory to read its question, that is not remembered.
+pub record Loses (addr : Addr) (over : Over) (query : List ℕ) (now : ℕ) (old new : Pauses) : Type 0 where
+  pub question : Option QuestionAt
+  pub asked : IfSome question (IsAskedAt (server_at addr over) query)
+  pub loses : MatchOption question (new ≡ old) (LosesQuestion now old new)
+
+-- The port of a server is closed: the server is passed over for a second, for every question.
+pub record Closes (addr : Addr) (over : Over) (now : ℕ) (old new : Pauses) : Type 0 where
+  pub server : RemembersServer now (server_at addr over) (closed_at now (known_silence old.servers (server_at addr over))) old.servers new.servers
+  pub questions : IsUnchanged old.questions new.questions
+
+-- An exchange with a server was wanted. If the server is passed over, or withheld for another reason, none begins, and nothing changes.
+pub data HeedsPause {L : Type 0} (reason : Type 0) (result : Option L) (addr : Addr) (over : Over) (query : List ℕ) (now : ℕ) (old new : Pauses) : Type 0 where
+  withheld : reason → IsNone result → new ≡ old → HeedsPause reason result addr over query now old new
+  passed_over : IsPassedOver addr over query now old → IsNone result → new ≡ old → HeedsPause reason result addr over query now old new
+  let_through : LetsThrough addr over query now old new → HeedsPause reason result addr over query now old new
+
+-- An exchange broke. Over UDP the server's port is closed, and over TCP that says nothing.
+abbrev pub NotesBroken : Over → Addr → ℕ → Pauses → Pauses → Type 0
+NotesBroken Udp addr now old new = Closes addr Udp now old new
+NotesBroken Tcp addr now old new = new ≡ old
+
+-- An exchange ended before its time. If its reply is too dear to read, the server answered, and else it broke.
+abbrev pub EndsEarly : Bool → Addr → Over → List ℕ → ℕ → Pauses → Pauses → Type 0
+EndsEarly true addr over query now old new = Answers addr over query now old new
+EndsEarly false addr over query now old new = NotesBroken over addr now old new
+
+-- An exchange with a server was listened to, and its reply may have been too dear to read. If something came, the server answered.
+abbrev pub NotesHeard : Listened → Bool → Addr → Over → List ℕ → ℕ → Pauses → Pauses → Type 0
+NotesHeard (Came octets) dear addr over query now old new = Answers addr over query now old new
+NotesHeard NoMemory dear addr over query now old new = Answers addr over query now old new
+NotesHeard Broken dear addr over query now old new = EndsEarly dear addr over query now old new
+NotesHeard Nothing dear addr over query now old new = new ≡ old

@@ -3,6 +3,7 @@
 ghost use Rattle.std.specs.Prelude.{◌≡◌, ◌≤◌};
 ghost use Rattle.front_workers.specs.declared.limits.TheConstants.{MOST_DATAGRAM};
 
+use crate::network::network_of;
 use crate::service_socket::ServiceSocket;
 use flight::{Client, Numbered};
 use front_workers::{Came, DATAGRAM_ROOM, MOST_DATAGRAM};
@@ -56,6 +57,8 @@ impl<S> UdpClient<S> {
 }
 
 impl<S: ServiceSocket> Client for UdpClient<S> {
+    ghost use Rattle.std.specs.Net.Socket.{socket_ip};
+    ghost use Rattle.flight_sockets.specs.Networks.{network_of};
     ghost use Rattle.flight_sockets.specs.Outgoing.{IsSentBy};
 
     // It sent the octets that its datagram put into the room, and they came from its peer.
@@ -63,7 +66,13 @@ impl<S: ServiceSocket> Client for UdpClient<S> {
 
     ghost since = { λ client. client.since };
 
+    ghost network = { λ client. network_of (socket_ip client.came.peer) };
+
     fn since(&self) -> u64 {
         self.since
+    }
+
+    fn network(&self) -> u64 {
+        network_of(self.came.peer)
     }
 }

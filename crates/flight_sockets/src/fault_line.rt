@@ -1,4 +1,4 @@
-//! The line of the log for an exchange that failed: the cause, the server and the question.
+//! Lines of the log about a question: an exchange that failed, with its cause and server, and a reply that no message holds.
 
 use dns_sockets::place_of;
 use dns_text::{Addr, push_type};
@@ -57,5 +57,13 @@ pub(crate) fn log_exchange<R: Log>(
             warn!(rt; "{DEVICE_FAULT}: {cause}, server {ip}@{port}, question {question}");
         }
         None => warn!(rt; "{DEVICE_FAULT}: {cause}, server {ip}@{port}"),
+    }
+}
+
+/// Logs that no message holds the reply to a query, so that its client gets SERVFAIL.
+pub(crate) fn log_too_long<R: Log>(rt: &R, alloc: Global, query: &[u8]) {
+    match question_text(alloc, query) {
+        Some(set) => warn!(rt; "resolver: no message holds the reply, set {set}"),
+        None => warn!(rt; "resolver: no message holds the reply"),
     }
 }

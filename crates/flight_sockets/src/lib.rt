@@ -11,6 +11,8 @@ mod limit;
 mod service_socket;
 // The listener of one worker: its socket of the service, and its poll.
 mod listener;
+// The network of an address.
+mod network;
 // The client of a datagram, which waits for its reply.
 mod client;
 // The line of the log for an exchange that failed.
@@ -27,10 +29,28 @@ mod outgoing;
 mod buffers;
 // The outbox of a worker: the socket of the service, and the replies that wait to be sent.
 mod outbox;
-// The pause of a name server that let queries go unanswered.
+// A name server over one transport, and a question to it.
+mod server;
+// A pause: for how long, and until when.
 mod pause;
-// The pauses of the name servers that were asked lately.
+// The names that a server left unanswered.
+mod missed;
+// The silence of a server: since when, and to how many names.
+mod silence;
+// Tables of bounded size.
+mod kept;
+// The silences of the servers that were asked lately.
+mod servers;
+// The pauses of questions to servers.
+mod questions;
+// The question of a query.
+mod asked;
+// The servers that a worker passes over.
 mod pauses;
+// The zones that servers refused lately, each at its server.
+mod refused_zones;
+// The refusals that a worker remembers.
+mod refusals;
 // The sockets of one worker.
 mod worker_sockets;
 // The turns of a worker.

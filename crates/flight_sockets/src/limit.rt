@@ -1,15 +1,20 @@
 //! The limit of exchanges that a worker may have under way.
 
 ghost use Rattle.std.specs.Prelude.{◌≡◌, ◌*◌, ◌-◌, ◌/◌, ◌≤◌, min};
-ghost use Rattle.flight_sockets.specs.declared.pauses.TheConstants.{FIRST_PAUSE, LONGEST_PAUSE, MOST_PAUSES};
+ghost use Rattle.flight_sockets.specs.declared.pause.TheConstants.{FIRST_PAUSE, LONGEST_PAUSE};
+ghost use Rattle.flight_sockets.specs.declared.silence.TheConstants.{CLOSED_PAUSE, SILENT};
+ghost use Rattle.flight_sockets.specs.declared.refused_zones.TheConstants.{MOST_REFUSALS, REFUSED_PAUSE};
+ghost use Rattle.flight_sockets.specs.declared.servers.TheConstants.{MOST_SERVERS};
+ghost use Rattle.flight_sockets.specs.declared.questions.TheConstants.{MOST_QUESTIONS};
 ghost use Rattle.flight_sockets.specs.Descriptors.{SufficeFor};
 
 /// The most exchanges that a worker has under way, however many descriptors the process may have.
 pub const MOST_EXCHANGES: usize = 512;
 
-/// The descriptors that are left for everything else: three for each of 16 workers, and 16 of the program itself. A worker
-/// holds its socket, its poll and its waker, or both ends of a connection and the socket of an exchange.
-pub const SPARE_DESCRIPTORS: u64 = 64;
+/// The descriptors that are left for everything else: three for each of 16 workers, and 48 others. A worker holds its socket, its
+/// poll and its waker, or both ends of a connection and the socket of an exchange. 34 others are connections of operators: 32 that
+/// wait, one that is served, and one that is being accepted. Five are of the program itself.
+pub const SPARE_DESCRIPTORS: u64 = 96;
 
 /// The number of exchanges that each of so many workers may have under way, if the process may have so many descriptors.
 /// Each exchange holds one.
@@ -23,12 +28,16 @@ pub fn most_exchanges(descriptors: u64, workers: u8) -> usize
     (left / u64::from(workers)).min(MOST_EXCHANGES as u64) as usize
 }
 
-/// A worker has at most 512 exchanges under way, and 64 descriptors are left for everything else. It passes a server over for ten
-/// seconds at first and for a minute at most, and remembers 256 servers.
+/// A worker has at most 512 exchanges under way, and 96 descriptors are left for everything else. It passes a server over for ten
+/// seconds at first and for a minute at most: for every question after two minutes of silence. It passes one over for a second if its
+/// port is closed, and for a zone that it refused. It remembers 4,096 servers, 4,096 questions to servers and 4,096 refusals.
 pub fn limits_law()
     ensures exchanges { MOST_EXCHANGES ≡ 512 }
-    ensures spare { SPARE_DESCRIPTORS ≡ 64 }
+    ensures spare { SPARE_DESCRIPTORS ≡ 96 }
     ensures first_pause { FIRST_PAUSE ≡ 10000 }
     ensures longest_pause { LONGEST_PAUSE ≡ 60000 }
-    ensures pauses { MOST_PAUSES ≡ 256 }
+    ensures silent { SILENT ≡ 120000 }
+    ensures short_pauses { (CLOSED_PAUSE ≡ 1000) × (REFUSED_PAUSE ≡ 1000) }
+    ensures servers { (MOST_SERVERS ≡ 4096) × (MOST_REFUSALS ≡ 4096) }
+    ensures questions { MOST_QUESTIONS ≡ 4096 }
 {}

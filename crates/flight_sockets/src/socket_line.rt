@@ -1,6 +1,7 @@
 //! An exchange over a socket of its own.
 
-ghost use Rattle.std.specs.Prelude.{◌≡◌, length, IfOk, OnErr, OnOk};
+ghost use Rattle.std.specs.Prelude.{◌≡◌, length, option_map, IfOk, OnErr, OnOk};
+ghost use Rattle.std.specs.Option.{option_copied};
 ghost use Rattle.front_workers.specs.declared.limits.TheConstants.{MOST_MESSAGE};
 ghost use Rattle.dns_sockets.specs.Own.{MayAskServer};
 ghost use Rattle.flight.specs.declared.outside.Listened.TheVariants.{Nothing};
@@ -12,11 +13,13 @@ ghost use Rattle.flight_sockets.specs.Replies.{MayCome};
 
 use crate::fault_line::log_exchange;
 use crate::transport::Way;
+use dns_name::Name;
 use dns_query::Over;
 use dns_sockets::{ReadyNet, TcpLine, UdpLine, place_of};
 use dns_text::{Addr, Octets, Shared};
 use flight::{Counts, InFlight, Listened};
 use front_workers::is_dear;
+use history::Servers;
 use log::Log;
 use mio::{Registry, Token};
 use std::alloc::Global;
@@ -35,6 +38,8 @@ pub(crate) struct SocketLine<R: ReadyNet> {
     over: Over,
     query: Shared<Octets>,
     token: Token,
+    /// The list that has the server, if strangers may have named it.
+    list: Option<Shared<Servers>>,
     way: Way<R::Datagrams, R::Connection>,
     /// Whether a reply came that would take too long to read.
     dear: bool,
@@ -49,16 +54,27 @@ fn is_too_dear(heard: &Listened) -> bool {
 }
 
 impl<R: ReadyNet> Model for SocketLine<R> {
+    ghost use Rattle.std.specs.Prelude.{option_map};
     ghost use Rattle.flight.specs.Flight.{query_to};
     ghost use Rattle.flight_sockets.specs.Exchanges.{ExchangeState, IsUnderWay};
 
     ghost Value = { ExchangeState };
 
-    ghost view = { λ line. record { asked = query_to line.server line.over line.query; token = line.token } };
+    ghost view = { λ line. record {
+      asked = query_to line.server line.over line.query;
+      token = line.token;
+      zone = option_map (λ list. list.zone) line.list;
+      dear = line.dear;
+    } };
 
     ghost invariant = { λ line. IsUnderWay R.Datagrams.opened R.Datagrams.reported R.Datagrams.sent
         R.Connection.connected R.Connection.reported R.Connection.contents R.Connection.remaining
-        (record { asked = query_to line.server line.over line.query; token = line.token }) line.way };
+        (record {
+          asked = query_to line.server line.over line.query;
+          token = line.token;
+          zone = option_map (λ list. list.zone) line.list;
+          dear = line.dear;
+        }) line.way };
 }
 
 impl<R: ReadyNet> InFlight for SocketLine<R> {
@@ -88,11 +104,13 @@ impl<R: ReadyNet> SocketLine<R> {
         service: SocketAddr,
         server: &Addr,
         over: Over,
+        list: Option<Shared<Servers>>,
         query: Shared<Octets>,
         counts: &mut Counts,
     ) -> io::Result<SocketLine<R>>
         ensures asked { IfOk result (λ line. line.asked ≡ query_to server.now over query) }
         ensures token { IfOk result (λ line. line.token ≡ token) }
+        ensures zone { IfOk result (λ line. line.zone ≡ option_map (λ servers. servers.zone) list) }
         ensures opened { OnOk result (CountsOpened counts.old counts.new) }
         ensures unopened { OnErr result (counts.new ≡ counts.old) }
         ensures may_ask { OnOk result (MayAskServer R.Datagrams.opened R.Datagrams.is_at R.Connection.connected R.Connection.is_at
@@ -114,6 +132,7 @@ impl<R: ReadyNet> SocketLine<R> {
             over,
             query,
             token,
+            list,
             way,
             dear: false,
         })
@@ -124,6 +143,30 @@ impl<R: ReadyNet> SocketLine<R> {
         ensures { result ≡ self.now.asked.over }
     {
         self.over
+    }
+
+    /// The zone about which the server is asked, if strangers may have named the server.
+    pub fn zone(&self) -> Option<&Name>
+        ensures { option_copied result ≡ self.now.zone }
+    {
+        match &self.list {
+            Some(list) => Some(&list.get().zone),
+            None => None,
+        }
+    }
+
+    /// Whether a reply came that would take too long to read.
+    pub fn is_dear(&self) -> bool
+        ensures { result ≡ self.now.dear }
+    {
+        self.dear
+    }
+
+    /// The octets of the query.
+    pub fn query(&self) -> &[u8]
+        ensures { result.now ≡ self.now.asked.query }
+    {
+        self.query.get().as_slice()
     }
 
     /// Logs that the exchange failed.
@@ -148,7 +191,7 @@ impl<R: ReadyNet> SocketLine<R> {
         ensures heard { IsHeard (MayCome R.Datagrams.opened R.Datagrams.sent R.Datagrams.came
             R.Connection.connected R.Connection.contents R.Connection.remaining self.old.asked) result }
         ensures nothing { result ≡ Nothing → IsQuiet R.Datagrams.sent R.Datagrams.drained R.Datagrams.reported_again self.old }
-        ensures kept { self.new ≡ self.old }
+        ensures kept { self.new ≡ record self.old { dear = self.new.dear } }
     {
         let query = self.query.get().as_slice();
         match self.way.hear(alloc, registry, self.token, query, room) {

@@ -40,7 +40,7 @@ pub struct Sums {
     pub misses: u64,
     /// The queries that got no reply.
     pub dropped: u64,
-    /// The queries that got SERVFAIL because no exchange was free.
+    /// The queries that got SERVFAIL because no exchange was free, or because they took too long or kept too much.
     pub exceeded: u64,
     /// The replies with RCODE 0.
     pub no_error: u64,
@@ -165,7 +165,7 @@ impl Tally {
         rise(&self.dropped);
     }
 
-    /// Counts a query that gets SERVFAIL because no exchange is free.
+    /// Counts a query that gets SERVFAIL because no exchange is free, or because it took too long or kept too much.
     pub fn exceed(&self) {
         self.wants_server.store(true, Ordering::SeqCst);
         rise(&self.exceeded);

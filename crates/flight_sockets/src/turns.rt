@@ -5,8 +5,10 @@ ghost use Rattle.std.specs.Duration.{as_nanos};
 ghost use Rattle.front_workers.specs.Counts.{Rises};
 ghost use Rattle.mio.specs.Events.{items};
 ghost use Rattle.dns_sockets.specs.Moments.{millis_at, IsRead};
-ghost use Rattle.flight.specs.declared.table.TheConstants.{PATIENCE};
-ghost use Rattle.flight.specs.Waiting.{EarlyGoOn, IsAccounted, IsPatient, outstanding, time_left};
+ghost use Rattle.flight.specs.declared.kept.TheConstants.{MOST_AT_REST};
+ghost use Rattle.flight.specs.declared.table.TheConstants.{PATIENCE, QUESTION_PATIENCE};
+ghost use Rattle.flight.specs.Bounds.{AllGoOn, IsBounded, Relieves, kept_all};
+ghost use Rattle.flight.specs.Waiting.{EarlyGoOn, IsAccounted, IsPatient, IsTimely, outstanding, time_left};
 ghost use Rattle.flight_sockets.specs.Accounts.{GoesOn, fresh_worker};
 ghost use Rattle.flight_sockets.specs.Begun.{AllBegin, BatchBegins, IsBegun, Runs, TakesNone, arrived};
 ghost use Rattle.flight_sockets.specs.Endings.{Endings};
@@ -22,7 +24,7 @@ use crate::socket_line::SocketLine;
 use crate::tally::Tally;
 use crate::worker_sockets::WorkerSockets;
 use command_text::Clock;
-use dns_sockets::{Elapsing, MonotonicClock, ReadyNet, glance};
+use dns_sockets::{AddressRange, Elapsing, MonotonicClock, ReadyNet, glance};
 use dns_text::NoMemory;
 use flight::{Flight, Numbered};
 use log::Log;
@@ -74,20 +76,30 @@ impl<'a, R, S: ServiceSocket> Model for Turns<'a, R, S> {
 }
 
 impl<'a, R: ReadyNet + Log + Elapsing, S: ServiceSocket> Turns<'a, R, S> {
-    /// Takes datagrams at a listener. Name servers that are known by name are queried at this port. Exchanges are timed from
-    /// `start` on. What it does is counted in a tally.
+    /// Takes datagrams at a listener. Name servers that are known by name are queried at this port, and none that strangers named in
+    /// these ranges. Exchanges are timed from `start` on. What it does is counted in a tally.
     pub fn new(
         rt: &'a R,
         tally: &'a Tally,
         alloc: Global,
         listener: UdpListener<S>,
         server_port: u16,
+        do_not_query: &'a [AddressRange],
+        seed: u64,
         start: Instant,
     ) -> Result<Turns<'a, R, S>, NoMemory>
         ensures { IfOk result (λ turns. turns ≡ fresh_worker listener.socket server_port start) }
     {
         Ok(Turns {
-            sockets: WorkerSockets::new(rt, tally, alloc, listener, server_port)?,
+            sockets: WorkerSockets::new(
+                rt,
+                tally,
+                alloc,
+                listener,
+                server_port,
+                do_not_query,
+                seed,
+            )?,
             clock: MonotonicClock::new(rt, start),
             events: Events::with_capacity(alloc, MOST_READY)?,
             taken: 0,
@@ -220,6 +232,7 @@ impl<'a, R: ReadyNet + Log + Elapsing, S: ServiceSocket> Turns<'a, R, S> {
         ensures takes_none { TakesNone S.takes S.sends questions.old self.old questions.new self.new }
         ensures read { IsRead R.passed self.old.clock self.new.clock }
         ensures patient { IsPatient PATIENCE (millis_at self.new.clock.last) questions.new }
+        ensures timely { IsTimely QUESTION_PATIENCE (millis_at self.new.clock.last) questions.new }
         ensures early { EarlyGoOn PATIENCE (millis_at self.new.clock.last) questions.old questions.new }
     {
         let now = self.clock.millis();
@@ -227,7 +240,21 @@ impl<'a, R: ReadyNet + Log + Elapsing, S: ServiceSocket> Turns<'a, R, S> {
         questions.expire(desk, &mut self.sockets, now);
     }
 
-    /// Goes on with the questions that wait: listens to their exchanges, and ends those that are overdue.
+    /// Ends the questions that keep most, one after another, until all that wait keep at most `MOST_AT_REST`.
+    fn relieve<D: Numbered, C: Clock, G: Rng>(&mut self, questions: &mut Questions<D, C, G, R, S>)
+        ensures goes_on { GoesOn S.takes S.sends questions.old self.old questions.new self.new }
+        ensures no_more { outstanding questions.new ≤ outstanding questions.old }
+        ensures takes_none { TakesNone S.takes S.sends questions.old self.old questions.new self.new }
+        ensures clock { self.new.clock ≡ self.old.clock }
+        ensures relieved { kept_all questions.new ≤ MOST_AT_REST }
+        ensures relieves { Relieves MOST_AT_REST questions.old questions.new }
+        ensures others { AllGoOn questions.old questions.new }
+    {
+        questions.relieve(&mut self.sockets);
+    }
+
+    /// Goes on with the questions that wait: listens to their exchanges, ends those that are overdue, and then the questions that
+    /// keep too much.
     fn go_on<D: Numbered, C: Clock, G: Rng>(
         &mut self,
         desk: &mut D,
@@ -239,6 +266,7 @@ impl<'a, R: ReadyNet + Log + Elapsing, S: ServiceSocket> Turns<'a, R, S> {
         ensures takes_none { TakesNone S.takes S.sends questions.old self.old questions.new self.new }
         ensures read { IsReadOn R.passed self.old.clock self.new.clock }
         ensures patient { IsPatient PATIENCE (millis_at self.new.clock.last) questions.new }
+        ensures timely { IsTimely QUESTION_PATIENCE (millis_at self.new.clock.last) questions.new }
         ensures looks { LooksAtAll self.old.reported (millis_at self.new.clock.last)
             questions.old self.old.counts questions.new self.new.counts }
     {
@@ -250,6 +278,7 @@ impl<'a, R: ReadyNet + Log + Elapsing, S: ServiceSocket> Turns<'a, R, S> {
             questions,
         );
         self.expire(desk, questions);
+        self.relieve(questions);
         self.sockets.flush();
     }
 
@@ -323,6 +352,7 @@ fn look_all<D: Numbered, C: Clock, G: Rng, R: ReadyNet + Log + Elapsing, S: Serv
     ensures accounted { IsAccounted 0 (outstanding questions.old) sockets.old.counts (outstanding questions.new) sockets.new.counts }
     ensures ends { Endings S.takes S.sends 0 (outstanding questions.old) sockets.old.outbox (outstanding questions.new) sockets.new.outbox }
     ensures no_more { outstanding questions.new ≤ outstanding questions.old }
+    ensures bounded { IsBounded questions.old → IsBounded questions.new }
     ensures limit { questions.new.limit ≡ questions.old.limit }
     ensures in_time { sockets.new.counts.expired ≡ sockets.old.counts.expired }
     ensures read { AreRead R.passed clock.old clock.new }

@@ -4,6 +4,7 @@ ghost use Rattle.std.specs.Prelude.{◌≡◌, ◌≤◌, [], ℕ, IfOk};
 ghost use Rattle.front_workers.specs.declared.limits.TheConstants.{MOST_FAILURES};
 ghost use Rattle.front_workers.specs.declared.work_end.WorkEnd.TheVariants.{Ended, Failing};
 ghost use Rattle.front_workers.specs.Working.{HasFailed};
+ghost use Rattle.flight.specs.Bounds.{IsBounded};
 ghost use Rattle.flight.specs.Waiting.{FlightState};
 ghost use Rattle.flight_sockets.specs.Accounts.{Accounts, fresh_worker};
 ghost use Rattle.flight_sockets.specs.Begun.{Runs, none_in_flight};
@@ -15,7 +16,7 @@ use crate::service_socket::ServiceSocket;
 use crate::tally::Tally;
 use crate::turns::Turns;
 use command_text::Clock;
-use dns_sockets::{Elapsing, ReadyNet, StopFlag};
+use dns_sockets::{AddressRange, Elapsing, ReadyNet, StopFlag};
 use dns_text::NoMemory;
 use flight::{Flight, Numbered};
 use front_workers::{DEVICE_FAULT, MOST_FAILURES, WORKER_ENDED, WorkEnd};
@@ -44,21 +45,32 @@ impl<'a, R, S: ServiceSocket> Model for UdpWorker<'a, R, S> {
 }
 
 impl<'a, R: ReadyNet + Log + Elapsing, S: ServiceSocket> UdpWorker<'a, R, S> {
-    /// Takes datagrams at a listener. Name servers that are known by name are queried at this port. Exchanges are timed from
-    /// `start` on. What it does is counted in a tally.
+    /// Takes datagrams at a listener. Name servers that are known by name are queried at this port, and none that strangers named in
+    /// these ranges. Exchanges are timed from `start` on. What it does is counted in a tally.
     pub fn new(
         rt: &'a R,
         tally: &'a Tally,
         alloc: Global,
         listener: UdpListener<S>,
         server_port: u16,
+        do_not_query: &'a [AddressRange],
+        seed: u64,
         start: Instant,
     ) -> Result<UdpWorker<'a, R, S>, NoMemory>
         ensures { IfOk result (λ worker. worker ≡ fresh_worker listener.socket server_port start) }
     {
         Ok(UdpWorker {
             inbox: Inbox::new(alloc)?,
-            turns: Turns::new(rt, tally, alloc, listener, server_port, start)?,
+            turns: Turns::new(
+                rt,
+                tally,
+                alloc,
+                listener,
+                server_port,
+                do_not_query,
+                seed,
+                start,
+            )?,
         })
     }
 }
@@ -70,7 +82,8 @@ impl<'a, R: ReadyNet + Log + Elapsing, S: ServiceSocket> UdpWorker<'a, R, S> {
 /// The worker logs a line for each of these:
 /// - a turn that failed, or a reply that could not be sent
 /// - an exchange that brought no reply
-/// - a client that gets SERVFAIL because there is no memory, or because it would need an exchange above the limit
+/// - a client that gets SERVFAIL because there is no memory, because it would need an exchange above the limit, or because its question
+///   took too long or kept too much
 pub fn fly_udp<
     D: Numbered,
     C: Clock + Drop,
@@ -91,8 +104,9 @@ pub fn fly_udp<
     // Each query that was taken was settled once, and each exchange that began ended once, except those that wait at the end. One
     // datagram left for each query that got a reply, one for each datagram that is too long and was refused, and no other.
     ensures accounts { (waiting : ℕ) × (waiting ≤ limit) × Accounts S.takes S.sends 0 worker.old waiting worker.new }
-    // Each datagram that was taken began once, as a client of its own, and no other client came.
-    ensures runs { (flight : FlightState) × Runs S.takes S.sends (none_in_flight limit) worker.old flight worker.new }
+    // Each datagram that was taken began once, as a client of its own, and no other client came. What the questions that wait keep
+    // is within its bound.
+    ensures runs { (flight : FlightState) × Runs S.takes S.sends (none_in_flight limit) worker.old flight worker.new × IsBounded flight }
     // No reply waits at the end.
     ensures unsent { worker.old.outbox.waiting ≡ [] → worker.new.outbox.waiting ≡ [] }
     ensures ended { result ≡ Ended → F.stopped }

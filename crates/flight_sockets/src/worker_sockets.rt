@@ -1,11 +1,13 @@
 //! The sockets of one worker.
 
 ghost use Rattle.std.specs.Prelude.{◌≡◌, ◌⊎◌, ◌≤◌, [], ◌∷◌, false, length, map, take, true, vec_len, IfNone, IfOk, IfSome, OnErr, OnSome};
+ghost use Rattle.std.specs.Option.{option_copied};
 ghost use Rattle.dns_sockets.specs.Own.{MayAskServer};
+ghost use Rattle.dns_sockets.specs.Withheld.{IsWithheld};
 ghost use Rattle.front_workers.specs.declared.limits.TheConstants.{MOST_MESSAGE};
 ghost use Rattle.front_workers.specs.Serves.{fault_octets};
 ghost use Rattle.flight.specs.declared.outside.Listened.TheVariants.{Nothing};
-ghost use Rattle.flight.specs.Counted.{CountsExpired, CountsListened, CountsOpened, no_counts};
+ghost use Rattle.flight.specs.Counted.{CountsAbandoned, CountsExpired, CountsListened, CountsOpened, no_counts};
 ghost use Rattle.flight.specs.Flight.{query_to};
 ghost use Rattle.flight.specs.Told.{octets_of, IsHeard, Keeps};
 ghost use Rattle.flight_sockets.specs.Exchanges.{IsNotToBeHad, IsQuiet};
@@ -13,32 +15,39 @@ ghost use Rattle.flight_sockets.specs.Endings.{IsTooLong, Refuses};
 ghost use Rattle.flight_sockets.specs.Begun.{arrived, fronts_of};
 ghost use Rattle.flight_sockets.specs.Moves.{AllMoved, datagram_to};
 ghost use Rattle.flight_sockets.specs.Outgoing.{OutboxState, Posts, PostsTo};
-ghost use Rattle.flight_sockets.specs.Pauses.{HeedsPause, IsPaused, Loses, NotesHeard};
+ghost use Rattle.flight_sockets.specs.Pauses.{EndsEarly, HeedsPause, IsPassedOver, Loses, NotesBroken, NotesHeard};
+ghost use Rattle.flight_sockets.specs.Refusals.{IsLeftAlone, LooksUpList, NotesAnswer, list_of_strangers};
 ghost use Rattle.flight_sockets.specs.Replies.{MayCome};
 ghost use Rattle.flight_sockets.specs.declared.inbox.TheConstants.{BATCH};
 
 use crate::client::UdpClient;
-use crate::fault_line::{cause_of, log_exchange};
+use crate::fault_line::{cause_of, log_exchange, log_too_long};
 use crate::inbox::{BATCH, Inbox};
 use crate::listener::UdpListener;
 use crate::outbox::Outbox;
 use crate::pauses::Pauses;
+use crate::refusals::Refusals;
+use crate::refused_zones::list_of_strangers;
 use crate::service_socket::ServiceSocket;
 use crate::socket_line::SocketLine;
 use crate::tally::Tally;
 use command_text::Clock;
 use dns_query::Over;
-use dns_sockets::ReadyNet;
+use dns_sockets::{AddressRange, ReadyNet, is_withheld};
 use dns_text::{Addr, NoMemory, Octets, Shared};
-use dns_wire::{Rcode, fault_reply};
+use dns_wire::{HEADER_OCTETS, Rcode, fault_reply};
 use flight::{Counts, InFlight, Listened, Numbered, Outside, ReplyOctets, Unserved};
 use front_workers::{DEVICE_FAULT, MOST_MESSAGE, wants_reply};
+use iterate::Hunt;
 use log::{Log, warn};
 use mio::{Events, Poll, Token};
 use std::alloc::Global;
 use std::io;
 use std::net::SocketAddr;
 use std::time::Duration;
+
+/// The cause of an exchange that fails because its server is withheld, in words.
+const WITHHELD: &str = "withheld";
 
 /// The reply that reports a fault, by the header alone.
 fn report_of(front: &[u8], rcode: Rcode) -> ReplyOctets
@@ -48,14 +57,60 @@ fn report_of(front: &[u8], rcode: Rcode) -> ReplyOctets
     ReplyOctets::Header(fault_reply(front, rcode).unwrap())
 }
 
-/// Notes that a server answered, if something came of an exchange with it.
-fn note_heard(pauses: &mut Pauses, heard: &Listened, server: &Addr, over: Over, now: u64)
-    ensures { NotesHeard heard.now server.now over now pauses.old pauses.new }
+/// Whether a reply reports that no message holds the answer: it is a message, and a header alone. Faults of a query are no messages.
+fn is_too_long(reply: &ReplyOctets) -> bool {
+    match reply {
+        ReplyOctets::Message(octets) => octets.len() == HEADER_OCTETS,
+        ReplyOctets::Header(_) => false,
+    }
+}
+
+/// Notes that an exchange broke. Over UDP the host of the server reports that the port is closed.
+fn note_broken(pauses: &mut Pauses, server: &Addr, over: Over, now: u64)
+    ensures { NotesBroken over server.now now pauses.old pauses.new }
+{
+    match over {
+        Over::Udp => pauses.note_closed(server, over, now),
+        Over::Tcp => {}
+    }
+}
+
+/// Notes that an exchange ended before its time: its reply is too dear to read, or it broke.
+fn note_early_end(
+    alloc: Global,
+    pauses: &mut Pauses,
+    dear: bool,
+    server: &Addr,
+    over: Over,
+    query: &[u8],
+    now: u64,
+)
+    ensures { EndsEarly dear server.now over query.now now pauses.old pauses.new }
+{
+    match dear {
+        true => pauses.note_answered(alloc, server, over, query, now),
+        false => note_broken(pauses, server, over, now),
+    }
+}
+
+/// Notes what an exchange says of its server: that it answered, even if too dear to read, or that its port is closed.
+fn note_heard(
+    alloc: Global,
+    pauses: &mut Pauses,
+    heard: &Listened,
+    dear: bool,
+    server: &Addr,
+    over: Over,
+    query: &[u8],
+    now: u64,
+)
+    ensures { NotesHeard heard.now dear server.now over query.now now pauses.old pauses.new }
 {
     match heard {
-        Listened::Nothing | Listened::Broken => {}
-        Listened::Came(_) => pauses.note_answered(server, over, now),
-        Listened::NoMemory => pauses.note_answered(server, over, now),
+        Listened::Nothing => {}
+        Listened::Came(_) => pauses.note_answered(alloc, server, over, query, now),
+        Listened::NoMemory => pauses.note_answered(alloc, server, over, query, now),
+        Listened::Broken => note_early_end(alloc, pauses, dear, server, over, query, now),
     }
 }
 
@@ -74,8 +129,12 @@ pub(crate) struct WorkerSockets<'a, R, S: ServiceSocket> {
     server_port: u16,
     /// The room for a reply of a name server.
     room: Vec<u8>,
-    /// Which servers are passed over, and until when.
+    /// The addresses that are queried only as those of stubs or hints.
+    do_not_query: &'a [AddressRange],
+    /// Which servers are passed over, for which questions, and until when.
     pauses: Pauses,
+    /// Which servers refused which zones lately.
+    refusals: Refusals,
     /// The moment of the exchanges that begin and end, in milliseconds.
     moment: u64,
     counts: Counts,
@@ -83,13 +142,16 @@ pub(crate) struct WorkerSockets<'a, R, S: ServiceSocket> {
 }
 
 impl<'a, R: Log, S: ServiceSocket> WorkerSockets<'a, R, S> {
-    /// Takes datagrams at a listener. Name servers that are known by name are queried at this port.
+    /// Takes datagrams at a listener. Name servers that are known by name are queried at this port, and none that strangers named in
+    /// these ranges. Strangers do not know the seed.
     pub fn new(
         rt: &'a R,
         tally: &'a Tally,
         alloc: Global,
         listener: UdpListener<S>,
         server_port: u16,
+        do_not_query: &'a [AddressRange],
+        seed: u64,
     ) -> Result<WorkerSockets<'a, R, S>, NoMemory>
         ensures port { IfOk result (λ sockets. sockets.server_port ≡ server_port) }
         ensures counts { IfOk result (λ sockets. sockets.counts ≡ no_counts) }
@@ -110,7 +172,9 @@ impl<'a, R: Log, S: ServiceSocket> WorkerSockets<'a, R, S> {
             outbox: Outbox::new(alloc, socket),
             server_port,
             room,
-            pauses: Pauses::new(alloc)?,
+            do_not_query,
+            pauses: Pauses::new(alloc, seed)?,
+            refusals: Refusals::new(alloc, seed)?,
             moment: 0,
             counts: Counts::new(),
         })
@@ -193,6 +257,14 @@ impl<'a, R: Log, S: ServiceSocket> WorkerSockets<'a, R, S> {
                 self.tally.exceed();
                 warn!(self.rt; "resolver: too many exchanges");
             }
+            Unserved::TooLong => {
+                self.tally.exceed();
+                warn!(self.rt; "resolver: a question took too long");
+            }
+            Unserved::TooLarge => {
+                self.tally.exceed();
+                warn!(self.rt; "resolver: a question kept too much");
+            }
             // It never happens at one seat: no other line fits.
             Unserved::Elsewhere => warn!(self.rt; "{DEVICE_FAULT}"),
         }
@@ -228,26 +300,44 @@ impl<'a, D: Numbered, C: Clock, R: ReadyNet + Log, S: ServiceSocket> Outside<
         &mut self,
         key: usize,
         server: &Addr,
+        hunt: Option<&Hunt>,
         over: Over,
         query: Shared<Octets>,
     ) -> Option<SocketLine<R>>
-        // As for any `Outside`. Also, the service may ask that server. Over UDP
-        // there is an exchange unless the network failed, the address belongs to no host, the server is the service itself, or
-        // the server is passed over.
+        // As for any `Outside`. Also, the service may ask that server, which is not withheld and has not refused the zone lately.
+        // Over UDP there is an exchange unless that is so, the server is passed over, for every question or for this one, the
+        // network failed, the address belongs to no host, or the server is the service itself.
         ensures asked { IfSome result (λ line. line.asked ≡ query_to server.now over query) }
         ensures watched { IfSome result (λ line. line.token.0 ≡ key) }
         ensures opened { OnSome result (CountsOpened self.old.counts self.new.counts) }
         ensures unopened { IfNone result (self.new.counts ≡ self.old.counts) }
         ensures unanswered { IfNone result (Unit {0}) }
         ensures keeps { Keeps (λ sockets. sockets.server_port) (λ sockets. sockets.outbox) self.old self.new }
-        ensures may_ask { OnSome result (MayAskServer R.Datagrams.opened R.Datagrams.is_at R.Connection.connected
-            R.Connection.is_at over self.old.place server.now) }
-        ensures failed { IfNone result (IsPaused server.now over self.old.moment self.old.pauses
-            ⊎ IsNotToBeHad R.failed R.Datagrams.opened R.Datagrams.is_at R.Datagrams.failed
-            self.old.place server.now over) }
-        ensures pauses { HeedsPause result server.now over self.old.moment self.old.pauses self.new.pauses }
+        ensures may_ask { OnSome result (¬ (IsWithheld self.old.do_not_query.now server.now (option_copied hunt.entry))
+            × LooksUpList server.now over (list_of_strangers (option_copied hunt.entry)) self.old.moment self.old.refusals
+            × MayAskServer R.Datagrams.opened R.Datagrams.is_at R.Connection.connected R.Connection.is_at over self.old.place server.now) }
+        ensures failed { IfNone result (
+            IsLeftAlone self.old.do_not_query.now server.now over (option_copied hunt.entry) self.old.moment self.old.refusals
+            ⊎ (IsPassedOver server.now over query self.old.moment self.old.pauses
+            ⊎ IsNotToBeHad R.failed R.Datagrams.opened R.Datagrams.is_at R.Datagrams.failed self.old.place server.now over)) }
+        ensures pauses { (self.new.refusals ≡ self.old.refusals)
+            × HeedsPause
+            (IsLeftAlone self.old.do_not_query.now server.now over (option_copied hunt.entry) self.old.moment self.old.refusals)
+            result server.now over query self.old.moment self.old.pauses self.new.pauses }
     {
-        if !self.pauses.lets_through(server, over, self.moment) {
+        let octets = query.get().as_slice();
+        if is_withheld(self.do_not_query, server, hunt) {
+            log_exchange(self.rt, self.alloc, WITHHELD, server, octets);
+            return None;
+        }
+        let list = list_of_strangers(hunt);
+        if self.refusals.has_list(server, over, list, self.moment) {
+            return None;
+        }
+        if !self
+            .pauses
+            .lets_through(self.alloc, server, over, octets, self.moment)
+        {
             return None;
         }
         self.tally.ask(over);
@@ -261,6 +351,7 @@ impl<'a, D: Numbered, C: Clock, R: ReadyNet + Log, S: ServiceSocket> Outside<
             self.place,
             server,
             over,
+            list.and_then(|list| list.share().ok()),
             query,
             &mut self.counts,
         ) {
@@ -277,7 +368,8 @@ impl<'a, D: Numbered, C: Clock, R: ReadyNet + Log, S: ServiceSocket> Outside<
     }
 
     fn hear(&mut self, line: &mut SocketLine<R>) -> Listened
-        // As for any `Outside`. Also, nothing is heard only of a quiet exchange, and a server that answered is not passed over.
+        // As for any `Outside`. Also, nothing is heard only of a quiet exchange, and a server that answered is not passed
+        // over any more.
         ensures heard { IsHeard (MayCome R.Datagrams.opened R.Datagrams.sent R.Datagrams.came
             R.Connection.connected R.Connection.contents R.Connection.remaining line.old.asked) result }
         ensures asked { line.new.asked ≡ line.old.asked }
@@ -285,15 +377,21 @@ impl<'a, D: Numbered, C: Clock, R: ReadyNet + Log, S: ServiceSocket> Outside<
         ensures listened { CountsListened result self.old.counts self.new.counts }
         ensures keeps { Keeps (λ sockets. sockets.server_port) (λ sockets. sockets.outbox) self.old self.new }
         ensures nothing { result ≡ Nothing → IsQuiet R.Datagrams.sent R.Datagrams.drained R.Datagrams.reported_again line.old }
-        ensures pauses { NotesHeard result line.old.asked.server line.old.asked.over self.old.moment self.old.pauses self.new.pauses }
+        ensures refusals { NotesAnswer result line.old.asked.server line.old.asked.over line.old.zone
+            self.old.moment self.old.refusals self.new.refusals }
+        ensures pauses { NotesHeard result line.new.dear line.old.asked.server line.old.asked.over line.old.asked.query
+            self.old.moment self.old.pauses self.new.pauses }
     {
         let heard = line.hear(self.alloc, self.poll.registry(), &mut self.room);
         self.counts.listen(&heard);
         note_heard(
+            self.alloc,
             &mut self.pauses,
             &heard,
+            line.is_dear(),
             &line.server(),
             line.over(),
+            line.query(),
             self.moment,
         );
         match &heard {
@@ -304,6 +402,13 @@ impl<'a, D: Numbered, C: Clock, R: ReadyNet + Log, S: ServiceSocket> Outside<
                 line.log_failure(self.rt, self.alloc, line.cause());
             }
         }
+        self.refusals.note_heard(
+            &heard,
+            &line.server(),
+            line.over(),
+            line.zone(),
+            self.moment,
+        );
         heard
     }
 
@@ -311,16 +416,34 @@ impl<'a, D: Numbered, C: Clock, R: ReadyNet + Log, S: ServiceSocket> Outside<
         // As for any `Outside`. Also, the server let a query go unanswered.
         ensures expired { CountsExpired self.old.counts self.new.counts }
         ensures keeps { Keeps (λ sockets. sockets.server_port) (λ sockets. sockets.outbox) self.old self.new }
-        ensures pauses { Loses line.asked.server line.asked.over self.old.moment self.old.pauses self.new.pauses }
+        ensures pauses { Loses line.asked.server line.asked.over line.asked.query self.old.moment self.old.pauses self.new.pauses }
     {
-        self.pauses
-            .note_unanswered(&line.server(), line.over(), self.moment);
+        self.pauses.note_unanswered(
+            self.alloc,
+            &line.server(),
+            line.over(),
+            line.query(),
+            self.moment,
+        );
         self.counts.expire();
         self.tally.give_up();
         line.log_failure(self.rt, self.alloc, "timed out");
     }
 
-    fn give(&mut self, client: UdpClient<S>, _octets: &[u8], reply: ReplyOctets) {
+    fn abandon(&mut self, _line: SocketLine<R>)
+        // As for any `Outside`. Also, nothing is noted of the server.
+        ensures abandoned { CountsAbandoned self.old.counts self.new.counts }
+        ensures keeps { Keeps (λ sockets. sockets.server_port) (λ sockets. sockets.outbox) self.old self.new }
+        ensures unnoted { (self.new.pauses ≡ self.old.pauses) × (self.new.refusals ≡ self.old.refusals) }
+    {
+        self.counts.abandon();
+        self.tally.give_up();
+    }
+
+    fn give(&mut self, client: UdpClient<S>, octets: &[u8], reply: ReplyOctets) {
+        if is_too_long(&reply) {
+            log_too_long(self.rt, self.alloc, octets);
+        }
         self.send(client.peer(), reply);
         self.counts.settle();
     }

@@ -1,5 +1,5 @@
 -- The calls of a task: of a desk, an exchange, a clock and a generator.
-use Rattle.std.specs.Prelude.{◌≡◌, ℕ, Result, Ok, Err, List, [], ◌∷◌, ◌++◌}
+use Rattle.std.specs.Prelude.{◌≡◌, ℕ, Option, Result, Ok, Err, List, [], ◌∷◌, ◌++◌}
 use Rattle.dns_query.specs.declared.over.Over.{Over}
 use Rattle.dns_text.specs.declared.addr.Addr.{Addr}
 use Rattle.dns_text.specs.declared.record.Question.{Question}
@@ -7,12 +7,15 @@ use Rattle.history.specs.declared.desk.DeskFault.{DeskFault}
 use Rattle.history.specs.declared.event.Event.{Event}
 use Rattle.history.specs.declared.event.Reply.{Reply}
 use Rattle.iterate.specs.declared.answer.Answer.{Answer}
+use Rattle.iterate.specs.declared.phase.Phase.{Phase}
+use Rattle.iterate.specs.declared.search.Hunt.{Hunt}
 use Rattle.iterate.specs.declared.want.Input.{Input}
 use Rattle.iterate.specs.declared.want.Input.TheVariants.{Begin, Reply as Replied, Refused, Came, Failed}
 use Rattle.iterate.specs.declared.want.Step.{Step}
 use Rattle.iterate.specs.declared.want.Want.{Want}
 use Rattle.iterate.specs.declared.want.Want.TheVariants.{Book, Send, Finish}
 use Rattle.iterate.specs.Exchanges.{exchanges_of}
+use Rattle.iterate.specs.Task.{IsTask, hunt_in}
 use Rattle.iterate.specs.Wanted.{MayWant, id_drawn, stream_behind}
 use Rattle.rand_core.specs.Stream.{Stream}
 use Rattle.front_workers.specs.declared.device.DeviceFault.{DeviceFault}
@@ -22,9 +25,9 @@ use Rattle.front_workers.specs.declared.device.DeviceFault.TheVariants.{Device, 
 abbrev pub Calls : Type 0 → Type 1
 Calls D = D → Event → Result Reply DeskFault → D → Type 0
 
--- One exchange with a name server: the client before, the server, the transport, the query, the response or the fault, the client after.
+-- One exchange with a name server: the client before, the server, the list that has it, the transport, the query, the response or the fault, the client after.
 abbrev pub Asks : Type 0 → Type 1
-Asks X = X → Addr → Over → List ℕ → Result (List ℕ) DeviceFault → X → Type 0
+Asks X = X → Addr → Option Hunt → Over → List ℕ → Result (List ℕ) DeviceFault → X → Type 0
 
 -- One reading of a clock: the clock before, the moment, the clock after.
 abbrev pub Ticks : Type 0 → Type 1
@@ -48,20 +51,26 @@ pub record Draws {C : Type 0} (ticks : Ticks C) (port : ℕ) (question : Questio
   pub identifier : wants.id ≡ id_drawn lent.1
   pub taken : lent'.1 ≡ stream_behind want lent.1
 
--- One call met a want: the desk and the exchange before, the want, the input that the task gets for it, the desk and the exchange after.
-pub data Met {D X : Type 0} (calls : Calls D) (asks : Asks X) : D → X → Want → Input → D → X → Type 0 where
-  replied : {d d' : D} {x : X} {event : Event} {reply : Reply} → calls d event (Ok reply) d' → Met calls asks d x (Book event) (Replied reply) d' x
-  refused : {d d' : D} {x : X} {event : Event} {fault : DeskFault} → calls d event (Err fault) d' → Met calls asks d x (Book event) (Refused fault) d' x
-  came : {d : D} {x x' : X} {server : Addr} {over : Over} {bytes octets : List ℕ} → asks x server over bytes (Ok octets) x' → Met calls asks d x (Send server over bytes) (Came octets) d x'
-  failed : {d : D} {x x' : X} {server : Addr} {over : Over} {bytes : List ℕ} → asks x server over bytes (Err Device) x' → Met calls asks d x (Send server over bytes) Failed d x'
+-- A task for the question that took these steps has this list of servers: of it is the server that it asks, if it asks one.
+abbrev pub Lists : ℕ → Question → List Step → Option Hunt → Type 0
+Lists port question steps hunt = (phase : Phase) × IsTask port question steps phase × (hunt ≡ hunt_in phase)
+
+-- One call met a want: the desk and the exchange before, the task's list of servers, the want, the input that the task gets for it, the desk and the exchange after.
+pub data Met {D X : Type 0} (calls : Calls D) (asks : Asks X) : D → X → Option Hunt → Want → Input → D → X → Type 0 where
+  replied : {d d' : D} {x : X} {hunt : Option Hunt} {event : Event} {reply : Reply} → calls d event (Ok reply) d' → Met calls asks d x hunt (Book event) (Replied reply) d' x
+  refused : {d d' : D} {x : X} {hunt : Option Hunt} {event : Event} {fault : DeskFault} → calls d event (Err fault) d' → Met calls asks d x hunt (Book event) (Refused fault) d' x
+  came : {d : D} {x x' : X} {hunt : Option Hunt} {server : Addr} {over : Over} {bytes octets : List ℕ}
+      → asks x server hunt over bytes (Ok octets) x' → Met calls asks d x hunt (Send server over bytes) (Came octets) d x'
+  failed : {d : D} {x x' : X} {hunt : Option Hunt} {server : Addr} {over : Over} {bytes : List ℕ}
+      → asks x server hunt over bytes (Err Device) x' → Met calls asks d x hunt (Send server over bytes) Failed d x'
 
 -- Steps of a task for the question led from one state of desk, exchange, clock and generator to another, and the task gets this input next.
 pub data StepsLead {D X C : Type 0} (calls : Calls D) (asks : Asks X) (ticks : Ticks C) (port : ℕ) (question : Question) (desk : D) (exchange : X) (lent : Lent C)
     : List Step → Input → D → X → Lent C → Type 0 where
   begins : StepsLead calls asks ticks port question desk exchange lent [] Begin desk exchange lent
-  goes_on : {steps after : List Step} {input next : Input} {want : Want} {d d' : D} {x x' : X} {l l' : Lent C}
+  goes_on : {steps after : List Step} {input next : Input} {want : Want} {hunt : Option Hunt} {d d' : D} {x x' : X} {l l' : Lent C}
       → StepsLead calls asks ticks port question desk exchange lent steps input d x l
-      → Draws ticks port question steps input l want after l' → Met calls asks d x want next d' x'
+      → Draws ticks port question steps input l want after l' → Lists port question after hunt → Met calls asks d x hunt want next d' x'
       → StepsLead calls asks ticks port question desk exchange lent after next d' x' l'
 
 -- A question ended in an answer: steps led from the first state to the last, where a task may give this answer. `MayWant` says that it resolves the question.
@@ -80,7 +89,7 @@ pub data BreaksOff {D X C : Type 0} (calls : Calls D) (asks : Asks X) (ticks : T
   in_the_task : {steps : List Step} {input : Input} {d : D} {x : X} {moment : ℕ} {l l' : Lent C}
       → StepsLead calls asks ticks port question desk exchange lent steps input d x l → ticks l.0 moment l'.0
       → BreaksOff calls asks ticks port question desk exchange lent d x l'
-  in_an_exchange : {steps after : List Step} {input : Input} {server : Addr} {over : Over} {bytes : List ℕ} {d : D} {x x' : X} {l l' : Lent C}
+  in_an_exchange : {steps after : List Step} {input : Input} {hunt : Option Hunt} {server : Addr} {over : Over} {bytes : List ℕ} {d : D} {x x' : X} {l l' : Lent C}
       → StepsLead calls asks ticks port question desk exchange lent steps input d x l
-      → Draws ticks port question steps input l (Send server over bytes) after l' → asks x server over bytes (Err NoMemory) x'
+      → Draws ticks port question steps input l (Send server over bytes) after l' → Lists port question after hunt → asks x server hunt over bytes (Err NoMemory) x'
       → BreaksOff calls asks ticks port question desk exchange lent d x' l'

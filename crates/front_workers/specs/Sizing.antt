@@ -1,4 +1,4 @@
--- The number of octets of a reply before it is written, for contracts inside the crate.
+-- The number of octets of a reply before it is written, and of RDATA.
 use Rattle.std.specs.Prelude.{◌<◌, ◌+◌, ◌-◌, ◌^◌, ℕ, min, List, length, Some}
 use Rattle.std.specs.List.{sum_by}
 use Rattle.dns_name.specs.Labels.{Labels}

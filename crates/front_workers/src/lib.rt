@@ -21,7 +21,7 @@ mod tools;
 mod run;
 // The records of an answer, lent as the sections of a reply.
 mod lending;
-// The size of a reply before it is written.
+// The size of a reply before it is written, and of RDATA.
 mod sizing;
 // Replies as octets.
 mod reply;
@@ -60,6 +60,7 @@ pub use port::{Came, Port};
 pub use query::serve_query;
 pub use reply::write_answer;
 pub use run::run_task;
+pub use sizing::data_size;
 pub use stream::serve_stream;
 pub use tcp_worker::work_tcp;
 pub use tools::Tools;

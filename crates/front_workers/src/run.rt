@@ -1,6 +1,7 @@
 //! A task, from its question to its answer.
 
 ghost use Rattle.std.specs.Prelude.{◌≡◌, IfOk, OnErr};
+ghost use Rattle.std.specs.Option.{option_copied};
 ghost use Rattle.iterate.specs.Told.{IsFit};
 ghost use Rattle.front_workers.specs.States.{TaskBreaksOff, TaskEnds};
 ghost use Rattle.front_workers.specs.Turning.{TakesTurn, Lacks};
@@ -12,7 +13,7 @@ use command_text::Clock;
 use dns_name::NoMemory;
 use dns_text::Question;
 use history::Desk;
-use iterate::{Answer, Input, Task, Want, due_law};
+use iterate::{Answer, Hunt, Input, Task, Want, due_law};
 use rand_core::Rng;
 use std::alloc::{AllocError, Global};
 
@@ -24,14 +25,16 @@ pub(crate) enum Outcome {
     Done(Answer),
 }
 
-/// Meets a want: by a call of the desk, or by an exchange with a name server.
+/// Meets a want: by a call of the desk, or by an exchange with a name server of this list.
 fn meet<D: Desk, X: Exchange>(
     desk: &mut D,
     exchange: &mut X,
+    hunt: Option<&Hunt>,
     want: Want,
 ) -> Result<Outcome, NoMemory>
-    ensures turns { IfOk result (λ outcome. TakesTurn D.calls X.asks desk.old exchange.old want outcome desk.new exchange.new) }
-    ensures lacks { OnErr result (Lacks X.asks desk.old exchange.old want desk.new exchange.new) }
+    ensures turns { IfOk result (λ outcome. TakesTurn D.calls X.asks desk.old exchange.old (option_copied hunt.entry) want outcome
+        desk.new exchange.new) }
+    ensures lacks { OnErr result (Lacks X.asks desk.old exchange.old (option_copied hunt.entry) want desk.new exchange.new) }
 {
     match want {
         Want::Book(event) => match desk.call(event) {
@@ -42,7 +45,7 @@ fn meet<D: Desk, X: Exchange>(
             server,
             over,
             bytes,
-        } => match exchange.ask(&server, over, bytes.get().as_slice()) {
+        } => match exchange.ask(&server, hunt, over, bytes.get().as_slice()) {
             Ok(octets) => Ok(Outcome::Go(Input::Came(octets))),
             Err(DeviceFault::Device) => Ok(Outcome::Go(Input::Failed)),
             Err(DeviceFault::NoMemory) => Err(AllocError),
@@ -70,7 +73,7 @@ pub fn run_task<D: Desk, X: Exchange, C: Clock, R: Rng>(
     loop {
         let moment = tools.clock.now();
         let want = task.step(moment, &mut tools.ids, input)?;
-        match meet(desk, &mut tools.exchange, want)? {
+        match meet(desk, &mut tools.exchange, task.hunt(), want)? {
             Outcome::Go(next) => input = next,
             Outcome::Done(answer) => return Ok(answer),
         }

@@ -28,9 +28,9 @@ fn strings_size(strings: &[Octets]) -> usize
     total
 }
 
-/// RDATA.
+/// The octets of RDATA with each name whole (RFC 1035, section 3.3), up to 2^64 - 1.
 #[tactic(auto, unfolding(dns_wire::specs::Write::Rdata::data_octets))]
-fn data_size(body: &Data) -> usize
+pub fn data_size(body: &Data) -> usize
     ensures { result ≡ capped (length (data_octets body.now)) }
 {
     match body {

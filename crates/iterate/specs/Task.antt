@@ -1,11 +1,12 @@
 -- A task before its first step, in the midst, and with no memory.
-use Rattle.std.specs.Prelude.{◌≡◌, ◌<◌, ◌≤◌, ℕ, List, [], ◌∷◌, ◌++◌}
+use Rattle.std.specs.Prelude.{◌≡◌, ◌<◌, ◌≤◌, ℕ, List, Option, Some, None, [], ◌∷◌, ◌++◌}
 use Rattle.dns_text.specs.declared.record.Question.{Question}
 use Rattle.iterate.specs.declared.answer.Answer.{Answer}
 use Rattle.iterate.specs.declared.limits.TheConstants.{MOST_SENDS}
 use Rattle.iterate.specs.declared.phase.Advance.{Advance}
 use Rattle.iterate.specs.declared.phase.Phase.{Phase}
-use Rattle.iterate.specs.declared.phase.Phase.TheVariants.{Fresh, Broken}
+use Rattle.iterate.specs.declared.phase.Phase.TheVariants.{Fresh, Sent, Broken}
+use Rattle.iterate.specs.declared.search.Hunt.{Hunt}
 use Rattle.iterate.specs.declared.task.State.{State}
 use Rattle.iterate.specs.declared.want.Input.{Input}
 use Rattle.iterate.specs.declared.want.Step.{Step}
@@ -15,6 +16,7 @@ use Rattle.iterate.specs.Exchanges.{Exchange, Stands, exchanges_of, sent_in}
 use Rattle.iterate.specs.Measure.{left_in}
 use Rattle.iterate.specs.Phase.{Drawing, Remembers, IsDue}
 use Rattle.iterate.specs.Room.{AsksOn}
+use Rattle.iterate.specs.Searching.{hunt_of}
 use Rattle.iterate.specs.Told.{IsFit}
 use Rattle.iterate.specs.Wanted.{MayWant, id_drawn, stream_behind}
 
@@ -30,6 +32,11 @@ abbrev pub IsTask : ℕ → Question → List Step → Phase → Type 0
 IsTask port question steps Fresh = steps ≡ []
 IsTask port question steps Broken = Unit {0}
 IsTask port question steps phase = IsUnderWay port question steps phase
+
+-- the servers of which one was asked last, if its response has not come yet
+abbrev pub hunt_in : Phase → Option Hunt
+hunt_in (Sent search server id over) = Some (hunt_of search.value)
+hunt_in phase = None
 
 -- What may come where a task is: without memory, anything.
 abbrev pub IsDueAt : Phase → List Step → Input → Type 0

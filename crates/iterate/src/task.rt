@@ -6,10 +6,12 @@ ghost use Rattle.history.specs.declared.event.Event.TheVariants.{Look};
 ghost use Rattle.iterate.specs.declared.want.Input.TheVariants.{Begin};
 ghost use Rattle.iterate.specs.declared.want.Want.TheVariants.{Book};
 ghost use Rattle.iterate.specs.Phase.{drawing};
-ghost use Rattle.iterate.specs.Task.{IsTask, IsDueAt, IsKept, IsSameTask, StepsOn, StepFails};
+ghost use Rattle.std.specs.Option.{option_copied};
+ghost use Rattle.iterate.specs.Task.{hunt_in, IsTask, IsDueAt, IsKept, IsSameTask, StepsOn, StepFails};
 
 use crate::first_lookup::first_look;
 use crate::phase::{Advance, Phase, step_on};
+use crate::search::Hunt;
 use crate::want::{Input, Step, Want};
 use dns_name::NoMemory;
 use dns_text::Question;
@@ -165,6 +167,16 @@ impl Task {
         ensures broken { self.old.phase ≡ Phase.Broken → IsErr result }
     {
         take_step(self.alloc, &mut self.state, moment, ids, input)
+    }
+
+    /// The servers of which one was asked last, and how far they were asked. Returns `None` if the task does not wait for a response.
+    pub fn hunt(&self) -> Option<&Hunt>
+        ensures { option_copied result ≡ hunt_in self.now.phase }
+    {
+        match &self.state.phase {
+            Phase::Sent { search, .. } => Some(search.hunt()),
+            _ => None,
+        }
     }
 
     /// The inputs and the wants so far, in order.

@@ -36,6 +36,12 @@ pub two_added : (old mid new : Command) (a b : Arg) (r s : Rule) → AddsArg old
 two_added old mid new a b r s first second a_local b_local a_is b_is =
     both_added old mid new (r ∷ []) (s ∷ []) (one_added old mid a r first a_local a_is) (one_added mid new b s second b_local b_is)
 
+pub three_added : (old mid late new : Command) (a b d : Arg) (r s t : Rule) → AddsArg old a mid → AddsArg mid b late → AddsArg late d new
+    → a.global ≡ false → b.global ≡ false → d.global ≡ false → rule_of a ≡ r → rule_of b ≡ s → rule_of d ≡ t → AddsRules old (r ∷ s ∷ t ∷ []) new
+three_added old mid late new a b d r s t first second third a_local b_local d_local a_is b_is d_is =
+    both_added old late new (r ∷ s ∷ []) (t ∷ []) (two_added old mid late a b r s first second a_local b_local a_is b_is)
+    (one_added late new d t third d_local d_is)
+
 is_any : (n : Option ValueRange) → IsSomeAnd n (λ range. range ≡ any_number) → n ≡ Some any_number
 is_any None is = absurd is
 is_any (Some range) is = ap Some is

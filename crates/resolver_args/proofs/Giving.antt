@@ -10,10 +10,11 @@ use Rattle.clap.proofs.WalkLemmas.{first_value-rows, one_text-rows, raw_values-r
 use Rattle.clap.specs.declared.parser.matches.ArgMatches.{ArgMatches}
 use Rattle.dns_text.specs.declared.addr.Addr.{Addr}
 use Rattle.dns_text.specs.Addr.{addr_in}
-use Rattle.resolver_args.specs.Given.{AreAddrs, GivesAddr, GivesAddrs, GivesNumber, GivesText, LacksAddr, LacksAddrs, LacksNumber, LacksOption, MayGive, WritesNumber, rows_in}
+use Rattle.resolver_args.specs.Given.{AreRead, GivesAddr, GivesAddrs, GivesEach, GivesNumber, GivesText, LacksAddr, LacksEach, LacksNumber, LacksOption, MayGive, WritesNumber, rows_in}
 use Rattle.resolver_args.specs.Mode.{HasCounts}
 use Rattle.resolver_args.specs.Says.{GivesService, GivesSettings, IsBad, RefusedFor}
-use Rattle.resolver_args.specs.Blame.{BlamesService, BlamesWord}
+use Rattle.resolver_args.specs.Blame.{BlamesRange, BlamesService, BlamesWord}
+use Rattle.resolver_args.specs.Ranges.{range_in}
 use Rattle.resolver_args.specs.declared.fault.ArgsFault.{ArgsFault}
 use Rattle.resolver_args.specs.declared.fault.ArgsFault.TheVariants.{NoMemory, Usage, BadArguments, NotLoopback}
 use Rattle.resolver_args.specs.declared.mode.Service.{Service}
@@ -49,6 +50,18 @@ pub word_refuses : {Q : Type 0} (name word : Text) (fault : ArgsFault) → (addr
     → (fault ≡ NoMemory) ⊎ ((addr_in word ≡ None) × BlamesWord name word fault) → RefusedFor Q fault
 word_refuses name word fault leads (inl is) = inl is
 word_refuses name word fault leads (inr why) = inr (blames_word name word fault why.1, leads why.0)
+
+pub blames_range : (name word : Text) (fault : ArgsFault) → BlamesRange name word fault → IsBad fault
+blames_range name word NoMemory blamed = absurd blamed
+blames_range name word (Usage _) blamed = absurd blamed
+blames_range name word (BadArguments _) blamed = tt
+blames_range name word NotLoopback blamed = absurd blamed
+
+-- A word that is no range refuses the arguments, for what that leads to.
+pub range_refuses : {Q : Type 0} (name word : Text) (fault : ArgsFault) → (range_in word ≡ None → Q)
+    → (fault ≡ NoMemory) ⊎ ((range_in word ≡ None) × BlamesRange name word fault) → RefusedFor Q fault
+range_refuses name word fault leads (inl is) = inl is
+range_refuses name word fault leads (inr why) = inr (blames_range name word fault why.1, leads why.0)
 
 -- What is no number of 32 bits is none of 8.
 pub fewer_bits : (rows : List Row) (name : Text) → LacksNumber 32 rows name → LacksNumber 8 rows name
@@ -103,32 +116,34 @@ text_lacks found name text some is addr given =
     let same : text ≡ given.0 = same_text text given.0 _ (sym (first_value-rows (found_of found) name) ∙ some) given.1 in
     let e : None ≡ Some addr = sym is ∙ (ap addr_in same ∙ given.2) in cc
 
-no_addr_at : (texts : List (Bor Text)) (addrs : List Addr) (k : ℕ) (t : Bor Text) → k < length texts → slice_index_or texts k t ≡ t → addr_in t.now ≡ None
-    → AreAddrs (map (λ t. t.now) texts) addrs → ⊥
-no_addr_at [] addrs k t within at none are = absurd (omega arith)
-no_addr_at (x ∷ xs) [] k t within at none are = cc
-no_addr_at (x ∷ xs) (addr ∷ addrs) zero t within at none are =
-    let first : addr_in x.now ≡ Some addr = cc in
-    let e : None ≡ Some addr = sym (ap (λ (b : Bor Text). addr_in b.now) at ∙ none) ∙ first in cc
-no_addr_at (x ∷ xs) (addr ∷ addrs) (suc k) t within at none are =
-    let rest : AreAddrs (map (λ t. t.now) xs) addrs = cc in no_addr_at xs addrs k t (omega arith) at none rest
+none_at : {X : Type 0} (read : Text → Option X) (texts : List (Bor Text)) (values : List X) (k : ℕ) (t : Bor Text)
+    → k < length texts → slice_index_or texts k t ≡ t → read t.now ≡ None → AreRead read (map (λ t. t.now) texts) values → ⊥
+none_at read [] values k t within at none are = absurd (omega arith)
+none_at read (x ∷ xs) [] k t within at none are = cc
+none_at {X} read (x ∷ xs) (value ∷ values) zero t within at none are =
+    let first : read x.now ≡ Some value = cc in
+    let here : read x.now ≡ read t.now = ap (λ (b : Bor Text). read b.now) at in
+    let e : None ≡ Some value = sym (here ∙ none) ∙ first in cc
+none_at read (x ∷ xs) (value ∷ values) (suc k) t within at none are =
+    let rest : AreRead read (map (λ t. t.now) xs) values = cc in none_at read xs values k t (omega arith) at none rest
 
 -- What `get_strs` answers.
 pub texts_given : (found : ArgMatches) (name : Text) (texts : Option (List Text)) → texts ≡ option_map raw_values (matched_of (found_of found) name)
     → all_of name (rows_in found) ≡ texts
 texts_given found name texts is = sym (is ∙ raw_values-rows (found_of found) name)
 
-pub addrs_given : (rows : List Row) (name : Text) (texts : List Text) (addrs : List Addr) → all_of name rows ≡ Some texts → AreAddrs texts addrs → GivesAddrs rows name addrs
-addrs_given rows name texts addrs all are = ap (λ (o : Option (List Text)). map addr_in (unwrap_or o [])) all ∙ are
+pub each_given : {X : Type 0} (read : Text → Option X) (rows : List Row) (name : Text) (texts : List Text) (values : List X)
+    → all_of name rows ≡ Some texts → AreRead read texts values → GivesEach read rows name values
+each_given read rows name texts values all are = ap (λ (o : Option (List Text)). map read (unwrap_or o [])) all ∙ are
 
-pub no_addrs_given : (rows : List Row) (name : Text) → all_of name rows ≡ None → GivesAddrs rows name []
-no_addrs_given rows name all = ap (λ (o : Option (List Text)). map addr_in (unwrap_or o [])) all
+pub none_given : {X : Type 0} (read : Text → Option X) (rows : List Row) (name : Text) → all_of name rows ≡ None → GivesEach read rows name []
+none_given read rows name all = ap (λ (o : Option (List Text)). map read (unwrap_or o [])) all
 
--- Texts of which one is no address are no addresses.
-pub addrs_lack : (rows : List Row) (name : Text) (texts : List (Bor Text)) → all_of name rows ≡ Some (map (λ t. t.now) texts)
-    → Any (λ t. addr_in t.now ≡ None) texts → LacksAddrs rows name
-addrs_lack rows name texts all some addrs given =
-    no_addr_at texts addrs some.0 some.1 some.2 some.3 some.4 (sym (ap (λ (o : Option (List Text)). map addr_in (unwrap_or o [])) all) ∙ given)
+-- Texts of which one writes no value write no values.
+pub each_lacks : {X : Type 0} (read : Text → Option X) (rows : List Row) (name : Text) (texts : List (Bor Text)) → all_of name rows ≡ Some (map (λ t. t.now) texts)
+    → Any (λ t. read t.now ≡ None) texts → LacksEach read rows name
+each_lacks read rows name texts all some values given =
+    none_at read texts values some.0 some.1 some.2 some.3 some.4 (sym (ap (λ (o : Option (List Text)). map read (unwrap_or o [])) all) ∙ given)
 
 some_each : (xs ys : List Addr) → map Some xs ≡ map Some ys → xs ≡ ys
 some_each [] [] e = refl

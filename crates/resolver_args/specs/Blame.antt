@@ -6,7 +6,7 @@ use Rattle.history.specs.declared.limits.TheConstants.{MOST_HINTS}
 use Rattle.resolver_args.specs.declared.fault.ArgsFault.{ArgsFault}
 use Rattle.resolver_args.specs.declared.fault.ArgsFault.TheVariants.{BadArguments}
 use Rattle.resolver_args.specs.declared.fault.BadArgument.{BadArgument}
-use Rattle.resolver_args.specs.declared.fault.BadArgument.TheVariants.{NotIp, NotPort, NoHint, ManyHints, ManyWorkers, Unfit}
+use Rattle.resolver_args.specs.declared.fault.BadArgument.TheVariants.{NotIp, NotPort, NotRange, NoHint, ManyHints, ManyWorkers, Unfit}
 use Rattle.resolver_args.specs.declared.mode.Service.{Service}
 use Rattle.resolver_args.specs.declared.mode.TheConstants.{MOST_WORKERS}
 
@@ -25,6 +25,16 @@ IsNoAddr name word _ = ⊥
 abbrev pub BlamesWord : Text → Text → ArgsFault → Type 0
 BlamesWord name word (BadArguments why) = IsNoAddr name word why
 BlamesWord name word _ = ⊥
+
+-- A word of this option is no range of addresses, and this names both.
+abbrev pub IsNoRange : Text → Text → BadArgument → Type 0
+IsNoRange name word (NotRange shown of) = (shown.now ≡ name) × (of.bytes.items ≡ word)
+IsNoRange name word _ = ⊥
+
+-- The arguments are bad for this word, which is no range.
+abbrev pub BlamesRange : Text → Text → ArgsFault → Type 0
+BlamesRange name word (BadArguments why) = IsNoRange name word why
+BlamesRange name word _ = ⊥
 
 -- Of settings with so many hints one does not fit: there are too many hints, or another number is out of its range.
 abbrev pub BlamesHints : ℕ → BadArgument → Type 0

@@ -26,6 +26,10 @@ number_rule name least most = record (option_rule name) { parser = Some (Signed 
 abbrev pub count_rule : Text → Text → ℕ → Rule
 count_rule name default most = record (number_rule name 1 most) { defaults = default ∷ [] }
 
+-- An option that may be repeated, with one value each time.
+abbrev pub repeated : Rule → Rule
+repeated rule = record rule { action = Some Append }
+
 -- An option or argument that must be there.
 abbrev pub required : Rule → Rule
 required rule = record rule { required = true }
@@ -50,9 +54,10 @@ limit_rules = count_rule (codes "journal") (decimal DEFAULT_JOURNAL) MOST_COMMAN
 abbrev pub server_rules : List Rule
 server_rules = count_rule (codes "server-port") (decimal DEFAULT_SERVER_PORT) MOST_PORT ∷ words_rule (codes "HINT") ∷ []
 
--- The addresses of a service.
+-- The addresses at which a service listens, and those that it queries only as those of stubs or hints.
 abbrev pub address_rules : List Rule
-address_rules = required (option_rule (codes "listen")) ∷ required (option_rule (codes "control")) ∷ []
+address_rules = required (option_rule (codes "listen")) ∷ required (option_rule (codes "control"))
+    ∷ repeated (option_rule (codes "do-not-query")) ∷ []
 
 -- The file of a service's first lines.
 abbrev pub file_rules : List Rule

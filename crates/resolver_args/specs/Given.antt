@@ -41,17 +41,29 @@ GivesAddr rows name addr = (text : Text) × (first_of name rows ≡ Some text) �
 abbrev pub LacksAddr : List Row → Text → Type 0
 LacksAddr rows name = (addr : Addr) → GivesAddr rows name addr → ⊥
 
+-- These texts write these values, as they are read here.
+abbrev pub AreRead : {X : Type 0} → (Text → Option X) → List Text → List X → Type 0
+AreRead read texts values = map read texts ≡ map Some values
+
+-- The option or argument has these values.
+abbrev pub GivesEach : {X : Type 0} → (Text → Option X) → List Row → Text → List X → Type 0
+GivesEach read rows name values = AreRead read (unwrap_or (all_of name rows) []) values
+
+-- A word of the option or argument writes no value.
+abbrev pub LacksEach : {X : Type 0} → (Text → Option X) → List Row → Text → Type 0
+LacksEach {X} read rows name = (values : List X) → GivesEach read rows name values → ⊥
+
 -- These texts write these addresses.
 abbrev pub AreAddrs : List Text → List Addr → Type 0
-AreAddrs texts addrs = map addr_in texts ≡ map Some addrs
+AreAddrs texts addrs = AreRead addr_in texts addrs
 
 -- The argument has these addresses.
 abbrev pub GivesAddrs : List Row → Text → List Addr → Type 0
-GivesAddrs rows name addrs = AreAddrs (unwrap_or (all_of name rows) []) addrs
+GivesAddrs rows name addrs = GivesEach addr_in rows name addrs
 
 -- A word of the argument is no address.
 abbrev pub LacksAddrs : List Row → Text → Type 0
-LacksAddrs rows name = (addrs : List Addr) → GivesAddrs rows name addrs → ⊥
+LacksAddrs rows name = LacksEach addr_in rows name
 
 -- The option has this text, or is absent.
 abbrev pub GivesText : List Row → Text → Option Text → Type 0

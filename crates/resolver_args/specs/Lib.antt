@@ -2,4 +2,5 @@ pub mod Blame
 pub mod CommandLine
 pub mod Given
 pub mod Mode
+pub mod Ranges
 pub mod Says

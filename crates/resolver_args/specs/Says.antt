@@ -6,8 +6,9 @@ use Rattle.clap.specs.Walk.{Row, Text}
 use Rattle.history.specs.Event.{AreSettings}
 use Rattle.history.specs.declared.event.Settings.{Settings}
 use Rattle.resolver_args.specs.CommandLine.{resolver_app}
-use Rattle.resolver_args.specs.Given.{GivesAddr, GivesAddrs, GivesLine, GivesNumber, GivesText, LacksAddr, LacksNumber, MayGive}
+use Rattle.resolver_args.specs.Given.{GivesAddr, GivesAddrs, GivesEach, GivesLine, GivesNumber, GivesText, LacksAddr, LacksNumber, MayGive}
 use Rattle.resolver_args.specs.Mode.{HasNumbers, IsLoopback}
+use Rattle.resolver_args.specs.Ranges.{range_in}
 use Rattle.resolver_args.specs.declared.fault.ArgsFault.{ArgsFault}
 use Rattle.resolver_args.specs.declared.fault.ArgsFault.TheVariants.{NoMemory, Usage, BadArguments, NotLoopback}
 use Rattle.resolver_args.specs.declared.mode.Mode.{Mode}
@@ -36,6 +37,7 @@ pub record GivesService (rows : List Row) (service : Service) : Type 0 where
   pub record_limit : GivesNumber rows (codes "record") service.record_limit
   pub seed : MayGive rows (codes "seed") service.seed
   pub commands : GivesText rows (codes "commands") (text_of service.commands)
+  pub do_not_query : GivesEach range_in rows (codes "do-not-query") service.do_not_query
 
 -- The subcommand of this name, with these options and arguments, gives this mode.
 abbrev pub Gives : Text → List Row → Mode → Type 0

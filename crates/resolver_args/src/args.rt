@@ -9,8 +9,9 @@ ghost use Rattle.history.specs.Event.{AreSettings};
 ghost use Rattle.resolver_args.specs.declared.mode.Mode.TheVariants.{Control, Serve};
 ghost use Rattle.resolver_args.specs.declared.fault.ArgsFault.TheVariants.{NoMemory};
 ghost use Rattle.resolver_args.specs.Given.{GivesAddr, GivesAddrs, GivesLine, GivesNumber, GivesText, rows_in};
-ghost use Rattle.resolver_args.specs.Given.{LacksAddr, LacksAddrs, LacksNumber, LacksOption, MayGive};
+ghost use Rattle.resolver_args.specs.Given.{GivesEach, LacksAddr, LacksAddrs, LacksEach, LacksNumber, LacksOption, MayGive};
 ghost use Rattle.resolver_args.specs.Mode.{HasNumbers, IsLoopback};
+ghost use Rattle.resolver_args.specs.Ranges.{range_in};
 ghost use Rattle.resolver_args.specs.Says.{Gives, GivesService, GivesSettings, IsBad, IsGuarded, IsUsage, LacksControl, LacksSettings};
 ghost use Rattle.resolver_args.specs.Says.{RefusedFor, Refuses, RefusesMode, RefusesService, Says, text_of};
 
@@ -18,8 +19,10 @@ use crate::address::{addr_of, addrs_of};
 use crate::fault::{ArgsFault, BadArgument};
 use crate::mode::{Mode, Service, misfit_of, settings_of};
 use crate::options::{LinesHelp, command};
+use crate::range::ranges_of;
 use clap::error::ErrorKind;
 use clap::{ArgMatches, Error};
+use dns_sockets::AddressRange;
 use dns_text::{Addr, Items};
 use history::Settings;
 use std::alloc::{AllocError, Global};
@@ -118,6 +121,17 @@ fn hints_in(alloc: Global, found: &ArgMatches<'_>) -> Result<Items<Addr>, ArgsFa
     }
 }
 
+/// The addresses that are queried only as those of stubs or hints.
+fn ranges_in(alloc: Global, found: &ArgMatches<'_>) -> Result<Items<AddressRange>, ArgsFault>
+    ensures given { IfOk result (GivesEach range_in (rows_in found.now) (codes "do-not-query")) }
+    ensures fault { IfErr result (RefusedFor (LacksEach range_in (rows_in found.now) (codes "do-not-query"))) }
+{
+    match found.get_strs("do-not-query") {
+        Some(texts) => Ok(Items::new(ranges_of(alloc, "--do-not-query", texts)?)),
+        None => Ok(Items::new(Vec::new(alloc))),
+    }
+}
+
 /// The settings of a cache.
 fn settings_in(alloc: Global, found: &ArgMatches<'_>) -> Result<Settings, ArgsFault>
     ensures given { IfOk result (GivesSettings (rows_in found.now)) }
@@ -150,6 +164,7 @@ fn service_in(alloc: Global, found: &ArgMatches<'_>) -> Result<Service, ArgsFaul
         record_limit: u64::from(count_in(found, "record", "--record")?),
         seed: number_in(found, "seed", "--seed")?,
         commands: text_in(alloc, found, "commands")?,
+        do_not_query: ranges_in(alloc, found)?,
     };
     service.checked()
 }

@@ -14,6 +14,9 @@ pub enum BadArgument {
     /// The word is no address, though what comes before its `@` is an IP address.
     #[error("{name} {word}: the port is not a number from 1 to 65535")]
     NotPort { name: &'static str, word: String },
+    /// The word is no range of addresses: its address is no IP address, or its number of bits is bad.
+    #[error("{name} {word}: not a range of addresses; the form is IP/BITS, or IP for one address; the most bits are 32, for IPv6 128")]
+    NotRange { name: &'static str, word: String },
     /// A service has no root server to ask.
     #[error("HINT: missing; a service needs the address of a root server")]
     NoHint,

@@ -9,6 +9,8 @@ mod mode;
 mod options;
 // Addresses that words of the command line write.
 mod address;
+// Ranges of addresses that words of the command line write.
+mod range;
 // The mode that the arguments give.
 mod args;
 // Laws of two command lines.

@@ -7,6 +7,7 @@ ghost use Rattle.resolver_args.specs.Blame.{BlamesHints, BlamesCount, BlamesServ
 ghost use Rattle.resolver_args.specs.Mode.{IsLoopback, HasCounts, IsService};
 
 use crate::fault::{ArgsFault, BadArgument};
+use dns_sockets::AddressRange;
 use dns_text::{Addr, Ip, Items};
 use history::{MOST_CELLS, MOST_COMMANDS, MOST_HINTS, Settings};
 use shared_book::MOST_RECORDED;
@@ -45,6 +46,8 @@ pub struct Service {
     pub seed: Option<u32>,
     /// The path of a file of lines to obey before the first query is answered.
     pub commands: Option<String>,
+    /// The addresses that are queried only as those of stubs or hints.
+    pub do_not_query: Items<AddressRange>,
 }
 
 /// The most workers, UDP and TCP together.

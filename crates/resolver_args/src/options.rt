@@ -173,7 +173,7 @@ fn with_servers<'a>(
     command.arg(port)?.arg(hints)
 }
 
-/// The addresses of a service.
+/// The addresses at which a service listens, and those that it leaves alone.
 fn with_addresses<'a>(alloc: Global, command: Command<'a>) -> Result<Command<'a>, AllocError>
     ensures { IfOk result (AddsRules command.entry address_rules) }
 {
@@ -191,7 +191,14 @@ fn with_addresses<'a>(alloc: Global, command: Command<'a>) -> Result<Command<'a>
         "The address of the control socket, in 127.0.0.0/8 or ::1: IP@PORT, or IP for port 53",
     )
     .required(true);
-    command.arg(listen)?.arg(control)
+    let ranges = option(
+        alloc,
+        "do-not-query",
+        "RANGE",
+        "Addresses to query only if a stub or a hint has them: IP/BITS, or IP for one address; may be repeated",
+    )
+    .action(ArgAction::Append);
+    command.arg(listen)?.arg(control)?.arg(ranges)
 }
 
 /// The file of a service's first lines.

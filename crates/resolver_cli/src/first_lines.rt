@@ -11,12 +11,17 @@ ghost use Rattle.resolver_cli.specs.FirstLines.{AcceptsInput, AcceptsLine, IsAcc
 
 use crate::fault::CliFault;
 use crate::file_reader::FileReader;
+use crate::lookout::Lookout;
 use crate::replies::is_refusal;
+use crate::watched_fifo::WatchedFifo;
 use command_text::{Clock, serve_control};
 use history::Desk;
 use std::alloc::{AllocError, Global};
 use std::fmt::Display;
+use std::io::{ErrorKind, Read};
 use std::rt::Files;
+use std::sync::Wait;
+use std::thread::Threads;
 use std::{fs, io};
 use streams::{
     CountedReader, CountedWriter, Ended, LineReply, Obeyer, ScriptFault, Sink, Source, Text,
@@ -228,6 +233,27 @@ fn broken<R>(alloc: Global, path: &str, reader: &FileReader<R>) -> CliFault
     }
 }
 
+/// Obeys the lines that a reader of the file with this path gives, in order, each as if an operator had sent it. It fails if the file
+/// cannot be read to its end, or at the first line that is refused.
+fn obey_reader<D: Desk, C: Clock + Drop, I: Read + Drop>(
+    alloc: Global,
+    path: &str,
+    desk: &mut D,
+    clock: C,
+    input: I,
+) -> Result<(), CliFault>
+    ensures obeyed { OnOk result ((last : C) × AcceptsInput C.ticks D.calls None clock desk.old last desk.new) }
+    ensures fault { IfErr result (CannotObey path.now) }
+{
+    let mut lines = FirstLines::new(clock);
+    let mut reader = FileReader::new(input);
+    match obey_lines(alloc, desk, &mut lines, &mut reader) {
+        Ok(Ended::EndOfInput) => Ok(()),
+        Ok(Ended::Stop) => Err(refused(alloc, path, &lines)),
+        Err(_) => Err(broken(alloc, path, &reader)),
+    }
+}
+
 /// Obeys the lines of a file in order, each as if an operator had sent it. It fails if the file cannot be read to its end, or at
 /// the first line that is refused.
 pub(crate) fn obey_file<D: Desk, C: Clock + Drop, R: Files>(
@@ -241,15 +267,32 @@ pub(crate) fn obey_file<D: Desk, C: Clock + Drop, R: Files>(
     ensures obeyed { OnOk result ((last : C) × AcceptsInput C.ticks D.calls None clock desk.old last desk.new) }
     ensures fault { IfErr result (CannotObey path.now) }
 {
-    let file = match fs::open(rt, path) {
-        Ok(file) => file,
-        Err(error) => return Err(CliFault::unread(alloc, path, &error)),
-    };
-    let mut lines = FirstLines::new(clock);
-    let mut reader = FileReader::new(file);
-    match obey_lines(alloc, desk, &mut lines, &mut reader) {
-        Ok(Ended::EndOfInput) => Ok(()),
-        Ok(Ended::Stop) => Err(refused(alloc, path, &lines)),
-        Err(_) => Err(broken(alloc, path, &reader)),
+    match fs::open(rt, path) {
+        Ok(file) => obey_reader(alloc, path, desk, clock, file),
+        Err(error) => Err(CliFault::unread(alloc, path, &error)),
+    }
+}
+
+/// Obeys the lines of a FIFO as `obey_file` does those of a file, while operators are looked at. It also fails once one of them has
+/// sent `stop`.
+pub(crate) fn obey_fifo<D: Desk, C: Clock + Drop, R: Threads + Wait + std::rt::Clock, L: Lookout>(
+    rt: &R,
+    alloc: Global,
+    path: &str,
+    desk: &mut D,
+    clock: C,
+    lookout: &mut L,
+) -> Result<(), CliFault>
+    ensures obeyed { OnOk result ((last : C) × AcceptsInput C.ticks D.calls None clock desk.old last desk.new) }
+    ensures fault { IfErr result (CannotObey path.now) }
+{
+    match WatchedFifo::open(rt, alloc, path, lookout) {
+        Ok(fifo) => obey_reader(alloc, path, desk, clock, fifo),
+        Err(error) => {
+            if error.kind() == ErrorKind::OutOfMemory {
+                return Err(CliFault::no_memory());
+            }
+            Err(CliFault::unread(alloc, path, &error))
+        }
     }
 }

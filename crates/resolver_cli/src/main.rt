@@ -46,8 +46,16 @@ mod log_writer;
 mod service_runtime;
 // A reader of a file, which keeps why a read failed.
 mod file_reader;
+// The lookout for an operator who sends `stop` while nobody is served.
+mod lookout;
+// The opening of a FIFO, in a thread of its own.
+mod opening;
+// A FIFO that is read while operators are looked at.
+mod watched_fifo;
 // The lines of a file, which a service obeys before it is ready.
 mod first_lines;
+// The first phase of a service: the lines of a file, and `stop` alone.
+mod first_phase;
 // The mode `serve`: workers and operators over one shared book.
 mod service;
 

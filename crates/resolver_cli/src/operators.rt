@@ -51,7 +51,7 @@ fn obey_input<D: Desk, C: Clock, I: Read + Drop, O: Write + Drop>(
 }
 
 /// Obeys an operator's lines. It returns whether one of them was `stop`.
-fn obey_operator<'a, 'q, L: CallLedger, R: Wait + std::rt::Clock + Log>(
+pub(crate) fn obey_operator<'a, 'q, L: CallLedger, R: Wait + std::rt::Clock + Log>(
     rt: &'a R,
     alloc: Global,
     gauges: &Gauges,
@@ -83,16 +83,16 @@ fn obey_operator<'a, 'q, L: CallLedger, R: Wait + std::rt::Clock + Log>(
     unreachable!()
 }
 
-/// Obeys one operator after another, until one sends `stop`. It goes on if accepting fails, for instance because no
+/// Obeys the operators of a queue, one after another, until one sends `stop`. It goes on if accepting fails, for instance because no
 /// descriptors are left: nothing but `stop` ends a service in order.
 pub(crate) fn obey_operators<L: CallLedger, R: Wait + std::rt::Clock + Log>(
     rt: &R,
     alloc: Global,
     lent: &Lent<'_, L>,
+    mut queue: OperatorQueue<'_, R>,
     mut desk: Seat<'_, ServiceBook, L, R>,
 ) {
     let mut clock = MonotonicClock::new(rt, lent.terms.start);
-    let mut queue = OperatorQueue::new(rt, alloc, &lent.sockets.control);
     for _ in rt.forever() {
         match queue.next() {
             Ok(stream) => {

@@ -10,9 +10,9 @@ pub(crate) const WHILE_SECONDS: u64 = 10;
 /// The most texts that are counted at once.
 const MOST_TEXTS: usize = 128;
 
-/// The most servers that are named beside one cause at once. Strangers choose servers, and may choose very many. So others are counted
-/// together, by their cause: a flood of one cause hides no other.
-const MOST_SERVERS: usize = 8;
+/// The most servers, or sets of records, that are named beside one cause at once. Strangers choose them, and may choose very many. So
+/// others are counted together, by their cause: a flood of one cause hides no other.
+const MOST_NAMED: usize = 8;
 
 /// The most octets of a text. The rest of it is cut off, so that a line is written in one go.
 const MOST_OCTETS: usize = 768;
@@ -23,8 +23,13 @@ const DETAIL: &str = ", question ";
 /// What begins the server in a text. The cause stands before it.
 const SERVER: &str = ", server ";
 
-/// What stands in place of the server if it is not named.
-const OTHERS: &str = ", other servers";
+/// What begins the set of records in a text. The cause stands before it.
+const SET: &str = ", set ";
+
+/// What stands in place of a server, or of a set, that is not named.
+const OTHER_SERVERS: &str = ", other servers";
+
+const OTHER_SETS: &str = ", other sets";
 
 /// The text of a line.
 pub(crate) type Words = ArrayString<MOST_OCTETS>;
@@ -35,6 +40,15 @@ pub(crate) fn known_by(text: &str) -> &str {
         Some((known, _)) => known,
         None => text,
     }
+}
+
+/// The cause in a text that names a server or a set, and what stands in place of one that is not named.
+fn cause_in(text: &str) -> Option<(&str, &'static str)> {
+    if let Some((cause, _)) = text.split_once(SERVER) {
+        return Some((cause, OTHER_SERVERS));
+    }
+    let (cause, _) = text.split_once(SET)?;
+    Some((cause, OTHER_SETS))
 }
 
 /// These words one after the other, cut off where there is no room.
@@ -92,11 +106,11 @@ impl RecentTexts {
         Fate::Counted
     }
 
-    /// How many servers are named beside a cause.
-    fn servers_beside(&self, cause: &str) -> usize {
+    /// How many servers or sets are named beside a cause.
+    fn named_beside(&self, cause: &str) -> usize {
         let mut count = 0usize;
         for recent in &self.texts {
-            if let Some((front, _)) = recent.text.as_str().split_once(SERVER) {
+            if let Some((front, _)) = cause_in(recent.text.as_str()) {
                 if front == cause {
                     count = count.saturating_add(1);
                 }
@@ -135,9 +149,9 @@ impl RecentTexts {
         None
     }
 
-    /// Counts a text that names one server too many beside its cause.
-    fn meet_other(&mut self, cause: &str, now: u64) -> Fate {
-        let others = words_of(cause, OTHERS);
+    /// Counts a text that names one server or set too many beside its cause, with these words in its place.
+    fn meet_other(&mut self, cause: &str, others: &str, now: u64) -> Fate {
+        let others = words_of(cause, others);
         for recent in &mut self.texts {
             if recent.text.as_str() == others.as_str() {
                 recent.more = recent.more.saturating_add(1);
@@ -151,18 +165,18 @@ impl RecentTexts {
         }
     }
 
-    /// Counts a line. Only a line that names a server may be left out.
+    /// Counts a line. Only a line that names a server or a set may be left out.
     pub fn meet(&mut self, text: &str, now: u64) -> Fate {
         let known = known_by(text);
         if let Some(fate) = self.meet_again(known, now) {
             return fate;
         }
-        let Some((cause, _)) = known.split_once(SERVER) else {
+        let Some((cause, others)) = cause_in(known) else {
             let _ = self.begin(words_of(known, ""), now, 0);
             return Fate::Written { earlier: 0 };
         };
-        if self.servers_beside(cause) >= MOST_SERVERS {
-            return self.meet_other(cause, now);
+        if self.named_beside(cause) >= MOST_NAMED {
+            return self.meet_other(cause, others, now);
         }
         if self.begin(words_of(known, ""), now, 0) {
             Fate::Written { earlier: 0 }

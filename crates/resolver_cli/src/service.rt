@@ -7,9 +7,10 @@ ghost use Rattle.resolver_args.specs.Mode.{IsService};
 
 use crate::book_figures::WatchedBook;
 use crate::fault::CliFault;
-use crate::first_lines::obey_file;
+use crate::first_phase::obey_first;
 use crate::gauges::Gauges;
 use crate::log_writer::write_often;
+use crate::operator_queue::OperatorQueue;
 use crate::operators::obey_operators;
 use crate::service_log::ServiceLog;
 use crate::service_runtime::ServiceRuntime;
@@ -19,7 +20,7 @@ use crate::worker::{
     Lent, OverTcp, OverUdp, ServiceBook, Terms, pass_of, run_tcp, run_udp, tcp_workers, udp_workers,
 };
 use cell_store::NameSeed;
-use dns_sockets::{MonotonicClock, descriptor_limit, place_of};
+use dns_sockets::{descriptor_limit, place_of};
 use flight_sockets::{Waker, most_exchanges};
 use history::Book;
 use log::{Log, info};
@@ -56,6 +57,7 @@ fn obey<L: CallLedger, R: Wait + Clock + Log + Print>(
     rt: &R,
     alloc: Global,
     lent: &Lent<'_, L>,
+    queue: OperatorQueue<'_, R>,
     pass: Pass<L>,
 ) -> Result<(), CliFault> {
     info!(rt; "resolver: started");
@@ -63,7 +65,7 @@ fn obey<L: CallLedger, R: Wait + Clock + Log + Print>(
         return Err(CliFault::failed_write());
     }
     let desk = Seat::new(rt, alloc, lent.book, pass);
-    obey_operators(rt, alloc, lent, desk);
+    obey_operators(rt, alloc, lent, queue, desk);
     Ok(())
 }
 
@@ -74,6 +76,7 @@ fn run<L: CallLedger + Send + Sync, R>(
     alloc: Global,
     lent: &Lent<'_, L>,
     workers: Workers<'_, L, R>,
+    queue: OperatorQueue<'_, R>,
     pass: Pass<L>,
 ) -> Result<(), CliFault>
 where
@@ -107,7 +110,7 @@ where
                 .is_ok();
         }
         let ended = if started {
-            obey(rt, alloc, lent, pass)
+            obey(rt, alloc, lent, queue, pass)
         } else {
             // std reports a thread that cannot be started as memory that ran out.
             Err(CliFault::no_memory())
@@ -118,23 +121,30 @@ where
     })
 }
 
-/// Obeys the lines of the file, if there is one, and hands the pass back.
-fn obey_first<L: CallLedger, R: Wait + Clock, F: Files>(
-    rt: &R,
+/// Obeys the lines of the file, if there is one, and then serves, unless an operator sent `stop` meanwhile.
+fn begin<'a, L: CallLedger + Send + Sync, R, F: Files>(
+    rt: &'a R,
     files: &F,
     alloc: Global,
-    book: &SharedBook<ServiceBook, L>,
-    start: Instant,
+    lent: &Lent<'a, L>,
+    workers: Workers<'_, L, R>,
     commands: &Option<String>,
     pass: Pass<L>,
-) -> Result<Pass<L>, CliFault> {
-    let Some(path) = commands else {
-        return Ok(pass);
-    };
-    let mut desk = Seat::new(rt, alloc, book, pass);
-    let clock = MonotonicClock::new(rt, start);
-    obey_file(files, alloc, path.as_str(), &mut desk, clock)?;
-    Ok(desk.into_pass())
+) -> Result<(), CliFault>
+where
+    R: Threads
+        + Wait
+        + Clock
+        + Log
+        + Print
+        + Sync
+        + Net<Stream = TcpStream, Listener = TcpListener>,
+{
+    let mut queue = OperatorQueue::new(rt, alloc, &lent.sockets.control);
+    match obey_first(rt, files, alloc, lent, commands, &mut queue, pass)? {
+        Some(pass) => run(rt, alloc, lent, workers, queue, pass),
+        None => Ok(()),
+    }
 }
 
 /// Serves at these sockets, over a book that has taken no event yet. First it obeys the lines of the file, if there is one:
@@ -146,7 +156,7 @@ fn serve_over<L: CallLedger + Send + Sync, R, F: Files>(
     blank: Blank,
     book: ServiceBook,
     record_limit: u64,
-    terms: Terms,
+    terms: Terms<'_>,
     gauges: &Gauges,
     stop: &AtomicBool,
     bound: Bound,
@@ -202,8 +212,7 @@ where
         stop,
         terms,
     };
-    let pass = obey_first(rt, files, alloc, &shared, terms.start, commands, pass)?;
-    run(rt, alloc, &lent, workers, pass)
+    begin(rt, files, alloc, &lent, workers, commands, pass)
 }
 
 /// A seed for the hashes of cached names, from the system's randomness. Strangers choose those names: whoever knew the seed
@@ -236,6 +245,8 @@ where
     let Ok(descriptors) = descriptor_limit() else {
         return Err(CliFault::cannot_start());
     };
+    // Moved out of the settings, since the terms borrow it while others are moved.
+    let do_not_query = service.do_not_query;
     let terms = Terms {
         place: place_of(&service.listen),
         udp: service.udp,
@@ -243,6 +254,7 @@ where
         seed: service.seed,
         server_port: service.settings.server_port,
         exchanges: most_exchanges(descriptors, service.udp),
+        do_not_query: do_not_query.as_slice(),
         start,
     };
     let exchanges = terms.exchanges.saturating_mul(usize::from(terms.udp));

@@ -7,6 +7,7 @@ use dns_query::Over;
 use dns_text::{Addr, Octets};
 use flight_sockets::Tally;
 use front_workers::{DeviceFault, Exchange, Listener, size_of};
+use iterate::Hunt;
 use streams::{ReadFailed, Sink, Source, WriteFailed};
 
 /// The octets of a length before a message.
@@ -165,13 +166,19 @@ impl<'a, X> TalliedExchange<'a, X> {
 }
 
 impl<'a, X: Exchange> Exchange for TalliedExchange<'a, X> {
-    ghost asks = { λ before server over query came after. X.asks before.exchange server over query came after.exchange };
+    ghost asks = { λ before server hunt over query came after. X.asks before.exchange server hunt over query came after.exchange };
 
     ghost failures = { λ client. X.failures client.exchange };
 
-    fn ask(&mut self, server: &Addr, over: Over, query: &[u8]) -> Result<Octets, DeviceFault> {
+    fn ask(
+        &mut self,
+        server: &Addr,
+        hunt: Option<&Hunt>,
+        over: Over,
+        query: &[u8],
+    ) -> Result<Octets, DeviceFault> {
         self.tally.ask(over);
-        match self.exchange.ask(server, over, query) {
+        match self.exchange.ask(server, hunt, over, query) {
             Ok(reply) => {
                 self.tally.answer();
                 Ok(reply)

@@ -8,12 +8,12 @@ use crate::fault::CliFault;
 use crate::gauges::Gauges;
 use crate::sockets::Sockets;
 use crate::tallied::{TalliedExchange, TalliedListener};
-use dns_sockets::{Connections, MonotonicClock, SocketExchange};
+use dns_sockets::{AddressRange, Connections, MonotonicClock, SocketExchange};
 use flight_sockets::{Tally, UdpListener, UdpWorker, fly_udp};
 use front_workers::{Tools, work_tcp};
 use log::Log;
 use rand::rngs::StdRng;
-use rand_core::SeedableRng;
+use rand_core::{Rng, SeedableRng};
 use shared_book::{CallLedger, Pass, Seat, SharedBook};
 use std::alloc::Global;
 use std::io;
@@ -30,7 +30,7 @@ pub(crate) type ServiceBook = WatchedBook<ShelfBook>;
 
 /// The fixed settings of a service that do not belong to its book.
 #[derive(Clone, Copy)]
-pub(crate) struct Terms {
+pub(crate) struct Terms<'a> {
     /// The address at which queries arrive.
     pub place: SocketAddr,
     /// The number of UDP workers.
@@ -43,6 +43,8 @@ pub(crate) struct Terms {
     pub server_port: u16,
     /// The most exchanges that a UDP worker may have under way.
     pub exchanges: usize,
+    /// The addresses that are queried only as those of stubs or hints.
+    pub do_not_query: &'a [AddressRange],
     /// The instant from which every worker's clock counts.
     pub start: Instant,
 }
@@ -54,7 +56,7 @@ pub(crate) struct Lent<'a, L: CallLedger> {
     pub gauges: &'a Gauges,
     pub sockets: &'a Sockets,
     pub stop: &'a AtomicBool,
-    pub terms: Terms,
+    pub terms: Terms<'a>,
 }
 
 /// The parts that a UDP worker owns.
@@ -84,6 +86,12 @@ fn generator<R: RandomSource>(rt: &R, seed: Option<u32>, number: u8) -> Result<S
     made.map_err(|_: io::Error| CliFault::cannot_start())
 }
 
+/// The seed of a worker's tables. It is drawn apart, so that a fixed seed still gives the same query identifiers.
+fn table_seed<R: RandomSource>(rt: &R, seed: Option<u32>, number: u8) -> Result<u64, CliFault> {
+    let mut drawn = generator(rt, seed, number)?;
+    Ok(drawn.next_u64())
+}
+
 /// A pass to the book for one thread.
 pub(crate) fn pass_of<L: CallLedger, R: Wait>(
     rt: &R,
@@ -102,7 +110,7 @@ pub(crate) fn udp_workers<'a, L: CallLedger, R>(
     alloc: Global,
     book: &SharedBook<ServiceBook, L>,
     pass: &mut Pass<L>,
-    terms: &Terms,
+    terms: &Terms<'a>,
     tallies: &'a [Tally],
     listeners: Vec<UdpListener>,
 ) -> Result<Vec<OverUdp<'a, L, R>>, CliFault>
@@ -113,8 +121,17 @@ where
     for ((number, tally), listener) in (0..terms.udp).zip(tallies).zip(listeners) {
         let own = pass_of(rt, book, pass)?;
         let ids = generator(rt, terms.seed, number)?;
-        let Ok(worker) = UdpWorker::new(rt, tally, alloc, listener, terms.server_port, terms.start)
-        else {
+        let seed = table_seed(rt, terms.seed, number)?;
+        let Ok(worker) = UdpWorker::new(
+            rt,
+            tally,
+            alloc,
+            listener,
+            terms.server_port,
+            terms.do_not_query,
+            seed,
+            terms.start,
+        ) else {
             return Err(CliFault::no_memory());
         };
         let worker = OverUdp {
@@ -135,7 +152,7 @@ pub(crate) fn tcp_workers<'a, L: CallLedger, R>(
     alloc: Global,
     book: &SharedBook<ServiceBook, L>,
     pass: &mut Pass<L>,
-    terms: &Terms,
+    terms: &Terms<'a>,
     tallies: &'a [Tally],
     stop: &'a AtomicBool,
 ) -> Result<Vec<OverTcp<'a, L, R>>, CliFault>
@@ -147,7 +164,8 @@ where
     for (number, tally) in (terms.udp..terms.udp + terms.tcp).zip(tallies) {
         let own = pass_of(rt, book, pass)?;
         let ids = generator(rt, terms.seed, number)?;
-        let Ok(exchange) = SocketExchange::new(rt, alloc, terms.place, stop) else {
+        let Ok(exchange) = SocketExchange::new(rt, alloc, terms.place, terms.do_not_query, stop)
+        else {
             return Err(CliFault::no_memory());
         };
         let worker = OverTcp {

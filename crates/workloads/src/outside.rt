@@ -9,6 +9,7 @@ use command_text::Clock;
 use dns_query::Over;
 use dns_text::{Addr, Octets, Shared};
 use flight::{Client, Counts, InFlight, Listened, Numbered, Outside, ReplyOctets, Unserved};
+use iterate::Hunt;
 use std::alloc::Global;
 use std::cell::Cell;
 use std::collections::VecDeque;
@@ -40,7 +41,14 @@ impl Client for Asker {
 
     ghost since = { λ _. 0 };
 
+    // All are of one network, which may hold all exchanges.
+    ghost network = { λ _. 0 };
+
     fn since(&self) -> u64 {
+        0
+    }
+
+    fn network(&self) -> u64 {
         0
     }
 }
@@ -153,6 +161,7 @@ impl<D: Numbered> Outside<D, Wire, SetClock, Asker> for Network {
         &mut self,
         key: usize,
         server: &Addr,
+        _hunt: Option<&Hunt>,
         over: Over,
         query: Shared<Octets>,
     ) -> Option<Wire> {
@@ -179,6 +188,10 @@ impl<D: Numbered> Outside<D, Wire, SetClock, Asker> for Network {
         self.counts.expire();
     }
 
+    fn abandon(&mut self, _: Wire) {
+        self.counts.abandon();
+    }
+
     fn give(&mut self, client: Asker, _: &[u8], reply: ReplyOctets) {
         self.note(client.number, reply.as_slice(), 0);
         self.counts.settle();
@@ -192,6 +205,8 @@ impl<D: Numbered> Outside<D, Wire, SetClock, Asker> for Network {
             Unserved::NoMemory => 1,
             Unserved::TooMany => 2,
             Unserved::Elsewhere => 3,
+            Unserved::TooLong => 5,
+            Unserved::TooLarge => 6,
         };
         self.note(client.number, b"", why);
         self.counts.settle();

@@ -1,6 +1,6 @@
-//! Options of sockets and descriptors that std lacks: the only file that calls the C library.
+//! What std lacks for sockets and descriptors: the only file that calls the C library.
 
-ghost use Rattle.std.specs.Prelude.{◌↔◌, ◌≤ℤ◌, pos, IsOk};
+ghost use Rattle.std.specs.Prelude.{◌↔◌, ◌≤◌, ◌≤ℤ◌, pos, length, IsOk, IfOk};
 ghost use Rattle.libc.specs.Net.{SockOption};
 
 use crate::clients::c_address::encode;
@@ -9,7 +9,7 @@ use libc::types::{pollfd, rlimit};
 use os::FromRawFd;
 use std::io;
 use std::net::{Net, SocketAddr, TcpListener, UdpSocket};
-use std::os::fd::AsRawFd;
+use std::os::fd::{AsRawFd, OwnedFd};
 use std::time::Duration;
 
 /// The octets of the datagrams that may wait at a socket. With the system's default, bursts of some hundred are lost.
@@ -59,6 +59,36 @@ pub fn takes_octets(descriptor: i32) -> bool {
         revents: 0,
     }];
     c::poll(&mut watched, 0) > 0
+}
+
+/// Whether a read of a descriptor would not wait (`poll(2)`): octets have come, the input has ended, or the read would fail. Waits for that
+/// so many milliseconds at most.
+pub(crate) fn gives_octets(descriptor: i32, milliseconds: i32) -> bool {
+    let mut watched = [pollfd {
+        fd: descriptor,
+        events: c::POLLIN,
+        revents: 0,
+    }];
+    c::poll(&mut watched, milliseconds) > 0
+}
+
+/// Opens a file for reading. A read that would wait fails.
+pub(crate) fn open_to_read(path: &str) -> io::Result<OwnedFd> {
+    let fd = os::open_read(path.as_bytes());
+    check(fd)?;
+    let descriptor = unsafe { OwnedFd::from_raw_fd(fd) };
+    check(os::set_nonblocking(descriptor.as_raw_fd(), true))?;
+    Ok(descriptor)
+}
+
+/// Reads octets into the front of the room, and returns their number: 0 at the end of the input.
+pub(crate) fn read_octets(descriptor: &OwnedFd, room: &mut [u8]) -> io::Result<usize>
+    ensures { IfOk result (λ count. count ≤ length room.new) }
+{
+    match usize::try_from(libc::read(descriptor.as_raw_fd(), room)) {
+        Ok(count) => Ok(count),
+        Err(_) => Err(io::Error::from_raw_os_error(os::errno())),
+    }
 }
 
 /// Lets more datagrams wait at a socket. The system gives less than this if it allows less.

@@ -8,18 +8,24 @@ ghost use Rattle.dns_sockets.specs.declared.lengths.TheConstants.{MOST_FRAMED};
 ghost use Rattle.dns_sockets.specs.Asked.{ByDatagrams, ByStream, IsAskedOf};
 ghost use Rattle.dns_sockets.specs.Fits.{Fits};
 ghost use Rattle.dns_sockets.specs.Own.{MayAskAt, MayAskServer};
+ghost use Rattle.dns_sockets.specs.Withheld.{IsWithheld};
+ghost use Rattle.front_workers.specs.Counts.{Rises};
+ghost use Rattle.front_workers.specs.declared.device.DeviceFault.TheVariants.{Device};
 
 use crate::deadline::{Deadline, glance};
 use crate::lengths::MOST_FRAMED;
 use crate::name_servers::fitting::fits;
 use crate::name_servers::own::{check_host, check_other, may_be_own};
 use crate::name_servers::place::place_of;
+use crate::name_servers::range::AddressRange;
 use crate::name_servers::server_net::ServerNet;
 use crate::name_servers::timed::Timed;
+use crate::name_servers::withheld::is_withheld;
 use crate::stop_flag::{StopFlag, put_off};
 use dns_query::Over;
 use dns_text::{Addr, NoMemory, Octets};
 use front_workers::{DEVICE_FAULT, DeviceFault, Exchange, MOST_MESSAGE, is_dear};
+use iterate::Hunt;
 use log::{Log, warn};
 use std::alloc::Global;
 use std::io;
@@ -38,30 +44,34 @@ const MOST_DATAGRAMS: u32 = 65_536;
 /// - Over TCP each message is preceded by its length in two octets (RFC 1035, section 4.2.2). The exchange fails if the first message
 ///   does not fit.
 ///
-/// An exchange fails if the reply would take too long to read. One with an address that belongs to no host, or with the
-/// service itself, fails at once. Each exchange that fails is logged. Once the stop flag is set each exchange fails, one under way soon
-/// after, unless it is still connecting.
+/// An exchange fails if the reply would take too long to read. One with an address that belongs to no host, with the service itself,
+/// or with a server that is withheld (`is_withheld`), fails at once. Each exchange that fails is logged. Once the stop flag is set each
+/// exchange fails, one under way soon after, unless it is still connecting.
 #[derive(Drop)]
 pub struct SocketExchange<'a, R, F: StopFlag> {
     rt: &'a R,
     stop: &'a F,
     alloc: Global,
     service: SocketAddr,
+    ranges: &'a [AddressRange],
     room: Vec<u8>,
     failures: u64,
     ghost whole: { vec_len room ≡ MOST_FRAMED },
 }
 
 impl<'a, R, F: StopFlag> SocketExchange<'a, R, F> {
-    /// A client with room for the longest message. It is part of the service that listens at `service`.
+    /// A client with room for the longest message. It is part of the service that listens at `service`, and asks no server of the cache
+    /// in these ranges.
     pub fn new(
         rt: &'a R,
         alloc: Global,
         service: SocketAddr,
+        ranges: &'a [AddressRange],
         stop: &'a F,
     ) -> Result<SocketExchange<'a, R, F>, NoMemory>
         ensures failures { IfOk result (λ exchange. exchange.failures ≡ 0) }
         ensures service { IfOk result (λ exchange. exchange.service ≡ service) }
+        ensures ranges { IfOk result (λ exchange. exchange.ranges.now ≡ ranges.now) }
     {
         let room = Vec::from_elem(alloc, 0u8, MOST_FRAMED)?;
         Ok(SocketExchange {
@@ -69,9 +79,24 @@ impl<'a, R, F: StopFlag> SocketExchange<'a, R, F> {
             stop,
             alloc,
             service,
+            ranges,
             room,
             failures: 0,
         })
+    }
+}
+
+impl<'a, R: Log, F: StopFlag> SocketExchange<'a, R, F> {
+    /// Logs and counts an exchange that failed.
+    fn fail(&mut self) -> DeviceFault
+        ensures fault { result ≡ Device }
+        ensures counted { Rises self.old.failures self.new.failures }
+        ensures service { self.new.service ≡ self.old.service }
+        ensures ranges { self.new.ranges ≡ self.old.ranges }
+    {
+        warn!(self.rt; "{DEVICE_FAULT}");
+        self.failures = self.failures.saturating_add(1);
+        DeviceFault::Device
     }
 }
 
@@ -217,14 +242,23 @@ fn ask_over<R: ServerNet + Clock, F: StopFlag>(
 impl<'a, R: ServerNet + Clock + Log, F: StopFlag> Exchange for SocketExchange<'a, R, F> {
     // The reply fits the query, and came from the server's place, over the transport, after the query. The service may ask
     // that server, and has not moved.
-    ghost asks = { λ before server over query came after. (after.service ≡ before.service)
-        × IfOk came (λ reply. (length reply ≤ MOST_MESSAGE) × Fits query reply
+    ghost asks = { λ before server hunt over query came after. (after.service ≡ before.service) × (after.ranges ≡ before.ranges)
+        × IfOk came (λ reply. (length reply ≤ MOST_MESSAGE) × Fits query reply × ¬ (IsWithheld before.ranges.now server hunt)
         × MayAskServer R.opened R.is_at R.connected R.connected_at over before.service server
         × IsAskedOf R.opened R.sent R.came R.connected R.Connection.contents R.Connection.remaining over server query reply) };
 
     ghost failures = { λ exchange. exchange.failures };
 
-    fn ask(&mut self, server: &Addr, over: Over, query: &[u8]) -> Result<Octets, DeviceFault> {
+    fn ask(
+        &mut self,
+        server: &Addr,
+        hunt: Option<&Hunt>,
+        over: Over,
+        query: &[u8],
+    ) -> Result<Octets, DeviceFault> {
+        if is_withheld(self.ranges, server, hunt) {
+            return Err(self.fail());
+        }
         match ask_over(
             self.rt,
             self.stop,
@@ -238,11 +272,7 @@ impl<'a, R: ServerNet + Clock + Log, F: StopFlag> Exchange for SocketExchange<'a
                 Ok(reply) => Ok(Octets::new(reply)),
                 Err(_) => Err(DeviceFault::NoMemory),
             },
-            Err(_) => {
-                warn!(self.rt; "{DEVICE_FAULT}");
-                self.failures = self.failures.saturating_add(1);
-                Err(DeviceFault::Device)
-            }
+            Err(_) => Err(self.fail()),
         }
     }
 }

@@ -11,6 +11,7 @@ use dns_text::{Addr, Octets};
 use dns_wire::{Asked, read_question};
 use front_workers::{DeviceFault, Exchange, Tools, serve_query};
 use history::Desk;
+use iterate::Hunt;
 use rand_pcg::Pcg32;
 use std::alloc::Global;
 
@@ -21,11 +22,17 @@ struct NoServers {
 }
 
 impl Exchange for NoServers {
-    ghost asks = { λ _ _ _ _ _ _. Unit {0} };
+    ghost asks = { λ _ _ _ _ _ _ _. Unit {0} };
 
     ghost failures = { λ x. x.failures };
 
-    fn ask(&mut self, _server: &Addr, _over: Over, _query: &[u8]) -> Result<Octets, DeviceFault> {
+    fn ask(
+        &mut self,
+        _server: &Addr,
+        _hunt: Option<&Hunt>,
+        _over: Over,
+        _query: &[u8],
+    ) -> Result<Octets, DeviceFault> {
         self.failures = self.failures.saturating_add(1);
         Err(DeviceFault::Device)
     }

@@ -33,6 +33,8 @@ fn is_set<D: LineDesk>(alloc: Global, worker: &mut Worker<D>, line: &[u8]) -> Re
         worker.moment.set(number_in(rest)?);
     } else if let Some(rest) = line.strip_prefix(b"now ") {
         worker.now = number_in(rest)?;
+    } else if let Some(rest) = line.strip_prefix(b"network ") {
+        worker.network = number_in(rest)?;
     } else if let Some(rest) = line.strip_prefix(b"fails open ") {
         worker.sockets.fail(number_in(rest)?);
     } else {
@@ -53,7 +55,10 @@ fn begin_client<D: LineDesk>(
         &mut worker.desk,
         &mut worker.sockets,
         worker.now,
-        Peer { number },
+        Peer {
+            number,
+            network: worker.network,
+        },
         octets.as_slice(),
     );
     Ok(())
@@ -82,6 +87,8 @@ fn is_flown<D: LineDesk>(alloc: Global, worker: &mut Worker<D>, line: &[u8]) -> 
         worker
             .flight
             .expire(&mut worker.desk, &mut worker.sockets, worker.now);
+    } else if line == b"relieve".as_slice() {
+        worker.flight.relieve(&mut worker.sockets);
     } else {
         return Ok(false);
     }
@@ -99,6 +106,13 @@ fn tell_count<D: LineDesk>(rt: &HostRuntime, worker: &Worker<D>) -> Result<(), S
     Ok(rt.stdout().write_all(line.as_bytes())?)
 }
 
+/// Writes how many octets the questions that wait keep.
+fn tell_kept<D: LineDesk>(rt: &HostRuntime, worker: &Worker<D>) -> Result<(), Stop> {
+    let kept = worker.flight.kept();
+    let line = format!(in rt.alloc(); "kept {kept}\n")?;
+    Ok(rt.stdout().write_all(line.as_bytes())?)
+}
+
 /// Obeys a line.
 pub fn obey_flight<D: LineDesk>(
     rt: &HostRuntime,
@@ -110,6 +124,9 @@ pub fn obey_flight<D: LineDesk>(
     }
     if line == b"count".as_slice() {
         return tell_count(rt, worker);
+    }
+    if line == b"kept".as_slice() {
+        return tell_kept(rt, worker);
     }
     let moment = worker.moment.get();
     worker.desk.obey(rt, moment, line)

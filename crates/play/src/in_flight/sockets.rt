@@ -11,13 +11,15 @@ use dns_name::NoMemory;
 use dns_query::Over;
 use dns_text::{Addr, Octets, Shared};
 use flight::{Client, Counts, InFlight, Listened, Numbered, Outside, ReplyOctets, Unserved};
+use iterate::Hunt;
 use std::alloc::Global;
 use std::mem;
 
-/// A client, by its number.
+/// A client, by its number, and its network.
 #[derive(Drop)]
 pub struct Peer {
     pub number: u64,
+    pub network: u64,
 }
 
 impl Client for Peer {
@@ -26,8 +28,14 @@ impl Client for Peer {
     // The rows say nothing of calls that a client's desk knew of.
     ghost since = { λ _. 0 };
 
+    ghost network = { λ peer. peer.network };
+
     fn since(&self) -> u64 {
         0
+    }
+
+    fn network(&self) -> u64 {
+        self.network
     }
 }
 
@@ -175,6 +183,7 @@ impl<D: Numbered> Outside<D, Wire, LineClock, Peer> for Sockets {
         &mut self,
         key: usize,
         server: &Addr,
+        _hunt: Option<&Hunt>,
         over: Over,
         query: Shared<Octets>,
     ) -> Option<Wire> {
@@ -210,6 +219,10 @@ impl<D: Numbered> Outside<D, Wire, LineClock, Peer> for Sockets {
         self.counts.expire();
     }
 
+    fn abandon(&mut self, _: Wire) {
+        self.counts.abandon();
+    }
+
     fn give(&mut self, client: Peer, _: &[u8], reply: ReplyOctets) {
         self.settle(b"reply ", client.number, reply.as_slice(), b"");
     }
@@ -218,6 +231,8 @@ impl<D: Numbered> Outside<D, Wire, LineClock, Peer> for Sockets {
         let why = match why {
             Unserved::NoMemory => b"no_memory".as_slice(),
             Unserved::TooMany => b"too_many".as_slice(),
+            Unserved::TooLong => b"too_long".as_slice(),
+            Unserved::TooLarge => b"too_large".as_slice(),
             Unserved::Elsewhere => b"elsewhere".as_slice(),
         };
         self.settle(b"failed ", client.number, b"", why);

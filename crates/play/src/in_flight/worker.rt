@@ -40,6 +40,8 @@ pub struct Worker<D: LineDesk> {
     pub limit: usize,
     /// In milliseconds.
     pub now: u64,
+    /// The network of the clients that come.
+    pub network: u64,
     /// What the clock tells, in seconds.
     pub moment: Arc<Cell<u64>>,
 }
@@ -67,6 +69,7 @@ impl<D: LineDesk> Worker<D> {
             sockets: Sockets::new(alloc, DNS_PORT)?,
             limit,
             now: 0,
+            network: 0,
             moment,
         })
     }
@@ -77,6 +80,7 @@ impl<D: LineDesk> Worker<D> {
         self.flight = new_flight(alloc, &self.moment, limit)?;
         self.limit = limit;
         self.now = 0;
+        self.network = 0;
         self.moment.set(0);
         self.sockets.begin();
         Ok(())

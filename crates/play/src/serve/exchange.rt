@@ -8,6 +8,7 @@ use dns_name::NoMemory;
 use dns_query::Over;
 use dns_text::{Addr, Octets};
 use front_workers::{DeviceFault, Exchange};
+use iterate::Hunt;
 use std::alloc::Global;
 
 /// Name servers that say what lines said, in order, and then nothing.
@@ -98,11 +99,17 @@ impl Servers {
 }
 
 impl Exchange for Servers {
-    ghost asks = { λ _ _ _ _ _ _. Unit {0} };
+    ghost asks = { λ _ _ _ _ _ _ _. Unit {0} };
 
     ghost failures = { λ s. s.failures };
 
-    fn ask(&mut self, server: &Addr, over: Over, query: &[u8]) -> Result<Octets, DeviceFault> {
+    fn ask(
+        &mut self,
+        server: &Addr,
+        _hunt: Option<&Hunt>,
+        over: Over,
+        query: &[u8],
+    ) -> Result<Octets, DeviceFault> {
         match self.call(server, over, query) {
             Ok(Some(octets)) => Ok(octets),
             Ok(None) => {

@@ -3,7 +3,6 @@ use Rattle.std.specs.Prelude.{None}
 use Rattle.dns_query.specs.declared.over.Over.TheVariants.{Udp}
 use Rattle.iterate.specs.declared.answer.Answer.{Answer}
 use Rattle.front_workers.specs.Serves.{Tells}
-use Rattle.flight.specs.Flight.{Lands}
 use Rattle.flight.specs.Told.{silent}
 use Rattle.flight.proofs.telling.tell.Goals as goal
 

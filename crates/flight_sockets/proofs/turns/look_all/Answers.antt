@@ -8,7 +8,7 @@ use Rattle.flight_sockets.proofs.turns.look_all.Goals as goal
 
 pub loop-event-init : goal.loop-event-init
 loop-event-init g c =
-    record { so_far = same_counts _ _; ends = endings_none (posts_none refl) refl; no_more = omega arith; in_time = refl; limit = refl; read = unread; looked = (refl, refl) }
+    record { so_far = same_counts _ _; ends = endings_none (posts_none refl) refl; no_more = omega arith; in_time = refl; bounded = λ few. few; limit = refl; read = unread; looked = (refl, refl) }
 
 pub loop-event-preserved-then-ne : goal.loop-event-preserved-then-ne
 loop-event-preserved-then-ne g c =
@@ -19,6 +19,7 @@ loop-event-preserved-then-ne g c =
       ends = endings_then before.ends (endings_within c.set_now.ensures.kept refl (endings_of loses.ends));
       no_more = omega (arith, loses.no_more, before.no_more);
       in_time = c.look.ensures.unexpired ∙ ap (λ (counts : Counts). counts.expired) c.set_now.ensures.counts ∙ before.in_time;
+      bounded = λ few. loses.bounded (before.bounded few);
       limit = loses.limit ∙ before.limit;
       read = once_more before.read c.millis-now.ensures.read;
       looked = seen_on (λ event. event.now) _ _ _ _ _ _ _ _ before.looked (record { listens = λ _. rw c.token-token.ensures at (rw c.set_now.ensures.counts at c.look.ensures.listens); others = rw c.token-token.ensures at c.look.ensures.others; unexpired = c.look.ensures.unexpired ∙ ap (λ (counts : Counts). counts.expired) c.set_now.ensures.counts });
@@ -32,6 +33,7 @@ loop-event-preserved g c =
       ends = before.ends;
       no_more = before.no_more;
       in_time = before.in_time;
+      bounded = before.bounded;
       limit = before.limit;
       read = before.read;
       looked = seen_on (λ event. event.now) _ _ _ _ _ _ _ _ before.looked (record { listens = λ differs. absurd (search rules); others = λ other since differs here. here; unexpired = refl });

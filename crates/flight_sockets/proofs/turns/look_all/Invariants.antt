@@ -1,4 +1,5 @@
 use Rattle.std.proofs.Common.{◌≡◌, ◌≤◌, map}
+use Rattle.flight.specs.Bounds.{IsBounded}
 use Rattle.flight.specs.Waiting.{IsAccounted, outstanding}
 use Rattle.flight_sockets.specs.Endings.{Endings}
 use Rattle.flight_sockets.specs.Looked.{AllLookedAt}
@@ -12,6 +13,7 @@ invariant-loop-event g l = record {
   ends : Endings g.S.ServiceSocket.takes g.S.ServiceSocket.sends 0 (outstanding l.initial.questions) l.initial.sockets.outbox (outstanding l.questions) l.sockets.outbox;
   no_more : outstanding l.questions ≤ outstanding l.initial.questions;
   in_time : l.sockets.counts.expired ≡ l.initial.sockets.counts.expired;
+  bounded : IsBounded l.initial.questions → IsBounded l.questions;
   limit : l.questions.limit ≡ l.initial.questions.limit;
   read : AreRead g.R.Elapsing.passed l.initial.clock l.clock;
   looked : AllLookedAt (map (λ event. event.now) l.yielded) l.initial.questions l.initial.sockets.counts l.questions l.sockets.counts;

@@ -12,6 +12,7 @@ loop-preserved-in-Ok g c =
       so_far = followed _ _ _ _ _ _ before.so_far c.turn-turned.ensures.goes_on.accounts;
       ran = runs_then before.ran c.turn-turned.ensures.runs;
       within = omega (arith, within, before.limit);
+      bounded = c.turn-turned.ensures.goes_on.bounded before.bounded;
       limit = c.turn-turned.ensures.goes_on.limit ∙ before.limit;
       few = omega arith;
       counted = not_failed _ _ _ _ before.counted c.turn-turned.ensures.goes_on.failures;
@@ -32,7 +33,7 @@ returns-then-failed-eq-MOST_FAILURES-clause-failing g c =
 pub returns-then-failed-eq-MOST_FAILURES-clause-runs :
     goal.returns-then-failed-eq-MOST_FAILURES-clause-runs
 returns-then-failed-eq-MOST_FAILURES-clause-runs g c =
-    (_, goes_on (runs_then c.loop.invariant.ran c.turn-turned.ensures.runs) (rests _ _ _ c.count_failure.ensures.outbox c.count_failure.ensures.taken))
+    (_, goes_on (runs_then c.loop.invariant.ran c.turn-turned.ensures.runs) (rests _ _ _ c.count_failure.ensures.outbox c.count_failure.ensures.taken), c.turn-turned.ensures.goes_on.bounded c.loop.invariant.bounded)
 
 pub loop-preserved : goal.loop-preserved
 loop-preserved g c =
@@ -43,6 +44,7 @@ loop-preserved g c =
       so_far = failed _ _ _ _ _ turned c.count_failure.ensures.taken c.count_failure.ensures.counts c.count_failure.ensures.outbox;
       ran = goes_on (runs_then before.ran c.turn-turned.ensures.runs) (rests _ _ _ c.count_failure.ensures.outbox c.count_failure.ensures.taken);
       within = omega (arith, within, before.limit);
+      bounded = c.turn-turned.ensures.goes_on.bounded before.bounded;
       limit = c.turn-turned.ensures.goes_on.limit ∙ before.limit;
       few = omega (arith, before.few, c.if-failed-eq-MOST_FAILURES.false);
       counted = failed_more _ _ _ _ _ before.counted c.turn-turned.ensures.goes_on.failures c.count_failure.ensures.failures;
@@ -55,6 +57,7 @@ loop-init g c =
       so_far = none_yet _ _ _ (search rules) (search rules);
       ran = search (rules, stays);
       within = search rules;
+      bounded = search rules;
       limit = search rules;
       few = search rules;
       counted = search rules;

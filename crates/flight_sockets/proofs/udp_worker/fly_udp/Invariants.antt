@@ -1,5 +1,6 @@
 use Rattle.std.proofs.Common.{◌≡◌, ◌≤◌, ◌<◌, []}
 use Rattle.front_workers.specs.Working.{HasFailed}
+use Rattle.flight.specs.Bounds.{IsBounded}
 use Rattle.flight.specs.Waiting.{outstanding}
 use Rattle.flight_sockets.specs.Accounts.{Accounts}
 use Rattle.flight_sockets.specs.Begun.{Runs, none_in_flight}
@@ -11,6 +12,7 @@ invariant-loop g l = record {
   so_far : Accounts g.S.ServiceSocket.takes g.S.ServiceSocket.sends 0 l.fn.worker (outstanding l.questions) l.worker-inside.turns;
   ran : Runs g.S.ServiceSocket.takes g.S.ServiceSocket.sends (none_in_flight l.fn.limit) l.fn.worker l.questions l.worker-inside.turns;
   within : outstanding l.questions ≤ l.fn.limit;
+  bounded : IsBounded l.questions;
   limit : l.questions.limit ≡ l.fn.limit;
   few : l.failed < 16;
   counted : HasFailed l.failed l.fn.worker.failures l.worker-inside.turns.failures;

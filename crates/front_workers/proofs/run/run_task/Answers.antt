@@ -1,7 +1,9 @@
-use Rattle.std.proofs.Common.{◌≡◌, ◌∙◌, refl}
+use Rattle.std.proofs.Common.{◌≡◌, ◌∙◌, refl, subst}
+use Rattle.iterate.specs.declared.task.State.{State}
+use Rattle.iterate.specs.Task.{IsTask}
 use Rattle.front_workers.specs.Leads.{begins, goes_on, in_the_task}
 use Rattle.front_workers.proofs.Failing.{failing}
-use Rattle.front_workers.proofs.Leading.{due, draws_at, breaks_off, ends}
+use Rattle.front_workers.proofs.Leading.{due, draws_at, lists_at, breaks_off, ends}
 use Rattle.front_workers.proofs.run.run_task.Goals as goal
 
 pub loop-task-init : goal.loop-task-init
@@ -15,8 +17,12 @@ loop-task-preserved g c =
     let task = c.loop-task.task in
     let draws = draws_at c.args.tools.now.server_port task.port c.args.question task.question c.now-moment.result
     c.loop-task.invariant.port c.loop-task.invariant.question c.now-moment.ensures c.in_ok-want.ensures.ok.steps c.in_ok-want.ensures.ok.wants c.in_ok-want.ensures.ok.drawn in
+    let is_task : IsTask c.step.new.self.port c.step.new.self.question c.step.new.self.steps.items c.step.new.self.phase =
+    subst (λ (s : State). IsTask s.port s.question s.steps.items s.phase) c.task.view_is c.task.invariant in
+    let listed = lists_at c.step.new.self.phase c.args.tools.now.server_port c.step.new.self.port c.args.question c.step.new.self.question
+    (c.step.ensures.same.port ∙ c.loop-task.invariant.port) (c.step.ensures.same.question ∙ c.loop-task.invariant.question) is_task c.hunt.ensures in
     record {
-      leads = goes_on c.loop-task.invariant.leads draws (rw c.in-Go.is at c.in_ok-next.ensures.turns);
+      leads = goes_on c.loop-task.invariant.leads draws listed (rw c.in-Go.is at c.in_ok-next.ensures.turns);
       question = c.step.ensures.same.question ∙ c.loop-task.invariant.question;
       port = c.step.ensures.same.port ∙ c.loop-task.invariant.port;
       kept = c.loop-task.invariant.kept;
@@ -30,7 +36,11 @@ returns-in_err-next-clause-breaks_off g c =
     let task = c.loop-task.task in
     let draws = draws_at c.args.tools.now.server_port task.port c.args.question task.question c.now-moment.result
     c.loop-task.invariant.port c.loop-task.invariant.question c.now-moment.ensures c.in_ok-want.ensures.ok.steps c.in_ok-want.ensures.ok.wants c.in_ok-want.ensures.ok.drawn in
-    failing c.from_residual-in_err-next.result _ (breaks_off c.loop-task.invariant.leads draws c.in_err-next.ensures.lacks)
+    let is_task : IsTask c.step.new.self.port c.step.new.self.question c.step.new.self.steps.items c.step.new.self.phase =
+    subst (λ (s : State). IsTask s.port s.question s.steps.items s.phase) c.task.view_is c.task.invariant in
+    let listed = lists_at c.step.new.self.phase c.args.tools.now.server_port c.step.new.self.port c.args.question c.step.new.self.question
+    (c.step.ensures.same.port ∙ c.loop-task.invariant.port) (c.step.ensures.same.question ∙ c.loop-task.invariant.question) is_task c.hunt.ensures in
+    failing c.from_residual-in_err-next.result _ (breaks_off c.loop-task.invariant.leads draws listed c.in_err-next.ensures.lacks)
 
 pub returns-in-Done-clause-ends : goal.returns-in-Done-clause-ends
 returns-in-Done-clause-ends g c =

@@ -3,7 +3,8 @@ use Rattle.std.specs.Prelude.{IfErr}
 use Rattle.std.proofs.lemmas.Result.{IfErr-weaker}
 use Rattle.std.proofs.lemmas.Result.{IfOk-weaker}
 use Rattle.history.specs.Event.{AreSettings}
-use Rattle.resolver_args.specs.Given.{LacksAddr, LacksNumber, LacksOption, rows_in}
+use Rattle.resolver_args.specs.Given.{LacksAddr, LacksEach, LacksNumber, LacksOption, rows_in}
+use Rattle.resolver_args.specs.Ranges.{range_in}
 use Rattle.resolver_args.specs.Says.{GivesService, LacksService, RefusedFor, RefusesService}
 use Rattle.resolver_args.specs.declared.mode.Service.{Service}
 use Rattle.resolver_args.proofs.Giving.{blames_service, for_reason, same_counts}
@@ -51,6 +52,13 @@ returns-in_err-number_in-clause-fault c =
     let leads : LacksOption (rows_in c.args.found.now) (codes "seed") → LacksService (rows_in c.args.found.now) = λ lacks s given fits. lacks s.seed given.seed in
     IfErr-weaker c.from_residual-in_err-number_in.result _ _ (λ fault why. inl (for_reason fault leads why)) told
 
+pub returns-in_err-ranges_in-clause-fault : goal.returns-in_err-ranges_in-clause-fault
+returns-in_err-ranges_in-clause-fault c =
+    let rows = rows_in c.args.found.now in
+    let told : IfErr c.from_residual-in_err-ranges_in.result (RefusedFor (LacksEach range_in (rows_in c.args.found.now) (codes "do-not-query"))) = search rules in
+    let leads : LacksEach range_in (rows_in c.args.found.now) (codes "do-not-query") → LacksService (rows_in c.args.found.now) = λ lacks s given fits. lacks s.do_not_query given.do_not_query in
+    IfErr-weaker c.from_residual-in_err-ranges_in.result _ _ (λ fault why. inl (for_reason fault leads why)) told
+
 abbrev made : goal.After-checked → Service
 made c = record {
   settings = c.in_ok-settings_in.field-0;
@@ -61,6 +69,7 @@ made c = record {
   record_limit = c.from.result;
   seed = c.in_ok-number_in.field-0;
   commands = c.in_ok-text_in.field-0;
+  do_not_query = c.in_ok-ranges_in.field-0;
 }
 
 built : (c : goal.After-checked) → GivesService (rows_in c.args.found.now) (made c)
@@ -73,6 +82,7 @@ built c = record {
   record_limit = search rules;
   seed = c.in_ok-number_in.ensures.given;
   commands = c.in_ok-text_in.ensures;
+  do_not_query = c.in_ok-ranges_in.ensures.given;
 }
 
 pub returns-clause-given : goal.returns-clause-given

@@ -1,7 +1,11 @@
-use Rattle.std.proofs.Common.{◌∙◌, ◌+◌, ℕ, List, [], Option, Some, is_some, cond, count_by, ap, inr, map, max, refl, subst, sym, arith, rules}
-use Rattle.flight.specs.Flight.{Sent, failed}
+use Rattle.std.proofs.Common.{◌≡◌, ◌∙◌, ◌+◌, ℕ, List, [], Option, Some, is_some, cond, count_by, ap, inr, map, max, refl, subst, sym, arith, rules}
+use Rattle.flight.specs.Flight.{failed}
+use Rattle.flight.specs.Asking.{origin_in}
+use Rattle.flight.specs.Bounds.{MayKeep}
+use Rattle.flight.specs.Kept.{kept_in}
+use Rattle.flight.specs.Origin.{Origin}
 use Rattle.flight.specs.Places.{HasPlace}
-use Rattle.flight.specs.Waiting.{FlightState, UnderWay, count_with, is_with}
+use Rattle.flight.specs.Waiting.{FlightState, UnderWay, count_for, is_for}
 use Rattle.flight.proofs.Flights.{begins, begun_behind}
 use Rattle.flight.proofs.Flying.{asked_on, awaits_at, due, flown, lands_at, open_on}
 use Rattle.flight.proofs.Keeping.{kept_on}
@@ -24,6 +28,7 @@ loop-want-preserved-in-Book g c =
       port = before.port;
       known = omega (arith, c.ask-input.ensures.known);
       client_kept = before.client_kept;
+      origin_kept = before.origin_kept;
       keeps = before.keeps;
       counts_kept = before.counts_kept;
       exchanges_kept = before.exchanges_kept;
@@ -44,6 +49,7 @@ loop-want-preserved g c =
       port = before.port ∙ sym c.open.ensures.keeps.port;
       known = before.known;
       client_kept = before.client_kept;
+      origin_kept = before.origin_kept;
       keeps = kept_on before.keeps c.open.ensures.keeps;
       counts_kept = c.in_default-open.ensures.unopened ∙ before.counts_kept;
       exchanges_kept = c.make_room.ensures.jobs ∙ before.exchanges_kept;
@@ -66,7 +72,7 @@ invariant_of-keep g c =
     let task = c.loop-want.asking.task in
     let is = open_on task.port task.question task.steps.items c.now-moment.result (g.G.Rng.stream c.loop-want.self-inside.ids) before.asked.port_is before.asked.question
     before.flies c.now-moment.ensures c.in-Ok.ensures.ok.steps c.in-Ok.ensures.ok.wants c.in-Ok.ensures.ok.drawn c.in-Send.is in
-    (asked_on (rw (sym c.in-Ok-make_room.ensures.octets) at before.asked) c.step.ensures.same.question c.step.ensures.same.port, awaits_at c.in-Some.ensures.asked is)
+    (asked_on (rw (sym c.in-Ok-make_room.ensures.takes.0) at before.asked) c.step.ensures.same.question c.step.ensures.same.port, awaits_at c.in-Some.ensures.asked is, c.in-Ok-make_room.ensures.takes.1)
 
 pub returns-in-Finish : goal.returns-in-Finish
 returns-in-Finish g c =
@@ -104,10 +110,12 @@ returns-in-Some g c =
     (ap (map (λ wait. wait.since)) c.make_room.ensures.waits ∙ before.begun_kept)
     in
     let new : FlightState = record { exchanges = kept.jobs.slots; begun = map (λ wait. wait.since) kept.waits.items; latest = kept.latest; limit = kept.limit } in
-    let exchange : UnderWay = record { since = c.since-since.result; asked = g.L.InFlight.asked c.in-Some.line; key = g.L.InFlight.key c.in-Some.line } in
+    let origin : Origin = origin_in g.K.Client.network c.loop-want.asking in
+    let exchange : UnderWay = record { since = c.since-since.result; asked = g.L.InFlight.asked c.in-Some.line; key = g.L.InFlight.key c.in-Some.line; origin = origin; kept = kept_in c.step.new.self.steps.items } in
     let same = c.make_room.ensures.jobs ∙ before.exchanges_kept in
-    let place = subst (λ (limit : ℕ). HasPlace c.in-Send.server c.args.self.now.exchanges limit) (before.limit_kept ∙ sym limit)
-    (subst (λ (exchanges : List (Option UnderWay)). HasPlace c.in-Send.server exchanges c.loop-want.self-inside.table.limit) before.exchanges_kept c.in-Ok-make_room.ensures.place)
+    let moment = max c.args.now c.loop-want.self-inside.table.latest in
+    let place : HasPlace moment origin table.asker c.args.self.now.exchanges kept.limit = subst (λ (limit : ℕ). HasPlace moment origin table.asker c.args.self.now.exchanges limit) (before.limit_kept ∙ sym limit)
+    (subst (λ (exchanges : List (Option UnderWay)). HasPlace moment origin table.asker exchanges c.loop-want.self-inside.table.limit) before.exchanges_kept c.in-Ok-make_room.ensures.may_begin.place)
     in
     let keeps = kept_on before.keeps c.open.ensures.keeps in
     record {
@@ -121,12 +129,19 @@ returns-in-Some g c =
       accounted = search rules;
       unheard = search rules;
       unexpired = search rules;
-      waits = inr (begins c.args.now c.args.self.now new
+      waits = inr (begins c.args.now (λ o. o ≡ origin_in g.K.Client.network c.args.asking) c.args.self.now new
           table.jobs kept.jobs exchange c.since-since.result same refl c.keep.ensures.vacant c.keep.ensures.one_more.updates c.keep.ensures.one_more.len
-          refl (c.in-Some.ensures.watched ∙ c.vacant_key-key.ensures) now_is begun c.keep.ensures.latest limit);
-      within = search rules;
-      places = kept_begun c.in-Send.server exchange c.args.self.now new (ap (λ (asked : Sent). asked.server) c.in-Some.ensures.asked) place
-          (λ other. c.keep.ensures.one_more.counts other ∙ ap (λ (exchanges : List (Option UnderWay)). count_with other exchanges + cond (is_with other (Some exchange)) 1 0) same)
+          refl (c.in-Some.ensures.watched ∙ c.vacant_key-key.ensures) before.origin_kept now_is begun c.keep.ensures.latest limit);
+      within = λ few. omega (arith, place.free, limit, c.keep.ensures.one_more.len, ap (λ (exchanges : List (Option UnderWay)). count_by is_some exchanges) same);
+      places = kept_begun moment origin table.asker exchange c.args.self.now new refl place
+          (λ test. c.keep.ensures.one_more.counts test ∙ ap (λ (exchanges : List (Option UnderWay)). count_for test exchanges + cond (is_for test (Some exchange)) 1 0) same)
           (c.keep.ensures.one_more.len ∙ ap (λ (exchanges : List (Option UnderWay)). count_by is_some exchanges + 1) same);
+      bounded = λ few. omega (arith, kept.within.sum, kept.within.all);
       limit = limit;
     }
+
+pub keep-requires-clause-in_time : goal.keep-requires-clause-in_time
+keep-requires-clause-in_time g c = omega (arith, c.since-since.ensures, c.make_room.ensures.latest, c.in-Ok-make_room.ensures.may_begin.in_time)
+
+pub keep-requires-clause-small : goal.keep-requires-clause-small
+keep-requires-clause-small g c = subst (λ (exchanges : List (Option UnderWay)). MayKeep (kept_in c.step.new.self.steps.items) exchanges) (sym c.make_room.ensures.jobs) c.in-Ok-make_room.ensures.may_begin.small

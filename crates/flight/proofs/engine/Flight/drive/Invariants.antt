@@ -1,6 +1,6 @@
 use Rattle.std.proofs.Common.{◌≡◌, ◌≤◌, map}
 use Rattle.iterate.specs.Measure.{left_in}
-use Rattle.flight.specs.Asking.{IsAskedBy}
+use Rattle.flight.specs.Asking.{origin_in, IsAskedBy}
 use Rattle.flight.specs.Flight.{Flies}
 use Rattle.flight.specs.Told.{Keeps}
 use Rattle.flight.proofs.engine.Flight.drive.Given as goal
@@ -13,6 +13,7 @@ invariant-loop-want g l = record {
   port : l.asking.port ≡ g.O.Outside.server_port l.outside;
   known : l.asking.seen ≤ g.D.Numbered.seen l.desk;
   client_kept : l.asking.client ≡ l.fn.asking.client;
+  origin_kept : origin_in g.K.Client.network l.asking ≡ origin_in g.K.Client.network l.fn.asking;
   keeps : Keeps g.O.Outside.server_port g.O.Outside.outbox l.fn.outside l.outside;
   counts_kept : g.O.Outside.counts l.outside ≡ g.O.Outside.counts l.fn.outside;
   exchanges_kept : l.self-inside.table.jobs.slots ≡ l.fn.self.exchanges;

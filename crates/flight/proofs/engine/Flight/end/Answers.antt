@@ -1,4 +1,5 @@
-use Rattle.std.proofs.Common.{◌≡◌, ◌∙◌, arith}
+use Rattle.std.proofs.Common.{◌≡◌, ◌∙◌, arith, subst}
+use Rattle.flight.specs.Waiting.{UnderWay, WaitsFrom}
 use Rattle.flight.proofs.Leaving.{ends_behind, ends_of}
 use Rattle.flight.proofs.engine.Flight.end.Goals as goal
 use Rattle.flight.proofs.engine.Flight.end.Goals.{in-Nothing, in_default}
@@ -10,3 +11,6 @@ returns-clause-ends g c =
       | in_default w ↦ rw w.outside-is c.hear-heard.ensures.keeps.silent
     ] in
     ends_of 0 _ (omega arith) (ends_behind silent c.go_on.ensures.ends)
+
+pub returns-clause-waits : goal.returns-clause-waits
+returns-clause-waits g c = subst (λ (job : UnderWay). WaitsFrom c.args.now (λ o. o ≡ job.origin) c.args.self.now c.go_on.new.self) c.job.view_is c.go_on.ensures.waits

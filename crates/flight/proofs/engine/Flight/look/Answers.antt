@@ -1,35 +1,46 @@
-use Rattle.std.proofs.Common.{◌∙◌, ℕ, ap, arith, map, refl, rules, subst}
+use Rattle.std.proofs.Common.{◌≡◌, ◌≢◌, ◌∙◌, ℕ, ap, arith, map, refl, rules, subst, sym}
 use Rattle.slab.specs.Slab.{Slab}
+use Rattle.flight.specs.Bounds.{MayKeep}
 use Rattle.flight.specs.Flight.{Sent}
+use Rattle.flight.specs.Kept.{kept_in}
 use Rattle.flight.specs.Table.{OneMore}
-use Rattle.flight.specs.Waiting.{FlightState, UnderWay, exchange_at, outstanding, with_server}
-use Rattle.flight.proofs.Flights.{as_it_was, begun_or_not, no_more_then, on_or_begun_then, put_back_same, taken_out}
+use Rattle.flight.specs.Asking.{origin_in}
+use Rattle.flight.specs.Origin.{Origin}
+use Rattle.flight.specs.Waiting.{FlightState, UnderWay, exchange_at, outstanding, waiting_for}
+use Rattle.flight.proofs.Bounds.{may_keep_again}
+use Rattle.flight.proofs.Flights.{as_it_was, begun_or_not, no_more_then, on_or_begun_then, origins_same, origins_then, put_back_same, taken_out, waits_as}
 use Rattle.flight.proofs.Leaving.{ends_behind, ends_of, none_ends}
-use Rattle.flight.proofs.Places.{kept_after, kept_fewer}
+use Rattle.flight.proofs.Places.{joins_none_then}
 use Rattle.flight.proofs.Settling.{none_lost, same_state}
 use Rattle.flight.proofs.engine.Flight.look.Goals as goal
 
 -- an exchange, by its parts
-abbrev make : ℕ → Sent → ℕ → UnderWay
-make since asked key = record { since = since; asked = asked; key = key }
+abbrev make : ℕ → Sent → ℕ → Origin → ℕ → UnderWay
+make since asked key origin kept = record { since = since; asked = asked; key = key; origin = origin; kept = kept }
 
 pub returns-in-Nothing-clause-loses_none : goal.returns-in-Nothing-clause-loses_none
 returns-in-Nothing-clause-loses_none g c =
     let was = c.self.view_is in
     let taken = c.in-Some.ensures.frees in
-    let back_is = ap (λ (asked : Sent). make c.job.inside.since asked (g.L.InFlight.key c.hear.new.line)) c.hear.ensures.asked ∙ ap (λ (key : ℕ). make c.job.inside.since (g.L.InFlight.asked c.job.inside.line) key) c.hear.ensures.watched ∙ c.job.view_is in
+    let origin : Origin = origin_in g.K.Client.network c.job.inside.asking in
+    let kept = kept_in c.job.inside.asking.task.steps.items in
+    let back_is = ap (λ (asked : Sent). make c.job.inside.since asked (g.L.InFlight.key c.hear.new.line) origin kept) c.hear.ensures.asked ∙ ap (λ (key : ℕ). make c.job.inside.since (g.L.InFlight.asked c.job.inside.line) key origin kept) c.hear.ensures.watched ∙ c.job.view_is in
     let back = subst (λ (job : UnderWay). OneMore c.take.new.self.jobs c.put_back.new.self.jobs c.take.new.self.jobs.vacant_key job) back_is c.put_back.ensures.one_more in
     let same = put_back_same c.self.inside.table.jobs c.take.new.self.jobs c.put_back.new.self.jobs c.args.key c.in-Some.job c.in-Some.ensures.job c.in-Some.ensures.updates taken.key_is_next
     back.updates
     in
+    let table = c.put_back.new.self in
+    let new : FlightState = record { exchanges = table.jobs.slots; begun = map (λ wait. wait.since) table.waits.items; latest = table.latest; limit = table.limit } in
     record {
       port = c.hear.ensures.keeps.port;
       ends = none_ends 0 _ _ c.hear.ensures.keeps.silent (omega (arith, back.len, taken.len, ap outstanding was));
       accounted = search rules;
-      begins = as_it_was c.args.now c.args.self.now _ (λ key. same key ∙ ap (λ (state : FlightState). exchange_at state key) was)
+      begins = as_it_was c.args.now c.args.self.now new (λ key. same key ∙ ap (λ (state : FlightState). exchange_at state key) was)
           (c.put_back.ensures.latest ∙ c.in-Some.ensures.latest ∙ ap (λ (state : FlightState). state.latest) was);
       no_more = omega (arith, back.len, taken.len, ap outstanding was);
-      places = kept_fewer c.args.self.now _ (λ server. omega (arith, back.counts server, taken.counts server, ap (with_server server) was));
+      origins = origins_same c.args.self.now new (λ key. same key ∙ ap (λ (state : FlightState). exchange_at state key) was);
+      joins_none = λ test. omega (arith, back.counts test, taken.counts test, ap (waiting_for test) was);
+      bounded = λ few. omega (arith, table.within.sum, table.within.all);
       limit = c.put_back.ensures.limit ∙ c.in-Some.ensures.limit ∙ ap (λ (state : FlightState). state.limit) was;
     }
 
@@ -38,17 +49,21 @@ returns-in_default-hear-clause-loses_none g c =
     let was = c.self.view_is in
     let taken = c.in-Some.ensures.frees in
     let updates = c.in-Some.ensures.updates in
-    let out = taken_out c.args.now c.args.key c.args.self.now _ updates.changed
-    (λ other differs. updates.others other differs ∙ ap (λ (state : FlightState). exchange_at state other) was)
+    let others = λ (other : ℕ) (differs : other ≢ c.args.key). updates.others other differs ∙ ap (λ (state : FlightState). exchange_at state other) was in
+    let out = taken_out c.args.now c.args.key c.args.self.now _ updates.changed others
     (c.in-Some.ensures.latest ∙ ap (λ (state : FlightState). state.latest) was)
     in
+    let waits = waits_as c.args.now (λ o. o ≡ origin_in g.K.Client.network c.job.inside.asking) (λ o. o ≡ c.in-Some.job.origin) _ c.go_on.new.self c.go_on.ensures.waits (λ o is. is ∙ ap (λ (job : UnderWay). job.origin) c.job.view_is) in
+    let here = ap (λ (state : FlightState). exchange_at state c.args.key) (sym was) ∙ sym c.in-Some.ensures.job in
     record {
       port = c.go_on.ensures.port ∙ c.hear.ensures.keeps.port;
       ends = ends_of 0 _ (omega (arith, taken.len, ap outstanding was)) (ends_behind c.hear.ensures.keeps.silent c.go_on.ensures.ends);
       accounted = search rules;
-      begins = on_or_begun_then c.args.now c.args.self.now _ c.go_on.new.self out (begun_or_not c.args.now _ c.go_on.new.self c.go_on.ensures.waits);
-      no_more = no_more_then c.args.now (outstanding c.args.self.now) _ c.go_on.new.self (taken.len ∙ ap outstanding was) c.go_on.ensures.waits;
-      places = kept_after c.args.self.now _ c.go_on.new.self c.go_on.ensures.places (λ server. omega (arith, taken.counts server, ap (with_server server) was));
+      begins = on_or_begun_then c.args.now c.args.self.now _ c.go_on.new.self out (begun_or_not c.args.now _ _ c.go_on.new.self c.go_on.ensures.waits);
+      no_more = no_more_then c.args.now (outstanding c.args.self.now) _ _ c.go_on.new.self (taken.len ∙ ap outstanding was) c.go_on.ensures.waits;
+      origins = origins_then c.args.now c.args.key c.in-Some.job c.args.self.now _ c.go_on.new.self here updates.changed others waits;
+      joins_none = joins_none_then c.args.now c.in-Some.job c.args.self.now _ c.go_on.new.self (λ test. ap (waiting_for test) (sym was) ∙ taken.counts test) waits;
+      bounded = λ few. c.go_on.ensures.bounded (omega (arith, c.take.new.self.within.sum, c.take.new.self.within.all));
       limit = c.go_on.ensures.limit ∙ c.in-Some.ensures.limit ∙ ap (λ (state : FlightState). state.limit) was;
     }
 
@@ -60,3 +75,18 @@ returns-in_default-clause-loses_none g c =
     none_lost _ _ _ _ (same_state _ _ (ap (λ (slab : Slab UnderWay). slab.slots) jobs ∙ ap (λ (state : FlightState). state.exchanges) was)
     (ap (map (λ wait. wait.since)) taken.waits ∙ ap (λ (state : FlightState). state.begun) was)
     (taken.latest ∙ ap (λ (state : FlightState). state.latest) was) (taken.limit ∙ ap (λ (state : FlightState). state.limit) was))
+
+pub put_back-requires-clause-in_time : goal.put_back-requires-clause-in_time
+put_back-requires-clause-in_time g c =
+    omega (
+      arith,
+      c.self.inside.table.in_time c.args.key c.in-Some.job (sym c.in-Some.ensures.job),
+      ap (λ (job : UnderWay). job.since) c.job.view_is,
+      ap (λ (job : UnderWay). job.origin.began) c.job.view_is,
+    )
+
+pub put_back-requires-clause-small : goal.put_back-requires-clause-small
+put_back-requires-clause-small g c =
+    let table = c.self.inside.table in
+    subst (λ (kept : ℕ). MayKeep kept c.take.new.self.jobs.slots) (sym (ap (λ (job : UnderWay). job.kept) c.job.view_is))
+    (may_keep_again table.jobs.slots c.take.new.self.jobs.slots c.args.key table.kept c.in-Some.job table.within (sym c.in-Some.ensures.job) c.in-Some.ensures.frees.kept)

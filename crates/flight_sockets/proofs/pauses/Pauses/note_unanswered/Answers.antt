@@ -1,18 +1,27 @@
-use Rattle.std.specs.Prelude.{find}
-use Rattle.std.proofs.Common.{◌≡◌, ◌∙◌, subst, List, arith}
-use Rattle.flight_sockets.specs.declared.pause.Pause.{Pause}
-use Rattle.flight_sockets.specs.Pauses.{is_of, last_millis, IsExcused, Puts}
-use Rattle.flight_sockets.proofs.Pausing.{refuted, lost}
+use Rattle.std.specs.Prelude.{Some, None}
+use Rattle.std.proofs.Common.{refl, sym, subst}
+use Rattle.dns_name.specs.Labels.{Labels}
+use Rattle.flight_sockets.specs.declared.server.Server.{Server}
+use Rattle.flight_sockets.specs.Pauses.{server_at, MissesAt}
 use Rattle.flight_sockets.proofs.pauses.Pauses.note_unanswered.Goals as goal
+
+pub returns-in_default : goal.returns-in_default
+returns-in_default c = record { question = None; asked = tt; loses = refl }
+
+pub returns-in_default-clone : goal.returns-in_default-clone
+returns-in_default-clone c = record { question = None; asked = tt; loses = refl }
 
 pub returns : goal.returns
 returns c =
-    let server = c.args.server.now in
-    let over = c.args.over in
-    let now = c.args.now in
-    let seen = c.deref.ensures.value ∙ c.self.view_is in
-    lost server over now _ c.put.new.pauses.items c.last_millis-last.result c.max-millis.result c.saturating_add.result
-    (subst (λ (l : List Pause). ¬ (IsExcused server over now l)) seen (refuted c.is_excused.ensures c.if-is_excused.false))
-    (subst (λ (l : List Pause). c.last_millis-last.result ≡ last_millis (find (is_of server over) l)) (c.deref-2.ensures.value ∙ c.self.view_is) c.last_millis-last.ensures)
-    (omega arith) c.saturating_add.ensures
-    (subst (λ (l : List Pause). Puts (record { server = server; over = over; millis = c.max-millis.result; until = c.saturating_add.result }) l c.put.new.pauses.items) c.self.view_is c.put.ensures.puts)
+    let question = c.in-Some.question in
+    let server = server_at c.args.server.now c.args.over in
+    let old = c.args.self.now.servers in
+    let new = c.miss.new.servers in
+    let missed = subst (λ (n : Labels). MissesAt c.args.now server n old new) c.in-Ok.ensures c.miss.ensures.misses in record {
+      question = Some question;
+      asked = c.in-Some.ensures;
+      loses = record {
+        server = subst (λ (s : Server). MissesAt c.args.now s question.owner old new) (sym c.in-Some.ensures.server) missed;
+        paused = c.miss-2.ensures.remembers;
+      };
+    }

@@ -31,6 +31,7 @@ returns-in-Query-clause-goes_on g c =
     record {
       accounts = begun _ _ _ _ (search rules) (search rules) (endings_within (search rules) refl (endings_of c.begin.ensures.ends));
       within = search rules;
+      bounded = search rules;
       limit = search rules;
       failures = search rules;
     }

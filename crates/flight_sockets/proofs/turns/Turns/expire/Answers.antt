@@ -14,7 +14,7 @@ returns-clause-goes_on g c =
     let before = worker_of c.set_now.new.self.server_port inside.taken inside.failures c.set_now.new.self.outbox c.set_now.new.self.counts clock inside.events.inner.items in
     let after = worker_of c.expire.new.outside.server_port inside.taken inside.failures c.expire.new.outside.outbox c.expire.new.outside.counts clock inside.events.inner.items in
     rw (← c.self.view_is) (gone_on between between done _ before after (stayed between _ before (endings_none (posts_none c.set_now.ensures.kept) refl) refl c.set_now.ensures.counts refl)
-    (looked_on between done before after refl ends.accounted (endings_of ends.ends) ends.no_more ends.limit refl))
+    (looked_on between done before after refl ends.accounted (endings_of ends.ends) ends.no_more ends.bounded ends.limit refl))
 
 pub returns-clause-takes_none : goal.returns-clause-takes_none
 returns-clause-takes_none g c =

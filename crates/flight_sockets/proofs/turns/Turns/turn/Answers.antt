@@ -38,5 +38,7 @@ returns-clause-overdue g c = on_ok c.take_datagrams.result
       before = goes_on (goes_on stays (rests _ _ _ c.wait.ensures.outbox c.wait.ensures.taken)) c.go_on.ensures.takes_none;
       read = read_after c.wait.ensures.read c.go_on.ensures.read;
       patient = c.go_on.ensures.patient;
+      timely = c.go_on.ensures.timely;
+      relieved = c.go_on.ensures.looks.relieved;
       after = c.take_datagrams.ensures.runs;
     })

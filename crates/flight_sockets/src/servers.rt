@@ -1,0 +1,90 @@
+//! The silences of the servers that were asked lately.
+
+ghost use Rattle.std.specs.Prelude.{◌≡◌, ◌≤◌, ◌↔◌, IsTrue};
+ghost use Rattle.indexmap.specs.IndexMap.{index_map_len};
+ghost use Rattle.flight_sockets.specs.declared.servers.TheConstants.{MOST_SERVERS};
+ghost use Rattle.flight_sockets.specs.Silences.{answered_at, closed_at, tried_at};
+ghost use Rattle.flight_sockets.specs.Kept.{Changes};
+ghost use Rattle.flight_sockets.specs.Pauses.{server_eq, known_silence, IsServerPaused, MissesAt, RemembersServer};
+
+use crate::kept::{Kept, add};
+use crate::server::Server;
+use crate::silence::Silence;
+use dns_name::Name;
+
+/// The most servers that a worker remembers.
+pub(crate) const MOST_SERVERS: usize = 4_096;
+
+/// The silence of each server that is remembered.
+pub(crate) type Servers = Kept<Server, Silence>;
+
+/// Whether a server is passed over for every question.
+pub(crate) fn is_paused(servers: &Servers, server: &Server, now: u64) -> bool
+    ensures { IsTrue result ↔ IsServerPaused server.now now servers.now }
+{
+    match servers.get(server) {
+        Some(silence) => silence.pause.lasts(now),
+        None => false,
+    }
+}
+
+/// Notes that a query to a server begins, which is a trial if the server was paused.
+pub(crate) fn begin_trial(servers: &mut Servers, server: &Server, now: u64)
+    ensures changes { Changes server_eq (tried_at now) server.now servers.old servers.new }
+    ensures len { index_map_len servers.new ≡ index_map_len servers.old }
+{
+    let Some(silence) = servers.get_mut(server) else {
+        return;
+    };
+    silence.begin_trial(now);
+}
+
+/// Notes that a server answered. It is not passed over any more.
+pub(crate) fn answer(servers: &mut Servers, cursor: &mut usize, server: Server, now: u64)
+    requires { index_map_len servers.old ≤ MOST_SERVERS }
+    ensures remembers { RemembersServer now server (answered_at now) servers.old servers.new }
+    ensures bound { index_map_len servers.new ≤ MOST_SERVERS }
+{
+    if let Some(silence) = servers.get_mut(&server) {
+        *silence = Silence::answered(now);
+        return;
+    }
+    add(
+        servers,
+        cursor,
+        MOST_SERVERS,
+        server,
+        Silence::answered(now),
+        now,
+    );
+}
+
+/// Notes that a server left a query for a name unanswered.
+pub(crate) fn miss(servers: &mut Servers, cursor: &mut usize, server: Server, name: Name, now: u64)
+    requires { index_map_len servers.old ≤ MOST_SERVERS }
+    ensures misses { MissesAt now server name servers.old servers.new }
+    ensures bound { index_map_len servers.new ≤ MOST_SERVERS }
+{
+    if let Some(silence) = servers.get_mut(&server) {
+        silence.miss(name, now);
+        return;
+    }
+    let mut silence = Silence::unknown();
+    silence.miss(name, now);
+    add(servers, cursor, MOST_SERVERS, server, silence, now);
+}
+
+/// Notes that the port of a server is closed.
+pub(crate) fn close(servers: &mut Servers, cursor: &mut usize, server: Server, now: u64)
+    requires { index_map_len servers.old ≤ MOST_SERVERS }
+    ensures remembers { RemembersServer now server (closed_at now (known_silence servers.old server)) servers.old servers.new }
+    ensures bound { index_map_len servers.new ≤ MOST_SERVERS }
+{
+    if let Some(silence) = servers.get_mut(&server) {
+        silence.close(now);
+        return;
+    }
+    let mut silence = Silence::unknown();
+    silence.close(now);
+    add(servers, cursor, MOST_SERVERS, server, silence, now);
+}
