@@ -176,13 +176,13 @@ def exchange(name, flags, text):
     return f"udp {(header(RD, 1) + question).hex()}", f"reply {reply.hex()}"
 
 
-def queries_when_full(expected, has_room):
-    """Queries for a record and for a cached name; and twice for a name that is cached only if the cache has room."""
+def queries_when_full(expected):
+    """Queries for a record and for a cached name; and twice for a new name, which is cached even if the cache is full."""
     expected.add("at 70")
     expected.add(*exchange("n7.z.", QR | AA | RD | RA, address(7)))
     expected.add(*exchange("n9.test.", QR | RD | RA, address(9)))
     query, reply = exchange("new.", QR | RD | RA, "192.0.2.3")
-    for is_cached in (False, has_room):
+    for is_cached in (False, True):
         if not is_cached:
             expected.add(asked(QR | AA, (1, 1, 0, 0), record(b"\xc0\x0c", 1, packed("192.0.2.3"))))
         expected.add(query, *([] if is_cached else [f"{HINTS[0]} udp new. A"]), reply)
@@ -305,7 +305,7 @@ def expected_of(names):
     expected = Expected()
     tickets = full_tables(expected, long_lines(expected))
     cache = cached_names(expected, tickets, names)
-    queries_when_full(expected, names < CELLS)
+    queries_when_full(expected)
     expired_names(expected, cache)
     largest_messages(expected)
     largest_names(expected)
