@@ -50,20 +50,53 @@ def takes(checks, what, took, least=0.0, most=float("inf")):
 
 
 def check_first_of_three(checks):
-    """The first of three servers is dead: each question waits for it once, and does not wait when it is asked again."""
+    """The first of three servers is dead: the first name waits for it. Others give it a rest, for the next server answers; after ten
+    seconds one name tries it again."""
     zones = {DEAD[0]: {"*": None}, ALIVE: {"*": good}, OTHER: {"*": good}}
     with NameServers(zones) as servers, Service([f"{address}@{servers.port}" for address in zones]) as service:
-        for name in ("first.test.", "second.test.", "third.test.", "fourth.test."):
+        reply, took = timed(service, "first.test.")
+        noted = time.monotonic()
+        checks.equal("one of three is dead", reply, answered("first.test."))
+        takes(checks, "one of three is dead", took, EXCHANGE)
+        for name in ("second.test.", "third.test.", "fourth.test."):
             reply, took = timed(service, name)
             checks.equal(f"one of three is dead: {name}", reply, answered(name))
-            takes(checks, f"one of three is dead: {name}", took, EXCHANGE)
-            service.obey(f"flush_type {name} A")
-            reply, took = timed(service, name)
-            checks.equal(f"one of three is dead: {name} again", reply, answered(name))
-            takes(checks, f"one of three is dead: {name} again", took, 0, AT_ONCE)
-        checks.equal("one of three is dead: queries to it", count(servers, DEAD[0]), 4)
-        checks.equal("one of three is dead: queries to the next", count(servers, ALIVE), 8)
+            takes(checks, f"one of three is dead: {name}", took, 0, AT_ONCE)
+        service.obey("flush_type first.test. A")
+        reply, took = timed(service, "first.test.")
+        checks.equal("one of three is dead: again", reply, answered("first.test."))
+        takes(checks, "one of three is dead: again", took, 0, AT_ONCE)
+        checks.equal("one of three is dead: queries to it", count(servers, DEAD[0]), 1)
+        time.sleep(max(0, noted + FIRST_PAUSE + 0.5 - time.monotonic()))
+        with ThreadPoolExecutor(1) as pool:
+            trial = pool.submit(timed, service, "trial.test.")
+            checks.equal("one of three is dead: it is tried", servers.wait_for("trial.test. A", 1), True)
+            beside = [timed(service, f"beside{place}.test.")[1] for place in range(5)]
+            takes(checks, "one of three is dead: beside the trial", max(beside), 0, AT_ONCE)
+            reply, took = trial.result()
+            checks.equal("one of three is dead: the trial", reply, answered("trial.test."))
+            takes(checks, "one of three is dead: the trial", took, EXCHANGE)
+        time.sleep(FIRST_PAUSE)
+        takes(checks, "one of three is dead: its rest is twice as long", timed(service, "later.test.")[1], 0, AT_ONCE)
+        checks.equal("one of three is dead: queries to it at last", count(servers, DEAD[0]), 2)
         checks.equal("one of three is dead: stopped", service.stop(), STOPPED)
+
+
+def check_rest_in_vain(checks):
+    """A server that rests is asked as soon as no other of its list answers, and once it answers it rests no more."""
+    zones = {DEAD[0]: {"*": good, "drops.test. A": None}, ALIVE: {"*": good}}
+    with NameServers(zones) as servers, Service([f"{address}@{servers.port}" for address in zones]) as service:
+        checks.equal("a server rests", service.ask("drops.test.").words(), answered("drops.test."))
+        before = count(servers, DEAD[0])
+        checks.equal("a server rests: another name", service.ask("b.test.").words(), answered("b.test."))
+        checks.equal("a server rests: it is not asked", count(servers, DEAD[0]), before)
+        zones[ALIVE]["*"] = None
+        # What was answered in the millisecond in which a query began counts as answered after it.
+        time.sleep(0.01)
+        checks.equal("the other is dead now", service.ask("c.test.").words(), FAILED)
+        for name in ("d.test.", "e.test."):
+            checks.equal(f"the other is dead now: {name}", service.ask(name).words(), answered(name))
+        checks.equal("the other is dead now: stopped", service.stop(), STOPPED)
 
 
 def check_all(checks):
@@ -251,6 +284,7 @@ def main():
         # It takes two minutes, and hardly anything else.
         silent = pool.submit(aside.make, check_silent)
         checks.make(check_first_of_three)
+        checks.make(check_rest_in_vain)
         checks.make(check_all)
         checks.make(check_comes_back)
         checks.make(check_closed)

@@ -28,15 +28,27 @@ def good(asked):
     return asked.response(GOOD.format(name=asked.question.split()[0]))
 
 
-def lies_first(asked):
+def other_identifier(asked):
+    return asked.response(f"id 1 aa | answer {asked.question.split()[0]} 60 A 192.0.2.66")
+
+
+def other_question(asked):
+    return asked.response(f"aa asks other.test. A | answer {asked.question.split()[0]} 60 A 192.0.2.66")
+
+
+def two_questions(asked):
+    return asked.response(f"aa questions 2 | answer {asked.question.split()[0]} 60 A 192.0.2.66")
+
+
+def lies_first(*lies):
     """Datagrams that fit another query or are no message, before the response."""
-    right = good(asked)
-    yield bytes([right[0] ^ 1]) + right[1:]
-    yield asked.response(f"aa asks other.test. A | answer {asked.question.split()[0]} 60 A 192.0.2.66")
-    yield asked.response(f"aa questions 2 | answer {asked.question.split()[0]} 60 A 192.0.2.66")
-    yield b"x"
-    yield b""
-    yield right
+
+    def does(asked):
+        for lie in lies:
+            yield lie if isinstance(lie, bytes) else lie(asked)
+        yield good(asked)
+
+    return does
 
 
 def lies_on(asked):
@@ -90,7 +102,12 @@ LONG = " | ".join(f"answer big.test. 60 TXT {place:03}{'x' * 250}" for place in 
 # What the only name server does with a question, and the reply to the client.
 SERVED = {
     "good.test. A": (GOOD.format(name="good.test."), "good"),
-    "lies-first.test. A": (lies_first, "good"),
+    "lies-first.test. A": (lies_first(other_identifier), "good"),
+    "asks-another.test. A": (lies_first(other_question), "good"),
+    "asks-twice.test. A": (lies_first(two_questions), "good"),
+    "short-first.test. A": (lies_first(b"x"), "good"),
+    "empty-first.test. A": (lies_first(b""), "good"),
+    "lies-twice.test. A": (lies_first(other_identifier, b"x"), "failed"),
     "lies-on.test. A": (lies_on, "failed"),
     "capitals.test. A": (in_capitals, "good"),
     "silent.test. A": (None, "failed"),
@@ -128,7 +145,7 @@ def check_servers(checks):
 
 def check_servers_of_tcp_clients(checks):
     """Questions that nobody asked over UDP before: from the cache, TCP workers would answer without a name server."""
-    zone = {"lies-first.test. A": lies_first, "cut-drips.test. A": cut(drips)}
+    zone = {"lies-first.test. A": lies_first(other_identifier), "cut-drips.test. A": cut(drips)}
     with NameServers({HOST: zone}) as servers, Service([f"{HOST}@{servers.port}"]) as service:
         for question in zone:
             name = question.split()[0]

@@ -73,7 +73,11 @@ class Lies:
         yield 0.1, right(asked)
 
     def junk_first(self, asked):
-        for _ in range(10):
+        yield 0, self.junk()
+        yield 0.1, right(asked)
+
+    def junk_twice(self, asked):
+        for _ in range(2):
             yield 0, self.junk()
         yield 0.1, right(asked)
 
@@ -163,8 +167,9 @@ class Lies:
         return self.cut(asked, (0, Piece(2 * framed(right(asked)))))
 
 
-RIGHT = "right thrice id_first question_first junk_first flooded swapped cut_right cut_drips cut_more cut_right_ends".split()
-WRONG = "id_alone question_alone junk_on dead refuses echoes from_elsewhere".split()
+RIGHT = "right thrice id_first question_first junk_first swapped cut_right cut_drips cut_more cut_right_ends".split()
+# An exchange over UDP ends after two datagrams that are no reply to its query.
+WRONG = "id_alone question_alone junk_twice flooded junk_on dead refuses echoes from_elsewhere".split()
 WRONG += "cut_twice cut_other_id cut_breaks cut_ends cut_silent cut_long cut_slow".split()
 # These are wrong, but replies to the query, so their exchanges do not fail.
 REPLIED = "refuses cut_twice".split()

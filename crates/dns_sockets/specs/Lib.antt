@@ -3,6 +3,7 @@ pub mod Asked
 pub mod Descriptors
 pub mod Failures
 pub mod Fits
+pub mod Heard
 pub mod Line
 pub mod Moments
 pub mod Own

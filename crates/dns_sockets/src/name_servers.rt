@@ -22,6 +22,8 @@ pub mod own;
 pub mod range;
 // Servers that are not asked, because of the list that named their address.
 pub mod withheld;
+// The result of one call that listens to an exchange over UDP.
+pub mod heard;
 // A query and its reply over UDP, without waiting.
 pub mod udp_line;
 // A query preceded by its length, and the count of octets that have left.

@@ -13,7 +13,7 @@ use Rattle.front_workers.specs.Serves.{fault_octets, reply_told, Tells, Written}
 use Rattle.flight.specs.declared.reply.ReplyOctets.{ReplyOctets}
 use Rattle.flight.specs.declared.reply.ReplyOctets.TheVariants.{Header, Message}
 use Rattle.flight.specs.declared.outside.Listened.{Listened}
-use Rattle.flight.specs.declared.outside.Listened.TheVariants.{Came, Broken, NoMemory}
+use Rattle.flight.specs.declared.outside.Listened.TheVariants.{Anew, Came, Broken, NoMemory}
 use Rattle.flight.specs.Flight.{Hears, Lands}
 
 -- The octets of a client may get this reply: the one that reports their fault, or the one that spells an answer in which their question ended. Its task began when the desk knew of so many calls.
@@ -35,10 +35,11 @@ IsHeard may (Came octets) = may (Some octets)
 IsHeard may Broken = may None
 IsHeard may _ = Unit {0}
 
--- The same of an exchange that has ended: if nothing was heard of it, its time was up, and no octets may come.
+-- The same of an exchange that has ended: if nothing was heard of it, its time was up, and no octets may come. Nothing is said of one whose question begins anew.
 abbrev pub IsOutcome : (Option (List ℕ) → Type 0) → Listened → Type 0
 IsOutcome may (Came octets) = may (Some octets)
 IsOutcome may NoMemory = Unit {0}
+IsOutcome may Anew = Unit {0}
 IsOutcome may _ = may None
 
 -- An answer gives its question this reply. If there is no memory to write one, SERVFAIL goes out, but never for silence.

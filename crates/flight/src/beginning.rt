@@ -1,11 +1,11 @@
 //! The beginning of a question: its first lookup, then its task.
 
-ghost use Rattle.std.specs.Prelude.{◌≤◌, max};
+ghost use Rattle.std.specs.Prelude.{◌≡◌, ◌≤◌};
 ghost use Rattle.dns_wire.specs.declared.server.query.Asked.TheVariants.{Good};
 ghost use Rattle.dns_wire.specs.Server.Asking.{AsksFor};
-ghost use Rattle.flight.specs.Asking.{HasLooked};
+ghost use Rattle.flight.specs.Asking.{origin_in, HasLooked, IsAskedBy};
 ghost use Rattle.flight.specs.Clients.{SettlesOrWaits};
-ghost use Rattle.flight.specs.Origin.{IsOriginOf};
+ghost use Rattle.flight.specs.Origin.{origin_of};
 
 use crate::asking::{Asking, ask};
 use crate::engine::Flight;
@@ -19,7 +19,32 @@ use iterate::{Input, Task, first_look, resolved_law, settled};
 use rand_core::Rng;
 
 impl<D: Numbered, L: InFlight, C: Clock, G: Rng, K: Client> Flight<D, L, C, G, K> {
-    /// Begins the question of a query by its first lookup. A cached or local answer settles it at once, without a task.
+    /// Begins a question anew, with a lookup and a task of its own. It grows no younger by it.
+    pub(crate) fn begin_again<O: Outside<D, L, C, K>>(
+        &mut self,
+        desk: &mut D,
+        outside: &mut O,
+        now: u64,
+        asking: Asking<K>,
+        octets: &[u8],
+    )
+        requires asked { IsAskedBy K.sent asking.port octets.now asking.client asking.query asking.task }
+        ensures { SettlesOrWaits K.sent O.server_port O.counts O.outbox O.posts now asking.client
+            (λ origin. origin ≡ origin_in K.network asking) self.old outside.old self.new outside.new }
+    {
+        let Asking {
+            client,
+            query,
+            began,
+            task,
+            ..
+        } = asking;
+        drop(task);
+        self.begin_query(desk, outside, now, client, octets, query, began);
+    }
+
+    /// Begins the question of a query by its first lookup. A cached or local answer settles it at once, without a task. The question
+    /// counts as begun at `began`, in milliseconds.
     pub(crate) fn begin_query<O: Outside<D, L, C, K>>(
         &mut self,
         desk: &mut D,
@@ -28,11 +53,12 @@ impl<D: Numbered, L: InFlight, C: Clock, G: Rng, K: Client> Flight<D, L, C, G, K
         client: K,
         octets: &[u8],
         query: Query,
+        began: u64,
     )
         requires own { K.sent client octets.now }
         requires good { AsksFor octets.now (Good query) }
         ensures { SettlesOrWaits K.sent O.server_port O.counts O.outbox O.posts now client
-            (IsOriginOf octets.now (max now self.old.latest) (K.network client)) self.old outside.old self.new outside.new }
+            (λ origin. origin ≡ origin_of began query.question.owner (K.network client)) self.old outside.old self.new outside.new }
     {
         resolved_law();
         if desk.seen() < client.since() {
@@ -58,7 +84,7 @@ impl<D: Numbered, L: InFlight, C: Clock, G: Rng, K: Client> Flight<D, L, C, G, K
             }
             Ok(None) => {
                 self.begin_task(
-                    desk, outside, now, client, octets, query, moment, came, seen,
+                    desk, outside, now, client, octets, query, began, moment, came, seen,
                 );
             }
             Err(_) => {
@@ -80,6 +106,7 @@ impl<D: Numbered, L: InFlight, C: Clock, G: Rng, K: Client> Flight<D, L, C, G, K
         client: K,
         octets: &[u8],
         query: Query,
+        began: u64,
         moment: u64,
         came: Input,
         seen: u64,
@@ -89,7 +116,7 @@ impl<D: Numbered, L: InFlight, C: Clock, G: Rng, K: Client> Flight<D, L, C, G, K
         requires looked { HasLooked D.calls D.seen L.hears C.ticks (K.since client) query.question moment came seen }
         requires known { seen ≤ D.seen desk.old }
         ensures { SettlesOrWaits K.sent O.server_port O.counts O.outbox O.posts now client
-            (IsOriginOf octets.now (max now self.old.latest) (K.network client)) self.old outside.old self.new outside.new }
+            (λ origin. origin ≡ origin_of began query.question.owner (K.network client)) self.old outside.old self.new outside.new }
     {
         let port = outside.server_port();
         let Ok(question) = query.question.clone() else {
@@ -100,7 +127,6 @@ impl<D: Numbered, L: InFlight, C: Clock, G: Rng, K: Client> Flight<D, L, C, G, K
             outside.fail(client, octets, Unserved::NoMemory);
             return;
         };
-        let began = self.table.since(now);
         let asking = Asking {
             client,
             query,

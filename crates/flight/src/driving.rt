@@ -79,6 +79,10 @@ impl<D: Numbered, L: InFlight, C: Clock, G: Rng, K: Client> Flight<D, L, C, G, K
                 lack::<D, L, C, K, O>(outside, asking, octets.as_slice());
                 return;
             }
+            Listened::Anew => {
+                self.begin_again(desk, outside, now, asking, octets.as_slice());
+                return;
+            }
         };
         if desk.seen() < asking.seen || outside.server_port() != asking.port {
             refuse::<D, L, C, K, O>(

@@ -108,7 +108,10 @@ impl<D: Numbered, L: InFlight, C: Clock, G: Rng, K: Client> Flight<D, L, C, G, K
                 let reply = ReplyOctets::Header(fault_of(octets, rcode));
                 outside.give(client, octets, reply);
             }
-            Asked::Good(query) => self.begin_query(desk, outside, now, client, octets, query),
+            Asked::Good(query) => {
+                let began = self.table.since(now);
+                self.begin_query(desk, outside, now, client, octets, query, began);
+            }
         }
     }
 

@@ -50,6 +50,8 @@ pub enum Listened {
     Broken,
     /// Something came, but there is no memory for it.
     NoMemory,
+    /// Nothing was sent, for the exchange waited until others with an equal question ended. Its question is to begin anew.
+    Anew,
 }
 
 /// The reason for a SERVFAIL that is not the answer to the question.

@@ -10,11 +10,11 @@ use Rattle.dns_sockets.specs.Asked.{ByStream, IsAskedAt}
 use Rattle.front_workers.specs.Framing.{framed}
 use Rattle.dns_sockets.specs.Line.{LineState}
 use Rattle.flight.specs.declared.outside.Listened.{Listened}
-use Rattle.flight.specs.declared.outside.Listened.TheVariants.{Nothing, Came, Broken, NoMemory}
+use Rattle.flight.specs.declared.outside.Listened.TheVariants.{Anew, Nothing, Came, Broken, NoMemory}
 use Rattle.flight.specs.Told.{IsHeard}
 use Rattle.flight_sockets.specs.declared.transport.Way.{Way}
-use Rattle.flight_sockets.specs.declared.transport.Way.TheVariants.{Udp, Tcp, Closed}
-use Rattle.flight_sockets.specs.Exchanges.{ExchangeState, AsksOn, HasNoneYet, IsQuiet, IsUnderWay, OnUnbroken, WentOn}
+use Rattle.flight_sockets.specs.declared.transport.Way.TheVariants.{Udp, Tcp, Waiting, Closed}
+use Rattle.flight_sockets.specs.Exchanges.{ExchangeState, AsksOn, HasMisfit, HasNoneYet, IsQuiet, IsStruck, IsUnderWay, OnUnbroken, WentOn}
 use Rattle.flight_sockets.specs.Replies.{IfCame, IsReply, IsWholeReply, MayCome}
 
 -- The whole query has left and a message came after it, which may be its reply: so it is.
@@ -26,6 +26,7 @@ pub heard_on : {S C : Type 0} (opened : S → SocketAddr → Type 0) (sent came 
 heard_on opened sent came connected reported contents remaining exchange query old new Nothing is line asks went heard = tt
 heard_on opened sent came connected reported contents remaining exchange query old new Broken is line asks went heard = tt
 heard_on opened sent came connected reported contents remaining exchange query old new NoMemory is line asks went heard = tt
+heard_on opened sent came connected reported contents remaining exchange query old new Anew is line asks went heard = tt
 heard_on opened sent came connected reported contents remaining exchange query old new (Came octets) is line asks went heard =
     let now = went line.fresh line.went in
     let all : take new.left new.asks ≡ framed exchange.asked.query = take_all _ _ (omega (arith, heard.1)) ∙ asks ∙ line.asks in
@@ -48,4 +49,14 @@ pub quiet : {S C : Type 0} (opened : S → SocketAddr → Type 0) (reported : S 
 quiet opened reported sent connected reported' contents remaining drained again exchange (Udp line) under none over = (line, under.asks, none)
 quiet opened reported sent connected reported' contents remaining drained again exchange (Tcp line) under none over =
     let other : OverUdp ≡ OverTcp = sym over ∙ under.over in absurd cc
+quiet opened reported sent connected reported' contents remaining drained again exchange Waiting under none over = absurd none
 quiet opened reported sent connected reported' contents remaining drained again exchange Closed under none over = absurd none
+
+-- An exchange to whose socket a datagram came that does not fit is struck.
+pub struck : {S C : Type 0} (opened : S → SocketAddr → Type 0) (reported : S → Token → Type 0) (sent came : S → List ℕ → Type 0) (connected : C → SocketAddr → Type 0) (reported' : C → Token → Type 0)
+    (contents remaining : C → Option (List ℕ)) (exchange : ExchangeState) (way : Way S C)
+    → IsUnderWay opened reported sent connected reported' contents remaining exchange way → HasMisfit came exchange.asked.query way → IsStruck sent came exchange
+struck opened reported sent came connected reported' contents remaining exchange (Udp line) under misfit = (line, misfit.0, under.asks, misfit.1, misfit.2)
+struck opened reported sent came connected reported' contents remaining exchange (Tcp line) under misfit = absurd misfit
+struck opened reported sent came connected reported' contents remaining exchange Waiting under misfit = absurd misfit
+struck opened reported sent came connected reported' contents remaining exchange Closed under misfit = absurd misfit

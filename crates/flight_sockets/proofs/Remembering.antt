@@ -9,7 +9,7 @@ use Rattle.flight_sockets.specs.declared.silence.Silence.{Silence}
 use Rattle.flight_sockets.specs.Kept.{Adds, IsFree, MakesRoom, Remembers}
 use Rattle.flight_sockets.specs.Kept.MakesRoom.{gone}
 use Rattle.flight_sockets.specs.Kept.Remembers.{known, added}
-use Rattle.flight_sockets.specs.Silences.{unknown, Misses}
+use Rattle.flight_sockets.specs.Silences.{matters_until, unknown, Misses}
 use Rattle.flight_sockets.specs.Pauses.{server_eq, MissesAt, Silences}
 
 -- a test that is false refutes what it decides
@@ -53,9 +53,9 @@ missed_known now server name old new last silence held misses updates = record {
 -- a query that goes unanswered at a server that is new
 pub missed_new : (now : ℕ) (server : Server) (name : Labels) (old before new : Silences) (silence : Silence)
     → before ≡ old → get server_eq old server ≡ None → Misses name now unknown silence
-    → Adds server_eq (λ (s : Silence). s.pause.until) MOST_SERVERS now server silence before new → MissesAt now server name old new
+    → Adds server_eq matters_until MOST_SERVERS now server silence before new → MissesAt now server name old new
 missed_new now server name old before new silence same none misses adds = record {
   silence = silence;
   misses = subst (λ (o : Option Silence). Misses name now (unwrap_or o unknown) silence) (sym none) misses;
-  remembers = remembered_new server_eq (λ (s : Silence). s.pause.until) MOST_SERVERS now server silence old before new same none adds;
+  remembers = remembered_new server_eq matters_until MOST_SERVERS now server silence old before new same none adds;
 }

@@ -1,11 +1,12 @@
 -- The exchanges of a worker, each over a socket of its own.
-use Rattle.std.specs.Prelude.{◌≡◌, ◌⊎◌, ℕ, Bool, Option, List}
+use Rattle.std.specs.Prelude.{◌≡◌, ◌⊎◌, ℕ, Bool, true, Option, List}
 use Rattle.std.specs.declared.net.SocketAddr.{SocketAddr}
 use Rattle.mio.specs.declared.token.Token.{Token}
 use Rattle.dns_name.specs.Labels.{Labels}
 use Rattle.dns_text.specs.declared.addr.Addr.{Addr}
 use Rattle.dns_query.specs.declared.over.Over.{Over}
 use Rattle.dns_query.specs.declared.over.Over.TheVariants.{Udp as OverUdp, Tcp as OverTcp}
+use Rattle.dns_sockets.specs.Fits.{Fits}
 use Rattle.dns_sockets.specs.Place.{IsPlaceOf}
 use Rattle.front_workers.specs.Framing.{framed}
 use Rattle.dns_sockets.specs.Line.{LineState, WentFrom}
@@ -14,14 +15,16 @@ use Rattle.flight.specs.declared.outside.Listened.{Listened}
 use Rattle.flight.specs.declared.outside.Listened.TheVariants.{Nothing, Came}
 use Rattle.flight.specs.Flight.{Sent}
 use Rattle.flight_sockets.specs.declared.transport.Way.{Way}
-use Rattle.flight_sockets.specs.declared.transport.Way.TheVariants.{Udp, Tcp, Closed}
+use Rattle.flight_sockets.specs.declared.flaw.Flaw.{Flaw}
+use Rattle.flight_sockets.specs.declared.transport.Way.TheVariants.{Udp, Tcp, Waiting, Closed}
 
 -- the visible state of an exchange
 pub record ExchangeState : Type 0 where
   pub asked : Sent  -- the query that went out
   pub token : Token  -- the token under which the poll reports its socket
   pub zone : Option Labels  -- the zone about which the server is asked, if strangers may have named the server
-  pub dear : Bool  -- whether a reply came that would take too long to read
+  pub waits : Bool  -- whether nothing was sent, for others with an equal question are under way
+  pub flaw : Option Flaw  -- what is wrong with what came, if that ended it
 
 -- A socket is connected to the server's address and reported under the token, and the query left by it.
 pub record AsksBy {S : Type 0} (opened : S → SocketAddr → Type 0) (reported : S → Token → Type 0) (sent : S → List ℕ → Type 0) (exchange : ExchangeState) (socket : S) : Type 0 where
@@ -47,18 +50,29 @@ pub record AsksOn {C : Type 0} (connected : C → SocketAddr → Type 0) (report
 abbrev pub WentOn : {C : Type 0} → (C → Option (List ℕ)) → (C → Option (List ℕ)) → LineState C → LineState C → Type 0
 WentOn {C} contents remaining old new = (fresh : C) → WentFrom contents remaining fresh old → WentFrom contents remaining fresh new
 
--- The state of an exchange, by its transport. Nothing is said of one that has ended.
+-- The state of an exchange, by its transport. One that has no transport yet waits. Nothing is said of one that has ended.
 abbrev pub IsUnderWay : {S C : Type 0} → (S → SocketAddr → Type 0) → (S → Token → Type 0) → (S → List ℕ → Type 0) → (C → SocketAddr → Type 0) → (C → Token → Type 0) → (C → Option (List ℕ)) → (C → Option (List ℕ))
     → ExchangeState → Way S C → Type 0
 IsUnderWay opened reported sent connected reported' contents remaining exchange (Udp line) = AsksBy opened reported sent exchange line
 IsUnderWay opened reported sent connected reported' contents remaining exchange (Tcp line) = AsksOn connected reported' contents remaining exchange line
+IsUnderWay opened reported sent connected reported' contents remaining exchange Waiting = exchange.waits ≡ true
 IsUnderWay opened reported sent connected reported' contents remaining exchange Closed = Unit {0}
 
 -- The socket of an exchange over UDP had nothing more, or the poll will report it once more.
 abbrev pub HasNoneYet : {S C : Type 0} → (S → Type 0) → (S → Token → Type 0) → Token → Way S C → Type 0
 HasNoneYet drained reported_again token (Udp line) = drained line ⊎ reported_again line token
 HasNoneYet drained reported_again token (Tcp line) = Unit {0}
+HasNoneYet drained reported_again token Waiting = ⊥
 HasNoneYet drained reported_again token Closed = ⊥
+
+-- Over UDP a datagram came that cannot be the reply to the query.
+abbrev pub HasMisfit : {S C : Type 0} → (S → List ℕ → Type 0) → List ℕ → Way S C → Type 0
+HasMisfit came query (Udp line) = (octets : List ℕ) × came line octets × ¬ (Fits query octets)
+HasMisfit came query _ = ⊥
+
+-- The same of an exchange.
+abbrev pub IsStruck : {S : Type 0} → (S → List ℕ → Type 0) → (S → List ℕ → Type 0) → ExchangeState → Type 0
+IsStruck {S} sent came exchange = (socket : S) × (octets : List ℕ) × sent socket exchange.asked.query × came socket octets × ¬ (Fits exchange.asked.query octets)
 
 -- Of an exchange over UDP: a socket by which its query left had nothing more, or the poll will report it once more.
 abbrev pub IsQuiet : {S : Type 0} → (S → List ℕ → Type 0) → (S → Type 0) → (S → Token → Type 0) → ExchangeState → Type 0

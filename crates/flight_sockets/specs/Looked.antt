@@ -7,7 +7,7 @@ use Rattle.flight.specs.declared.counts.Counts.{Counts}
 use Rattle.flight.specs.declared.kept.TheConstants.{MOST_AT_REST}
 use Rattle.flight.specs.declared.table.TheConstants.{PATIENCE}
 use Rattle.flight.specs.Bounds.{Relieves, kept_all}
-use Rattle.flight.specs.Waiting.{EarlyGoOn, FlightState, OthersGoOn, since_at}
+use Rattle.flight.specs.Waiting.{EarlyGoOn, FlightState, JoinsNone, OthersGoOn, since_at}
 use Rattle.flight_sockets.specs.declared.listener.TheConstants.{SERVICE}
 
 -- The poll reported this. If it is an exchange, it is listened to once. Each other exchange goes on.
@@ -21,13 +21,15 @@ abbrev pub AllLookedAt : List Event → FlightState → Counts → FlightState �
 AllLookedAt [] flight old flight' new = (flight' ≡ flight) × (new ≡ old)
 AllLookedAt (event ∷ rest) flight old flight' new = (between : FlightState) × (mid : Counts) × IsLookedAt event flight old between mid × AllLookedAt rest between mid flight' new
 
--- Each exchange that the poll reported is listened to. Then those are ended whose time is up at this moment, and the others go on. At last the questions end that keep most, one after another, as long as all keep too much.
+-- Each exchange that the poll reported is listened to. Then those are ended whose time is up at this moment, and the others go on. Then some questions begin anew, and none joins them. At last the questions end that keep most, one after another, as long as all keep too much.
 pub record LooksAtAll (events : List Event) (now : ℕ) (flight : FlightState) (old : Counts) (flight' : FlightState) (new : Counts) : Type 0 where
   pub between : FlightState
   pub mid : Counts
   pub looked : AllLookedAt events flight old between mid
   pub left : FlightState
   pub early : EarlyGoOn PATIENCE now between left
-  pub relieves : Relieves MOST_AT_REST left flight'
+  pub anew : FlightState
+  pub joins_none : JoinsNone left anew
+  pub relieves : Relieves MOST_AT_REST anew flight'
   pub relieved : kept_all flight' ≤ MOST_AT_REST
   pub listened : mid.listened ≤ new.listened

@@ -1,5 +1,5 @@
 -- Pauses, and the silence of a name server: since when, and to how many names, it has not answered. Times are in milliseconds.
-use Rattle.std.specs.Prelude.{◌≡◌, ◌<◌, ◌≤◌, ◌⊎◌, ℕ, ◌+◌, ◌-◌, ◌*◌, ◌^◌, ◌==◌, ◌||◌, min, max, nat_lt, if◌then◌else◌, Option, Some, None, IsSomeAnd}
+use Rattle.std.specs.Prelude.{◌≡◌, ◌<◌, ◌≤◌, ◌⊎◌, ℕ, ◌+◌, ◌-◌, ◌*◌, ◌^◌, ◌==◌, ◌||◌, min, max, nat_lt, if◌then◌else◌, Option, Some, None, IsSome, IsSomeAnd}
 use Rattle.dns_name.specs.Labels.{Labels}
 use Rattle.dns_name.specs.Order.{name_eq}
 use Rattle.flight.specs.declared.table.TheConstants.{PATIENCE}
@@ -26,6 +26,10 @@ next_pause last now = record { millis = next_millis last.millis; until = min (no
 abbrev pub pause_after : Pause → ℕ → Pause
 pause_after last now = if nat_lt now last.until then last else next_pause last now
 
+-- the pause once datagrams came to an exchange that cannot be its reply: the next one, or still the last one if it lasts for longer than a trial does
+abbrev pub pause_struck : Pause → ℕ → Pause
+pause_struck last now = if nat_lt PATIENCE (last.until - now) then last else next_pause last now
+
 -- the pause while a query tries, after a last one, whether there are answers again: as long as the query may take
 abbrev pub trial_pause : Pause → ℕ → Pause
 trial_pause last now = if last.millis == 0 then last else record { millis = last.millis; until = min (now + PATIENCE) (2 ^ 64 - 1) }
@@ -48,11 +52,11 @@ since_with _ since now = since
 
 -- the silence of a server that was never asked
 abbrev pub unknown : Silence
-unknown = record { since = None; missed = Zero; pause = no_pause }
+unknown = record { since = None; missed = Zero; pause = no_pause; rest = no_pause }
 
 -- that of a server that answers at this moment: an answer ends all pauses, and forgets what went unanswered
 abbrev pub answered_at : ℕ → Silence
-answered_at now = record { since = Some now; missed = Zero; pause = no_pause }
+answered_at now = record { since = Some now; missed = Zero; pause = no_pause; rest = no_pause }
 
 -- that of a server whose port is closed at this moment: it is passed over for a second at least, and that is no strike
 abbrev pub closed_at : ℕ → Silence → Silence
@@ -60,7 +64,15 @@ closed_at now last = record last { pause = record { millis = last.pause.millis; 
 
 -- that of a server to which a query begins: after a pause it is a trial
 abbrev pub tried_at : ℕ → Silence → Silence
-tried_at now last = record last { pause = trial_pause last.pause now }
+tried_at now last = record last { pause = trial_pause last.pause now; rest = trial_pause last.rest now }
+
+-- the moment until which it matters: its pause or its rest lasts
+abbrev pub matters_until : Silence → ℕ
+matters_until silence = max silence.pause.until silence.rest.until
+
+-- The server answers: it did, and has left no query unanswered since.
+abbrev pub IsAnswering : Silence → Type 0
+IsAnswering silence = (silence.missed ≡ Zero) × IsSome silence.since
 
 -- The server answered a query that waited beside one that goes unanswered now.
 abbrev pub HasAnsweredLately : ℕ → Silence → Type 0
@@ -74,10 +86,11 @@ IsExcused now silence = ((0 < silence.pause.millis) × (now < silence.pause.unti
 abbrev pub IsSilent : ℕ → Silence → Type 0
 IsSilent now silence = (silence.missed ≡ Many) × IsSomeAnd silence.since (λ since. since + SILENT ≤ now)
 
--- A query for a name goes unanswered, and counts. If its server is silent by then, the server is paused for every question.
+-- A query for a name goes unanswered, and counts. Its server rests from now on. If it is silent by then, the server is paused for every question.
 pub record Counts (name : Labels) (now : ℕ) (old new : Silence) : Type 0 where
   pub since : new.since ≡ since_with old.missed old.since now
   pub missed : new.missed ≡ missed_with old.missed name
+  pub rests : new.rest ≡ pause_after old.rest now
   pub paused : IsSilent now new → new.pause ≡ next_pause old.pause now
   pub unpaused : ¬ (IsSilent now new) → new.pause ≡ old.pause
 

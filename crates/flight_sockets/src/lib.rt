@@ -17,6 +17,8 @@ mod network;
 mod client;
 // The line of the log for an exchange that failed.
 mod fault_line;
+// What is wrong with what came of an exchange.
+mod flaw;
 // The transport of an exchange.
 mod transport;
 // An exchange over a socket of its own.
@@ -43,10 +45,16 @@ mod kept;
 mod servers;
 // The pauses of questions to servers.
 mod questions;
+// The other servers of a list.
+mod others;
 // The question of a query.
 mod asked;
 // The servers that a worker passes over.
 mod pauses;
+// The permits of exchanges: a few for each question, over all workers.
+mod permits;
+// The permits of one worker's exchanges.
+mod worker_permits;
 // The zones that servers refused lately, each at its server.
 mod refused_zones;
 // The refusals that a worker remembers.
@@ -62,6 +70,7 @@ pub use fault_line::cause_of;
 pub use limit::{MOST_EXCHANGES, SPARE_DESCRIPTORS, limits_law, most_exchanges};
 pub use listener::{UdpListener, listen_each};
 pub use mio::Waker;
+pub use permits::{MOST_EQUAL, Permits};
 pub use service_socket::ServiceSocket;
 pub use tally::{Sums, Tally};
 pub use udp_worker::{UdpWorker, fly_udp};

@@ -20,7 +20,7 @@ pub(crate) struct Pause {
 }
 
 impl Pause {
-    ghost use Rattle.flight_sockets.specs.Silences.{next_pause, no_pause, pause_after, trial_pause};
+    ghost use Rattle.flight_sockets.specs.Silences.{next_pause, no_pause, pause_after, pause_struck, trial_pause};
 
     /// The pause of what was never passed over.
     pub fn none() -> Pause
@@ -56,6 +56,17 @@ impl Pause {
         ensures { result ≡ pause_after self.now now }
     {
         if now < self.until {
+            return *self;
+        }
+        self.next(now)
+    }
+
+    /// What an exchange makes of it to which datagrams come that cannot be its reply. While it lasts, that says nothing new, unless the
+    /// exchange is its trial: of a trial `PATIENCE` is left at most.
+    pub fn struck(&self, now: u64) -> Pause
+        ensures { result ≡ pause_struck self.now now }
+    {
+        if self.until.saturating_sub(now) > PATIENCE {
             return *self;
         }
         self.next(now)

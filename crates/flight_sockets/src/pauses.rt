@@ -28,7 +28,7 @@ pub(crate) struct Pauses {
 }
 
 impl Pauses {
-    ghost use Rattle.flight_sockets.specs.Pauses.{Answers, Closes, IsBlank, IsPassedOver, LetsThrough, Loses};
+    ghost use Rattle.flight_sockets.specs.Pauses.{Answers, Closes, IsBlank, IsPassedOver, LetsThrough, Loses, Mistrusts};
 
     /// Remembers nothing. Nearly all memory of the tables is taken here. Their hashes begin with a seed that strangers do not know.
     pub fn new(alloc: Global, seed: u64) -> Result<Pauses, NoMemory>
@@ -43,23 +43,28 @@ impl Pauses {
         })
     }
 
-    /// Whether a query to a server may begin now. If a pause of the server or of the question is over, it is the trial after it.
+    /// Whether a query to a server may begin now, if these others could be asked in its place. If a pause of the server or of the question
+    /// is over, it is the trial after it.
     pub fn lets_through(
         &mut self,
         alloc: Global,
         server: &Addr,
+        others: &[Addr],
         over: Over,
         query: &[u8],
         now: u64,
     ) -> bool
-        ensures passed_over { result ≡ false → IsPassedOver server.now over query.now now self.old × (self.new ≡ self.old) }
-        ensures let_through { result ≡ true → LetsThrough server.now over query.now now self.old self.new }
+        ensures passed_over { result ≡ false → IsPassedOver server.now others.now over query.now now self.old × (self.new ≡ self.old) }
+        ensures let_through { result ≡ true → LetsThrough server.now others.now over query.now now self.old self.new }
     {
         let server = Server {
             addr: *server,
             over,
         };
         if servers::is_paused(&self.servers, &server, now) {
+            return false;
+        }
+        if servers::gives_way(&self.servers, &server, others, now) {
             return false;
         }
         let Some(question) = asked_at(alloc, server, query) else {
@@ -125,6 +130,25 @@ impl Pauses {
             now,
         );
         questions::miss(
+            &mut self.questions,
+            &mut self.question_cursor,
+            question,
+            now,
+        );
+    }
+
+    /// Notes that datagrams came in the place of a server's reply that cannot be it.
+    pub fn note_misfits(&mut self, alloc: Global, server: &Addr, over: Over, query: &[u8], now: u64)
+        ensures { Mistrusts server.now over query.now now self.old self.new }
+    {
+        let server = Server {
+            addr: *server,
+            over,
+        };
+        let Some(question) = asked_at(alloc, server, query) else {
+            return;
+        };
+        questions::strike(
             &mut self.questions,
             &mut self.question_cursor,
             question,

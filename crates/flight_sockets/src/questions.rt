@@ -3,7 +3,7 @@
 ghost use Rattle.std.specs.Prelude.{◌≡◌, ◌≤◌, ◌↔◌, None, IsTrue};
 ghost use Rattle.indexmap.specs.IndexMap.{index_map_len, Updates};
 ghost use Rattle.flight_sockets.specs.declared.questions.TheConstants.{MOST_QUESTIONS};
-ghost use Rattle.flight_sockets.specs.Silences.{pause_after, trial_at};
+ghost use Rattle.flight_sockets.specs.Silences.{pause_after, pause_struck, trial_at};
 ghost use Rattle.flight_sockets.specs.Kept.{Changes};
 ghost use Rattle.flight_sockets.specs.Pauses.{question_at_eq, known_pause, IsQuestionPaused, RemembersQuestion};
 
@@ -54,22 +54,52 @@ pub(crate) fn answer(questions: &mut Questions, question: &QuestionAt)
     questions.swap_remove(question);
 }
 
+/// What is known of the pause of a question.
+fn known(questions: &Questions, question: &QuestionAt) -> Pause
+    ensures { result ≡ known_pause questions.now question.now }
+{
+    match questions.get(question) {
+        Some(pause) => *pause,
+        None => Pause::none(),
+    }
+}
+
+/// Remembers the pause of a question.
+fn remember(
+    questions: &mut Questions,
+    cursor: &mut usize,
+    question: QuestionAt,
+    pause: Pause,
+    now: u64,
+)
+    requires { index_map_len questions.old ≤ MOST_QUESTIONS }
+    ensures remembers { RemembersQuestion now question pause questions.old questions.new }
+    ensures bound { index_map_len questions.new ≤ MOST_QUESTIONS }
+{
+    if let Some(place) = questions.get_mut(&question) {
+        *place = pause;
+        return;
+    }
+    add(questions, cursor, MOST_QUESTIONS, question, pause, now);
+}
+
 /// Notes that a query went unanswered. Its server is passed over for the question from now on.
 pub(crate) fn miss(questions: &mut Questions, cursor: &mut usize, question: QuestionAt, now: u64)
     requires { index_map_len questions.old ≤ MOST_QUESTIONS }
     ensures remembers { RemembersQuestion now question (pause_after (known_pause questions.old question) now) questions.old questions.new }
     ensures bound { index_map_len questions.new ≤ MOST_QUESTIONS }
 {
-    if let Some(pause) = questions.get_mut(&question) {
-        *pause = pause.after(now);
-        return;
-    }
-    add(
-        questions,
-        cursor,
-        MOST_QUESTIONS,
-        question,
-        Pause::none().after(now),
-        now,
-    );
+    let pause = known(questions, &question).after(now);
+    remember(questions, cursor, question, pause, now);
+}
+
+/// Notes that datagrams came in the place of the reply to a query that cannot be it. Its server is passed over for the question from
+/// now on.
+pub(crate) fn strike(questions: &mut Questions, cursor: &mut usize, question: QuestionAt, now: u64)
+    requires { index_map_len questions.old ≤ MOST_QUESTIONS }
+    ensures remembers { RemembersQuestion now question (pause_struck (known_pause questions.old question) now) questions.old questions.new }
+    ensures bound { index_map_len questions.new ≤ MOST_QUESTIONS }
+{
+    let pause = known(questions, &question).struck(now);
+    remember(questions, cursor, question, pause, now);
 }

@@ -1,16 +1,18 @@
 //! The silences of the servers that were asked lately.
 
-ghost use Rattle.std.specs.Prelude.{◌≡◌, ◌≤◌, ◌↔◌, IsTrue};
-ghost use Rattle.indexmap.specs.IndexMap.{index_map_len};
+ghost use Rattle.std.specs.Prelude.{◌≡◌, ◌<◌, ◌≤◌, ◌↔◌, Any, IsSomeAnd, IsTrue};
+ghost use Rattle.indexmap.specs.IndexMap.{get, index_map_len};
 ghost use Rattle.flight_sockets.specs.declared.servers.TheConstants.{MOST_SERVERS};
-ghost use Rattle.flight_sockets.specs.Silences.{answered_at, closed_at, tried_at};
+ghost use Rattle.flight_sockets.specs.Silences.{answered_at, closed_at, tried_at, IsAnswering};
 ghost use Rattle.flight_sockets.specs.Kept.{Changes};
-ghost use Rattle.flight_sockets.specs.Pauses.{server_eq, known_silence, IsServerPaused, MissesAt, RemembersServer};
+ghost use Rattle.flight_sockets.specs.Pauses.{server_at, server_eq, known_silence, GivesWay, IsServerPaused, MissesAt, RemembersServer};
 
 use crate::kept::{Kept, add};
 use crate::server::Server;
 use crate::silence::Silence;
 use dns_name::Name;
+use dns_query::Over;
+use dns_text::Addr;
 
 /// The most servers that a worker remembers.
 pub(crate) const MOST_SERVERS: usize = 4_096;
@@ -26,6 +28,46 @@ pub(crate) fn is_paused(servers: &Servers, server: &Server, now: u64) -> bool
         Some(silence) => silence.pause.lasts(now),
         None => false,
     }
+}
+
+/// Whether a server answers: it did, and has left no query unanswered since.
+fn answers(servers: &Servers, server: &Server) -> bool
+    ensures { IsTrue result ↔ IsSomeAnd (get server_eq servers.now server.now) IsAnswering }
+{
+    match servers.get(server) {
+        Some(silence) => silence.answers(),
+        None => false,
+    }
+}
+
+/// Whether one of these addresses answers, over a transport.
+fn any_answers(servers: &Servers, addrs: &[Addr], over: Over) -> bool
+    ensures { IsTrue result ↔ Any (λ addr. IsSomeAnd (get server_eq servers.now (server_at addr over)) IsAnswering) addrs.now }
+{
+    for addr in addrs {
+        let server = Server { addr: *addr, over };
+        if answers(servers, &server) {
+            return true;
+        }
+    }
+    false
+}
+
+/// Whether a server rests.
+fn rests(servers: &Servers, server: &Server, now: u64) -> bool
+    ensures { IsTrue result ↔ IsSomeAnd (get server_eq servers.now server.now) (λ silence. now < silence.rest.until) }
+{
+    match servers.get(server) {
+        Some(silence) => silence.rests(now),
+        None => false,
+    }
+}
+
+/// Whether a server rests, and another of these addresses answers.
+pub(crate) fn gives_way(servers: &Servers, server: &Server, others: &[Addr], now: u64) -> bool
+    ensures { IsTrue result ↔ GivesWay server.now others.now now servers.now }
+{
+    rests(servers, server, now) && any_answers(servers, others, server.over)
 }
 
 /// Notes that a query to a server begins, which is a trial if the server was paused.

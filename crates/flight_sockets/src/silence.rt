@@ -1,6 +1,6 @@
 //! The silence of a name server: since when, and to how many names, it has not answered.
 
-ghost use Rattle.std.specs.Prelude.{◌≡◌, ◌≤◌, ◌+◌, ◌↔◌, IsTrue, IsSomeAnd};
+ghost use Rattle.std.specs.Prelude.{◌≡◌, ◌<◌, ◌≤◌, ◌+◌, ◌↔◌, IsTrue, IsSomeAnd};
 
 use crate::kept::Ends;
 use crate::missed::Missed;
@@ -24,19 +24,23 @@ pub(crate) struct Silence {
     pub missed: Missed,
     /// Its pause for every question.
     pub pause: Pause,
+    /// Its rest: while it lasts, the server is passed over if another of the list answers.
+    pub rest: Pause,
 }
 
 impl Ends for Silence {
-    ghost until = { λ silence. silence.pause.until };
+    ghost use Rattle.flight_sockets.specs.Silences.{matters_until};
+
+    ghost until = { matters_until };
 
     fn until(&self) -> u64 {
-        self.pause.until
+        self.pause.until.max(self.rest.until)
     }
 }
 
 impl Silence {
     ghost use Rattle.flight_sockets.specs.Silences.{answered_at, closed_at, since_with, tried_at, unknown};
-    ghost use Rattle.flight_sockets.specs.Silences.{IsExcused, IsSilent, HasAnsweredLately, Misses};
+    ghost use Rattle.flight_sockets.specs.Silences.{IsAnswering, IsExcused, IsSilent, HasAnsweredLately, Misses};
 
     /// That of a server that was never asked.
     pub fn unknown() -> Silence
@@ -46,6 +50,7 @@ impl Silence {
             since: None,
             missed: Missed::Zero,
             pause: Pause::none(),
+            rest: Pause::none(),
         }
     }
 
@@ -57,6 +62,7 @@ impl Silence {
             since: Some(now),
             missed: Missed::Zero,
             pause: Pause::none(),
+            rest: Pause::none(),
         }
     }
 
@@ -106,6 +112,20 @@ impl Silence {
         }
     }
 
+    /// Whether the server rests.
+    pub fn rests(&self, now: u64) -> bool
+        ensures { IsTrue result ↔ (now < self.now.rest.until) }
+    {
+        self.rest.lasts(now)
+    }
+
+    /// Whether the server answers: it did, and has left no query unanswered since.
+    pub fn answers(&self) -> bool
+        ensures { IsTrue result ↔ IsAnswering self.now }
+    {
+        self.missed.are_none() && self.since.is_some()
+    }
+
     /// Notes that a query for a name went unanswered.
     pub fn miss(&mut self, name: Name, now: u64)
         ensures { Misses name now self.old self.new }
@@ -116,6 +136,7 @@ impl Silence {
         self.since = self.since_with(now);
         let missed = mem::replace(&mut self.missed, Missed::Zero);
         self.missed = missed.with(name);
+        self.rest = self.rest.after(now);
         if !self.is_silent(now) {
             return;
         }
@@ -134,5 +155,6 @@ impl Silence {
         ensures { self.new ≡ tried_at now self.old }
     {
         self.pause = self.pause.trial(now);
+        self.rest = self.rest.trial(now);
     }
 }

@@ -1,17 +1,19 @@
 //! An exchange over a socket of its own.
 
-ghost use Rattle.std.specs.Prelude.{◌≡◌, length, option_map, IfOk, OnErr, OnOk};
+ghost use Rattle.std.specs.Prelude.{◌≡◌, ◌⊎◌, false, true, length, option_map, IfOk, OnErr, OnOk, Some};
 ghost use Rattle.std.specs.Option.{option_copied};
 ghost use Rattle.front_workers.specs.declared.limits.TheConstants.{MOST_MESSAGE};
 ghost use Rattle.dns_sockets.specs.Own.{MayAskServer};
-ghost use Rattle.flight.specs.declared.outside.Listened.TheVariants.{Nothing};
+ghost use Rattle.flight.specs.declared.outside.Listened.TheVariants.{Anew, Broken, Nothing};
 ghost use Rattle.flight.specs.Counted.{CountsOpened};
 ghost use Rattle.flight.specs.Flight.{query_to};
 ghost use Rattle.flight.specs.Told.{IsHeard};
-ghost use Rattle.flight_sockets.specs.Exchanges.{IsNotToBeHad, IsQuiet};
+ghost use Rattle.flight_sockets.specs.Exchanges.{IsNotToBeHad, IsQuiet, IsStruck};
 ghost use Rattle.flight_sockets.specs.Replies.{MayCome};
+ghost use Rattle.flight_sockets.specs.declared.flaw.Flaw.TheVariants.{Misfits};
 
 use crate::fault_line::log_exchange;
+use crate::flaw::Flaw;
 use crate::transport::Way;
 use dns_name::Name;
 use dns_query::Over;
@@ -29,9 +31,9 @@ use std::net::SocketAddr;
 
 /// An exchange over a socket of its own. Contracts see the query that went out, and the token of the socket.
 ///
-/// A reply fits if it has the query's identifier and question. Over UDP each datagram that does not fit is dropped. Over TCP
-/// the exchange breaks if the first message does not fit. It also breaks if its reply would take too long to read. An exchange that
-/// has ended is closed.
+/// A reply fits if it has the query's identifier and question. Over UDP the exchange breaks after `MOST_MISFITS` datagrams that do not
+/// fit, and over TCP if the first message does not fit. It also breaks if its reply would take too long to read. An exchange that has
+/// ended is closed. One that waits for a permit has no socket yet.
 #[derive(Drop)]
 pub(crate) struct SocketLine<R: ReadyNet> {
     server: Addr,
@@ -41,8 +43,10 @@ pub(crate) struct SocketLine<R: ReadyNet> {
     /// The list that has the server, if strangers may have named it.
     list: Option<Shared<Servers>>,
     way: Way<R::Datagrams, R::Connection>,
-    /// Whether a reply came that would take too long to read.
-    dear: bool,
+    /// Whether nothing was sent, since it waits for a permit.
+    waits: bool,
+    /// What is wrong with what came, if that ended it.
+    flaw: Option<Flaw>,
 }
 
 /// Whether a reply came that would take too long to read.
@@ -64,7 +68,8 @@ impl<R: ReadyNet> Model for SocketLine<R> {
       asked = query_to line.server line.over line.query;
       token = line.token;
       zone = option_map (λ list. list.zone) line.list;
-      dear = line.dear;
+      waits = line.waits;
+      flaw = line.flaw;
     } };
 
     ghost invariant = { λ line. IsUnderWay R.Datagrams.opened R.Datagrams.reported R.Datagrams.sent
@@ -73,7 +78,8 @@ impl<R: ReadyNet> Model for SocketLine<R> {
           asked = query_to line.server line.over line.query;
           token = line.token;
           zone = option_map (λ list. list.zone) line.list;
-          dear = line.dear;
+          waits = line.waits;
+          flaw = line.flaw;
         }) line.way };
 }
 
@@ -111,6 +117,7 @@ impl<R: ReadyNet> SocketLine<R> {
         ensures asked { IfOk result (λ line. line.asked ≡ query_to server.now over query) }
         ensures token { IfOk result (λ line. line.token ≡ token) }
         ensures zone { IfOk result (λ line. line.zone ≡ option_map (λ servers. servers.zone) list) }
+        ensures sent { IfOk result (λ line. line.waits ≡ false) }
         ensures opened { OnOk result (CountsOpened counts.old counts.new) }
         ensures unopened { OnErr result (counts.new ≡ counts.old) }
         ensures may_ask { OnOk result (MayAskServer R.Datagrams.opened R.Datagrams.is_at R.Connection.connected R.Connection.is_at
@@ -134,8 +141,51 @@ impl<R: ReadyNet> SocketLine<R> {
             token,
             list,
             way,
-            dear: false,
+            waits: false,
+            flaw: None,
         })
+    }
+
+    /// An exchange that waits for a permit. It sends nothing, and its question begins anew once it is listened to. It is counted as one
+    /// that begins.
+    pub fn waiting(
+        token: Token,
+        server: &Addr,
+        over: Over,
+        list: Option<Shared<Servers>>,
+        query: Shared<Octets>,
+        counts: &mut Counts,
+    ) -> SocketLine<R>
+        ensures asked { result.asked ≡ query_to server.now over query }
+        ensures token { result.token ≡ token }
+        ensures waits { result.waits ≡ true }
+        ensures opened { CountsOpened counts.old counts.new }
+    {
+        counts.open();
+        SocketLine {
+            server: *server,
+            over,
+            query,
+            token,
+            list,
+            way: Way::Waiting,
+            waits: true,
+            flaw: None,
+        }
+    }
+
+    /// Whether it waits for a permit.
+    pub fn waits(&self) -> bool
+        ensures { result ≡ self.now.waits }
+    {
+        self.waits
+    }
+
+    /// The key under which it is watched.
+    pub fn key(&self) -> usize
+        ensures { result ≡ self.now.token.0 }
+    {
+        self.token.0
     }
 
     /// The transport of the query.
@@ -155,11 +205,11 @@ impl<R: ReadyNet> SocketLine<R> {
         }
     }
 
-    /// Whether a reply came that would take too long to read.
-    pub fn is_dear(&self) -> bool
-        ensures { result ≡ self.now.dear }
+    /// What is wrong with what came, if that ended it.
+    pub fn flaw(&self) -> Option<Flaw>
+        ensures { result ≡ self.now.flaw }
     {
-        self.dear
+        self.flaw
     }
 
     /// The octets of the query.
@@ -176,33 +226,45 @@ impl<R: ReadyNet> SocketLine<R> {
 
     /// The cause for which an exchange broke before its time was up. Of a socket that broke, the system reports no other one.
     pub fn cause(&self) -> &'static str {
-        if self.dear {
-            return "too dear to read";
-        }
-        match self.over {
-            Over::Udp => "unreachable",
-            Over::Tcp => "refused or closed",
+        match (self.flaw, self.over) {
+            (Some(flaw), _) => flaw.cause(),
+            (None, Over::Udp) => "unreachable",
+            (None, Over::Tcp) => "refused or closed",
         }
     }
 
-    /// Reads and writes as far as the socket allows.
+    /// Notes that something is wrong with what came, which ended the exchange.
+    fn end_by(&mut self, flaw: Flaw) -> Listened
+        ensures broken { result ≡ Broken }
+        ensures flaw { self.new ≡ record self.old { flaw = Some flaw } }
+    {
+        self.flaw = Some(flaw);
+        Listened::Broken
+    }
+
+    /// Reads and writes as far as the socket allows. Of an exchange that waits for a permit, the question is to begin anew.
     pub fn hear(&mut self, alloc: Global, registry: &Registry, room: &mut [u8]) -> Listened
         requires { length room.old ≡ MOST_MESSAGE }
         ensures heard { IsHeard (MayCome R.Datagrams.opened R.Datagrams.sent R.Datagrams.came
             R.Connection.connected R.Connection.contents R.Connection.remaining self.old.asked) result }
         ensures nothing { result ≡ Nothing → IsQuiet R.Datagrams.sent R.Datagrams.drained R.Datagrams.reported_again self.old }
-        ensures kept { self.new ≡ record self.old { dear = self.new.dear } }
+        ensures anew { result ≡ Anew → self.old.waits ≡ true }
+        ensures struck { self.new.flaw ≡ Some Misfits → (self.old.flaw ≡ Some Misfits) ⊎ IsStruck R.Datagrams.sent R.Datagrams.came self.old }
+        ensures kept { self.new ≡ record self.old { flaw = self.new.flaw } }
     {
         let query = self.query.get().as_slice();
         match self.way.hear(alloc, registry, self.token, query, room) {
-            Listened::Nothing => Listened::Nothing,
-            heard => {
+            Some(Listened::Nothing) => Listened::Nothing,
+            Some(heard) => {
                 self.way = Way::Closed;
                 if is_too_dear(&heard) {
-                    self.dear = true;
-                    return Listened::Broken;
+                    return self.end_by(Flaw::Dear);
                 }
                 heard
+            }
+            None => {
+                self.way = Way::Closed;
+                self.end_by(Flaw::Misfits)
             }
         }
     }

@@ -195,6 +195,11 @@ impl Tally {
         }
     }
 
+    /// Notes that the query that was taken last wants a name server, but waits before it is asked.
+    pub fn put_off(&self) {
+        self.wants_server.store(true, Ordering::SeqCst);
+    }
+
     /// Counts an exchange that brought a response.
     pub fn answer(&self) {
         rise(&self.answered);

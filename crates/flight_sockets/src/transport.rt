@@ -1,13 +1,13 @@
 //! The transport of an exchange.
 
-ghost use Rattle.std.specs.Prelude.{◌≡◌, ◌≢◌, ◌<◌, length};
+ghost use Rattle.std.specs.Prelude.{◌≡◌, ◌≢◌, ◌<◌, length, true, Some, IfSome, IsNone};
 ghost use Rattle.front_workers.specs.declared.limits.TheConstants.{MOST_MESSAGE};
-ghost use Rattle.flight.specs.declared.outside.Listened.TheVariants.{Nothing};
+ghost use Rattle.flight.specs.declared.outside.Listened.TheVariants.{Anew, Nothing};
 ghost use Rattle.flight.specs.Told.{IsHeard};
-ghost use Rattle.flight_sockets.specs.Exchanges.{ExchangeState, HasNoneYet, IsUnderWay, OnUnbroken, WentOn};
+ghost use Rattle.flight_sockets.specs.Exchanges.{ExchangeState, HasMisfit, HasNoneYet, IsUnderWay, OnUnbroken, WentOn};
 ghost use Rattle.flight_sockets.specs.Replies.{IfCame, IsWholeReply, MayCome};
 
-use dns_sockets::{ReadyConnection, ReadySocket, TcpLine, UdpLine, fits};
+use dns_sockets::{Heard, ReadyConnection, ReadySocket, TcpLine, UdpLine, fits};
 use dns_text::Octets;
 use flight::Listened;
 use mio::{Registry, Token};
@@ -19,6 +19,8 @@ use std::io::ErrorKind;
 pub(crate) enum Way<S, C> {
     Udp(UdpLine<S>),
     Tcp(TcpLine<C>),
+    /// Nothing was sent yet: the exchange waits for a permit.
+    Waiting,
     /// The exchange has ended.
     Closed,
 }
@@ -26,7 +28,7 @@ pub(crate) enum Way<S, C> {
 /// A copy of the octets of a reply.
 fn came(alloc: Global, reply: &[u8]) -> Listened
     ensures heard { IfCame (λ octets. octets ≡ reply.now) result }
-    ensures ended { result ≢ Nothing }
+    ensures ended { (result ≢ Nothing) × (result ≢ Anew) }
 {
     match Vec::from_slice(alloc, reply) {
         Ok(octets) => Listened::Came(Octets::new(octets)),
@@ -45,6 +47,7 @@ fn hear_tcp<C: ReadyConnection>(
     ensures asks { line.new.asks ≡ line.old.asks }
     ensures went { OnUnbroken result (WentOn C.contents C.remaining line.old line.new) }
     ensures heard { IfCame (IsWholeReply query.now line.new) result }
+    ensures begun { result ≢ Anew }
 {
     match line.go_on(room) {
         Ok(false) => Listened::Nothing,
@@ -67,7 +70,7 @@ fn hear_tcp<C: ReadyConnection>(
 }
 
 impl<S: ReadySocket, C: ReadyConnection> Way<S, C> {
-    /// Reads and writes as far as the socket allows.
+    /// Reads and writes as far as the socket allows. `None` if too many datagrams came that cannot be the reply.
     pub fn hear(
         &mut self,
         alloc: Global,
@@ -75,24 +78,30 @@ impl<S: ReadySocket, C: ReadyConnection> Way<S, C> {
         token: Token,
         query: &[u8],
         room: &mut [u8],
-    ) -> Listened
+    ) -> Option<Listened>
         requires { length room.old ≡ MOST_MESSAGE }
         ensures heard { (exchange : ExchangeState) → exchange.asked.query ≡ query.now
             → IsUnderWay S.opened S.reported S.sent C.connected C.reported C.contents C.remaining exchange self.old
-            → IsHeard (MayCome S.opened S.sent S.came C.connected C.contents C.remaining exchange.asked) result }
-        ensures nothing { result ≡ Nothing → HasNoneYet S.drained S.reported_again token self.old }
-        ensures goes_on { result ≡ Nothing → (exchange : ExchangeState)
+            → IfSome result (IsHeard (MayCome S.opened S.sent S.came C.connected C.contents C.remaining exchange.asked)) }
+        ensures nothing { result ≡ Some Nothing → HasNoneYet S.drained S.reported_again token self.old }
+        ensures anew { (exchange : ExchangeState)
+            → IsUnderWay S.opened S.reported S.sent C.connected C.reported C.contents C.remaining exchange self.old
+            → result ≡ Some Anew → exchange.waits ≡ true }
+        ensures misfits { IsNone result → HasMisfit S.came query.now self.old }
+        ensures goes_on { result ≡ Some Nothing → (exchange : ExchangeState)
             → IsUnderWay S.opened S.reported S.sent C.connected C.reported C.contents C.remaining exchange self.old
             → IsUnderWay S.opened S.reported S.sent C.connected C.reported C.contents C.remaining exchange self.new }
     {
         match self {
             Way::Udp(line) => match line.hear(registry, token, query, room) {
-                Ok(Some(count)) => came(alloc, &room[..count]),
-                Ok(None) => Listened::Nothing,
-                Err(_) => Listened::Broken,
+                Ok(Heard::Reply(count)) => Some(came(alloc, &room[..count])),
+                Ok(Heard::Nothing) => Some(Listened::Nothing),
+                Ok(Heard::Misfits) => None,
+                Err(_) => Some(Listened::Broken),
             },
-            Way::Tcp(line) => hear_tcp(alloc, line, query, room),
-            Way::Closed => Listened::Broken,
+            Way::Tcp(line) => Some(hear_tcp(alloc, line, query, room)),
+            Way::Waiting => Some(Listened::Anew),
+            Way::Closed => Some(Listened::Broken),
         }
     }
 }

@@ -8,7 +8,7 @@ ghost use Rattle.dns_sockets.specs.Moments.{millis_at, IsRead};
 ghost use Rattle.flight.specs.declared.kept.TheConstants.{MOST_AT_REST};
 ghost use Rattle.flight.specs.declared.table.TheConstants.{PATIENCE, QUESTION_PATIENCE};
 ghost use Rattle.flight.specs.Bounds.{AllGoOn, IsBounded, Relieves, kept_all};
-ghost use Rattle.flight.specs.Waiting.{EarlyGoOn, IsAccounted, IsPatient, IsTimely, outstanding, time_left};
+ghost use Rattle.flight.specs.Waiting.{EarlyGoOn, FlightState, IsAccounted, IsPatient, IsTimely, JoinsNone, outstanding, time_left};
 ghost use Rattle.flight_sockets.specs.Accounts.{GoesOn, fresh_worker};
 ghost use Rattle.flight_sockets.specs.Begun.{AllBegin, BatchBegins, IsBegun, Runs, TakesNone, arrived};
 ghost use Rattle.flight_sockets.specs.Endings.{Endings};
@@ -19,12 +19,13 @@ ghost use Rattle.flight_sockets.specs.Taken.{IsQuery};
 use crate::client::UdpClient;
 use crate::inbox::{Arrival, BATCH, Inbox, Slot};
 use crate::listener::{SERVICE, UdpListener};
+use crate::permits::Permits;
 use crate::service_socket::ServiceSocket;
 use crate::socket_line::SocketLine;
 use crate::tally::Tally;
 use crate::worker_sockets::WorkerSockets;
 use command_text::Clock;
-use dns_sockets::{AddressRange, Elapsing, MonotonicClock, ReadyNet, glance};
+use dns_sockets::{AddressRange, Elapsing, MonotonicClock, ReadyNet};
 use dns_text::NoMemory;
 use flight::{Flight, Numbered};
 use log::Log;
@@ -43,6 +44,9 @@ const MOST_TAKING: u64 = 10;
 
 /// The most events that are handled in one turn, so that a datagram does not wait after many replies.
 const MOST_READY: usize = 16;
+
+/// The most questions that begin anew in one turn, since a permit is free. Most of them are settled by what an equal question cached.
+const MOST_ANEW: usize = 64;
 
 /// The questions of a worker that are in flight.
 pub(crate) type Questions<D, C, G, R, S> = Flight<D, SocketLine<R>, C, G, UdpClient<S>>;
@@ -85,6 +89,7 @@ impl<'a, R: ReadyNet + Log + Elapsing, S: ServiceSocket> Turns<'a, R, S> {
         listener: UdpListener<S>,
         server_port: u16,
         do_not_query: &'a [AddressRange],
+        permits: &'a Permits,
         seed: u64,
         start: Instant,
     ) -> Result<Turns<'a, R, S>, NoMemory>
@@ -98,6 +103,7 @@ impl<'a, R: ReadyNet + Log + Elapsing, S: ServiceSocket> Turns<'a, R, S> {
                 listener,
                 server_port,
                 do_not_query,
+                permits,
                 seed,
             )?,
             clock: MonotonicClock::new(rt, start),
@@ -221,7 +227,7 @@ impl<'a, R: ReadyNet + Log + Elapsing, S: ServiceSocket> Turns<'a, R, S> {
         Ok(true)
     }
 
-    /// Ends each exchange that is overdue, at a reading of the clock.
+    /// Ends each exchange that is overdue, at a reading of the clock. Then questions whose exchanges wait for a permit begin anew.
     fn expire<D: Numbered, C: Clock, G: Rng>(
         &mut self,
         desk: &mut D,
@@ -233,11 +239,13 @@ impl<'a, R: ReadyNet + Log + Elapsing, S: ServiceSocket> Turns<'a, R, S> {
         ensures read { IsRead R.passed self.old.clock self.new.clock }
         ensures patient { IsPatient PATIENCE (millis_at self.new.clock.last) questions.new }
         ensures timely { IsTimely QUESTION_PATIENCE (millis_at self.new.clock.last) questions.new }
-        ensures early { EarlyGoOn PATIENCE (millis_at self.new.clock.last) questions.old questions.new }
+        ensures early { (left : FlightState) × EarlyGoOn PATIENCE (millis_at self.new.clock.last) questions.old left
+            × JoinsNone left questions.new }
     {
         let now = self.clock.millis();
         self.sockets.set_now(now);
         questions.expire(desk, &mut self.sockets, now);
+        begin_anew(&mut self.sockets, desk, questions, now);
     }
 
     /// Ends the questions that keep most, one after another, until all that wait keep at most `MOST_AT_REST`.
@@ -253,8 +261,8 @@ impl<'a, R: ReadyNet + Log + Elapsing, S: ServiceSocket> Turns<'a, R, S> {
         questions.relieve(&mut self.sockets);
     }
 
-    /// Goes on with the questions that wait: listens to their exchanges, ends those that are overdue, and then the questions that
-    /// keep too much.
+    /// Goes on with the questions that wait: listens to their exchanges, ends those that are overdue, begins those anew for which a
+    /// permit is free, and then ends the questions that keep too much.
     fn go_on<D: Numbered, C: Clock, G: Rng>(
         &mut self,
         desk: &mut D,
@@ -297,7 +305,7 @@ impl<'a, R: ReadyNet + Log + Elapsing, S: ServiceSocket> Turns<'a, R, S> {
         let wait = if were_left {
             Duration::ZERO
         } else {
-            patience(&mut self.clock, questions, glance())
+            patience(&mut self.clock, questions, self.sockets.most_wait())
         };
         self.sockets.wait(&mut self.events, wait)
     }
@@ -365,5 +373,31 @@ fn look_all<D: Numbered, C: Clock, G: Rng, R: ReadyNet + Log + Elapsing, S: Serv
             sockets.set_now(now);
             questions.look(desk, sockets, now, token.0);
         }
+    }
+}
+
+/// Begins questions anew whose exchanges wait for a permit that is free by now.
+fn begin_anew<D: Numbered, C: Clock, G: Rng, R: ReadyNet + Log, S: ServiceSocket>(
+    sockets: &mut WorkerSockets<'_, R, S>,
+    desk: &mut D,
+    questions: &mut Questions<D, C, G, R, S>,
+    now: u64,
+)
+    requires patient { IsPatient PATIENCE now questions.old }
+    requires timely { IsTimely QUESTION_PATIENCE now questions.old }
+    ensures accounted { IsAccounted 0 (outstanding questions.old) sockets.old.counts (outstanding questions.new) sockets.new.counts }
+    ensures ends { Endings S.takes S.sends 0 (outstanding questions.old) sockets.old.outbox (outstanding questions.new) sockets.new.outbox }
+    ensures joins_none { JoinsNone questions.old questions.new }
+    ensures no_more { outstanding questions.new ≤ outstanding questions.old }
+    ensures bounded { IsBounded questions.old → IsBounded questions.new }
+    ensures limit { questions.new.limit ≡ questions.old.limit }
+    ensures patient { IsPatient PATIENCE now questions.new }
+    ensures timely { IsTimely QUESTION_PATIENCE now questions.new }
+{
+    for _ in 0..MOST_ANEW {
+        let Some(key) = sockets.next_permitted() else {
+            return;
+        };
+        questions.look(desk, sockets, now, key);
     }
 }

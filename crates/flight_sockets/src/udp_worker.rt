@@ -12,6 +12,7 @@ ghost use Rattle.flight_sockets.specs.Begun.{Runs, none_in_flight};
 use crate::fault_line::cause_of;
 use crate::inbox::Inbox;
 use crate::listener::UdpListener;
+use crate::permits::Permits;
 use crate::service_socket::ServiceSocket;
 use crate::tally::Tally;
 use crate::turns::Turns;
@@ -46,7 +47,7 @@ impl<'a, R, S: ServiceSocket> Model for UdpWorker<'a, R, S> {
 
 impl<'a, R: ReadyNet + Log + Elapsing, S: ServiceSocket> UdpWorker<'a, R, S> {
     /// Takes datagrams at a listener. Name servers that are known by name are queried at this port, and none that strangers named in
-    /// these ranges. Exchanges are timed from `start` on. What it does is counted in a tally.
+    /// these ranges. All workers share the permits. Exchanges are timed from `start` on. What it does is counted in a tally.
     pub fn new(
         rt: &'a R,
         tally: &'a Tally,
@@ -54,6 +55,7 @@ impl<'a, R: ReadyNet + Log + Elapsing, S: ServiceSocket> UdpWorker<'a, R, S> {
         listener: UdpListener<S>,
         server_port: u16,
         do_not_query: &'a [AddressRange],
+        permits: &'a Permits,
         seed: u64,
         start: Instant,
     ) -> Result<UdpWorker<'a, R, S>, NoMemory>
@@ -68,6 +70,7 @@ impl<'a, R: ReadyNet + Log + Elapsing, S: ServiceSocket> UdpWorker<'a, R, S> {
                 listener,
                 server_port,
                 do_not_query,
+                permits,
                 seed,
                 start,
             )?,

@@ -1,12 +1,13 @@
 //! The sockets of one worker.
 
-ghost use Rattle.std.specs.Prelude.{◌≡◌, ◌⊎◌, ◌≤◌, [], ◌∷◌, false, length, map, take, true, vec_len, IfNone, IfOk, IfSome, OnErr, OnSome};
+ghost use Rattle.std.specs.Prelude.{◌≡◌, ◌⊎◌, ◌≤◌, [], ◌∷◌, false, length, map, take, true, vec_len};
+ghost use Rattle.std.specs.Prelude.{IfNone, IfOk, IfSome, IsSomeAnd, OnErr, OnSome};
 ghost use Rattle.std.specs.Option.{option_copied};
 ghost use Rattle.dns_sockets.specs.Own.{MayAskServer};
 ghost use Rattle.dns_sockets.specs.Withheld.{IsWithheld};
 ghost use Rattle.front_workers.specs.declared.limits.TheConstants.{MOST_MESSAGE};
 ghost use Rattle.front_workers.specs.Serves.{fault_octets};
-ghost use Rattle.flight.specs.declared.outside.Listened.TheVariants.{Nothing};
+ghost use Rattle.flight.specs.declared.outside.Listened.TheVariants.{Anew, Nothing};
 ghost use Rattle.flight.specs.Counted.{CountsAbandoned, CountsExpired, CountsListened, CountsOpened, no_counts};
 ghost use Rattle.flight.specs.Flight.{query_to};
 ghost use Rattle.flight.specs.Told.{octets_of, IsHeard, Keeps};
@@ -15,29 +16,34 @@ ghost use Rattle.flight_sockets.specs.Endings.{IsTooLong, Refuses};
 ghost use Rattle.flight_sockets.specs.Begun.{arrived, fronts_of};
 ghost use Rattle.flight_sockets.specs.Moves.{AllMoved, datagram_to};
 ghost use Rattle.flight_sockets.specs.Outgoing.{OutboxState, Posts, PostsTo};
-ghost use Rattle.flight_sockets.specs.Pauses.{EndsEarly, HeedsPause, IsPassedOver, Loses, NotesBroken, NotesHeard};
+ghost use Rattle.flight_sockets.specs.Pauses.{others_in, EndsEarly, HeedsPause, IsPassedOver, Loses, NotesBroken, NotesHeard};
 ghost use Rattle.flight_sockets.specs.Refusals.{IsLeftAlone, LooksUpList, NotesAnswer, list_of_strangers};
 ghost use Rattle.flight_sockets.specs.Replies.{MayCome};
 ghost use Rattle.flight_sockets.specs.declared.inbox.TheConstants.{BATCH};
 
 use crate::client::UdpClient;
 use crate::fault_line::{cause_of, log_exchange, log_too_long};
+use crate::flaw::Flaw;
 use crate::inbox::{BATCH, Inbox};
 use crate::listener::UdpListener;
+use crate::others::others_of;
 use crate::outbox::Outbox;
 use crate::pauses::Pauses;
+use crate::permits::Permits;
 use crate::refusals::Refusals;
 use crate::refused_zones::list_of_strangers;
 use crate::service_socket::ServiceSocket;
 use crate::socket_line::SocketLine;
 use crate::tally::Tally;
+use crate::worker_permits::{PERMIT_GLANCE, WorkerPermits};
 use command_text::Clock;
 use dns_query::Over;
-use dns_sockets::{AddressRange, ReadyNet, is_withheld};
+use dns_sockets::{AddressRange, ReadyNet, glance, is_withheld};
 use dns_text::{Addr, NoMemory, Octets, Shared};
 use dns_wire::{HEADER_OCTETS, Rcode, fault_reply};
 use flight::{Counts, InFlight, Listened, Numbered, Outside, ReplyOctets, Unserved};
 use front_workers::{DEVICE_FAULT, MOST_MESSAGE, wants_reply};
+use history::Servers;
 use iterate::Hunt;
 use log::{Log, warn};
 use mio::{Events, Poll, Token};
@@ -75,42 +81,45 @@ fn note_broken(pauses: &mut Pauses, server: &Addr, over: Over, now: u64)
     }
 }
 
-/// Notes that an exchange ended before its time: its reply is too dear to read, or it broke.
+/// Notes that an exchange ended before its time: something is wrong with what came, or it broke.
 fn note_early_end(
     alloc: Global,
     pauses: &mut Pauses,
-    dear: bool,
+    flaw: Option<Flaw>,
     server: &Addr,
     over: Over,
     query: &[u8],
     now: u64,
 )
-    ensures { EndsEarly dear server.now over query.now now pauses.old pauses.new }
+    ensures { EndsEarly flaw server.now over query.now now pauses.old pauses.new }
 {
-    match dear {
-        true => pauses.note_answered(alloc, server, over, query, now),
-        false => note_broken(pauses, server, over, now),
+    match flaw {
+        None => note_broken(pauses, server, over, now),
+        Some(Flaw::Dear) => pauses.note_answered(alloc, server, over, query, now),
+        Some(Flaw::Misfits) => pauses.note_misfits(alloc, server, over, query, now),
     }
 }
 
-/// Notes what an exchange says of its server: that it answered, even if too dear to read, or that its port is closed.
+/// Notes what an exchange says of its server: that it answered, even if too dear to read, that its port is closed, or that others
+/// may answer in its name.
 fn note_heard(
     alloc: Global,
     pauses: &mut Pauses,
     heard: &Listened,
-    dear: bool,
+    flaw: Option<Flaw>,
     server: &Addr,
     over: Over,
     query: &[u8],
     now: u64,
 )
-    ensures { NotesHeard heard.now dear server.now over query.now now pauses.old pauses.new }
+    ensures { NotesHeard heard.now flaw server.now over query.now now pauses.old pauses.new }
 {
     match heard {
         Listened::Nothing => {}
+        Listened::Anew => {}
         Listened::Came(_) => pauses.note_answered(alloc, server, over, query, now),
         Listened::NoMemory => pauses.note_answered(alloc, server, over, query, now),
-        Listened::Broken => note_early_end(alloc, pauses, dear, server, over, query, now),
+        Listened::Broken => note_early_end(alloc, pauses, flaw, server, over, query, now),
     }
 }
 
@@ -135,6 +144,8 @@ pub(crate) struct WorkerSockets<'a, R, S: ServiceSocket> {
     pauses: Pauses,
     /// Which servers refused which zones lately.
     refusals: Refusals,
+    /// The permits of the exchanges.
+    permits: WorkerPermits<'a>,
     /// The moment of the exchanges that begin and end, in milliseconds.
     moment: u64,
     counts: Counts,
@@ -151,6 +162,7 @@ impl<'a, R: Log, S: ServiceSocket> WorkerSockets<'a, R, S> {
         listener: UdpListener<S>,
         server_port: u16,
         do_not_query: &'a [AddressRange],
+        permits: &'a Permits,
         seed: u64,
     ) -> Result<WorkerSockets<'a, R, S>, NoMemory>
         ensures port { IfOk result (λ sockets. sockets.server_port ≡ server_port) }
@@ -175,6 +187,7 @@ impl<'a, R: Log, S: ServiceSocket> WorkerSockets<'a, R, S> {
             do_not_query,
             pauses: Pauses::new(alloc, seed)?,
             refusals: Refusals::new(alloc, seed)?,
+            permits: WorkerPermits::new(alloc, permits)?,
             moment: 0,
             counts: Counts::new(),
         })
@@ -208,6 +221,23 @@ impl<'a, R: Log, S: ServiceSocket> WorkerSockets<'a, R, S> {
         ensures kept { self.new.outbox ≡ self.old.outbox }
     {
         self.moment = now;
+    }
+
+    /// How long a wait may take: not long while an exchange waits for a permit, which another worker may give back.
+    pub fn most_wait(&self) -> Duration {
+        if self.permits.are_wanted() {
+            return Duration::from_millis(PERMIT_GLANCE);
+        }
+        glance()
+    }
+
+    /// The key of an exchange that waits for a permit which is free by now.
+    pub fn next_permitted(&mut self) -> Option<usize>
+        ensures port { self.new.server_port ≡ self.old.server_port }
+        ensures counts { self.new.counts ≡ self.old.counts }
+        ensures kept { self.new.outbox ≡ self.old.outbox }
+    {
+        self.permits.next(self.moment)
     }
 
     /// Waits until a socket reports something, but no longer than this.
@@ -271,6 +301,75 @@ impl<'a, R: Log, S: ServiceSocket> WorkerSockets<'a, R, S> {
     }
 }
 
+impl<'a, R: ReadyNet + Log, S: ServiceSocket> WorkerSockets<'a, R, S> {
+    /// Begins an exchange, which has its permit. Returns `None` if it could not begin.
+    fn begin(
+        &mut self,
+        key: usize,
+        server: &Addr,
+        list: Option<Shared<Servers>>,
+        over: Over,
+        query: Shared<Octets>,
+    ) -> Option<SocketLine<R>>
+        ensures asked { IfSome result (λ line. line.asked ≡ query_to server.now over query) }
+        ensures watched { IfSome result (λ line. line.token.0 ≡ key) }
+        ensures sent { IfSome result (λ line. line.waits ≡ false) }
+        ensures opened { OnSome result (CountsOpened self.old.counts self.new.counts) }
+        ensures unopened { IfNone result (self.new.counts ≡ self.old.counts) }
+        ensures keeps { Keeps (λ sockets. sockets.server_port) (λ sockets. sockets.outbox) self.old self.new }
+        ensures may_ask { OnSome result (MayAskServer R.Datagrams.opened R.Datagrams.is_at R.Connection.connected R.Connection.is_at
+            over self.old.place server.now) }
+        ensures failed { IfNone result (IsNotToBeHad R.failed R.Datagrams.opened R.Datagrams.is_at R.Datagrams.failed
+            self.old.place server.now over) }
+        ensures unnoted { (self.new.pauses ≡ self.old.pauses) × (self.new.refusals ≡ self.old.refusals) }
+    {
+        self.tally.ask(over);
+        let asked = query.share();
+        match SocketLine::open(
+            self.rt,
+            self.alloc,
+            self.poll.registry(),
+            Token(key),
+            self.place,
+            server,
+            over,
+            list,
+            query,
+            &mut self.counts,
+        ) {
+            Ok(line) => Some(line),
+            Err(error) => {
+                self.permits.end(key);
+                self.tally.give_up();
+                if let Ok(asked) = asked {
+                    let cause = cause_of(&error);
+                    log_exchange(self.rt, self.alloc, cause, server, asked.get().as_slice());
+                }
+                None
+            }
+        }
+    }
+
+    /// Counts and logs what was heard of an exchange, and gives its permit back if it has ended.
+    fn tell_heard(&mut self, heard: &Listened, line: &SocketLine<R>)
+        ensures counts { self.new.counts ≡ self.old.counts }
+        ensures keeps { Keeps (λ sockets. sockets.server_port) (λ sockets. sockets.outbox) self.old self.new }
+        ensures unnoted { (self.new.pauses ≡ self.old.pauses) × (self.new.refusals ≡ self.old.refusals) }
+        ensures moment { self.new.moment ≡ self.old.moment }
+    {
+        match heard {
+            Listened::Nothing => return,
+            Listened::Anew => {}
+            Listened::Came(_) | Listened::NoMemory => self.tally.answer(),
+            Listened::Broken => {
+                self.tally.give_up();
+                line.log_failure(self.rt, self.alloc, line.cause());
+            }
+        }
+        self.permits.end(line.key());
+    }
+}
+
 impl<'a, D: Numbered, C: Clock, R: ReadyNet + Log, S: ServiceSocket> Outside<
     D,
     SocketLine<R>,
@@ -304,26 +403,28 @@ impl<'a, D: Numbered, C: Clock, R: ReadyNet + Log, S: ServiceSocket> Outside<
         over: Over,
         query: Shared<Octets>,
     ) -> Option<SocketLine<R>>
-        // As for any `Outside`. Also, the service may ask that server, which is not withheld and has not refused the zone lately.
-        // Over UDP there is an exchange unless that is so, the server is passed over, for every question or for this one, the
-        // network failed, the address belongs to no host, or the server is the service itself.
+        // As for any `Outside`. Also, the server is not withheld and has not refused the zone lately, and if a query left, the service
+        // may ask that server. Over UDP there is an exchange unless that is so, the server is passed over, for every question or for
+        // this one, the network failed, the address belongs to no host, or the server is the service itself.
         ensures asked { IfSome result (λ line. line.asked ≡ query_to server.now over query) }
         ensures watched { IfSome result (λ line. line.token.0 ≡ key) }
         ensures opened { OnSome result (CountsOpened self.old.counts self.new.counts) }
         ensures unopened { IfNone result (self.new.counts ≡ self.old.counts) }
         ensures unanswered { IfNone result (Unit {0}) }
         ensures keeps { Keeps (λ sockets. sockets.server_port) (λ sockets. sockets.outbox) self.old self.new }
-        ensures may_ask { OnSome result (¬ (IsWithheld self.old.do_not_query.now server.now (option_copied hunt.entry))
+        ensures may_ask { IfSome result (λ line. ¬ (IsWithheld self.old.do_not_query.now server.now (option_copied hunt.entry))
             × LooksUpList server.now over (list_of_strangers (option_copied hunt.entry)) self.old.moment self.old.refusals
-            × MayAskServer R.Datagrams.opened R.Datagrams.is_at R.Connection.connected R.Connection.is_at over self.old.place server.now) }
+            × (line.waits ≡ false → MayAskServer R.Datagrams.opened R.Datagrams.is_at R.Connection.connected R.Connection.is_at
+            over self.old.place server.now)) }
         ensures failed { IfNone result (
             IsLeftAlone self.old.do_not_query.now server.now over (option_copied hunt.entry) self.old.moment self.old.refusals
-            ⊎ (IsPassedOver server.now over query self.old.moment self.old.pauses
+            ⊎ (IsPassedOver server.now (others_in (option_copied hunt.entry)) over query self.old.moment self.old.pauses
             ⊎ IsNotToBeHad R.failed R.Datagrams.opened R.Datagrams.is_at R.Datagrams.failed self.old.place server.now over)) }
         ensures pauses { (self.new.refusals ≡ self.old.refusals)
             × HeedsPause
             (IsLeftAlone self.old.do_not_query.now server.now over (option_copied hunt.entry) self.old.moment self.old.refusals)
-            result server.now over query self.old.moment self.old.pauses self.new.pauses }
+            (IsSomeAnd result (λ line. line.waits ≡ true))
+            result server.now (others_in (option_copied hunt.entry)) over query self.old.moment self.old.pauses self.new.pauses }
     {
         let octets = query.get().as_slice();
         if is_withheld(self.do_not_query, server, hunt) {
@@ -334,37 +435,30 @@ impl<'a, D: Numbered, C: Clock, R: ReadyNet + Log, S: ServiceSocket> Outside<
         if self.refusals.has_list(server, over, list, self.moment) {
             return None;
         }
-        if !self
-            .pauses
-            .lets_through(self.alloc, server, over, octets, self.moment)
-        {
+        let shared = list.and_then(|list| list.share().ok());
+        if !self.permits.ask(key, octets) {
+            self.tally.put_off();
+            return Some(SocketLine::waiting(
+                Token(key),
+                server,
+                over,
+                shared,
+                query,
+                &mut self.counts,
+            ));
+        }
+        if !self.pauses.lets_through(
+            self.alloc,
+            server,
+            others_of(hunt),
+            over,
+            octets,
+            self.moment,
+        ) {
+            self.permits.end(key);
             return None;
         }
-        self.tally.ask(over);
-        let asked = query.share();
-        let registry = self.poll.registry();
-        match SocketLine::open(
-            self.rt,
-            self.alloc,
-            registry,
-            Token(key),
-            self.place,
-            server,
-            over,
-            list.and_then(|list| list.share().ok()),
-            query,
-            &mut self.counts,
-        ) {
-            Ok(line) => Some(line),
-            Err(error) => {
-                self.tally.give_up();
-                if let Ok(asked) = asked {
-                    let cause = cause_of(&error);
-                    log_exchange(self.rt, self.alloc, cause, server, asked.get().as_slice());
-                }
-                None
-            }
-        }
+        self.begin(key, server, shared, over, query)
     }
 
     fn hear(&mut self, line: &mut SocketLine<R>) -> Listened
@@ -379,7 +473,8 @@ impl<'a, D: Numbered, C: Clock, R: ReadyNet + Log, S: ServiceSocket> Outside<
         ensures nothing { result ≡ Nothing → IsQuiet R.Datagrams.sent R.Datagrams.drained R.Datagrams.reported_again line.old }
         ensures refusals { NotesAnswer result line.old.asked.server line.old.asked.over line.old.zone
             self.old.moment self.old.refusals self.new.refusals }
-        ensures pauses { NotesHeard result line.new.dear line.old.asked.server line.old.asked.over line.old.asked.query
+        ensures anew { result ≡ Anew → line.old.waits ≡ true }
+        ensures pauses { NotesHeard result line.new.flaw line.old.asked.server line.old.asked.over line.old.asked.query
             self.old.moment self.old.pauses self.new.pauses }
     {
         let heard = line.hear(self.alloc, self.poll.registry(), &mut self.room);
@@ -388,20 +483,13 @@ impl<'a, D: Numbered, C: Clock, R: ReadyNet + Log, S: ServiceSocket> Outside<
             self.alloc,
             &mut self.pauses,
             &heard,
-            line.is_dear(),
+            line.flaw(),
             &line.server(),
             line.over(),
             line.query(),
             self.moment,
         );
-        match &heard {
-            Listened::Nothing => {}
-            Listened::Came(_) | Listened::NoMemory => self.tally.answer(),
-            Listened::Broken => {
-                self.tally.give_up();
-                line.log_failure(self.rt, self.alloc, line.cause());
-            }
-        }
+        self.tell_heard(&heard, line);
         self.refusals.note_heard(
             &heard,
             &line.server(),
@@ -413,11 +501,18 @@ impl<'a, D: Numbered, C: Clock, R: ReadyNet + Log, S: ServiceSocket> Outside<
     }
 
     fn expire(&mut self, line: SocketLine<R>)
-        // As for any `Outside`. Also, the server let a query go unanswered.
+        // As for any `Outside`. Also, the server let a query go unanswered, unless none was sent.
         ensures expired { CountsExpired self.old.counts self.new.counts }
         ensures keeps { Keeps (λ sockets. sockets.server_port) (λ sockets. sockets.outbox) self.old self.new }
-        ensures pauses { Loses line.asked.server line.asked.over line.asked.query self.old.moment self.old.pauses self.new.pauses }
+        ensures unsent { line.waits ≡ true → self.new.pauses ≡ self.old.pauses }
+        ensures pauses { line.waits ≡ false
+            → Loses line.asked.server line.asked.over line.asked.query self.old.moment self.old.pauses self.new.pauses }
     {
+        self.permits.end(line.key());
+        self.counts.expire();
+        if line.waits() {
+            return;
+        }
         self.pauses.note_unanswered(
             self.alloc,
             &line.server(),
@@ -425,19 +520,21 @@ impl<'a, D: Numbered, C: Clock, R: ReadyNet + Log, S: ServiceSocket> Outside<
             line.query(),
             self.moment,
         );
-        self.counts.expire();
         self.tally.give_up();
         line.log_failure(self.rt, self.alloc, "timed out");
     }
 
-    fn abandon(&mut self, _line: SocketLine<R>)
+    fn abandon(&mut self, line: SocketLine<R>)
         // As for any `Outside`. Also, nothing is noted of the server.
         ensures abandoned { CountsAbandoned self.old.counts self.new.counts }
         ensures keeps { Keeps (λ sockets. sockets.server_port) (λ sockets. sockets.outbox) self.old self.new }
         ensures unnoted { (self.new.pauses ≡ self.old.pauses) × (self.new.refusals ≡ self.old.refusals) }
     {
+        self.permits.end(line.key());
         self.counts.abandon();
-        self.tally.give_up();
+        if !line.waits() {
+            self.tally.give_up();
+        }
     }
 
     fn give(&mut self, client: UdpClient<S>, octets: &[u8], reply: ReplyOctets) {

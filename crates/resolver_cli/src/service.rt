@@ -21,7 +21,7 @@ use crate::worker::{
 };
 use cell_store::NameSeed;
 use dns_sockets::{descriptor_limit, place_of};
-use flight_sockets::{Waker, most_exchanges};
+use flight_sockets::{Permits, Waker, most_exchanges};
 use history::Book;
 use log::{Log, info};
 use resolver_args::Service;
@@ -245,6 +245,9 @@ where
     let Ok(descriptors) = descriptor_limit() else {
         return Err(CliFault::cannot_start());
     };
+    let Ok(permits) = Permits::new(alloc, drawn_seed(rt)?) else {
+        return Err(CliFault::no_memory());
+    };
     // Moved out of the settings, since the terms borrow it while others are moved.
     let do_not_query = service.do_not_query;
     let terms = Terms {
@@ -255,6 +258,7 @@ where
         server_port: service.settings.server_port,
         exchanges: most_exchanges(descriptors, service.udp),
         do_not_query: do_not_query.as_slice(),
+        permits: &permits,
         start,
     };
     let exchanges = terms.exchanges.saturating_mul(usize::from(terms.udp));

@@ -9,7 +9,7 @@ use crate::gauges::Gauges;
 use crate::sockets::Sockets;
 use crate::tallied::{TalliedExchange, TalliedListener};
 use dns_sockets::{AddressRange, Connections, MonotonicClock, SocketExchange};
-use flight_sockets::{Tally, UdpListener, UdpWorker, fly_udp};
+use flight_sockets::{Permits, Tally, UdpListener, UdpWorker, fly_udp};
 use front_workers::{Tools, work_tcp};
 use log::Log;
 use rand::rngs::StdRng;
@@ -45,6 +45,8 @@ pub(crate) struct Terms<'a> {
     pub exchanges: usize,
     /// The addresses that are queried only as those of stubs or hints.
     pub do_not_query: &'a [AddressRange],
+    /// The permits of the exchanges of all UDP workers.
+    pub permits: &'a Permits,
     /// The instant from which every worker's clock counts.
     pub start: Instant,
 }
@@ -129,6 +131,7 @@ where
             listener,
             terms.server_port,
             terms.do_not_query,
+            terms.permits,
             seed,
             terms.start,
         ) else {

@@ -3,6 +3,10 @@
 ghost use Rattle.std.specs.Prelude.{◌≡◌, ◌↔◌, IsTrue};
 ghost use Rattle.dns_sockets.specs.Fits.{Fits};
 
+/// The datagrams that cannot be the reply after which an exchange fails. Each is a guess at the identifier of the query, and the
+/// socket of the exchange takes no more of them (RFC 5452, section 9.2).
+pub const MOST_MISFITS: u8 = 2;
+
 /// Whether two runs of octets are equal.
 fn same(one: &[u8], other: &[u8]) -> bool
     ensures { IsTrue result ↔ (one.now ≡ other.now) }

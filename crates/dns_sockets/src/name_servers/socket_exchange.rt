@@ -14,7 +14,7 @@ ghost use Rattle.front_workers.specs.declared.device.DeviceFault.TheVariants.{De
 
 use crate::deadline::{Deadline, glance};
 use crate::lengths::MOST_FRAMED;
-use crate::name_servers::fitting::fits;
+use crate::name_servers::fitting::{MOST_MISFITS, fits};
 use crate::name_servers::own::{check_host, check_other, may_be_own};
 use crate::name_servers::place::place_of;
 use crate::name_servers::range::AddressRange;
@@ -22,6 +22,7 @@ use crate::name_servers::server_net::ServerNet;
 use crate::name_servers::timed::Timed;
 use crate::name_servers::withheld::is_withheld;
 use crate::stop_flag::{StopFlag, put_off};
+use crate::waiting::MOST_CALLS;
 use dns_query::Over;
 use dns_text::{Addr, NoMemory, Octets};
 use front_workers::{DEVICE_FAULT, DeviceFault, Exchange, MOST_MESSAGE, is_dear};
@@ -33,14 +34,11 @@ use std::io::{ErrorKind, Read, Write};
 use std::net::SocketAddr;
 use std::rt::Clock;
 
-/// The most datagrams that one exchange takes. The deadline ends most exchanges earlier.
-const MOST_DATAGRAMS: u32 = 65_536;
-
 /// A client of name servers over sockets, with a new socket for each query.
 ///
 /// An exchange may take `PATIENCE_SECONDS`, connecting included. A reply fits if it has the query's identifier and question.
-/// - Over UDP the socket is connected to the server (RFC 5452, section 9.2), at a port that the system draws. Datagrams that do
-///   not fit the query are dropped.
+/// - Over UDP the socket is connected to the server (RFC 5452, section 9.2), at a port that the system draws. The exchange
+///   fails after `MOST_MISFITS` datagrams that do not fit the query.
 /// - Over TCP each message is preceded by its length in two octets (RFC 1035, section 4.2.2). The exchange fails if the first message
 ///   does not fit.
 ///
@@ -120,7 +118,8 @@ fn ask_udp<R: ServerNet + Clock, F: StopFlag>(
     let socket = rt.open_socket(place, may_be_own(service, place))?;
     check_other(service, rt.place_of_socket(&socket)?, place)?;
     rt.send_datagram(&socket, query)?;
-    for _ in 0..MOST_DATAGRAMS {
+    let mut misfits = 0u8;
+    for _ in 0..MOST_CALLS {
         let left = deadline.left(rt)?;
         match rt.take_datagram(&socket, room, left.min(glance())) {
             Ok(count) => {
@@ -129,6 +128,10 @@ fn ask_udp<R: ServerNet + Clock, F: StopFlag>(
                         return Err(io::Error::from(ErrorKind::InvalidData));
                     }
                     return Ok(count);
+                }
+                misfits = misfits.saturating_add(1);
+                if misfits >= MOST_MISFITS {
+                    return Err(io::Error::from(ErrorKind::InvalidData));
                 }
             }
             Err(error) => {

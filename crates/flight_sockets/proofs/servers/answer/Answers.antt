@@ -5,7 +5,7 @@ use Rattle.flight_sockets.specs.declared.servers.TheConstants.{MOST_SERVERS}
 use Rattle.flight_sockets.specs.declared.silence.Silence.{Silence}
 use Rattle.flight_sockets.specs.Kept.{Adds}
 use Rattle.flight_sockets.specs.Kept.Remembers.{known}
-use Rattle.flight_sockets.specs.Silences.{answered_at}
+use Rattle.flight_sockets.specs.Silences.{answered_at, matters_until}
 use Rattle.flight_sockets.specs.Pauses.{server_eq}
 use Rattle.flight_sockets.proofs.Remembering.{remembered_new}
 use Rattle.flight_sockets.proofs.servers.answer.Goals as goal
@@ -20,6 +20,6 @@ returns-in-Some-clause-remembers c =
 pub returns-clause-remembers : goal.returns-clause-remembers
 returns-clause-remembers c =
     let none : get server_eq c.args.servers.now c.args.server ≡ None = grind (arith, common_steps) in
-    remembered_new server_eq (λ (s : Silence). s.pause.until) MOST_SERVERS c.args.now c.args.server (answered_at c.args.now) c.args.servers.now c.get_mut.follows.lender-at-none c.add.new.kept
+    remembered_new server_eq matters_until MOST_SERVERS c.args.now c.args.server (answered_at c.args.now) c.args.servers.now c.get_mut.follows.lender-at-none c.add.new.kept
     c.get_mut.follows.holds-at-none none
-    (subst (λ (s : Silence). Adds server_eq (λ (s : Silence). s.pause.until) MOST_SERVERS c.args.now c.args.server s c.get_mut.follows.lender-at-none c.add.new.kept) c.answered-2.ensures c.add.ensures.adds)
+    (subst (λ (s : Silence). Adds server_eq matters_until MOST_SERVERS c.args.now c.args.server s c.get_mut.follows.lender-at-none c.add.new.kept) c.answered-2.ensures c.add.ensures.adds)

@@ -6,7 +6,7 @@ use Rattle.flight_sockets.specs.declared.servers.TheConstants.{MOST_SERVERS}
 use Rattle.flight_sockets.specs.declared.silence.Silence.{Silence}
 use Rattle.flight_sockets.specs.Kept.{Adds}
 use Rattle.flight_sockets.specs.Kept.Remembers.{known}
-use Rattle.flight_sockets.specs.Silences.{closed_at, unknown}
+use Rattle.flight_sockets.specs.Silences.{closed_at, matters_until, unknown}
 use Rattle.flight_sockets.specs.Pauses.{server_eq}
 use Rattle.flight_sockets.proofs.Remembering.{remembered_new}
 use Rattle.flight_sockets.proofs.servers.close.Goals as goal
@@ -25,6 +25,6 @@ returns-clause-remembers c =
     let servers = c.args.servers.now in
     let none : get server_eq servers c.args.server ≡ None = grind (arith, common_steps) in
     let is = c.close-2.ensures ∙ (ap (λ (s : Silence). closed_at c.args.now s) c.unknown-silence.ensures ∙ ap (λ (o : Option Silence). closed_at c.args.now (unwrap_or o unknown)) (sym none)) in
-    let until = λ (s : Silence). s.pause.until in
+    let until = matters_until in
     remembered_new server_eq until MOST_SERVERS c.args.now c.args.server _ servers c.get_mut.follows.lender-at-none c.add.new.kept c.get_mut.follows.holds-at-none none
     (subst (λ (s : Silence). Adds server_eq until MOST_SERVERS c.args.now c.args.server s c.get_mut.follows.lender-at-none c.add.new.kept) is c.add.ensures.adds)

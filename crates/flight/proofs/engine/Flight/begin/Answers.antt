@@ -1,6 +1,8 @@
-use Rattle.std.proofs.Common.{refl}
+use Rattle.std.proofs.Common.{◌∙◌, ℕ, ap, max, refl}
 use Rattle.flight.specs.Told.{faulty}
-use Rattle.flight.proofs.Settling.{settled_now}
+use Rattle.flight.specs.Origin.{origin_of}
+use Rattle.flight.specs.Waiting.{FlightState}
+use Rattle.flight.proofs.Settling.{said_less, settled_now}
 use Rattle.flight.proofs.engine.Flight.begin.Goals as goal
 
 pub give-requires-clause-told : goal.give-requires-clause-told
@@ -14,3 +16,10 @@ returns-in-Drop g c = settled_now _ _ _ _ _ _ c.requires.own refl c.pass_over.en
 
 pub returns-in-Fault : goal.returns-in-Fault
 returns-in-Fault g c = settled_now _ _ _ _ _ _ c.requires.own refl c.give.ensures
+
+pub returns-in-Good : goal.returns-in-Good
+returns-in-Good g c =
+    let asks = rw c.in-Good.is at c.in-Ok.ensures.asked in
+    let origin = λ (began : ℕ). origin_of began c.in-Good.query.question.owner (g.K.Client.network c.args.client) in
+    said_less c.begin_query.ensures
+    (λ o is. record { query = c.in-Good.query; asks = asks; is = is ∙ ap origin (c.since-began.ensures ∙ ap (λ (state : FlightState). max c.args.now state.latest) c.self.view_is) })

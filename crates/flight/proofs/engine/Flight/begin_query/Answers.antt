@@ -35,3 +35,6 @@ returns-in-Ok-Some g c = settled_now _ _ _ _ _ _ c.requires.own c.self.view_is c
 
 pub returns-in-Err : goal.returns-in-Err
 returns-in-Err g c = settled_now _ _ _ _ _ _ c.requires.own c.self.view_is c.fail-in-Err.ensures
+
+pub returns-in-Ok-None : goal.returns-in-Ok-None
+returns-in-Ok-None g c = rw (← c.self.view_is) c.begin_task.ensures

@@ -1,9 +1,7 @@
-use Rattle.std.proofs.Common.{[], ◌∷◌, ◌∙◌, ℕ, ap, max, refl}
+use Rattle.std.proofs.Common.{[], ◌∷◌, ◌∙◌, ap, refl}
 use Rattle.dns_text.specs.declared.record.Question.{Question}
 use Rattle.flight.proofs.Looking.{look_step, looked_flies}
-use Rattle.flight.specs.Origin.{origin_of}
-use Rattle.flight.specs.Waiting.{FlightState}
-use Rattle.flight.proofs.Settling.{said_less, settled_now}
+use Rattle.flight.proofs.Settling.{settled_now}
 use Rattle.flight.proofs.engine.Flight.begin_task.Goals as goal
 
 pub drive-requires-clause-flies : goal.drive-requires-clause-flies
@@ -16,9 +14,3 @@ returns-in_default g c = settled_now _ _ _ _ _ _ c.requires.own refl c.fail.ensu
 
 pub returns-in_default-begun : goal.returns-in_default-begun
 returns-in_default-begun g c = settled_now _ _ _ _ _ _ c.requires.own refl c.fail-in_default-begun.ensures
-
-pub returns : goal.returns
-returns g c =
-    let origin = λ (began : ℕ). origin_of began c.args.query.question.owner (g.K.Client.network c.args.client) in
-    said_less c.drive.ensures
-    (λ o is. record { query = c.args.query; asks = c.requires.good; is = is ∙ ap origin (c.since-began.ensures ∙ ap (λ (state : FlightState). max c.args.now state.latest) c.self.view_is) })

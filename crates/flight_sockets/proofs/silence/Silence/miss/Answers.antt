@@ -16,6 +16,7 @@ returns-then-not-is_silent c = record {
   counted = λ _. record {
     since = c.since_with-self.ensures;
     missed = c.with.ensures ∙ ap (λ (m : Missed). missed_with m c.args.name) c.replace-missed.ensures.value;
+    rests = c.after-self.ensures;
     paused = λ is. absurd (refuted c.is_silent.ensures c.if-not-is_silent.true is);
     unpaused = λ _. refl;
   };
@@ -27,6 +28,7 @@ returns c = record {
   counted = λ _. record {
     since = c.since_with-self.ensures;
     missed = c.with.ensures ∙ ap (λ (m : Missed). missed_with m c.args.name) c.replace-missed.ensures.value;
+    rests = c.after-self.ensures;
     paused = λ _. c.next-self.ensures;
     unpaused = λ isnt. absurd (isnt (c.is_silent.ensures.0 c.if-not-is_silent.false));
   };

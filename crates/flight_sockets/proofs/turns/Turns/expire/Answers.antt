@@ -1,4 +1,5 @@
-use Rattle.std.proofs.Common.{refl}
+use Rattle.std.proofs.Common.{ℕ, arith, refl, subst}
+use Rattle.flight.specs.Waiting.{EarlyGoOn}
 use Rattle.flight_sockets.proofs.Accounting.{gone_on, looked_on, stayed, worker_of}
 use Rattle.flight_sockets.proofs.Beginning.{rests, takes_none_then}
 use Rattle.flight_sockets.proofs.Posting.{endings_none, endings_of, posts_none}
@@ -8,21 +9,36 @@ pub returns-clause-goes_on : goal.returns-clause-goes_on
 returns-clause-goes_on g c =
     let inside = c.self.inside in
     let ends = c.expire.ensures.loses_none in
+    let anew = c.begin_anew.ensures in
     let between = c.args.questions.now in
-    let done = c.expire.new.self in
+    let left = c.expire.new.self in
+    let done = c.begin_anew.new.questions in
     let clock = c.millis-now.new.self in
     let before = worker_of c.set_now.new.self.server_port inside.taken inside.failures c.set_now.new.self.outbox c.set_now.new.self.counts clock inside.events.inner.items in
     let after = worker_of c.expire.new.outside.server_port inside.taken inside.failures c.expire.new.outside.outbox c.expire.new.outside.counts clock inside.events.inner.items in
-    rw (← c.self.view_is) (gone_on between between done _ before after (stayed between _ before (endings_none (posts_none c.set_now.ensures.kept) refl) refl c.set_now.ensures.counts refl)
-    (looked_on between done before after refl ends.accounted (endings_of ends.ends) ends.no_more ends.bounded ends.limit refl))
+    let last = worker_of c.begin_anew.new.sockets.server_port inside.taken inside.failures c.begin_anew.new.sockets.outbox c.begin_anew.new.sockets.counts clock inside.events.inner.items in
+    rw (← c.self.view_is) (gone_on between between done _ before last (stayed between _ before (endings_none (posts_none c.set_now.ensures.kept) refl) refl c.set_now.ensures.counts refl)
+    (gone_on between left done before after last (looked_on between left before after refl ends.accounted (endings_of ends.ends) ends.no_more ends.bounded ends.limit refl)
+    (looked_on left done after last refl anew.accounted anew.ends anew.no_more anew.bounded anew.limit refl)))
+
+pub returns-clause-no_more : goal.returns-clause-no_more
+returns-clause-no_more g c = omega (arith, c.begin_anew.ensures.no_more, c.expire.ensures.loses_none.no_more)
 
 pub returns-clause-takes_none : goal.returns-clause-takes_none
 returns-clause-takes_none g c =
     let inside = c.self.inside in
     let between = c.args.questions.now in
-    let done = c.expire.new.self in
+    let left = c.expire.new.self in
+    let done = c.begin_anew.new.questions in
     let clock = c.millis-now.new.self in
     let before = worker_of c.set_now.new.self.server_port inside.taken inside.failures c.set_now.new.self.outbox c.set_now.new.self.counts clock inside.events.inner.items in
     let after = worker_of c.expire.new.outside.server_port inside.taken inside.failures c.expire.new.outside.outbox c.expire.new.outside.counts clock inside.events.inner.items in
-    rw (← c.self.view_is) (takes_none_then between between done _ before after (rests between _ before c.set_now.ensures.kept refl)
-    (record { taken = refl; ends = endings_of c.expire.ensures.loses_none.ends }))
+    let last = worker_of c.begin_anew.new.sockets.server_port inside.taken inside.failures c.begin_anew.new.sockets.outbox c.begin_anew.new.sockets.counts clock inside.events.inner.items in
+    rw (← c.self.view_is) (takes_none_then between between done _ before last (rests between _ before c.set_now.ensures.kept refl)
+    (takes_none_then between left done before after last (record { taken = refl; ends = endings_of c.expire.ensures.loses_none.ends })
+    (record { taken = refl; ends = c.begin_anew.ensures.ends })))
+
+pub returns-clause-early : goal.returns-clause-early
+returns-clause-early g c =
+    let early = subst (λ (now : ℕ). EarlyGoOn 2000 now c.args.questions.now c.expire.new.self) c.millis-now.ensures.millis c.expire.ensures.early in
+    (c.expire.new.self, early, c.begin_anew.ensures.joins_none)

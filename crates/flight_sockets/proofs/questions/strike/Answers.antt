@@ -1,0 +1,10 @@
+use Rattle.std.proofs.Common.{◌∙◌, ap, subst}
+use Rattle.flight_sockets.specs.declared.pause.Pause.{Pause}
+use Rattle.flight_sockets.specs.Silences.{pause_struck}
+use Rattle.flight_sockets.specs.Pauses.{RemembersQuestion}
+use Rattle.flight_sockets.proofs.questions.strike.Goals as goal
+
+pub returns-clause-remembers : goal.returns-clause-remembers
+returns-clause-remembers c =
+    subst (λ (p : Pause). RemembersQuestion c.args.now c.args.question p c.args.questions.now c.remember.new.questions)
+    (c.struck-pause.ensures ∙ ap (λ (p : Pause). pause_struck p c.args.now) c.known.ensures) c.remember.ensures.remembers
