@@ -84,10 +84,17 @@ def check_help(checks):
 
 
 def check_version(checks):
-    """The version, on standard error and with status 2 as help is. It is the newest one of CHANGELOG.md."""
+    """The version alone is on standard output. It is the newest one of CHANGELOG.md. Beside a mode it is none of its options."""
     newest = re.search(r"^## (\S+)", read(os.path.join(TOP, "CHANGELOG.md")).decode(), re.MULTILINE)[1]
     done = run([RESOLVER, "--version"])
-    checks.equal("the version", (done.status, done.out, done.err), (2, b"", f"resolver {newest}\n".encode()))
+    checks.equal("the version", (done.status, done.out, done.err), (0, f"resolver {newest}\n".encode(), b""))
+    with open("/dev/full", "wb") as full:
+        done = subprocess.run([RESOLVER, "--version"], stdout=full, stderr=subprocess.PIPE, timeout=PATIENCE)
+    checks.equal("the version, and a device that is full", (done.returncode, done.stderr), (1, b"resolver: write failed\n"))
+    for arguments in (["script", "--version"], ["serve", "--version"], ["--version=1"]):
+        done = run([RESOLVER, *arguments])
+        is_told = done.err.startswith(b"error: ") and b"--version" in done.err.split(b"\n")[0]
+        checks.check(" ".join(arguments), None if (done.status, done.out, is_told) == (2, b"", True) else f"{done}")
 
 
 def check_faults(checks):

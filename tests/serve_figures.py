@@ -52,7 +52,7 @@ def check_fresh(checks):
             r" / stubs: 0 / commands: 0 done, 0 undone, 5 at most / ticket: 0 / queries: 0 under way / end"
         )
         checks.check("fresh: status", None if re.fullmatch(wanted, status) else status)
-        version = run([RESOLVER, "--version"]).err.decode().split()[-1]
+        version = run([RESOLVER, "--version"]).out.decode().split()[-1]
         checks.equal("fresh: the version", status.split(" / ")[0], f"version: {version}")
         checks.equal("fresh: stopped", service.stop(), STOPPED)
 

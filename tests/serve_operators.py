@@ -1,6 +1,7 @@
-"""Who comes to the control socket, and `resolver control`: strangers that speak something else, operators that hold it, and lines of
-standard input over one connection."""
+"""Who comes to the control socket, and `resolver control`: strangers that speak something else, operators that hold it or go on
+sending lines, and lines of standard input over one connection."""
 
+import contextlib
 import socket
 import subprocess
 import threading
@@ -18,6 +19,9 @@ NO_REPLY = "resolver: no reply from {}\n"
 # Of two hundred idle ones, 32 wait in the service, and give up their places a second later.
 WAIT_SECONDS = 3
 CROWD_SECONDS = 12
+
+# How long an operator waits behind one that goes on sending lines: its turn of five seconds, and what a loaded machine adds.
+TURN_SECONDS = 10
 
 LINES = b"local_zone a. static\nstop\n"
 STRANGERS = {
@@ -122,6 +126,95 @@ def check_held(checks, kind):
             dripping.result()
         for sock in held:
             sock.close()
+
+
+# Operators that go on sending lines: what each sends at once, and the seconds between two times. A refused line begins as no command
+# does, which shows no stranger once the connection has begun.
+TALKERS = {
+    "empty lines": (b"\n", 0.5),
+    "polls": (b"status\n", 0.5),
+    "refused lines": (b"FROB\n", 0.5),
+    "a script": (b"flush a.\n" * 1_000, 0.001),
+}
+
+# The replies that a script leaves unread at most, so that it ends soon after its last line.
+MOST_BEHIND = 20_000
+
+
+class Talker:
+    """An operator that sends a comment, and then the same octets again and again. It keeps the replies."""
+
+    def __init__(self, service, octets, pause):
+        self.sock = socket.create_connection((HOST, service.control_port), timeout=60)
+        self.octets, self.pause = octets, pause
+        self.sent, self.replies, self.told = 0, 0, []
+        self.ending = threading.Event()
+        self.threads = [threading.Thread(target=work, daemon=True) for work in (self._send, self._receive)]
+        for thread in self.threads:
+            thread.start()
+
+    def _send(self):
+        with contextlib.suppress(OSError):
+            self.sock.sendall(b"#\n")
+            while not self.ending.wait(self.pause):
+                if self.sent - self.replies < MOST_BEHIND:
+                    self.sock.sendall(self.octets)
+                    self.sent += self.octets.count(b"\n")
+
+    def _receive(self):
+        with contextlib.suppress(OSError):
+            while octets := self.sock.recv(65_536):
+                self.told.append(octets)
+                self.replies += octets.count(b"\n")
+
+    def end(self):
+        """Sends a last line. Returns how many came before it, and the replies up to the end of the connection."""
+        self.ending.set()
+        self.threads[0].join()
+        with contextlib.suppress(OSError):
+            self.sock.sendall(b"redo\n")
+            self.sock.shutdown(socket.SHUT_WR)
+        self.threads[1].join()
+        self.sock.close()
+        return self.sent, b"".join(self.told)
+
+
+def replies_to(kind, first, count):
+    """The replies to so many lines of a talker, where the first accepted command gets this ticket."""
+    if kind == "a script":
+        return b"".join(b"ok %d\n" % ticket for ticket in range(first, first + count))
+    return {"empty lines": b"", "polls": b"end\n", "refused lines": b"error unknown\n"}[kind] * count
+
+
+def check_soon(checks, kind, service, line, wanted):
+    """A line beside a talker gets its reply in time."""
+    began = time.monotonic()
+    checks.equal(f"beside {kind}: {line}", service.obey(line)[0].split(" / ")[-1], wanted)
+    took = time.monotonic() - began
+    print(f"{line} beside {kind}: {took:.1f} s")
+    checks.check(f"beside {kind}: {line}, how soon", None if took < TURN_SECONDS else f"{took:.1f} s")
+
+
+def check_talker(checks, kind):
+    """Beside one that goes on sending lines others get through in time. It loses no line, and none is obeyed twice."""
+    with Service(["192.0.2.1"]) as service:
+        talker = Talker(service, *TALKERS[kind])
+        time.sleep(1)
+        check_soon(checks, kind, service, "status", "end")
+        time.sleep(1)
+        sent, told = talker.end()
+        if kind == "polls":
+            told = b"".join(line + b"\n" for line in told.splitlines() if line == b"end" or line.startswith(b"error "))
+        checks.equal(f"{kind}: replies", told, replies_to(kind, 1, sent) + b"error nothing_to_redo\n")
+        checks.check(f"{kind}: how many lines", None if sent > 1 else f"{sent}")
+        talker, first = Talker(service, *TALKERS[kind]), sent + 1
+        time.sleep(1)
+        check_soon(checks, kind, service, "stop", "ok stopping")
+        checks.equal(f"{kind}: stopped", service.wait(), (0, b""))
+        sent, told = talker.end()
+        if kind == "a script":
+            checks.check(f"{kind}: replies before the end", None if told else "none came")
+            checks.equal(f"{kind}: replies up to the end", told, replies_to(kind, first, told.count(b"\n")))
 
 
 def check_begun_line(checks):
@@ -330,6 +423,8 @@ def main():
         checks.make(check_strangers)
         for kind in ("ten idle", "two hundred idle", "ten that drip", "one behind its line", "one that does not read"):
             checks.make(check_held, kind)
+        for kind in TALKERS:
+            checks.make(check_talker, kind)
         checks.make(check_begun_line)
         checks.make(check_operators_at_once)
         checks.make(check_one_connection)

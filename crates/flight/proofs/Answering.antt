@@ -1,24 +1,31 @@
 -- What an answer tells a client may be told.
-use Rattle.std.proofs.Common.{ℕ, List}
+use Rattle.std.proofs.Common.{◌≤◌, ℕ, List, arith}
 use Rattle.std.specs.Prelude.{Some, None}
-use Rattle.dns_query.specs.declared.over.Over.TheVariants.{Udp}
+use Rattle.dns_query.specs.declared.over.Over.{Over}
+use Rattle.dns_query.specs.declared.over.Over.TheVariants.{Udp, Tcp}
 use Rattle.dns_wire.specs.declared.server.query.Query.{Query}
 use Rattle.dns_wire.specs.declared.server.query.Asked.TheVariants.{Good}
 use Rattle.dns_wire.specs.Server.Asking.{AsksFor}
 use Rattle.iterate.specs.declared.answer.Answer.{Answer}
 use Rattle.iterate.specs.declared.answer.Answer.TheVariants.{Reply as Replies, Silent}
 use Rattle.front_workers.specs.Leads.{Calls, Ticks}
-use Rattle.front_workers.specs.Serves.{Tells}
+use Rattle.front_workers.specs.Serves.{Tells, most_octets}
 use Rattle.flight.specs.Flight.{Hears, Lands}
 use Rattle.flight.specs.Told.{IsTold, answered, IsUntold, silent}
 
-module _ {D C : Type 0} {calls : Calls D} {seen : D → ℕ} {hears : Hears} {ticks : Ticks C} {since port : ℕ} {m : List ℕ} {query : Query} where
-  pub told_by : {out : List ℕ} → (answer : Answer) → AsksFor m (Good query) → Lands calls seen hears ticks since port query.question answer → Tells Udp m query answer (Some out)
-      → IsTold calls seen hears ticks since port m out
+module _ {D C : Type 0} {calls : Calls D} {seen : D → ℕ} {hears : Hears} {ticks : Ticks C} {since port : ℕ} {over : Over} {m : List ℕ} {query : Query} where
+  pub told_by : {out : List ℕ} → (answer : Answer) → AsksFor m (Good query) → Lands calls seen hears ticks since port query.question answer → Tells over m query answer (Some out)
+      → IsTold calls seen hears ticks since port over m out
   told_by (Replies rcode aa aliases last authority) wanted lands tells = answered wanted lands tells
   told_by Silent wanted lands tells = absurd tells
 
-  pub untold_by : (answer : Answer) → AsksFor m (Good query) → Lands calls seen hears ticks since port query.question answer → Tells Udp m query answer None
+module _ {D C : Type 0} {calls : Calls D} {seen : D → ℕ} {hears : Hears} {ticks : Ticks C} {since port : ℕ} {m : List ℕ} {query : Query} where
+  pub untold_by : (over : Over) (answer : Answer) → AsksFor m (Good query) → Lands calls seen hears ticks since port query.question answer → Tells over m query answer None
       → IsUntold calls seen hears ticks since port m
-  untold_by (Replies rcode aa aliases last authority) wanted lands tells = absurd tells
-  untold_by Silent wanted lands tells = silent wanted lands
+  untold_by over (Replies rcode aa aliases last authority) wanted lands tells = absurd tells
+  untold_by over Silent wanted lands tells = silent wanted lands
+
+-- A header alone is short enough for any reply.
+pub header_fits : (over : Over) → 12 ≤ most_octets over
+header_fits Udp = omega arith
+header_fits Tcp = omega arith

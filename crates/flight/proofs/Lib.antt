@@ -1,14 +1,14 @@
 mod Flying
 mod Seats
-mod Answering
+pub mod Answering
 mod Counting
 mod Queueing
 mod Accounting
 mod Flights
 mod Looking
 mod Keeping
-mod Leaving
-mod Settling
+pub mod Leaving
+pub mod Settling
 mod Summing
 mod Bounds
 mod Places

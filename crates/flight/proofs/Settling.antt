@@ -26,7 +26,7 @@ pub same_state : (old new : FlightState) → new.exchanges ≡ old.exchanges →
 same_state old new exchanges begun latest limit = same_parts _ _ _ _ _ _ _ _ exchanges begun latest limit
 
 -- It is accounted for, as no exchange begins or ends.
-accounted_settled : (waiting : ℕ) (old new : Counts) → CountsSettled old new → IsAccounted 1 waiting old waiting new
+pub accounted_settled : (waiting : ℕ) (old new : Counts) → CountsSettled old new → IsAccounted 1 waiting old waiting new
 accounted_settled waiting old new settles =
     record {
       never_fall = record {

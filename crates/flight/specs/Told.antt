@@ -1,6 +1,6 @@
--- The reply to a client over UDP.
+-- The reply to a client.
 use Rattle.std.specs.Prelude.{◌≡◌, ◌≢◌, ◌⊎◌, ℕ, Option, Some, None, Bool, List}
-use Rattle.dns_query.specs.declared.over.Over.TheVariants.{Udp}
+use Rattle.dns_query.specs.declared.over.Over.{Over}
 use Rattle.dns_wire.specs.declared.server.query.Query.{Query}
 use Rattle.dns_wire.specs.declared.server.query.Asked.TheVariants.{Drop, Fault, Good}
 use Rattle.dns_wire.specs.Server.Asking.{AsksFor}
@@ -16,13 +16,13 @@ use Rattle.flight.specs.declared.outside.Listened.{Listened}
 use Rattle.flight.specs.declared.outside.Listened.TheVariants.{Anew, Came, Broken, NoMemory}
 use Rattle.flight.specs.Flight.{Hears, Lands}
 
--- The octets of a client may get this reply: the one that reports their fault, or the one that spells an answer in which their question ended. Its task began when the desk knew of so many calls.
-pub data IsTold {D C : Type 0} (calls : Calls D) (seen : D → ℕ) (hears : Hears) (ticks : Ticks C) (since port : ℕ) (m out : List ℕ) : Type 0 where
-  faulty : {rcode : ℕ} → AsksFor m (Fault rcode) → out ≡ fault_octets m rcode → IsTold calls seen hears ticks since port m out
+-- The octets of a client over this transport may get this reply: the one that reports their fault, or the one that spells an answer in which their question ended. Its task began when the desk knew of so many calls.
+pub data IsTold {D C : Type 0} (calls : Calls D) (seen : D → ℕ) (hears : Hears) (ticks : Ticks C) (since port : ℕ) (over : Over) (m out : List ℕ) : Type 0 where
+  faulty : {rcode : ℕ} → AsksFor m (Fault rcode) → out ≡ fault_octets m rcode → IsTold calls seen hears ticks since port over m out
   answered : {query : Query} {rcode : ℕ} {aa : Bool} {aliases : List AnswerSet} {last : Option AnswerSet} {authority : Option Soa}
       → AsksFor m (Good query) → Lands calls seen hears ticks since port query.question (Replies rcode aa aliases last authority)
-      → Written Udp m query (reply_told query rcode aa aliases last authority) out
-      → IsTold calls seen hears ticks since port m out
+      → Written over m query (reply_told query rcode aa aliases last authority) out
+      → IsTold calls seen hears ticks since port over m out
 
 -- The octets of a client are owed no reply: they ask for none, or their question ended in silence.
 pub data IsUntold {D C : Type 0} (calls : Calls D) (seen : D → ℕ) (hears : Hears) (ticks : Ticks C) (since port : ℕ) (m : List ℕ) : Type 0 where
@@ -42,9 +42,9 @@ IsOutcome may NoMemory = Unit {0}
 IsOutcome may Anew = Unit {0}
 IsOutcome may _ = may None
 
--- An answer gives its question this reply. If there is no memory to write one, SERVFAIL goes out, but never for silence.
-abbrev pub IsGiven : List ℕ → Query → Answer → Option (List ℕ) → Type 0
-IsGiven m query answer reply = Tells Udp m query answer reply ⊎ ((answer ≢ Silent) × (reply ≡ Some (fault_octets m 2)))
+-- An answer gives its question this reply over a transport. If there is no memory to write one, SERVFAIL goes out, but never for silence.
+abbrev pub IsGiven : Over → List ℕ → Query → Answer → Option (List ℕ) → Type 0
+IsGiven over m query answer reply = Tells over m query answer reply ⊎ ((answer ≢ Silent) × (reply ≡ Some (fault_octets m 2)))
 
 -- The octets of a reply.
 abbrev pub octets_of : ReplyOctets → List ℕ

@@ -3,8 +3,8 @@
 ghost use Rattle.std.specs.Prelude.{◌≡◌, ◌≤◌, ℕ, List, None, Some, length, IfNone, IfSome, OnSome};
 ghost use Rattle.dns_wire.specs.declared.server.query.Asked.TheVariants.{Drop};
 ghost use Rattle.dns_wire.specs.Server.Asking.{AsksFor};
-ghost use Rattle.front_workers.specs.declared.limits.TheConstants.{MOST_UDP_REPLY};
-ghost use Rattle.front_workers.specs.Serves.{fault_octets};
+ghost use Rattle.dns_query.specs.declared.over.Over.{Over};
+ghost use Rattle.front_workers.specs.Serves.{fault_octets, most_octets};
 ghost use Rattle.flight.specs.declared.counts.Counts.{Counts};
 ghost use Rattle.flight.specs.Clients.{Settles};
 ghost use Rattle.flight.specs.Counted.{CountsAbandoned, CountsExpired, CountsListened, CountsOpened};
@@ -24,11 +24,18 @@ pub trait Client: Drop {
     /// The client may have sent these octets.
     ghost sent: { Self → List ℕ → Type 0 };
 
+    /// The transport by which the octets came.
+    ghost over: { Self → Over };
+
     /// The number of the latest call that the desk knew of when the octets were taken.
     ghost since: { Self → ℕ };
 
     /// The network that the client is of, as a number. Clients of one network share the places of exchanges.
     ghost network: { Self → ℕ };
+
+    /// The transport by which the octets came. The reply leaves by the same.
+    fn over(&self) -> Over
+        ensures { result ≡ over self.now };
 
     /// The number of the latest call that the desk knew of when the octets were taken.
     fn since(&self) -> u64
@@ -135,8 +142,9 @@ pub trait Outside<D: Numbered, L: InFlight, C: Clock, K: Client> {
     /// Sends a client the reply to its octets, now or later. It may be lost on the way.
     fn give(&mut self, client: K, octets: &[u8], reply: ReplyOctets)
         requires own { K.sent client octets.now }
-        requires told { IsTold D.calls D.seen L.hears C.ticks (K.since client) (server_port self.old) octets.now (octets_of reply) }
-        requires short { length (octets_of reply) ≤ MOST_UDP_REPLY }
+        requires told { IsTold D.calls D.seen L.hears C.ticks (K.since client) (server_port self.old) (K.over client)
+            octets.now (octets_of reply) }
+        requires short { length (octets_of reply) ≤ most_octets (K.over client) }
         ensures { Settles server_port counts outbox posts client (Some (octets_of reply)) self.old self.new };
 
     /// Sends a client SERVFAIL (RFC 1035, section 4.1.1, RCODE 2), by the header alone.

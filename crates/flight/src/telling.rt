@@ -1,6 +1,6 @@
 //! The reply to a client.
 
-ghost use Rattle.std.specs.Prelude.{◌≡◌, ◌≢◌, ◌⊎◌, ◌<◌, ◌+◌, List, Option, Some, max, ℕ};
+ghost use Rattle.std.specs.Prelude.{◌≡◌, ◌≢◌, ◌⊎◌, ◌<◌, ◌+◌, List, Option, Some, length, max, ℕ};
 ghost use Rattle.dns_wire.specs.declared.server.query.Asked.TheVariants.{Fault, Good};
 ghost use Rattle.dns_wire.specs.Server.Asking.{AsksFor};
 ghost use Rattle.front_workers.specs.Serves.{fault_octets};
@@ -25,7 +25,6 @@ use crate::outside::{Client, Outside, Unserved};
 use crate::reply::ReplyOctets;
 use crate::table::{LAST_BEGINNING, Table};
 use command_text::Clock;
-use dns_query::Over;
 use dns_wire::{Query, Rcode, fault_reply};
 use front_workers::write_answer;
 use iterate::Answer;
@@ -34,7 +33,8 @@ use std::alloc::Global;
 /// The header that reports a fault of the client's octets. It takes no memory.
 pub(crate) fn fault_of(octets: &[u8], rcode: Rcode) -> [u8; 12]
     requires { AsksFor octets.now (Fault rcode) }
-    ensures { result ≡ fault_octets octets.now rcode }
+    ensures octets { result ≡ fault_octets octets.now rcode }
+    ensures short { length result ≡ 12 }
 {
     fault_reply(octets, rcode).unwrap()
 }
@@ -107,11 +107,12 @@ fn tell_reply<D: Numbered, L: InFlight, C: Clock, K: Client, O: Outside<D, L, C,
     requires lands { Lands D.calls D.seen L.hears C.ticks (K.since client) (O.server_port outside.old) query.now.question answer.now }
     requires fit { IsFit answer.now }
     requires loud { answer.now ≢ Silent }
-    ensures { (reply : Option (List ℕ)) × IsGiven octets.now query.now answer.now reply
+    ensures { (reply : Option (List ℕ)) × IsGiven (K.over client) octets.now query.now answer.now reply
         × Settles O.server_port O.counts O.outbox O.posts client reply outside.old outside.new }
 {
+    let over = client.over();
     let buffer = outside.buffer();
-    match write_answer(alloc, buffer, Over::Udp, octets, query, answer) {
+    match write_answer(alloc, buffer, over, octets, query, answer) {
         Ok(Some(reply)) => outside.give(client, octets, ReplyOctets::Message(reply)),
         Ok(None) => outside.pass_over(client, octets),
         Err(_) => outside.fail(client, octets, Unserved::NoMemory),
@@ -131,7 +132,7 @@ pub(crate) fn tell<D: Numbered, L: InFlight, C: Clock, K: Client, O: Outside<D, 
     requires good { AsksFor octets.now (Good query.now) }
     requires lands { Lands D.calls D.seen L.hears C.ticks (K.since client) (O.server_port outside.old) query.now.question answer.now }
     requires fit { IsFit answer.now }
-    ensures { (reply : Option (List ℕ)) × IsGiven octets.now query.now answer.now reply
+    ensures { (reply : Option (List ℕ)) × IsGiven (K.over client) octets.now query.now answer.now reply
         × Settles O.server_port O.counts O.outbox O.posts client reply outside.old outside.new }
 {
     match answer {

@@ -5,6 +5,7 @@ ghost use Rattle.front_workers.specs.declared.limits.TheConstants.{MOST_DATAGRAM
 
 use crate::network::network_of;
 use crate::service_socket::ServiceSocket;
+use dns_query::Over;
 use flight::{Client, Numbered};
 use front_workers::{Came, DATAGRAM_ROOM, MOST_DATAGRAM};
 use std::marker::PhantomData;
@@ -58,15 +59,22 @@ impl<S> UdpClient<S> {
 
 impl<S: ServiceSocket> Client for UdpClient<S> {
     ghost use Rattle.std.specs.Net.Socket.{socket_ip};
+    ghost use Rattle.dns_query.specs.declared.over.Over.TheVariants.{Udp};
     ghost use Rattle.flight_sockets.specs.Networks.{network_of};
     ghost use Rattle.flight_sockets.specs.Outgoing.{IsSentBy};
 
     // It sent the octets that its datagram put into the room, and they came from its peer.
     ghost sent = { IsSentBy S.takes };
 
+    ghost over = { λ _. Udp };
+
     ghost since = { λ client. client.since };
 
     ghost network = { λ client. network_of (socket_ip client.came.peer) };
+
+    fn over(&self) -> Over {
+        Over::Udp
+    }
 
     fn since(&self) -> u64 {
         self.since

@@ -1,3 +1,4 @@
 pub mod Fault
 pub mod FirstLines
 pub mod Operator
+pub mod Version

@@ -13,6 +13,16 @@ pub(crate) fn begins_line(octet: u8) -> bool
     matches!(octet, b'a'..=b'z' | b'#' | b' ' | b'\t' | b'\r' | b'\n')
 }
 
+/// Whether these octets begin as a line may.
+pub(crate) fn begins_as_line(octets: &[u8]) -> bool
+    ensures { IsTrue result ↔ BeginsAsLine octets.now }
+{
+    match octets.first() {
+        Some(first) => begins_line(*first),
+        None => false,
+    }
+}
+
 /// Every command begins as a line may, so no operator is turned away.
 pub(crate) fn commands_law()
     ensures { AllByRecursion (λ row. BeginsAsLine row.word) commands }

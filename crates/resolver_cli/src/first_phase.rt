@@ -38,7 +38,7 @@ fn obey_first_fifo<L: CallLedger, R: Threads + Wait + Clock + Log>(
     match (obeyed, queue.take_stopper()) {
         (Ok(()), _) => Ok(Some(desk.into_pass())),
         (Err(fault), None) => Err(fault),
-        (Err(_), Some(stream)) => {
+        (Err(_), Some(operator)) => {
             let mut clock = MonotonicClock::new(rt, lent.terms.start);
             let _ = obey_operator(
                 rt,
@@ -46,7 +46,7 @@ fn obey_first_fifo<L: CallLedger, R: Threads + Wait + Clock + Log>(
                 lent.gauges,
                 &mut desk,
                 &mut clock,
-                &stream,
+                &operator,
                 queue,
             );
             Ok(None)

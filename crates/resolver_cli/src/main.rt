@@ -4,6 +4,8 @@
 
 // The end of a run that failed: exit status and message.
 mod fault;
+// The version, for whoever asks for it alone.
+mod version;
 // The mode `script`: lines from standard input.
 mod script;
 // The service to which a client's lines go.
@@ -26,6 +28,8 @@ mod tallied;
 mod worker;
 // The octets with which an operator's line may begin.
 mod first_octet;
+// A connection of an operator, and what it has sent.
+mod operator;
 // The operators that wait for their turn.
 mod operator_queue;
 // The turn of an operator, and the patience with it.
@@ -59,9 +63,10 @@ mod first_phase;
 // The mode `serve`: workers and operators over one shared book.
 mod service;
 
-ghost use Rattle.std.specs.Prelude.{◌≡◌, map, IfOk};
+ghost use Rattle.std.specs.Prelude.{◌≡◌, ◌↔◌, None, map, IfOk, IfSome};
 ghost use Rattle.resolver_args.specs.Mode.{HasNumbers};
 ghost use Rattle.resolver_args.specs.Says.{Says, IsGuarded};
+ghost use Rattle.resolver_cli.specs.Version.{AsksVersion};
 
 use client::send;
 use fault::{CliFault, end_for};
@@ -73,6 +78,7 @@ use std::alloc::{AllocError, Global};
 use std::io::{ErrorKind, Input, Write};
 use std::process::ExitCode;
 use std::{env, io};
+use version::{asks_version, show_version};
 
 /// The arguments as string slices.
 fn texts_of(alloc: Global, words: &[String]) -> Result<Vec<&str>, AllocError>
@@ -99,17 +105,32 @@ fn mode_of(alloc: Global, words: &[String]) -> Result<Mode, CliFault>
     }
 }
 
+/// The mode that the arguments select. None if they ask for the version alone.
+fn asked(alloc: Global, words: &[String]) -> Result<Option<Mode>, CliFault>
+    ensures version { IfOk result (λ mode. (mode ≡ None) ↔ AsksVersion (map (λ word. word.bytes.items) words.now)) }
+    ensures said { IfOk result (λ mode. IfSome mode (Says (map (λ word. word.bytes.items) words.now))) }
+    ensures fit { IfOk result (λ mode. IfSome mode (λ mode. HasNumbers mode × IsGuarded mode)) }
+{
+    if asks_version(words) {
+        return Ok(None);
+    }
+    match mode_of(alloc, words) {
+        Ok(mode) => Ok(Some(mode)),
+        Err(fault) => Err(fault),
+    }
+}
+
 /// The arguments as owned strings. It fails if one is not UTF-8, or if memory runs out.
 fn words_of(rt: &HostRuntime) -> io::Result<Vec<String>> {
     Ok(env::args(rt)?.collect(rt.alloc())?)
 }
 
-/// The mode that the program's arguments select.
-fn arguments(rt: &HostRuntime) -> Result<Mode, CliFault>
-    ensures fit { IfOk result (λ mode. HasNumbers mode × IsGuarded mode) }
+/// The mode that the program's arguments select. None if they ask for the version alone.
+fn arguments(rt: &HostRuntime) -> Result<Option<Mode>, CliFault>
+    ensures fit { IfOk result (λ mode. IfSome mode (λ mode. HasNumbers mode × IsGuarded mode)) }
 {
     match words_of(rt) {
-        Ok(words) => mode_of(rt.alloc(), words.as_slice()),
+        Ok(words) => asked(rt.alloc(), words.as_slice()),
         Err(error) => {
             if error.kind() == ErrorKind::OutOfMemory {
                 return Err(CliFault::no_memory());
@@ -144,14 +165,17 @@ fn end(rt: &HostRuntime, ended: Result<(), CliFault>) -> ExitCode {
 
 fn main(rt: HostRuntime) -> ExitCode {
     match arguments(&rt) {
-        Ok(Mode::Script(settings)) => end(&rt, obey_input(&rt, settings)),
-        Ok(Mode::Serve(service)) => end(&rt, serve_and_log(&rt, rt.alloc(), service)),
+        Ok(None) => end(&rt, show_version(&rt)),
+        Ok(Some(Mode::Script(settings))) => end(&rt, obey_input(&rt, settings)),
+        Ok(Some(Mode::Serve(service))) => end(&rt, serve_and_log(&rt, rt.alloc(), service)),
         Ok(
-            Mode::Control {
-                addr,
-                seconds,
-                line,
-            },
+            Some(
+                Mode::Control {
+                    addr,
+                    seconds,
+                    line,
+                },
+            ),
         ) => {
             let peer = Peer::new(addr, seconds);
             end_control(

@@ -1,12 +1,10 @@
 //! The queue of operators: the listener of the control socket, and the connections that wait for their turn.
 
-ghost use Rattle.std.specs.Prelude.{◌≡◌, ◌<◌, ◌≤◌, length, vec_len, IsTrue, Ok, IfOk, IfSome};
-ghost use Rattle.command_text.specs.Line.{read_of};
+ghost use Rattle.std.specs.Prelude.{◌<◌, vec_len, IfSome};
 
-use crate::first_octet::begins_line;
 use crate::lookout::Lookout;
+use crate::operator::Operator;
 use crate::operator_turn::TURN_SECONDS;
-use command_text::{Channel, Line, read_line};
 use dns_sockets::would_wait;
 use std::alloc::Global;
 use std::io;
@@ -24,58 +22,10 @@ const MOST_UNSERVED: usize = 256;
 /// The most connections that are accepted at once, so that a crowd of them delays no line for long.
 const MOST_ACCEPTED: u32 = 256;
 
-/// The octets of a connection at which the queue looks: more than the longest line has.
-const LOOK: usize = 2048;
-
-/// Looks at the octets that a connection has sent, without waiting. Returns how many fill the front of the room: 0 if it has ended.
-fn look(stream: &TcpStream, room: &mut [u8]) -> io::Result<usize>
-    ensures { IfOk result (λ count. count ≤ length room.new) }
-{
-    stream.set_nonblocking(true)?;
-    let seen = stream.peek(room);
-    stream.set_nonblocking(false)?;
-    seen
-}
-
-/// Whether a line is `stop`.
-fn is_stop(alloc: Global, line: &[u8]) -> bool
-    ensures { IsTrue result → read_of Channel.Control line.now ≡ Ok Line.Stop }
-{
-    matches!(read_line(alloc, Channel::Control, line), Ok(Line::Stop))
-}
-
-/// Whether the first line of a connection is `stop`. It has to have come whole.
-fn begins_with_stop(alloc: Global, stream: &TcpStream) -> bool {
-    let mut room = [0u8; LOOK];
-    let Ok(count) = look(stream, &mut room) else {
-        return false;
-    };
-    let Some(end) = room[..count].iter().position(|octet| *octet == b'\n') else {
-        return false;
-    };
-    let line = &room[..end];
-    is_stop(alloc, line.strip_suffix(b"\r").unwrap_or(line))
-}
-
-/// Whether a connection has ended, and nothing that it sent is left to read.
-fn has_ended(stream: &TcpStream) -> bool {
-    let mut room = [0u8; 1];
-    matches!(look(stream, &mut room), Ok(0))
-}
-
-/// Whether serving a connection would wait for nothing: it has sent a whole line, begins as no line does, or has ended.
-fn is_ready(stream: &TcpStream) -> bool {
-    let mut room = [0u8; LOOK];
-    match look(stream, &mut room) {
-        Ok(count) => count == 0 || !begins_line(room[0]) || room[..count].contains(&b'\n'),
-        Err(error) => would_wait(error).is_err(),
-    }
-}
-
-/// A connection that waits for its turn, and since when.
+/// An operator who waits for a turn, and since when.
 #[derive(Drop)]
 struct Waiting {
-    stream: TcpStream,
+    operator: Operator,
     since: Instant,
 }
 
@@ -84,7 +34,7 @@ impl Waiting {
     fn is_idle<R: Clock>(&self, rt: &R) -> bool {
         match self.since.elapsed(rt) {
             Ok(passed) => {
-                let has_line = is_ready(&self.stream) && !has_ended(&self.stream);
+                let has_line = self.operator.is_ready() && !self.operator.has_ended();
                 passed.as_secs() >= TURN_SECONDS && !has_line
             }
             Err(_) => false,
@@ -100,7 +50,7 @@ pub(crate) struct OperatorQueue<'a, R: Clock> {
     listener: &'a TcpListener,
     waiting: Vec<Waiting>,
     /// The operator who has sent `stop` while none was served.
-    stopper: Option<TcpStream>,
+    stopper: Option<Operator>,
 }
 
 impl<'a, R: Clock> OperatorQueue<'a, R> {
@@ -137,7 +87,7 @@ impl<'a, R: Clock> OperatorQueue<'a, R> {
         ensures { IfSome result (λ place. place < vec_len self.now.waiting) }
     {
         for (place, waiting) in self.waiting.iter().enumerate() {
-            if is_ready(&waiting.stream) {
+            if waiting.operator.is_ready() {
                 return Some(place);
             }
         }
@@ -161,7 +111,7 @@ impl<'a, R: Clock> OperatorQueue<'a, R> {
         ensures { IfSome result (λ place. place < vec_len self.now.waiting) }
     {
         for (place, waiting) in self.waiting.iter().enumerate() {
-            if begins_with_stop(self.alloc, &waiting.stream) {
+            if waiting.operator.begins_with_stop(self.alloc) {
                 return Some(place);
             }
         }
@@ -183,8 +133,9 @@ impl<'a, R: Clock> OperatorQueue<'a, R> {
         if let (true, Some(place)) = (is_full, idle) {
             drop(self.waiting.remove(place));
         }
+        let operator = Operator::new(stream);
         // If there is no memory for its place, it is closed.
-        let _ = self.waiting.push(Waiting { stream, since });
+        let _ = self.waiting.push(Waiting { operator, since });
         Ok(true)
     }
 
@@ -204,37 +155,70 @@ impl<'a, R: Clock> OperatorQueue<'a, R> {
         Ok(!self.waiting.is_empty())
     }
 
+    /// Takes in the connections that have come in, and returns whether any that waits has sent a whole line.
+    pub fn gather_lines(&mut self) -> bool {
+        // If none can be accepted, those that wait already count.
+        let _ = self.take_in(MOST_WAITING);
+        for waiting in &self.waiting {
+            if waiting.operator.has_line() {
+                return true;
+            }
+        }
+        false
+    }
+
+    /// Whether there is a place at the end. If too many wait, the first that is idle gives up its place.
+    fn has_place(&mut self) -> bool {
+        if self.waiting.len() < MOST_WAITING {
+            return true;
+        }
+        match self.first_idle() {
+            Some(place) => {
+                drop(self.waiting.remove(place));
+                true
+            }
+            None => false,
+        }
+    }
+
+    /// Puts an operator whose turn is over at the end. If there is no place for it, or no memory for a place, it is closed.
+    pub fn put_back(&mut self, operator: Operator) {
+        if let (true, Ok(since)) = (self.has_place(), Instant::now(self.rt)) {
+            let _ = self.waiting.push(Waiting { operator, since });
+        }
+    }
+
     /// Takes out the first connection whose first line is `stop`, out of turn.
-    fn take_stop(&mut self) -> Option<TcpStream> {
+    fn take_stop(&mut self) -> Option<Operator> {
         // If no connection can be accepted now, one may be later.
         let _ = self.take_in(MOST_UNSERVED);
         let place = self.first_stop()?;
         let Waiting {
-            stream,
+            operator,
             since: _since,
         } = self.waiting.remove(place);
-        Some(stream)
+        Some(operator)
     }
 
     /// Takes out the operator who has sent `stop`, if a look has found one.
-    pub fn take_stopper(&mut self) -> Option<TcpStream> {
+    pub fn take_stopper(&mut self) -> Option<Operator> {
         self.stopper.take()
     }
 
-    /// The connection whose turn it is: the first that is ready, or else the first. If none waits, waits for one.
-    pub fn next(&mut self) -> io::Result<TcpStream> {
+    /// The operator whose turn it is: the first that is ready, or else the first. If none waits, waits for one.
+    pub fn next(&mut self) -> io::Result<Operator> {
         let gathered = self.gather();
         if self.waiting.is_empty() {
             let _ = gathered?;
             let (stream, _) = self.listener.accept()?;
-            return Ok(stream);
+            return Ok(Operator::new(stream));
         }
         let place = self.first_ready().unwrap_or(0);
         let Waiting {
-            stream,
+            operator,
             since: _since,
         } = self.waiting.remove(place);
-        Ok(stream)
+        Ok(operator)
     }
 }
 

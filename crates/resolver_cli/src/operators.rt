@@ -1,8 +1,9 @@
 //! The control socket, which serves one operator at a time.
 
 use crate::gauges::Gauges;
+use crate::operator::Operator;
 use crate::operator_queue::OperatorQueue;
-use crate::operator_turn::Turn;
+use crate::operator_turn::{Turn, TurnEnd};
 use crate::own_lines::{OwnLine, OwnLines};
 use crate::worker::{Lent, ServiceBook};
 use command_text::{Clock, serve_control};
@@ -14,7 +15,6 @@ use log::{Log, warn};
 use shared_book::{CallLedger, Seat};
 use std::alloc::{AllocError, Global};
 use std::io::{Read, Write};
-use std::net::TcpStream;
 use std::sync::Wait;
 use std::thread;
 use std::time::Duration;
@@ -50,41 +50,44 @@ fn obey_input<D: Desk, C: Clock, I: Read + Drop, O: Write + Drop>(
     serve_control(alloc, desk, clock, &mut reader, &mut writer)
 }
 
-/// Obeys an operator's lines. It returns whether one of them was `stop`.
+/// Obeys an operator's lines for a turn.
 pub(crate) fn obey_operator<'a, 'q, L: CallLedger, R: Wait + std::rt::Clock + Log>(
     rt: &'a R,
     alloc: Global,
     gauges: &Gauges,
     desk: &mut Seat<'_, ServiceBook, L, R>,
     clock: &mut MonotonicClock<'_, R>,
-    stream: &'a TcpStream,
+    operator: &'a Operator,
     queue: &'a mut OperatorQueue<'q, R>,
-) -> bool {
-    let Ok(turn) = Turn::new(rt, stream, queue) else {
+) -> TurnEnd {
+    let Ok(turn) = Turn::new(rt, operator, queue) else {
         warn!(rt; "{DEVICE_FAULT}: no operator is served");
-        return false;
+        return TurnEnd::Over;
     };
     let mut lines = OwnLines::new(&turn, &gauges.lines);
     for _ in rt.forever() {
         match obey_input(alloc, desk, clock, &mut lines, &turn) {
             Ok(Ended::EndOfInput) => {}
-            Ok(Ended::Stop) => return true,
-            Err(_) => return false,
+            Ok(Ended::Stop) => {
+                operator.drain();
+                return TurnEnd::Stop;
+            }
+            Err(_) => return TurnEnd::Over,
         }
         let Some(own) = lines.take_own() else {
-            return false;
+            return turn.end();
         };
         let reply = reply_to(alloc, gauges, own, clock.now());
         let mut writer = CountedWriter::new(&turn);
         if send(&mut writer, reply.as_slice()).is_err() {
-            return false;
+            return TurnEnd::Over;
         }
     }
     unreachable!()
 }
 
-/// Obeys the operators of a queue, one after another, until one sends `stop`. It goes on if accepting fails, for instance because no
-/// descriptors are left: nothing but `stop` ends a service in order.
+/// Obeys the operators of a queue, one after another, until one sends `stop`. One whose turn ends between two lines waits for the next.
+/// It goes on if accepting fails, for instance because no descriptors are left: nothing but `stop` ends a service in order.
 pub(crate) fn obey_operators<L: CallLedger, R: Wait + std::rt::Clock + Log>(
     rt: &R,
     alloc: Global,
@@ -95,17 +98,13 @@ pub(crate) fn obey_operators<L: CallLedger, R: Wait + std::rt::Clock + Log>(
     let mut clock = MonotonicClock::new(rt, lent.terms.start);
     for _ in rt.forever() {
         match queue.next() {
-            Ok(stream) => {
-                if obey_operator(
-                    rt,
-                    alloc,
-                    lent.gauges,
-                    &mut desk,
-                    &mut clock,
-                    &stream,
-                    &mut queue,
-                ) {
-                    return;
+            Ok(operator) => {
+                let gauges = lent.gauges;
+                let (desk, clock, queue) = (&mut desk, &mut clock, &mut queue);
+                match obey_operator(rt, alloc, gauges, desk, clock, &operator, queue) {
+                    TurnEnd::Stop => return,
+                    TurnEnd::Over => {}
+                    TurnEnd::Yields => queue.put_back(operator),
                 }
             }
             Err(error) => {

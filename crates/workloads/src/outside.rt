@@ -1,6 +1,7 @@
 //! Clients and name servers of a worker without sockets: replies go into a digest, and responses come from an internet in memory.
 
 ghost use Rattle.std.specs.Prelude.{◌≡◌};
+ghost use Rattle.dns_query.specs.declared.over.Over.TheVariants.{Udp};
 ghost use Rattle.flight.specs.Flight.{query_to};
 
 use crate::digest::Digest;
@@ -39,10 +40,16 @@ pub struct Asker {
 impl Client for Asker {
     ghost sent = { λ _ _. Unit {0} };
 
+    ghost over = { λ _. Udp };
+
     ghost since = { λ _. 0 };
 
     // All are of one network, which may hold all exchanges.
     ghost network = { λ _. 0 };
+
+    fn over(&self) -> Over {
+        Over::Udp
+    }
 
     fn since(&self) -> u64 {
         0

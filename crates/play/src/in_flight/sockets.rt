@@ -1,6 +1,7 @@
 //! Clients and lines, in words.
 
 ghost use Rattle.std.specs.Prelude.{◌≡◌};
+ghost use Rattle.dns_query.specs.declared.over.Over.TheVariants.{Udp};
 ghost use Rattle.flight.specs.Flight.{query_to};
 ghost use Rattle.flight.specs.Counted.{CountsSettled};
 
@@ -25,10 +26,16 @@ pub struct Peer {
 impl Client for Peer {
     ghost sent = { λ _ _. Unit {0} };
 
+    ghost over = { λ _. Udp };
+
     // The rows say nothing of calls that a client's desk knew of.
     ghost since = { λ _. 0 };
 
     ghost network = { λ peer. peer.network };
+
+    fn over(&self) -> Over {
+        Over::Udp
+    }
 
     fn since(&self) -> u64 {
         0

@@ -1,6 +1,5 @@
 use Rattle.std.proofs.Common.{inl, sym, subst}
 use Rattle.std.specs.Prelude.{None}
-use Rattle.dns_query.specs.declared.over.Over.TheVariants.{Udp}
 use Rattle.iterate.specs.declared.answer.Answer.{Answer}
 use Rattle.front_workers.specs.Serves.{Tells}
 use Rattle.flight.specs.Told.{silent}
@@ -11,5 +10,5 @@ pass_over-requires-clause-untold g c = silent c.requires.good (rw c.in-Silent.is
 
 pub returns-in-Silent : goal.returns-in-Silent
 returns-in-Silent g c =
-    let tells = subst (λ (answer : Answer). Tells Udp c.args.octets.now c.args.query.now answer None) (sym c.in-Silent.is) tt in
+    let tells = subst (λ (answer : Answer). Tells (g.K.Client.over c.args.client) c.args.octets.now c.args.query.now answer None) (sym c.in-Silent.is) tt in
     (None, inl tells, c.pass_over.ensures)
