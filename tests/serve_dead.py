@@ -129,12 +129,30 @@ def check_all(checks):
             checks.equal("an undo of it", service.obey("undo"), ["undone 3"])
             reply, took = timed(service, "c.dead.test.")
             checks.equal("an undo of it: the dead servers again", reply, FAILED)
-            takes(checks, "an undo of it: the dead servers again", took, 0, AT_ONCE)
+            takes(checks, "an undo of it: each is tried anew", took, 3 * EXCHANGE)
             checks.equal("an undo of the first stub", service.obey("undo", "undo"), ["undone 2", "undone 1"])
             reply, took = timed(service, "b.dead.test.")
             checks.equal("an undo of the first stub: answered", reply, answered("b.dead.test."))
             takes(checks, "an undo of the first stub: answered", took, 0, AT_ONCE)
             checks.equal("all are dead: stopped", service.stop(), STOPPED)
+
+
+def check_tried_anew(checks):
+    """A server that is passed over is tried by the first question after a command about its stub, and after the undo of one."""
+    zone = {"*": None}
+    with NameServers({DEAD[0]: zone}) as servers, Service([f"{DEAD[0]}@{servers.port}"]) as service:
+        for name, line, told in (("a.test.", f"stub_add test. {DEAD[0]}@{servers.port}", "ok 1"), ("b.test.", "undo", "undone 1")):
+            zone["*"] = None
+            checks.equal(f"before {line}", service.ask(name).words(), FAILED)
+            zone["*"] = good
+            reply, took = timed(service, name)
+            checks.equal(f"passed over before {line}", reply, FAILED)
+            takes(checks, f"passed over before {line}", took, 0, AT_ONCE)
+            checks.equal(f"{line}", service.obey(line), [told])
+            reply, took = timed(service, name)
+            checks.equal(f"after {line}", reply, answered(name))
+            takes(checks, f"after {line}", took, 0, AT_ONCE)
+        checks.equal("tried anew: stopped", service.stop(), STOPPED)
 
 
 def check_comes_back(checks):
@@ -286,6 +304,7 @@ def main():
         checks.make(check_first_of_three)
         checks.make(check_rest_in_vain)
         checks.make(check_all)
+        checks.make(check_tried_anew)
         checks.make(check_comes_back)
         checks.make(check_closed)
         checks.make(check_lively)

@@ -1,5 +1,6 @@
 """`status` and `stats` of a service: each figure is compared with what the test did. They keep nobody waiting, and no book sees them."""
 
+import hashlib
 import random
 import re
 import socket
@@ -44,12 +45,12 @@ def check_fresh(checks):
     options = ("--udp", "2", "--tcp", "3", "--cells", "77", "--journal", "5")
     with Service(["192.0.2.1"], *options) as service:
         told = service.figures()
-        others = {"cache.cells.max": 77, "control.lines": 1, "time.up": told["time.up"]}
+        others = {"cache.cells.max": 77, "commands.digest": 0, "control.lines": 1, "time.up": told["time.up"]}
         checks.equal("fresh: stats", told, {**dict.fromkeys(COUNTERS, 0), **others})
         status = service.obey("status")[0]
         wanted = (
             r"version: \d+\.\d+\.\d+ / uptime: \d seconds / workers: 2 over UDP, 3 over TCP / cells: 0 of 77 / forgotten: 0 / zones: 0 / records: 0"
-            r" / stubs: 0 / commands: 0 done, 0 undone, 5 at most / ticket: 0 / queries: 0 under way / end"
+            r" / stubs: 0 / commands: 0 done, 0 undone, 5 at most / ticket: 0 / digest: 0 / queries: 0 under way / end"
         )
         checks.check("fresh: status", None if re.fullmatch(wanted, status) else status)
         version = run([RESOLVER, "--version"]).out.decode().split()[-1]
@@ -166,11 +167,26 @@ def check_while_busy(checks):
         checks.equal("while busy: each once", is_quiet(service), True)
 
 
+def digest_with(digest, change):
+    """The digest after a change with this text: the first eight octets of the SHA-256 of the digest before and of the text."""
+    octets = digest.to_bytes(8, "big") + change.encode()
+    return int.from_bytes(hashlib.sha256(octets).digest()[:8], "big")
+
+
+def change_of(control, line, told):
+    """The text of the change that a line made, if it was accepted: that of a command as `list_commands` shows it."""
+    word, _, ticket = told.partition(" ")
+    if word == "ok":
+        listed = (listed.split(" ", 2) for listed in control.tell("list_commands").split(" / ")[:-1])
+        return next(words for number, _, words in listed if number == ticket)
+    return line if word in ("undone", "redone") else None
+
+
 def check_book(checks):
-    """Commands, undos and redos in a random order: the figures are those of the lists."""
+    """Commands, undos and redos in a random order: the figures are those of the lists, and the digest is that of the changes."""
     drawn = random.Random(34)
     with Service(["192.0.2.1"], "--journal", "7") as service, service.control() as control:
-        tickets = 0
+        tickets = digest = 0
         for turn in range(120):
             place = drawn.randrange(6)
             line = drawn.choice([
@@ -180,6 +196,9 @@ def check_book(checks):
             ])
             told = control.tell(line)
             tickets += told.startswith("ok ")
+            change = change_of(control, line, told)
+            if change:
+                digest = digest_with(digest, change)
             if turn % 4:
                 continue
             lists = {word: control.tell(f"list_{word}").split(" / ")[:-1] for word in ("local_zones", "local_data", "stubs", "commands")}
@@ -190,7 +209,7 @@ def check_book(checks):
             checks.equal(f"the book, turn {turn}", found, wanted)
             status = control.tell("status")
             zones, records, stubs, done, undone = wanted
-            words = f"/ zones: {zones} / records: {records} / stubs: {stubs} / commands: {done} done, {undone} undone, 7 at most / ticket: {tickets} /"
+            words = f"/ zones: {zones} / records: {records} / stubs: {stubs} / commands: {done} done, {undone} undone, 7 at most / ticket: {tickets} / digest: {digest} /"
             checks.check(f"the book, turn {turn}: status", None if words in status else f"{status}, wanted {words}")
 
 
@@ -220,9 +239,9 @@ def check_lines(checks):
         ]:
             checks.equal(f"line {line[:20]!r}", service.obey(line), [wanted])
         lines = len(service.obey("status" + " " * 1_018)[0].split(" / "))
-        checks.equal("the longest line", lines, 12)
+        checks.equal("the longest line", lines, 13)
         for text in (b"\tstatus \r\n", b"status", b"#status\n\nstatus\n", b"status\r\n\r\n"):
-            checks.equal(f"alone: {text}", told_at_once(service, text).count(b"\n"), 12)
+            checks.equal(f"alone: {text}", told_at_once(service, text).count(b"\n"), 13)
         text = b"list_stubs\nstats\nlook a. A\nstatus\nstatus\nat 5\nstats x\nundo"
         told = told_at_once(service, text).split(b"\n")
         marks = [line.partition(b"=")[0].partition(b":")[0] for line in told]
@@ -241,7 +260,7 @@ def check_lines(checks):
         service.obey("status", "stats", "undo")
         checks.equal("lines: counted", service.figures()["control.lines"], before + 4)
         done = run([RESOLVER, "control", f"{HOST}@{service.control_port}", "status"])
-        checks.equal("resolver control", (done.status, done.out.count(b"\n"), done.err), (0, 12, b""))
+        checks.equal("resolver control", (done.status, done.out.count(b"\n"), done.err), (0, 13, b""))
         done = run([RESOLVER, "control", f"{HOST}@{service.control_port}"], b"stats\nstatus x\nundo\n")
         checks.equal("resolver control, three lines", (done.status, done.out.split(b"\n")[-3:-1]), (1, [b"error bad_data", b"error nothing_to_undo"]))
         checks.equal("lines: stopped", told_at_once(service, b"status\nstop\nstatus\n").split(b"\n")[-3:], [b"end", b"ok stopping", b""])

@@ -55,6 +55,8 @@ mod pauses;
 mod permits;
 // The permits of one worker's exchanges.
 mod worker_permits;
+// How the workers of a service ask name servers.
+mod asking;
 // The zones that servers refused lately, each at its server.
 mod refused_zones;
 // The refusals that a worker remembers.
@@ -66,6 +68,7 @@ mod turns;
 // A worker that keeps many questions in flight.
 mod udp_worker;
 
+pub use asking::Asking;
 pub use fault_line::cause_of;
 pub use limit::{MOST_EXCHANGES, SPARE_DESCRIPTORS, limits_law, most_exchanges};
 pub use listener::{UdpListener, listen_each};

@@ -43,6 +43,16 @@ impl Pauses {
         })
     }
 
+    /// Forgets all. The memory of the tables is kept.
+    pub fn forget(&mut self)
+        ensures { IsBlank self.new }
+    {
+        self.servers.clear();
+        self.questions.clear();
+        self.server_cursor = 0;
+        self.question_cursor = 0;
+    }
+
     /// Whether a query to a server may begin now, if these others could be asked in its place. If a pause of the server or of the question
     /// is over, it is the trial after it.
     pub fn lets_through(

@@ -16,16 +16,16 @@ ghost use Rattle.flight_sockets.specs.Looked.{AllLookedAt, LooksAtAll};
 ghost use Rattle.flight_sockets.specs.Patience.{AreRead, EndsOverdue, IsReadOn, patience_of};
 ghost use Rattle.flight_sockets.specs.Taken.{IsQuery};
 
+use crate::asking::Asking;
 use crate::client::UdpClient;
 use crate::inbox::{Arrival, BATCH, Inbox, Slot};
 use crate::listener::{SERVICE, UdpListener};
-use crate::permits::Permits;
 use crate::service_socket::ServiceSocket;
 use crate::socket_line::SocketLine;
 use crate::tally::Tally;
 use crate::worker_sockets::WorkerSockets;
 use command_text::Clock;
-use dns_sockets::{AddressRange, Elapsing, MonotonicClock, ReadyNet};
+use dns_sockets::{Elapsing, MonotonicClock, ReadyNet};
 use dns_text::NoMemory;
 use flight::{Flight, Numbered};
 use log::Log;
@@ -80,32 +80,20 @@ impl<'a, R, S: ServiceSocket> Model for Turns<'a, R, S> {
 }
 
 impl<'a, R: ReadyNet + Log + Elapsing, S: ServiceSocket> Turns<'a, R, S> {
-    /// Takes datagrams at a listener. Name servers that are known by name are queried at this port, and none that strangers named in
-    /// these ranges. Exchanges are timed from `start` on. What it does is counted in a tally.
+    /// Takes datagrams at a listener. Exchanges are timed from `start` on. What it does is counted in a tally.
     pub fn new(
         rt: &'a R,
         tally: &'a Tally,
         alloc: Global,
         listener: UdpListener<S>,
-        server_port: u16,
-        do_not_query: &'a [AddressRange],
-        permits: &'a Permits,
+        asking: Asking<'a>,
         seed: u64,
         start: Instant,
     ) -> Result<Turns<'a, R, S>, NoMemory>
-        ensures { IfOk result (λ turns. turns ≡ fresh_worker listener.socket server_port start) }
+        ensures { IfOk result (λ turns. turns ≡ fresh_worker listener.socket asking.entry.server_port start) }
     {
         Ok(Turns {
-            sockets: WorkerSockets::new(
-                rt,
-                tally,
-                alloc,
-                listener,
-                server_port,
-                do_not_query,
-                permits,
-                seed,
-            )?,
+            sockets: WorkerSockets::new(rt, tally, alloc, listener, asking, seed)?,
             clock: MonotonicClock::new(rt, start),
             events: Events::with_capacity(alloc, MOST_READY)?,
             taken: 0,

@@ -9,15 +9,15 @@ ghost use Rattle.flight.specs.Waiting.{FlightState};
 ghost use Rattle.flight_sockets.specs.Accounts.{Accounts, fresh_worker};
 ghost use Rattle.flight_sockets.specs.Begun.{Runs, none_in_flight};
 
+use crate::asking::Asking;
 use crate::fault_line::cause_of;
 use crate::inbox::Inbox;
 use crate::listener::UdpListener;
-use crate::permits::Permits;
 use crate::service_socket::ServiceSocket;
 use crate::tally::Tally;
 use crate::turns::Turns;
 use command_text::Clock;
-use dns_sockets::{AddressRange, Elapsing, ReadyNet, StopFlag};
+use dns_sockets::{Elapsing, ReadyNet, StopFlag};
 use dns_text::NoMemory;
 use flight::{Flight, Numbered};
 use front_workers::{DEVICE_FAULT, MOST_FAILURES, WORKER_ENDED, WorkEnd};
@@ -46,34 +46,21 @@ impl<'a, R, S: ServiceSocket> Model for UdpWorker<'a, R, S> {
 }
 
 impl<'a, R: ReadyNet + Log + Elapsing, S: ServiceSocket> UdpWorker<'a, R, S> {
-    /// Takes datagrams at a listener. Name servers that are known by name are queried at this port, and none that strangers named in
-    /// these ranges. All workers share the permits. Exchanges are timed from `start` on. What it does is counted in a tally.
+    /// Takes datagrams at a listener. Exchanges are timed from `start` on. What it does is counted in a tally.
     pub fn new(
         rt: &'a R,
         tally: &'a Tally,
         alloc: Global,
         listener: UdpListener<S>,
-        server_port: u16,
-        do_not_query: &'a [AddressRange],
-        permits: &'a Permits,
+        asking: Asking<'a>,
         seed: u64,
         start: Instant,
     ) -> Result<UdpWorker<'a, R, S>, NoMemory>
-        ensures { IfOk result (λ worker. worker ≡ fresh_worker listener.socket server_port start) }
+        ensures { IfOk result (λ worker. worker ≡ fresh_worker listener.socket asking.entry.server_port start) }
     {
         Ok(UdpWorker {
             inbox: Inbox::new(alloc)?,
-            turns: Turns::new(
-                rt,
-                tally,
-                alloc,
-                listener,
-                server_port,
-                do_not_query,
-                permits,
-                seed,
-                start,
-            )?,
+            turns: Turns::new(rt, tally, alloc, listener, asking, seed, start)?,
         })
     }
 }

@@ -21,6 +21,7 @@ ghost use Rattle.flight_sockets.specs.Refusals.{IsLeftAlone, LooksUpList, NotesA
 ghost use Rattle.flight_sockets.specs.Replies.{MayCome};
 ghost use Rattle.flight_sockets.specs.declared.inbox.TheConstants.{BATCH};
 
+use crate::asking::Asking;
 use crate::client::UdpClient;
 use crate::fault_line::{cause_of, log_exchange, log_too_long};
 use crate::flaw::Flaw;
@@ -29,7 +30,6 @@ use crate::listener::UdpListener;
 use crate::others::others_of;
 use crate::outbox::Outbox;
 use crate::pauses::Pauses;
-use crate::permits::Permits;
 use crate::refusals::Refusals;
 use crate::refused_zones::list_of_strangers;
 use crate::service_socket::ServiceSocket;
@@ -50,6 +50,7 @@ use mio::{Events, Poll, Token};
 use std::alloc::Global;
 use std::io;
 use std::net::SocketAddr;
+use std::sync::atomic::{AtomicU64, Ordering};
 use std::time::Duration;
 
 /// The cause of an exchange that fails because its server is withheld, in words.
@@ -146,6 +147,10 @@ pub(crate) struct WorkerSockets<'a, R, S: ServiceSocket> {
     refusals: Refusals,
     /// The permits of the exchanges.
     permits: WorkerPermits<'a>,
+    /// A number that rises whenever servers may have to be tried anew.
+    renewals: &'a AtomicU64,
+    /// That number when servers were tried anew last.
+    renewed: u64,
     /// The moment of the exchanges that begin and end, in milliseconds.
     moment: u64,
     counts: Counts,
@@ -153,19 +158,16 @@ pub(crate) struct WorkerSockets<'a, R, S: ServiceSocket> {
 }
 
 impl<'a, R: Log, S: ServiceSocket> WorkerSockets<'a, R, S> {
-    /// Takes datagrams at a listener. Name servers that are known by name are queried at this port, and none that strangers named in
-    /// these ranges. Strangers do not know the seed.
+    /// Takes datagrams at a listener. Strangers do not know the seed.
     pub fn new(
         rt: &'a R,
         tally: &'a Tally,
         alloc: Global,
         listener: UdpListener<S>,
-        server_port: u16,
-        do_not_query: &'a [AddressRange],
-        permits: &'a Permits,
+        asking: Asking<'a>,
         seed: u64,
     ) -> Result<WorkerSockets<'a, R, S>, NoMemory>
-        ensures port { IfOk result (λ sockets. sockets.server_port ≡ server_port) }
+        ensures port { IfOk result (λ sockets. sockets.server_port ≡ asking.entry.server_port) }
         ensures counts { IfOk result (λ sockets. sockets.counts ≡ no_counts) }
         ensures outbox { IfOk result (λ sockets. sockets.outbox ≡ record { socket = listener.socket; waiting = [] }) }
     {
@@ -182,12 +184,14 @@ impl<'a, R: Log, S: ServiceSocket> WorkerSockets<'a, R, S> {
             poll,
             place,
             outbox: Outbox::new(alloc, socket),
-            server_port,
+            server_port: asking.server_port,
             room,
-            do_not_query,
+            do_not_query: asking.do_not_query,
             pauses: Pauses::new(alloc, seed)?,
             refusals: Refusals::new(alloc, seed)?,
-            permits: WorkerPermits::new(alloc, permits)?,
+            permits: WorkerPermits::new(alloc, asking.permits)?,
+            renewals: asking.renewals,
+            renewed: asking.renewals.load(Ordering::SeqCst),
             moment: 0,
             counts: Counts::new(),
         })
@@ -213,7 +217,8 @@ impl<'a, R: Log, S: ServiceSocket> WorkerSockets<'a, R, S> {
         self.outbox.flush(self.rt);
     }
 
-    /// Sets the moment of the exchanges that begin and end from now on, in milliseconds.
+    /// Sets the moment of the exchanges that begin and end from now on, in milliseconds. If servers may have to be tried anew, it forgets
+    /// which were silent.
     pub fn set_now(&mut self, now: u64)
         ensures now { self.new.moment ≡ now }
         ensures port { self.new.server_port ≡ self.old.server_port }
@@ -221,6 +226,11 @@ impl<'a, R: Log, S: ServiceSocket> WorkerSockets<'a, R, S> {
         ensures kept { self.new.outbox ≡ self.old.outbox }
     {
         self.moment = now;
+        let renewals = self.renewals.load(Ordering::SeqCst);
+        if renewals != self.renewed {
+            self.renewed = renewals;
+            self.pauses.forget();
+        }
     }
 
     /// How long a wait may take: not long while an exchange waits for a permit, which another worker may give back.

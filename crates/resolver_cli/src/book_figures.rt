@@ -2,10 +2,13 @@
 
 ghost use Rattle.std.specs.Prelude.{◌≡◌};
 
+use command_text::push_command;
 use dns_name::{Name, NoMemory};
 use dns_text::{Question, Shared};
-use history::{Ask, Book, Event, Look, Reply, Seen, Servers, Settings, StepFault};
+use history::{Ask, Book, Command, Event, Look, Reply, Seen, Servers, Settings, StepFault};
 use local_zone::ZoneTable;
+use sha2::{Digest, Sha256};
+use std::alloc::Global;
 use std::sync::atomic::{AtomicU64, Ordering};
 use stub_table::StubTable;
 
@@ -30,6 +33,10 @@ pub(crate) struct BookFigures {
     pub most_commands: u64,
     /// The ticket of the newest command, or 0.
     pub ticket: AtomicU64,
+    /// A digest of the commands, undos and redos so far that were accepted, in order.
+    pub digest: AtomicU64,
+    /// How many of them may have changed the stubs.
+    pub renewals: AtomicU64,
 }
 
 /// The value of a figure.
@@ -57,6 +64,8 @@ impl BookFigures {
             undone: AtomicU64::new(0),
             most_commands: settings.journal as u64,
             ticket: AtomicU64::new(0),
+            digest: AtomicU64::new(0),
+            renewals: AtomicU64::new(0),
         }
     }
 
@@ -93,6 +102,14 @@ impl BookFigures {
         }
     }
 
+    /// Notes that a change with this text was accepted, and whether it may have changed the stubs.
+    fn note_change(&self, text: &[u8], may_change_stubs: bool) {
+        set(&self.digest, digest_with(read(&self.digest), text));
+        if may_change_stubs {
+            let _ = self.renewals.fetch_add(1, Ordering::SeqCst);
+        }
+    }
+
     /// Notes what an event did to a book. A lookup does nothing.
     fn note<B: Book>(&self, book: &B, replied: &Result<Reply, StepFault>) {
         match replied {
@@ -117,19 +134,65 @@ impl BookFigures {
     }
 }
 
+/// A digest with one change more: the first eight octets of the SHA-256 of the digest so far and of the text of the change.
+fn digest_with(digest: u64, text: &[u8]) -> u64 {
+    let mut hasher = Sha256::new();
+    hasher.update(digest.to_be_bytes().as_slice());
+    hasher.update(text);
+    let whole = hasher.finalize();
+    let mut front = [0u8; 8];
+    front.copy_from_slice(&whole[..8]);
+    u64::from_be_bytes(front)
+}
+
+/// Writes the text of the change that an event is, if it is one. If memory runs out, a part of it may have been written.
+fn write_change(event: &Event, out: &mut Vec<u8>) {
+    let _ = match event {
+        Event::Do { command, .. } => push_command(command, out),
+        Event::Undo { .. } => out.extend_from_slice(b"undo"),
+        Event::Redo { .. } => out.extend_from_slice(b"redo"),
+        _ => Ok(()),
+    };
+}
+
+/// Whether an event may change the stubs: a command about them does, and any undo or redo may.
+fn may_change_stubs(event: &Event) -> bool {
+    match event {
+        Event::Do { command, .. } => {
+            matches!(command, Command::SetStub { .. } | Command::DropStub { .. })
+        }
+        Event::Undo { .. } | Event::Redo { .. } => true,
+        _ => false,
+    }
+}
+
+/// Whether a change was accepted.
+fn is_accepted(replied: &Result<Reply, StepFault>) -> bool {
+    match replied {
+        Ok(Reply::Done { .. }) | Ok(Reply::Undone { .. }) | Ok(Reply::Redone { .. }) => true,
+        _ => false,
+    }
+}
+
 /// A book that keeps its figures. It is that book in all else.
 #[derive(Drop)]
 pub(crate) struct WatchedBook<B: Book> {
     book: B,
     figures: Shared<BookFigures>,
+    /// The text of the last change.
+    text: Vec<u8>,
 }
 
 impl<B: Book> WatchedBook<B> {
     /// A book that has taken no event, and its figures.
-    pub fn new(book: B, figures: Shared<BookFigures>) -> WatchedBook<B>
+    pub fn new(alloc: Global, book: B, figures: Shared<BookFigures>) -> WatchedBook<B>
         ensures { result.book ≡ book }
     {
-        WatchedBook { book, figures }
+        WatchedBook {
+            book,
+            figures,
+            text: Vec::new(alloc),
+        }
     }
 }
 
@@ -147,8 +210,15 @@ impl<B: Book> Book for WatchedBook<B> {
     ghost one_count = { λ watched h k is also. B.one_count watched.book h k is also };
 
     fn step(&mut self, event: Event) -> Result<Reply, StepFault> {
+        self.text.clear();
+        write_change(&event, &mut self.text);
+        let may_change_stubs = may_change_stubs(&event);
         let replied = self.book.step(event);
-        self.figures.get().note(&self.book, &replied);
+        let figures = self.figures.get();
+        figures.note(&self.book, &replied);
+        if is_accepted(&replied) {
+            figures.note_change(self.text.as_slice(), may_change_stubs);
+        }
         replied
     }
 

@@ -85,7 +85,7 @@ fn exchanges_of(sums: &Sums) -> [(&'static str, u64); 5] {
 }
 
 /// The figures of a book.
-fn figures_of(book: &BookFigures) -> [(&'static str, u64); 9] {
+fn figures_of(book: &BookFigures) -> [(&'static str, u64); 10] {
     [
         ("cache.cells", read(&book.cells)),
         ("cache.cells.max", book.most_cells),
@@ -96,6 +96,7 @@ fn figures_of(book: &BookFigures) -> [(&'static str, u64); 9] {
         ("stubs", read(&book.stubs)),
         ("commands.done", read(&book.done)),
         ("commands.undone", read(&book.undone)),
+        ("commands.digest", read(&book.digest)),
     ]
 }
 
@@ -153,7 +154,8 @@ impl Gauges {
             "commands: {done} done, {undone} undone, {most} at most\n"
         )?.as_str())?;
         let ticket = read(&book.ticket);
-        out.push_str(format!(in alloc; "ticket: {ticket}\n")?.as_str())?;
+        let digest = read(&book.digest);
+        out.push_str(format!(in alloc; "ticket: {ticket}\ndigest: {digest}\n")?.as_str())?;
         Ok(out)
     }
 

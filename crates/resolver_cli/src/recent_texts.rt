@@ -8,7 +8,7 @@ use std::fmt::Write;
 pub(crate) const WHILE_SECONDS: u64 = 10;
 
 /// The most texts that are counted at once.
-const MOST_TEXTS: usize = 128;
+pub(crate) const MOST_TEXTS: usize = 128;
 
 /// The most servers, or sets of records, that are named beside one cause at once. Strangers choose them, and may choose very many. So
 /// others are counted together, by their cause: a flood of one cause hides no other.

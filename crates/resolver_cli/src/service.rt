@@ -21,7 +21,7 @@ use crate::worker::{
 };
 use cell_store::NameSeed;
 use dns_sockets::{descriptor_limit, place_of};
-use flight_sockets::{Permits, Waker, most_exchanges};
+use flight_sockets::{Asking, Permits, Waker, most_exchanges};
 use history::Book;
 use log::{Log, info};
 use resolver_args::Service;
@@ -248,6 +248,9 @@ where
     let Ok(permits) = Permits::new(alloc, drawn_seed(rt)?) else {
         return Err(CliFault::no_memory());
     };
+    let Ok(gauges) = Gauges::new(alloc, service.udp, service.tcp, &service.settings) else {
+        return Err(CliFault::no_memory());
+    };
     // Moved out of the settings, since the terms borrow it while others are moved.
     let do_not_query = service.do_not_query;
     let terms = Terms {
@@ -255,19 +258,19 @@ where
         udp: service.udp,
         tcp: service.tcp,
         seed: service.seed,
-        server_port: service.settings.server_port,
         exchanges: most_exchanges(descriptors, service.udp),
-        do_not_query: do_not_query.as_slice(),
-        permits: &permits,
+        asking: Asking {
+            server_port: service.settings.server_port,
+            do_not_query: do_not_query.as_slice(),
+            permits: &permits,
+            renewals: &gauges.book.get().renewals,
+        },
         start,
     };
     let exchanges = terms.exchanges.saturating_mul(usize::from(terms.udp));
     hold_descriptors(alloc, &bound.sockets.tcp, exchanges)?;
     let record_limit = service.record_limit;
     let seed = drawn_seed(rt)?;
-    let Ok(gauges) = Gauges::new(alloc, terms.udp, terms.tcp, &service.settings) else {
-        return Err(CliFault::no_memory());
-    };
     let Ok(figures) = gauges.book.share() else {
         return Err(CliFault::no_memory());
     };
@@ -275,7 +278,7 @@ where
     let Ok(book) = ShelfBook::seeded(alloc, service.settings, seed) else {
         return Err(CliFault::no_memory());
     };
-    let book = WatchedBook::new(book, figures);
+    let book = WatchedBook::new(alloc, book, figures);
     let blank = Blank::new(PARTS);
     let stop = AtomicBool::new(false);
     serve_over::<Brand, R, F>(

@@ -1,6 +1,8 @@
 //! The log of a service, on standard error. Whoever logs never waits: a line joins those that wait, and a thread of its own writes them.
 
-use crate::recent_texts::{Fate, RecentTexts, WHILE_SECONDS, Words, known_by, words_of};
+use crate::recent_texts::{
+    Fate, MOST_TEXTS, RecentTexts, WHILE_SECONDS, Words, known_by, words_of,
+};
 use circular_buffer::HeapCircularBuffer;
 use dns_sockets::takes_octets;
 use jiff::Timestamp;
@@ -19,6 +21,9 @@ const MOST_WAITING: usize = 48;
 
 /// The most lines that are written in one go.
 const MOST_WRITTEN: usize = 2 * MOST_WAITING;
+
+/// The rounds at the end. Each has room for the lines of `MOST_WAITING` texts.
+const MOST_ROUNDS: usize = 1 + MOST_TEXTS / MOST_WAITING;
 
 /// The descriptor of standard error.
 const STANDARD_ERROR: i32 = 2;
@@ -169,14 +174,20 @@ impl<'a, R: Wait + Clock> ServiceLog<'a, R> {
         self.clock().unwrap_or(0)
     }
 
-    /// Has lines wait that say how often texts came again, even if their while is not over.
-    pub fn finish(&self) {
-        self.kept.lock(self.rt).settle(u64::MAX, self.time());
-    }
-
     /// Takes out the line that is to be written next.
     fn next(&self) -> Option<Line> {
         self.kept.lock(self.rt).next(self.time())
+    }
+}
+
+impl<'a, R: Wait + Clock + Eprint> ServiceLog<'a, R> {
+    /// Writes the lines that wait, and how often texts came again, even if their while is not over, as long as standard error takes lines
+    /// at once. Then there is room for more.
+    pub fn finish(&self) {
+        for _ in 0..MOST_ROUNDS {
+            self.kept.lock(self.rt).settle(u64::MAX, self.time());
+            self.flush();
+        }
     }
 }
 

@@ -8,8 +8,8 @@ use crate::fault::CliFault;
 use crate::gauges::Gauges;
 use crate::sockets::Sockets;
 use crate::tallied::{TalliedExchange, TalliedListener};
-use dns_sockets::{AddressRange, Connections, MonotonicClock, SocketExchange};
-use flight_sockets::{Permits, Tally, UdpListener, UdpWorker, fly_udp};
+use dns_sockets::{Connections, MonotonicClock, SocketExchange};
+use flight_sockets::{Asking, Tally, UdpListener, UdpWorker, fly_udp};
 use front_workers::{Tools, work_tcp};
 use log::Log;
 use rand::rngs::StdRng;
@@ -39,14 +39,10 @@ pub(crate) struct Terms<'a> {
     pub tcp: u8,
     /// The seed of the identifiers of queries, if the operator fixed one.
     pub seed: Option<u32>,
-    /// The port of name servers whose addresses are learnt.
-    pub server_port: u16,
     /// The most exchanges that a UDP worker may have under way.
     pub exchanges: usize,
-    /// The addresses that are queried only as those of stubs or hints.
-    pub do_not_query: &'a [AddressRange],
-    /// The permits of the exchanges of all UDP workers.
-    pub permits: &'a Permits,
+    /// How UDP workers ask name servers.
+    pub asking: Asking<'a>,
     /// The instant from which every worker's clock counts.
     pub start: Instant,
 }
@@ -124,17 +120,8 @@ where
         let own = pass_of(rt, book, pass)?;
         let ids = generator(rt, terms.seed, number)?;
         let seed = table_seed(rt, terms.seed, number)?;
-        let Ok(worker) = UdpWorker::new(
-            rt,
-            tally,
-            alloc,
-            listener,
-            terms.server_port,
-            terms.do_not_query,
-            terms.permits,
-            seed,
-            terms.start,
-        ) else {
+        let Ok(worker) = UdpWorker::new(rt, tally, alloc, listener, terms.asking, seed, terms.start)
+        else {
             return Err(CliFault::no_memory());
         };
         let worker = OverUdp {
@@ -167,8 +154,13 @@ where
     for (number, tally) in (terms.udp..terms.udp + terms.tcp).zip(tallies) {
         let own = pass_of(rt, book, pass)?;
         let ids = generator(rt, terms.seed, number)?;
-        let Ok(exchange) = SocketExchange::new(rt, alloc, terms.place, terms.do_not_query, stop)
-        else {
+        let Ok(exchange) = SocketExchange::new(
+            rt,
+            alloc,
+            terms.place,
+            terms.asking.do_not_query,
+            stop,
+        ) else {
             return Err(CliFault::no_memory());
         };
         let worker = OverTcp {
@@ -234,7 +226,7 @@ where
         exchange: TalliedExchange::new(exchange, tally),
         clock: MonotonicClock::new(rt, lent.terms.start),
         ids,
-        server_port: lent.terms.server_port,
+        server_port: lent.terms.asking.server_port,
     };
     let connections = Connections::new(rt, alloc, &lent.sockets.tcp, lent.stop);
     let mut listener = TalliedListener::new(connections, tally);

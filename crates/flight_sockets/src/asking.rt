@@ -1,0 +1,19 @@
+//! How the workers of a service ask name servers.
+
+use crate::permits::Permits;
+use dns_sockets::AddressRange;
+use std::sync::atomic::AtomicU64;
+
+/// How the workers of a service ask name servers. All of them share it.
+#[derive(Clone, Copy)]
+pub struct Asking<'a> {
+    /// The port at which servers are queried whose addresses are learnt.
+    pub server_port: u16,
+    /// The addresses that are queried only as those of stubs or hints.
+    pub do_not_query: &'a [AddressRange],
+    /// The permits of exchanges.
+    pub permits: &'a Permits,
+    /// A number that rises whenever servers may have to be tried anew, since an operator changed which ones are asked. Workers then
+    /// forget which servers were silent.
+    pub renewals: &'a AtomicU64,
+}
