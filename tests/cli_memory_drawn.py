@@ -9,7 +9,7 @@ from lib.drawing import drawn_script
 from lib.full_books import check_books, number_told
 from lib.model import Model
 from lib.programs import RESOLVER, run
-from lib.refusing import LOST, NO_MEMORY, replies_to
+from lib.refusing import LOST, NO_MEMORY, SHOWING, replies_to
 
 BOOKS, SCRIPTS, ALLOCATIONS, SEED = 40, 100, 12, 20_261_126
 
@@ -25,7 +25,7 @@ def fault_of_run(arguments, lines, done):
             wants += 1
             continue
         wanted = "\n".join(model.obey(line)).encode()
-        if reply == LOST and line.startswith(("look", "servers", "list")):
+        if reply == LOST and line.encode().startswith(SHOWING):
             wants += 1
         elif reply != wanted:
             return f"line {number}, {line}, gets {short(reply)}, wanted {short(wanted)}", wants
