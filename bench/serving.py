@@ -1,4 +1,5 @@
-"""What `bench/service` and `bench/endurance` share: `resolver serve`, unbound and a bare echo on loopback, and who asks them."""
+"""What `bench/service`, `bench/tcp` and `bench/endurance` share: `resolver serve`, unbound and a bare echo on loopback, who asks them,
+and the table of a comparison."""
 
 import contextlib
 import json
@@ -6,6 +7,7 @@ import os
 import resource
 import shutil
 import socket
+import statistics
 import subprocess
 import sys
 
@@ -162,3 +164,71 @@ class Programs:
             yield port, [process.pid for process in processes], os.path.join(self.folder, "control")
         finally:
             ended(*processes)
+
+
+def losses(told):
+    """What the drivers lost, in all their runs."""
+    return {word: sum(one[word] for one in told) for word in ("lost", "failed", "strange")}
+
+
+def span(values, form):
+    """The median, the least and the greatest."""
+    return f"{statistics.median(values):{form}} ({min(values):{form}} to {max(values):{form}})"
+
+
+def has_stalled(rounds, who):
+    """The most connections of a program that stalled in a round."""
+    return max(one[who].get("stalled", 0) for one in rounds)
+
+
+def cell(rounds, who, figure, is_first):
+    """The median of a program's figure; or, in the first row of a measure, how many connections stalled."""
+    if who not in rounds[0]:
+        return ""
+    if has_stalled(rounds, who):
+        return f"stalled: {has_stalled(rounds, who)} of {rounds[0][who]['connections']}" if is_first else ""
+    form = ",.0f" if figure == "rate" else ".1f"
+    return f"{statistics.median(one[who][figure] for one in rounds):{form}}"
+
+
+def ratio(rounds, who, figure):
+    """Ours relative to a peer, in each round."""
+    if "ours" not in rounds[0] or who not in rounds[0] or has_stalled(rounds, "ours") or has_stalled(rounds, who):
+        return ""
+    if not all(one[who][figure] for one in rounds):
+        return ""
+    return span([one["ours"][figure] / one[who][figure] for one in rounds], ".2f")
+
+
+def rows(measure, rounds, peers, others):
+    """The row of a measure in the table, and then a row for each further figure that it has."""
+    name, key, _, _, aim = measure
+    some, what = next(iter(rounds[0].values())), name.removesuffix(f": {others.get(key)}")
+    for figure in [key, *(other for other in others if other in some and other != key)]:
+        words = [name if figure == key else f"{what}: {others[figure]}"]
+        words += [cell(rounds, who, figure, figure == key) for who in ("ours", *peers)]
+        words += [ratio(rounds, who, figure) for who in peers]
+        yield "| " + " | ".join([*words, aim if figure == key else ""]) + " |"
+
+
+def compare(bench, measures, count, others):
+    """Measures all programs by turns, for a number of rounds, and prints the table. A measure is its name, the key of its first figure, the
+    programs, how it is measured, and its aim; `others` has the names of further figures."""
+    if not bench.unbound:
+        print("unbound: not measured, it is not installed", file=sys.stderr)
+    peers = [who for who in bench.who if who != "ours"]
+    found = {name: [] for name, *_ in measures}
+    for _ in range(count):
+        for name, _, part, measured, _ in measures:
+            found[name].append({who: measured(bench, who) for who in bench.who if part == "all" or who != "echo"})
+    print(f"{count} rounds on {os.cpu_count()} cores, load {os.getloadavg()[0]:.0f}; medians, and of ratios the least and greatest\n")
+    print("| | ours | " + " | ".join(peers) + " | " + " | ".join(f"ours/{who}" for who in peers) + " | aim |")
+    print("|---" * (3 + 2 * len(peers)) + "|")
+    for measure in measures:
+        print("\n".join(rows(measure, found[measure[0]], peers, others)))
+    for name, rounds in found.items():
+        for who in bench.who:
+            for word in ("lost", "failed", "strange", "closed"):
+                total = sum(one[who].get(word, 0) for one in rounds if who in one)
+                if total:
+                    print(f"\n{name}: {who}: {total} {word}")

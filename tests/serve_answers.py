@@ -350,8 +350,7 @@ def check_undone(checks, over):
 
 
 def check_overlap(checks, over):
-    """The first question's exchange is held up until a second question and a command were answered; over UDP by one worker."""
-    workers = {"udp": "1", "tcp": "2"}[over]
+    """The first question's exchange is held up until a second question and a command were answered, by one worker."""
     gate = threading.Event()
 
     def held(asked):
@@ -364,7 +363,7 @@ def check_overlap(checks, over):
     hints = {address: zone for address in addresses}
     with NameServers(hints) as servers:
         ports = [f"{address}@{servers.port}" for address in addresses]
-        with Service(ports, f"--{over}", workers) as service, service.client(over) as first:
+        with Service(ports) as service, service.client(over) as first:
             first.send(query("slow.test.", "A", 7))
             checks.check(f"overlap over {over}: it is asked", None if servers.wait_for("slow.test. A") else "it is not")
             checks.equal(f"overlap over {over}: the second", service.ask("quick.test.", "A", over).words(), "- | answer quick.test. A 192.0.2.2")
@@ -447,7 +446,7 @@ def check_nothing_left(checks):
 
 
 def check_stop_while_asking(checks):
-    """`stop` while exchanges wait for silent servers: the service ends at their deadlines, and logs its end."""
+    """`stop` while exchanges wait for silent servers: the service drops them, ends, and logs its end."""
     with NameServers({ROOT: {"*": None}}) as servers, serving(servers, "--udp", "2") as service:
         with service.client() as client, service.client("tcp") as other:
             for place in range(2):

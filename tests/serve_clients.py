@@ -126,7 +126,7 @@ def check_dnsperf(checks, service):
     """Five seconds of questions that are cached, denied, blocked and new: each is answered."""
     if not is_there(checks, "dnsperf"):
         return
-    for over, options in (("udp", []), ("tcp", ["-m", "tcp", "-c", "1"])):
+    for over, options in (("udp", []), ("tcp", ["-m", "tcp", "-c", "8"])):
         with tempfile.NamedTemporaryFile("w") as questions:
             for place in range(1_000):
                 questions.write(f"host.home A\nads A\na.test A\nnew{place}-{over}.test A\n")

@@ -22,7 +22,8 @@ TOO_MANY = b"resolver: too many exchanges"
 FAULT = b"resolver: device fault"
 FAILED = "rcode 2"
 
-# The descriptors that the service sets aside.
+# The descriptors that the service sets aside. Those that are left it shares out: one part for each UDP worker, and two for each TCP
+# worker, which has connections beside its exchanges.
 SPARE = 96
 
 
@@ -76,10 +77,12 @@ def check_cut(checks):
 
 
 def check_passed_limit(checks, count, workers, most_descriptors, room):
-    """More questions at once than there may be exchanges: those above the limit get SERVFAIL.
+    """More questions at once than there may be exchanges: those above the limit get SERVFAIL. One worker over TCP has two shares.
 
     On a slow machine the first exchanges end before the last question is asked, and get SERVFAIL too."""
     name = f"{count} at once, {workers} workers, {most_descriptors} descriptors"
+    if resource.getrlimit(resource.RLIMIT_NOFILE)[1] < most_descriptors:
+        return checks.skip(name, "a process may not have so many")
     held_back, gate = [], threading.Event()
 
     def late(asked):
@@ -136,11 +139,22 @@ def check_table(checks, workers, most_descriptors, size):
         checks.check(f"{name}: what is held", held > 64 and f"{held} descriptors")
 
 
+def rcode_of(client):
+    """The RCODE of the next reply, or None if the service ends the connection."""
+    try:
+        octets = client.octets()
+    except ConnectionError:
+        return None
+    return octets and octets[3] & 15
+
+
 def check_spare(checks, most_descriptors):
-    """Eight workers over UDP have all their exchanges under way, 33 operators wait, and eight clients over TCP ask for new names: nobody
-    lacks a descriptor. The names are in sixteen zones, each with a server of its own, since none of them has all exchanges of a worker."""
+    """Eight workers over UDP have all their exchanges under way, 33 operators wait, and over TCP as many clients as eight workers have
+    places for ask for new names: nobody lacks a descriptor. The names are in sixteen zones, each with a server of its own, since none of
+    them has all exchanges of a worker. A TCP worker that accepts more clients than others ends some."""
     name = f"all in use, {most_descriptors} descriptors"
-    room = 8 * ((most_descriptors - SPARE) // 8)
+    share = (most_descriptors - SPARE) // 24
+    room, places = 8 * share, 8 * ((most_descriptors - SPARE - 16 * share) // 8)
     addresses = [f"127.0.0.{place}" for place in range(2, 18)]
     with LateServer(never, addresses) as server, contextlib.ExitStack() as stack:
         service = stack.enter_context(Service([server.hint], "--udp", "8", "--tcp", "8", most_descriptors=most_descriptors))
@@ -148,17 +162,19 @@ def check_spare(checks, most_descriptors):
         crowd = stack.enter_context(Crowd(service, 64))
         crowd.send_all(f"n{place}.z{place % 16}.test." for place in range(3 * room))
         operators = [stack.enter_context(service.control()) for _ in range(33)]
-        clients = [stack.enter_context(service.client("tcp")) for _ in range(8)]
+        clients = [stack.enter_context(service.client("tcp")) for _ in range(places)]
         for place, client in enumerate(clients):
-            client.send(query(f"tcp.z{place}.test.", "A"))
+            with contextlib.suppress(ConnectionError):
+                client.send(query(f"tcp{place}.z{place % 16}.test.", "A"))
         most = 0
         for place in range(20):
             crowd.send_all(f"m{place}.n{more}.z{more % 16}.test." for more in range(room // 2))
             most = max(most, service.descriptors())
             time.sleep(0.1)
-        wanted = room + 41 <= most < most_descriptors
-        checks.check(f"{name}: in use", None if wanted else f"{most}, wanted {room + 41} and more, and some left")
-        checks.equal(f"{name}: over TCP", {client.octets()[3] & 15 for client in clients}, {2})
+        least = room + 33 + places // 2
+        wanted = least <= most < most_descriptors
+        checks.check(f"{name}: in use", None if wanted else f"{most}, wanted {least} and more, and some left")
+        checks.equal(f"{name}: over TCP", {rcode_of(client) for client in clients} - {None}, {2})
         crowd.wait()
         for operator in operators:
             operator.sock.close()
@@ -500,9 +516,10 @@ def main():
     checks = Checks()
     checks.make(check_quick)
     checks.make(check_cut)
-    checks.make(check_passed_limit, 1_500, 1, 1_024, 512)
-    checks.make(check_passed_limit, 300, 1, 132, 36)
-    checks.make(check_passed_limit, 300, 4, 132, 36)
+    checks.make(check_passed_limit, 1_500, 1, 1_024, 309)
+    checks.make(check_passed_limit, 1_500, 1, 1_632, 512)
+    checks.make(check_passed_limit, 300, 1, 132, 12)
+    checks.make(check_passed_limit, 300, 4, 132, 24)
     checks.make(check_table, 1, 1_024, 512)
     checks.make(check_table, 4, 4_096, 2_048)
     checks.make(check_spare, 256)

@@ -137,22 +137,22 @@ def check_all(checks):
             checks.equal("all are dead: stopped", service.stop(), STOPPED)
 
 
-def check_tried_anew(checks):
+def check_tried_anew(checks, over):
     """A server that is passed over is tried by the first question after a command about its stub, and after the undo of one."""
     zone = {"*": None}
     with NameServers({DEAD[0]: zone}) as servers, Service([f"{DEAD[0]}@{servers.port}"]) as service:
         for name, line, told in (("a.test.", f"stub_add test. {DEAD[0]}@{servers.port}", "ok 1"), ("b.test.", "undo", "undone 1")):
             zone["*"] = None
-            checks.equal(f"before {line}", service.ask(name).words(), FAILED)
+            checks.equal(f"{over}, before {line}", service.ask(name, "A", over).words(), FAILED)
             zone["*"] = good
-            reply, took = timed(service, name)
-            checks.equal(f"passed over before {line}", reply, FAILED)
-            takes(checks, f"passed over before {line}", took, 0, AT_ONCE)
-            checks.equal(f"{line}", service.obey(line), [told])
-            reply, took = timed(service, name)
-            checks.equal(f"after {line}", reply, answered(name))
-            takes(checks, f"after {line}", took, 0, AT_ONCE)
-        checks.equal("tried anew: stopped", service.stop(), STOPPED)
+            reply, took = timed(service, name, over)
+            checks.equal(f"{over}, passed over before {line}", reply, FAILED)
+            takes(checks, f"{over}, passed over before {line}", took, 0, AT_ONCE)
+            checks.equal(f"{over}, {line}", service.obey(line), [told])
+            reply, took = timed(service, name, over)
+            checks.equal(f"{over}, after {line}", reply, answered(name))
+            takes(checks, f"{over}, after {line}", took, 0, AT_ONCE)
+        checks.equal(f"{over}, tried anew: stopped", service.stop(), STOPPED)
 
 
 def check_comes_back(checks):
@@ -304,7 +304,8 @@ def main():
         checks.make(check_first_of_three)
         checks.make(check_rest_in_vain)
         checks.make(check_all)
-        checks.make(check_tried_anew)
+        checks.make(check_tried_anew, "udp")
+        checks.make(check_tried_anew, "tcp")
         checks.make(check_comes_back)
         checks.make(check_closed)
         checks.make(check_lively)

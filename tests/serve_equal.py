@@ -108,7 +108,7 @@ def check_silent(checks):
             among = time.monotonic() - began
             crowd.wait()
             took = time.monotonic() - began
-        print(f"a silent server: {took:.2f} s, {arrivals.count('silent.test.')} queries, others {among:.2f} s")
+        print(f"a silent server: {took:.2f} s, {arrivals.count('silent1.test.')} queries, others {among:.2f} s")
         checks.check("a silent server: once each", crowd.once_each())
         checks.equal("a silent server: the replies", set(crowd.words()), {FAILED})
         most = arrivals.most("silent1.test.", EXCHANGE - 0.1)

@@ -1,7 +1,9 @@
 """`resolver serve` while calls of its sockets fail: each call by itself, one run for each. A query may get SERVFAIL or no reply then, or
 its connection may end. But the service goes on: right after that, or a second later if a port seemed closed, it answers every
-question and obeys every line, and `stop` ends it. `tests/run` tries every call; `python3 tests/serve_failing.py CALL..` tries some."""
+question, also those in flight together over one connection, and obeys every line. `stop` ends it. `tests/run` tries every call;
+`python3 tests/serve_failing.py CALL..` tries some."""
 
+import contextlib
 import errno
 import re
 import sys
@@ -9,7 +11,7 @@ import time
 from concurrent.futures import ThreadPoolExecutor
 
 from lib.checks import Checks
-from lib.nameserver import NameServers
+from lib.nameserver import NameServers, framed
 from lib.programs import library
 from lib.replies import reply_in
 from lib.service import HOST, STOPPED, Service, query, until
@@ -38,6 +40,9 @@ CLOSED_PAUSE = 1.1
 QUESTIONS = (("udp", "a"), ("tcp", "b"), ("udp", "t"), ("tcp", "tt"), ("udp", "c"), ("tcp", "d"))
 
 
+# The questions of each of two connections that are in flight together.
+TOGETHER = (("ready", "u", "t1", "v"), ("w", "ready", "x", "t2"))
+
 # The reply to the one question that needs no name server.
 LOCAL = "aa | answer ready.test. A 192.0.2.9"
 
@@ -49,7 +54,7 @@ def zone(asked):
 
 
 def wanted(name):
-    return f"- | answer {name} A 192.0.2.1"
+    return LOCAL if name == "ready.test." else f"- | answer {name} A 192.0.2.1"
 
 
 def try_to_ask(service, over, name):
@@ -65,6 +70,31 @@ def try_to_ask(service, over, name):
     if octets is None:
         return None
     return reply_in(octets).words() if octets[:2] == asked[:2] else octets.hex()
+
+
+def try_together(service):
+    """Asks over two connections, of which each has all its questions in flight at once. They bring replies in any order, or end. Returns
+    how many replies were right, and what is wrong with another: it may be SERVFAIL."""
+    right = 0
+    with contextlib.ExitStack() as stack:
+        clients = []
+        for labels in TOGETHER:
+            with contextlib.suppress(OSError):
+                clients.append((stack.enter_context(service.client("tcp")), labels))
+        for client, labels in clients:
+            client.sock.settimeout(PATIENCE)
+            with contextlib.suppress(OSError):
+                client.sock.sendall(b"".join(framed(query(f"{label}.test.", "A", place)) for place, label in enumerate(labels)))
+        for client, labels in clients:
+            left = dict(enumerate(labels))
+            with contextlib.suppress(OSError):
+                while left and (octets := client.octets()):
+                    label = left.pop(int.from_bytes(octets[:2], "big"), None)
+                    words = reply_in(octets).words()
+                    if label is None or words not in ("rcode 2", wanted(f"{label}.test.")):
+                        return right, f"{label} is answered {words}"
+                    right += words != "rcode 2"
+    return right, None
 
 
 def try_to_obey(service, line):
@@ -90,6 +120,9 @@ def fault_of(service, pause):
         found = try_to_ask(service, over, name)
         if found not in (None, "rcode 2", wanted(name)):
             return f"{name} over {over} is answered {found}"
+    _, fault = try_together(service)
+    if fault:
+        return f"together {fault}"
     told = try_to_obey(service, "flush a.test.")
     if told not in (None, "ok 2"):
         return f"`flush` is answered {told}"
@@ -100,6 +133,9 @@ def fault_of(service, pause):
             found = try_to_ask(service, over, f"{label}.test.")
             if found != wanted(f"{label}.test."):
                 return f"afterwards {label}.test. over {over} is answered {found}"
+    count, fault = try_together(service)
+    if fault or count != sum(map(len, TOGETHER)):
+        return f"afterwards {count} are answered together, {fault}"
     told = service.obey("local_zone x.test. static", "undo")
     if not told[0].startswith("ok ") or told[1] != told[0].replace("ok", "undone"):
         return f"afterwards a command and its undo are answered {told}"
@@ -130,7 +166,7 @@ def check_call(checks, call):
 
 
 def check_stop(checks):
-    """`stop` wakes workers by connections, and ends the service even if no descriptor is left for them."""
+    """`stop` ends the service even if no descriptor is left."""
     with NameServers({HOST: {"*": zone}}) as servers, Service([f"{HOST}@{servers.port}"]) as service:
         service.idle_descriptors()
         with service.control() as control:

@@ -38,6 +38,10 @@ def check_usage(checks):
         ([*both, "--udp", "17", "192.0.2.1"], b"--udp"),
         ([*both, "--tcp", "0", "192.0.2.1"], b"--tcp"),
         ([*both, "--tcp", "x", "192.0.2.1"], b"--tcp"),
+        ([*both, "--backlog", "0", "192.0.2.1"], b"--backlog"),
+        ([*both, "--backlog", "65536", "192.0.2.1"], b"--backlog"),
+        ([*both, "--backlog", "4294967297", "192.0.2.1"], b"--backlog"),
+        ([*both, "--backlog", "x", "192.0.2.1"], b"--backlog"),
         ([*both, "--journal", "0", "192.0.2.1"], b"--journal"),
         ([*both, "--journal", "257", "192.0.2.1"], b"--journal"),
         ([*both, "--cells", "1000001", "192.0.2.1"], b"--cells"),
@@ -132,6 +136,8 @@ def check_ranges(checks):
         ["--udp=1", "--tcp=15", "--journal", "256", "--cells", "1000000", "--record", "1000000"],
         ["--journal", "1", "--cells", "1", "--record", "1", "--server-port", "1", "--seed", "0"],
         ["--server-port", "65535", "--seed", "4294967295"],
+        ["--backlog", "1"],
+        ["--backlog=65535"],
         ["--do-not-query", "0.0.0.0/0", "--do-not-query=::/0", "--do-not-query", "10.0.0.0/32", "--do-not-query", "fe80::1/128"],
     ):
         with Service(["192.0.2.1"], *options) as service:
@@ -215,8 +221,7 @@ def check_silent_server(checks):
         with NameServers({"127.0.0.1": {}}) as servers, Service([f"127.0.0.2@{servers.port}"]) as service:
             checks.equal(f"a dead server, over {over}", service.ask("a.test.", "A", over).words(), "rcode 2")
             checks.equal(f"a dead server, over {over}: stopped", service.stop(), STOPPED)
-            cause = f"unreachable, server 127.0.0.2@{servers.port}, question a.test. A" if over == "udp" else ""
-            fault = f"resolver: device fault: {cause}" if cause else "resolver: device fault"
+            fault = f"resolver: device fault: unreachable, server 127.0.0.2@{servers.port}, question a.test. A"
             wanted = [b"resolver: started", fault.encode(), b"resolver: stopped"]
             checks.equal(f"a dead server, over {over}: the log", words_of(service.log()), wanted)
 
@@ -329,20 +334,19 @@ def check_stop(checks, name, is_asked, is_loaded):
 
 
 def outlive_want():
-    """A worker that cannot accept for twenty-two seconds, while nobody connects. Returns the faults in the log, whether the worker
-    ended, and its answer afterwards."""
+    """A worker that cannot accept for twenty-two seconds, while a connection waits for it. Returns whether the faults are in the log,
+    whether the worker ended, its answer afterwards, and the end of the service."""
     with Service(["192.0.2.1"]) as service:
         service.obey("local_data held.test. 60 A 192.0.2.1")
         until(lambda: service.threads() == 5)
         service.idle_descriptors()
         service.limit(service.first_free())
-        # A worker that waits has the descriptor of its next connection; the connection after that needs one.
-        with service.client("tcp") as client:
-            client.ended()
-        time.sleep(22.5)
-        faults, has_ended = service.times(b"resolver: device fault"), b"ended by failures" in service.log()
+        with service.client("tcp"):
+            time.sleep(22.5)
+        faults = service.times(b"resolver: device fault: no connection is accepted: no descriptors")
+        has_ended = b"ended by failures" in service.log()
         service.limit(1_024)
-        return faults > 16, has_ended, service.ask("held.test.", "A", "tcp").words(), service.stop()
+        return faults >= 16, has_ended, service.ask("held.test.", "A", "tcp").words(), service.stop()
 
 
 def make_all(checks):

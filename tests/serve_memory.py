@@ -11,7 +11,7 @@ import threading
 import time
 
 from lib.checks import Checks, short
-from lib.nameserver import NameServers
+from lib.nameserver import NameServers, framed
 from lib.programs import RESOLVER, run
 from lib.refusing import LOST, NO_MEMORY, SHOWING, Refusing, Replay
 from lib.replies import reply_in
@@ -118,6 +118,31 @@ QUESTIONS = (
 )
 
 
+# The questions for each zone that are in flight together over one connection.
+TOGETHER = ("a", "f", "c", "g", "x", "h")
+
+
+def ask_together(service, number):
+    """The same for questions of one connection, all in flight at once. If it ends, that counts once, however many replies are lost."""
+    left, wants = dict(enumerate(TOGETHER)), 0
+    try:
+        with service.client("tcp") as client:
+            client.sock.sendall(b"".join(framed(query(f"{label}.z{number}.", "A", place)) for place, label in left.items()))
+            while left:
+                octets = client.octets()
+                if octets is None:
+                    return wants + 1, None
+                label = left.pop(int.from_bytes(octets[:2], "big"), None)
+                words = reply_in(octets).words()
+                if words == "rcode 2":
+                    wants += 1
+                elif label is None or words != answer_of(label, number):
+                    return wants, f"{label}.z{number}. in flight beside others is answered {short(words)}"
+    except ConnectionError:
+        return wants + 1, None
+    return wants, None
+
+
 def ask_zone(service, number, questions=QUESTIONS):
     """How many questions of a zone get no memory, and the fault of another answer, or `None`."""
     wants = 0
@@ -206,8 +231,9 @@ class Operator:
 def play_round(service, operator, number):
     """How many questions and lines get no memory, and the fault of an answer, or `None`."""
     wants, fault = ask_zone(service, number)
-    wants += sum(operator.obey(line) for line in lines_of(number))
-    return wants, fault
+    more, other = ask_together(service, number)
+    wants += more + sum(operator.obey(line) for line in lines_of(number))
+    return wants, fault or other
 
 
 def check_each_allocation(checks):
@@ -232,6 +258,7 @@ def check_each_allocation(checks):
             checks.check("allocations of a round refused", None if last > 100 else f"{last} were")
             checks.check("each allocation refused in turn: the operator's lines", operator.end(replaying(servers)))
             checks.equal("each allocation refused in turn: with memory", ask_zone(service, 0), (0, None))
+            checks.equal("each allocation refused in turn: with memory, together", ask_together(service, 0), (0, None))
             checks.equal("each allocation refused in turn: stopped", service.stop(), STOPPED)
             print(f"{refusing.refused} allocations of a service refused, one in a round; the last was number {last}")
 
@@ -253,8 +280,10 @@ class Load(threading.Thread):
                 number = self.draw.choice([self.draw.randrange(8), 1_000 + self.asked + 10_000 * (self.draw.random() < 0.5)])
                 questions = self.draw.sample(QUESTIONS, 4)
                 wants, self.fault = ask_zone(self.service, number, questions)
-                self.asked += len(questions)
-                self.wants += wants
+                more, other = ask_together(self.service, number)
+                self.fault = self.fault or other
+                self.asked += len(questions) + len(TOGETHER)
+                self.wants += wants + more
         except Exception as fault:  # told as a check that failed
             self.fault = self.fault or f"{type(fault).__name__}: {fault}"
 
@@ -297,6 +326,7 @@ def check_load(checks, one_in):
             checks.check(f"{name}: refusals", None if refusing.refused > 20 else f"{refusing.refused} were")
             for number in range(4):
                 checks.equal(f"{name}: with memory again, {number}", ask_zone(service, 30_000 + number), (0, None))
+                checks.equal(f"{name}: with memory again, together, {number}", ask_together(service, 30_000 + number), (0, None))
             for line in lines_of(40_000):
                 operator.obey(line)
             checks.check(f"{name}: the operator's lines", operator.end(replaying(servers)))

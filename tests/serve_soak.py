@@ -17,6 +17,7 @@ operator's own zone.
 import itertools
 import random
 import re
+import socket
 import subprocess
 import sys
 import threading
@@ -25,7 +26,6 @@ from bisect import bisect_left
 from dataclasses import dataclass
 
 from lib.checks import Checks
-from lib.messages import number
 from lib.nameserver import NameServers
 from lib.programs import RESOLVER
 from lib.reading import ZONE_TYPES
@@ -108,15 +108,14 @@ def shown(reply):
     return reply.with_times() if reply.head()[:1] == ["aa"] else reply.words()
 
 
-def ask_or_drop(client, name, marker="marker."):
-    """The reply to a question, or `drop` if the next one over the same connection is answered instead."""
-    client.send(query(name, "A", 1))
-    client.send(query(marker, "A", 2))
-    first = client.octets()
-    if first[:2] == number(2):
-        return "drop"
-    client.octets()
-    return shown(reply_in(first))
+def ask_or_drop(service, name):
+    """The reply to a question over a connection of its own, or `drop` if there is none. The client sends no more, so the service ends the
+    connection once it has sent what it owes."""
+    with service.client("tcp") as client:
+        client.send(query(name, "A", 1))
+        client.sock.shutdown(socket.SHUT_WR)
+        octets = client.octets()
+        return "drop" if octets is None else shown(reply_in(octets))
 
 
 @dataclass
@@ -151,7 +150,7 @@ class Client(threading.Thread):
     def _ask(self, client):
         name = self.random.choice(NAMES if self.over == "tcp" else [name for name in NAMES if name not in DROPPED])
         began = next(self.clock)
-        words = ask_or_drop(client, name) if self.over == "tcp" else shown(client.ask(name, "A"))
+        words = ask_or_drop(self.service, name) if name in DROPPED else shown(client.ask(name, "A"))
         self.told.append(Told(name, words, began, next(self.clock)))
 
 
@@ -165,9 +164,8 @@ class Operator:
         self.control = service.control()
         self.given = []  # the ticks before and after each command, and the answer for each name after it
         self.questions = 0
-        # No undo reaches the marker, since the journal has forgotten it.
-        for line in ["local_data marker. 60 A 192.0.2.99"] + ["flush nobody."] * 16:
-            self.obey(line)
+        # A command that changes nothing: its answers are those before all others.
+        self.obey("flush nobody.")
 
     def obey(self, line):
         """A line, to both."""
@@ -205,14 +203,10 @@ class Operator:
         return [server for server, _, question in list(self.servers.asked) if question.endswith("own. A")]
 
     def _reply(self, name):
-        with self.service.client(self.random.choice(["udp", "tcp"])) as client:
-            is_dropped = self.script.tell(f"look {name} A") == "local drop"
-            if client.over == "tcp":
-                return ask_or_drop(client, name)
-            if not is_dropped:
-                return shown(client.ask(name, "A"))
-        with self.service.client("tcp") as client:
-            return ask_or_drop(client, name)
+        over = self.random.choice(["udp", "tcp"])
+        if over == "tcp" or self.script.tell(f"look {name} A") == "local drop":
+            return ask_or_drop(self.service, name)
+        return shown(self.service.ask(name, "A"))
 
     def _route(self, name):
         """The servers that have to be asked. The script gets the root's referral."""

@@ -66,16 +66,18 @@ def fill_queue(port):
 
 
 def check_full_queue(checks, workers):
-    """The queue of connections is full, and each worker has one that says nothing."""
+    """Very many connections that say nothing came while the service was suspended: as many as the system takes, up to a thousand."""
     with Service(["192.0.2.1"], "--tcp", str(workers)) as service:
+        service.process.send_signal(signal.SIGSTOP)
         held = fill_queue(service.port)
+        service.process.send_signal(signal.SIGCONT)
         stop(checks, f"a full queue, {workers} workers", service)
         for sock in held:
             sock.close()
 
 
 def check_pipelined(checks):
-    """A connection with two thousand questions, each of which waits at 64 addresses. The client has gone."""
+    """A connection with two thousand questions for a silent server, 58,890 octets. The client has gone."""
     with NameServers({HOST: {"*": None}}) as servers, Service([f"{HOST}@{servers.port}"], "--tcp", "1") as service:
         with service.client("tcp") as client:
             client.sock.sendall(b"".join(framed(query(f"n{place}.test.", "A")) for place in range(2_000)))

@@ -22,6 +22,12 @@ IN_USE = b"\nresolver: Address already in use (os error 98)\n"
 # The seconds after which a line of the log has been written, on a busy machine too.
 LOG_SECONDS = 0.25
 
+# A service has all its exchanges only if it may have so many descriptors. This process may, and so what it starts, as far as the system
+# allows it.
+DESCRIPTORS = 8_192
+SOFT, HARD = resource.getrlimit(resource.RLIMIT_NOFILE)
+resource.setrlimit(resource.RLIMIT_NOFILE, (max(SOFT, min(HARD, DESCRIPTORS)), HARD))
+
 
 def free_port(host=HOST):
     """A port that is free over UDP and TCP."""
@@ -48,15 +54,20 @@ def disturbed(**settings):
 class Client:
     """A client of the service, over one socket."""
 
-    def __init__(self, over, port, host=HOST, room=None):
-        """If `room` is given, the socket has room for that many octets that are not read yet."""
+    def __init__(self, over, port, host=HOST, room=None, segment=None, source=None):
+        """If they are given, the socket has `room` for so many octets that are not read yet, TCP carries at most `segment` octets in a
+        piece, and the client has the address `source`."""
         self.over = over
         kind = socket.SOCK_DGRAM if over == "udp" else socket.SOCK_STREAM
         self.sock = socket.socket(socket.AF_INET6 if ":" in host else socket.AF_INET, kind)
         self.sock.settimeout(PATIENCE)
         if room:
             self.sock.setsockopt(socket.SOL_SOCKET, socket.SO_RCVBUF, room)
+        if segment:
+            self.sock.setsockopt(socket.IPPROTO_TCP, socket.TCP_MAXSEG, segment)
         try:
+            if source:
+                self.sock.bind((source, 0))
             self.sock.connect((host, port))
         except OSError:
             self.sock.close()
@@ -195,8 +206,8 @@ class Service:
         self._end()
         self.errors.close()
 
-    def client(self, over="udp", room=None):
-        return Client(over, self.port, self.host, room)
+    def client(self, over="udp", **settings):
+        return Client(over, self.port, self.host, **settings)
 
     def control(self):
         return Control(self.control_port, self.host)

@@ -24,14 +24,16 @@ mod name_servers;
 
 pub use clients::answerable::is_answerable;
 pub use clients::connections::Connections;
+pub use clients::descriptors::lacks_descriptors;
 pub use clients::frame_reader::FrameReader;
 pub use clients::frame_writer::{FrameWriter, StreamWriter};
 pub use clients::options::{descriptor_limit, takes_octets};
-pub use clients::tcp_binding::{bind_clients, bind_tcp, wake_tcp};
+pub use clients::tcp_binding::{bind_clients, bind_tcp, bind_with_backlog, wake_tcp};
 pub use clients::udp_binding::bind_each;
 pub use deadline::{REST_SECONDS, glance};
 pub use monotonic::{Elapsing, MonotonicClock};
 pub use name_servers::fitting::{MOST_MISFITS, fits};
+pub use name_servers::framed_reply::octets_wanting;
 pub use name_servers::heard::Heard;
 pub use name_servers::place::place_of;
 pub use name_servers::range::AddressRange;

@@ -14,7 +14,7 @@ use Rattle.flight_sockets.specs.Moves.{AllMoved, Datagram, Moves}
 use Rattle.flight_sockets.specs.Outgoing.{OutboxState, Posts}
 use Rattle.flight_sockets.proofs.Posting.{clients_then, endings_none, leaving_then, posts_none, posts_taken, posts_then}
 
-none_fell : (old mid new : Counts) → NeverFall old mid → NeverFall mid new → NeverFall old new
+pub none_fell : (old mid new : Counts) → NeverFall old mid → NeverFall mid new → NeverFall old new
 none_fell old mid new before after = record {
   settled = omega (arith, before.settled, after.settled);
   opened = omega (arith, before.opened, after.opened);
@@ -31,7 +31,7 @@ same_counts waiting counts = record {
 }
 
 -- What was full is.
-full_on : (old new : Counts) → NeverFall old new → IsFull old → IsFull new
+pub full_on : (old new : Counts) → NeverFall old new → IsFull old → IsFull new
 full_on old new later full = elim full [
   | inl settled ↦ inl (omega (arith, settled, later.settled))
   | inr other ↦ elim other [ inl opened ↦ inr (inl (omega (arith, opened, later.opened))) | inr ended ↦ inr (inr (omega (arith, ended, later.ended))) ]

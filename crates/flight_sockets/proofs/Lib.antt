@@ -1,10 +1,13 @@
 mod Accounting
 mod Beginning
 mod Durations
+mod Flowing
 mod Hearing
 mod Moving
+mod Passing
 mod Posting
 mod Reading
 mod Relieving
 mod Remembering
+mod Serving
 mod Watching

@@ -1,5 +1,7 @@
 pub mod Accounts
+pub mod Arrivals
 pub mod Begun
+pub mod Connections
 pub mod Descriptors
 pub mod Endings
 pub mod Exchanges
@@ -9,9 +11,12 @@ pub mod Moves
 pub mod Networks
 pub mod Outgoing
 pub mod Patience
+pub mod Passages
 pub mod Pauses
+pub mod Reading
 pub mod Refusals
 pub mod Replies
 pub mod Servers
 pub mod Silences
+pub mod Streaming
 pub mod Taken

@@ -23,6 +23,8 @@ mod flaw;
 mod transport;
 // An exchange over a socket of its own.
 mod socket_line;
+// The sender of a worker's replies.
+mod reply_sender;
 // The datagrams that have come in.
 mod inbox;
 // A reply that waits to be sent.
@@ -51,6 +53,8 @@ mod others;
 mod asked;
 // The servers that a worker passes over.
 mod pauses;
+// What an exchange says of its server.
+mod noting;
 // The permits of exchanges: a few for each question, over all workers.
 mod permits;
 // The permits of one worker's exchanges.
@@ -67,13 +71,21 @@ mod worker_sockets;
 mod turns;
 // A worker that keeps many questions in flight.
 mod udp_worker;
+// Messages that come by connections of clients.
+mod tcp;
 
 pub use asking::Asking;
 pub use fault_line::cause_of;
-pub use limit::{MOST_EXCHANGES, SPARE_DESCRIPTORS, limits_law, most_exchanges};
+pub use limit::{
+    MOST_CONNECTIONS, MOST_EXCHANGES, SPARE_DESCRIPTORS, limits_law, most_connections,
+    most_exchanges,
+};
 pub use listener::{UdpListener, listen_each};
 pub use mio::Waker;
 pub use permits::{MOST_EQUAL, Permits};
 pub use service_socket::ServiceSocket;
 pub use tally::{Sums, Tally};
+pub use tcp::client_stream::ClientStream;
+pub use tcp::listener::{ClientListener, TcpPoll, share_listener};
+pub use tcp::worker::{TcpWorker, fly_tcp};
 pub use udp_worker::{UdpWorker, fly_udp};

@@ -13,7 +13,7 @@ use std::net::{Net, SocketAddr};
 pub(crate) const SERVICE: Token = Token(usize::MAX);
 
 /// The token of a wake.
-const WAKE: Token = Token(usize::MAX - 1);
+pub(crate) const WAKE: Token = Token(usize::MAX - 1);
 
 /// The socket of the service that one worker reads, and the poll that watches it and the worker's exchanges.
 #[derive(Drop)]

@@ -6,8 +6,10 @@ ghost use Rattle.flight_sockets.specs.Moves.{AllMoved, datagram_to};
 ghost use Rattle.flight_sockets.specs.Outgoing.{Posts, datagram_of};
 
 use crate::buffers::Buffers;
+use crate::client::UdpClient;
 use crate::fault_line::cause_of;
 use crate::outgoing::Outgoing;
+use crate::reply_sender::ReplySender;
 use crate::service_socket::ServiceSocket;
 use flight::ReplyOctets;
 use front_workers::DEVICE_FAULT;
@@ -54,6 +56,23 @@ fn send_each<R: Log, S: ServiceSocket>(rt: &R, socket: &mut S, waiting: &[Outgoi
     }
 }
 
+impl<S: ServiceSocket> ReplySender<UdpClient<S>> for Outbox<S> {
+    ghost use Rattle.flight_sockets.specs.Outgoing.{PostsTo};
+
+    // To the address from which the client's datagram came.
+    ghost posts = { PostsTo S.takes S.sends };
+
+    fn reply_buffer(&mut self, alloc: Global) -> Vec<u8> {
+        self.buffers.take(alloc)
+    }
+
+    fn send_reply<R: Log>(&mut self, rt: &R, client: UdpClient<S>, reply: ReplyOctets) {
+        self.post(rt, client.peer(), reply);
+    }
+
+    fn drop_client(&mut self, _client: UdpClient<S>) {}
+}
+
 impl<S: ServiceSocket> Outbox<S> {
     /// An outbox in which no reply waits.
     pub fn new(alloc: Global, socket: S) -> Outbox<S>
@@ -64,13 +83,6 @@ impl<S: ServiceSocket> Outbox<S> {
             waiting: Vec::new(alloc),
             buffers: Buffers::new(alloc),
         }
-    }
-
-    /// Takes out a kept buffer for a reply, or makes an empty one.
-    pub fn buffer(&mut self, alloc: Global) -> Vec<u8>
-        ensures { self.new ≡ self.old }
-    {
-        self.buffers.take(alloc)
     }
 
     /// Sends each reply that waits, in order. Then none waits.

@@ -23,8 +23,6 @@ pub struct Tally {
     unanswered: AtomicU64,
     /// Whether the query that was taken last wanted a name server.
     wants_server: AtomicBool,
-    /// Whether a message of a stream still gets its reply.
-    is_owed: AtomicBool,
     /// Keeps the counters of two workers out of one line of a processor's cache.
     apart: [u64; 16],
 }
@@ -140,7 +138,6 @@ impl Tally {
             answered: AtomicU64::new(0),
             unanswered: AtomicU64::new(0),
             wants_server: AtomicBool::new(false),
-            is_owed: AtomicBool::new(false),
             apart: [0; 16],
         }
     }
@@ -208,28 +205,6 @@ impl Tally {
     /// Counts an exchange that ended without a response.
     pub fn give_up(&self) {
         rise(&self.unanswered);
-    }
-
-    /// Counts a query that came whole over a stream. Its reply comes before the next one is read.
-    pub fn take_message(&self) {
-        self.take();
-        self.is_owed.store(true, Ordering::SeqCst);
-    }
-
-    /// Counts the reply to the query of a stream that was taken last.
-    pub fn reply_message(&self, reply: &[u8]) {
-        if self.is_owed.swap(false, Ordering::SeqCst) {
-            self.sort();
-        }
-        self.reply(reply);
-    }
-
-    /// Counts the query of a stream that was taken last as one without a reply, if it got none.
-    pub fn end_message(&self) {
-        if self.is_owed.swap(false, Ordering::SeqCst) {
-            self.sort();
-            self.pass_over();
-        }
     }
 
     /// Adds the counters to these sums. What ended is read before what began, so that no more seems to have ended than began.

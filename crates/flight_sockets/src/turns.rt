@@ -8,10 +8,10 @@ ghost use Rattle.dns_sockets.specs.Moments.{millis_at, IsRead};
 ghost use Rattle.flight.specs.declared.kept.TheConstants.{MOST_AT_REST};
 ghost use Rattle.flight.specs.declared.table.TheConstants.{PATIENCE, QUESTION_PATIENCE};
 ghost use Rattle.flight.specs.Bounds.{AllGoOn, IsBounded, Relieves, kept_all};
+ghost use Rattle.flight.specs.Leaving.{Ends};
 ghost use Rattle.flight.specs.Waiting.{EarlyGoOn, FlightState, IsAccounted, IsPatient, IsTimely, JoinsNone, outstanding, time_left};
 ghost use Rattle.flight_sockets.specs.Accounts.{GoesOn, fresh_worker};
 ghost use Rattle.flight_sockets.specs.Begun.{AllBegin, BatchBegins, IsBegun, Runs, TakesNone, arrived};
-ghost use Rattle.flight_sockets.specs.Endings.{Endings};
 ghost use Rattle.flight_sockets.specs.Looked.{AllLookedAt, LooksAtAll};
 ghost use Rattle.flight_sockets.specs.Patience.{AreRead, EndsOverdue, IsReadOn, patience_of};
 ghost use Rattle.flight_sockets.specs.Taken.{IsQuery};
@@ -20,6 +20,8 @@ use crate::asking::Asking;
 use crate::client::UdpClient;
 use crate::inbox::{Arrival, BATCH, Inbox, Slot};
 use crate::listener::{SERVICE, UdpListener};
+use crate::outbox::Outbox;
+use crate::reply_sender::ReplySender;
 use crate::service_socket::ServiceSocket;
 use crate::socket_line::SocketLine;
 use crate::tally::Tally;
@@ -27,7 +29,7 @@ use crate::worker_sockets::WorkerSockets;
 use command_text::Clock;
 use dns_sockets::{Elapsing, MonotonicClock, ReadyNet};
 use dns_text::NoMemory;
-use flight::{Flight, Numbered};
+use flight::{Client, Flight, Numbered};
 use log::Log;
 use mio::Events;
 use rand_core::Rng;
@@ -55,7 +57,7 @@ pub(crate) type Questions<D, C, G, R, S> = Flight<D, SocketLine<R>, C, G, UdpCli
 /// last, the socket of the service, and the replies that wait to be sent by it.
 #[derive(Drop)]
 pub(crate) struct Turns<'a, R, S: ServiceSocket> {
-    sockets: WorkerSockets<'a, R, S>,
+    sockets: WorkerSockets<'a, R, Outbox<S>>,
     clock: MonotonicClock<'a, R>,
     events: Events,
     taken: u64,
@@ -92,8 +94,22 @@ impl<'a, R: ReadyNet + Log + Elapsing, S: ServiceSocket> Turns<'a, R, S> {
     ) -> Result<Turns<'a, R, S>, NoMemory>
         ensures { IfOk result (λ turns. turns ≡ fresh_worker listener.socket asking.entry.server_port start) }
     {
+        let UdpListener {
+            poll,
+            socket,
+            place,
+        } = listener;
         Ok(Turns {
-            sockets: WorkerSockets::new(rt, tally, alloc, listener, asking, seed)?,
+            sockets: WorkerSockets::new(
+                rt,
+                tally,
+                alloc,
+                poll,
+                place,
+                Outbox::new(alloc, socket),
+                asking,
+                seed,
+            )?,
             clock: MonotonicClock::new(rt, start),
             events: Events::with_capacity(alloc, MOST_READY)?,
             taken: 0,
@@ -322,9 +338,9 @@ impl<'a, R: ReadyNet + Log + Elapsing, S: ServiceSocket> Turns<'a, R, S> {
 
 /// The time that the next wait may take: at most `most`, and at most until an exchange is overdue.
 #[tactic(auto, using(crate::proofs::Durations::shorter_nanos))]
-fn patience<D: Numbered, C: Clock, G: Rng, R: ReadyNet + Elapsing, S: ServiceSocket>(
+pub(crate) fn patience<D: Numbered, C: Clock, G: Rng, R: ReadyNet + Elapsing, K: Client>(
     clock: &mut MonotonicClock<'_, R>,
-    questions: &Questions<D, C, G, R, S>,
+    questions: &Flight<D, SocketLine<R>, C, G, K>,
     most: Duration,
 ) -> Duration
     ensures read { IsRead R.passed clock.old clock.new }
@@ -338,15 +354,22 @@ fn patience<D: Numbered, C: Clock, G: Rng, R: ReadyNet + Elapsing, S: ServiceSoc
 }
 
 /// Listens to the exchanges that events name.
-fn look_all<D: Numbered, C: Clock, G: Rng, R: ReadyNet + Log + Elapsing, S: ServiceSocket>(
+pub(crate) fn look_all<
+    D: Numbered,
+    C: Clock,
+    G: Rng,
+    R: ReadyNet + Log + Elapsing,
+    K: Client,
+    B: ReplySender<K>,
+>(
     events: &Events,
-    sockets: &mut WorkerSockets<'_, R, S>,
+    sockets: &mut WorkerSockets<'_, R, B>,
     clock: &mut MonotonicClock<'_, R>,
     desk: &mut D,
-    questions: &mut Questions<D, C, G, R, S>,
+    questions: &mut Flight<D, SocketLine<R>, C, G, K>,
 )
     ensures accounted { IsAccounted 0 (outstanding questions.old) sockets.old.counts (outstanding questions.new) sockets.new.counts }
-    ensures ends { Endings S.takes S.sends 0 (outstanding questions.old) sockets.old.outbox (outstanding questions.new) sockets.new.outbox }
+    ensures ends { Ends K.sent B.posts 0 (outstanding questions.old) sockets.old.outbox (outstanding questions.new) sockets.new.outbox }
     ensures no_more { outstanding questions.new ≤ outstanding questions.old }
     ensures bounded { IsBounded questions.old → IsBounded questions.new }
     ensures limit { questions.new.limit ≡ questions.old.limit }
@@ -365,16 +388,23 @@ fn look_all<D: Numbered, C: Clock, G: Rng, R: ReadyNet + Log + Elapsing, S: Serv
 }
 
 /// Begins questions anew whose exchanges wait for a permit that is free by now.
-fn begin_anew<D: Numbered, C: Clock, G: Rng, R: ReadyNet + Log, S: ServiceSocket>(
-    sockets: &mut WorkerSockets<'_, R, S>,
+pub(crate) fn begin_anew<
+    D: Numbered,
+    C: Clock,
+    G: Rng,
+    R: ReadyNet + Log,
+    K: Client,
+    B: ReplySender<K>,
+>(
+    sockets: &mut WorkerSockets<'_, R, B>,
     desk: &mut D,
-    questions: &mut Questions<D, C, G, R, S>,
+    questions: &mut Flight<D, SocketLine<R>, C, G, K>,
     now: u64,
 )
     requires patient { IsPatient PATIENCE now questions.old }
     requires timely { IsTimely QUESTION_PATIENCE now questions.old }
     ensures accounted { IsAccounted 0 (outstanding questions.old) sockets.old.counts (outstanding questions.new) sockets.new.counts }
-    ensures ends { Endings S.takes S.sends 0 (outstanding questions.old) sockets.old.outbox (outstanding questions.new) sockets.new.outbox }
+    ensures ends { Ends K.sent B.posts 0 (outstanding questions.old) sockets.old.outbox (outstanding questions.new) sockets.new.outbox }
     ensures joins_none { JoinsNone questions.old questions.new }
     ensures no_more { outstanding questions.new ≤ outstanding questions.old }
     ensures bounded { IsBounded questions.old → IsBounded questions.new }

@@ -6,47 +6,50 @@ ghost use Rattle.std.specs.Option.{option_copied};
 ghost use Rattle.dns_sockets.specs.Own.{MayAskServer};
 ghost use Rattle.dns_sockets.specs.Withheld.{IsWithheld};
 ghost use Rattle.front_workers.specs.declared.limits.TheConstants.{MOST_MESSAGE};
-ghost use Rattle.front_workers.specs.Serves.{fault_octets};
+ghost use Rattle.front_workers.specs.Serves.{fault_octets, most_octets};
 ghost use Rattle.flight.specs.declared.outside.Listened.TheVariants.{Anew, Nothing};
-ghost use Rattle.flight.specs.Counted.{CountsAbandoned, CountsExpired, CountsListened, CountsOpened, no_counts};
+ghost use Rattle.flight.specs.Counted.{CountsAbandoned, CountsExpired, CountsListened, CountsOpened, CountsSettled, no_counts};
 ghost use Rattle.flight.specs.Flight.{query_to};
 ghost use Rattle.flight.specs.Told.{octets_of, IsHeard, Keeps};
 ghost use Rattle.flight_sockets.specs.Exchanges.{IsNotToBeHad, IsQuiet};
 ghost use Rattle.flight_sockets.specs.Endings.{IsTooLong, Refuses};
 ghost use Rattle.flight_sockets.specs.Begun.{arrived, fronts_of};
+ghost use Rattle.flight_sockets.specs.Connections.{Tends};
 ghost use Rattle.flight_sockets.specs.Moves.{AllMoved, datagram_to};
-ghost use Rattle.flight_sockets.specs.Outgoing.{OutboxState, Posts, PostsTo};
-ghost use Rattle.flight_sockets.specs.Pauses.{others_in, EndsEarly, HeedsPause, IsPassedOver, Loses, NotesBroken, NotesHeard};
+ghost use Rattle.flight_sockets.specs.Outgoing.{Posts};
+ghost use Rattle.flight_sockets.specs.Pauses.{others_in, HeedsPause, IsPassedOver, Loses, NotesHeard};
 ghost use Rattle.flight_sockets.specs.Refusals.{IsLeftAlone, LooksUpList, NotesAnswer, list_of_strangers};
 ghost use Rattle.flight_sockets.specs.Replies.{MayCome};
 ghost use Rattle.flight_sockets.specs.declared.inbox.TheConstants.{BATCH};
 
 use crate::asking::Asking;
-use crate::client::UdpClient;
 use crate::fault_line::{cause_of, log_exchange, log_too_long};
-use crate::flaw::Flaw;
 use crate::inbox::{BATCH, Inbox};
-use crate::listener::UdpListener;
+use crate::network::network_of;
+use crate::noting::note_heard;
 use crate::others::others_of;
 use crate::outbox::Outbox;
 use crate::pauses::Pauses;
 use crate::refusals::Refusals;
 use crate::refused_zones::list_of_strangers;
+use crate::reply_sender::ReplySender;
 use crate::service_socket::ServiceSocket;
 use crate::socket_line::SocketLine;
 use crate::tally::Tally;
+use crate::tcp::client_stream::ClientStream;
+use crate::tcp::front::TcpFront;
 use crate::worker_permits::{PERMIT_GLANCE, WorkerPermits};
 use command_text::Clock;
 use dns_query::Over;
 use dns_sockets::{AddressRange, ReadyNet, glance, is_withheld};
 use dns_text::{Addr, NoMemory, Octets, Shared};
 use dns_wire::{HEADER_OCTETS, Rcode, fault_reply};
-use flight::{Counts, InFlight, Listened, Numbered, Outside, ReplyOctets, Unserved};
+use flight::{Client, Counts, InFlight, Listened, Numbered, Outside, ReplyOctets, Unserved};
 use front_workers::{DEVICE_FAULT, MOST_MESSAGE, wants_reply};
 use history::Servers;
 use iterate::Hunt;
 use log::{Log, warn};
-use mio::{Events, Poll, Token};
+use mio::{Events, Poll, Registry, Token};
 use std::alloc::Global;
 use std::io;
 use std::net::SocketAddr;
@@ -59,7 +62,8 @@ const WITHHELD: &str = "withheld";
 /// The reply that reports a fault, by the header alone.
 fn report_of(front: &[u8], rcode: Rcode) -> ReplyOctets
     requires { 12 ≤ length front.now }
-    ensures { octets_of result ≡ fault_octets front.now rcode }
+    ensures octets { octets_of result ≡ fault_octets front.now rcode }
+    ensures short { length (octets_of result) ≡ 12 }
 {
     ReplyOctets::Header(fault_reply(front, rcode).unwrap())
 }
@@ -72,70 +76,19 @@ fn is_too_long(reply: &ReplyOctets) -> bool {
     }
 }
 
-/// Notes that an exchange broke. Over UDP the host of the server reports that the port is closed.
-fn note_broken(pauses: &mut Pauses, server: &Addr, over: Over, now: u64)
-    ensures { NotesBroken over server.now now pauses.old pauses.new }
-{
-    match over {
-        Over::Udp => pauses.note_closed(server, over, now),
-        Over::Tcp => {}
-    }
-}
-
-/// Notes that an exchange ended before its time: something is wrong with what came, or it broke.
-fn note_early_end(
-    alloc: Global,
-    pauses: &mut Pauses,
-    flaw: Option<Flaw>,
-    server: &Addr,
-    over: Over,
-    query: &[u8],
-    now: u64,
-)
-    ensures { EndsEarly flaw server.now over query.now now pauses.old pauses.new }
-{
-    match flaw {
-        None => note_broken(pauses, server, over, now),
-        Some(Flaw::Dear) => pauses.note_answered(alloc, server, over, query, now),
-        Some(Flaw::Misfits) => pauses.note_misfits(alloc, server, over, query, now),
-    }
-}
-
-/// Notes what an exchange says of its server: that it answered, even if too dear to read, that its port is closed, or that others
-/// may answer in its name.
-fn note_heard(
-    alloc: Global,
-    pauses: &mut Pauses,
-    heard: &Listened,
-    flaw: Option<Flaw>,
-    server: &Addr,
-    over: Over,
-    query: &[u8],
-    now: u64,
-)
-    ensures { NotesHeard heard.now flaw server.now over query.now now pauses.old pauses.new }
-{
-    match heard {
-        Listened::Nothing => {}
-        Listened::Anew => {}
-        Listened::Came(_) => pauses.note_answered(alloc, server, over, query, now),
-        Listened::NoMemory => pauses.note_answered(alloc, server, over, query, now),
-        Listened::Broken => note_early_end(alloc, pauses, flaw, server, over, query, now),
-    }
-}
-
-/// The sockets of one worker: that of the service, and those of its exchanges.
+/// The sockets of one worker: those by which replies leave, and those of its exchanges.
 #[derive(Drop)]
-pub(crate) struct WorkerSockets<'a, R, S: ServiceSocket> {
+pub(crate) struct WorkerSockets<'a, R, B> {
     rt: &'a R,
     /// The counters that others read.
     pub(crate) tally: &'a Tally,
     alloc: Global,
-    /// Watches the socket of the service and those of the exchanges.
+    /// Watches the sockets of clients and those of the exchanges.
     poll: Poll,
     /// The address at which the service listens.
     place: SocketAddr,
-    outbox: Outbox<S>,
+    /// What sends replies to clients.
+    pub(crate) outbox: B,
     server_port: u16,
     /// The room for a reply of a name server.
     room: Vec<u8>,
@@ -157,35 +110,31 @@ pub(crate) struct WorkerSockets<'a, R, S: ServiceSocket> {
     ghost whole: { vec_len room ≡ MOST_MESSAGE },
 }
 
-impl<'a, R: Log, S: ServiceSocket> WorkerSockets<'a, R, S> {
-    /// Takes datagrams at a listener. Strangers do not know the seed.
+impl<'a, R: Log, B: Drop> WorkerSockets<'a, R, B> {
+    /// The sockets of a worker whose service listens at `place`. Strangers do not know the seed.
     pub fn new(
         rt: &'a R,
         tally: &'a Tally,
         alloc: Global,
-        listener: UdpListener<S>,
+        poll: Poll,
+        place: SocketAddr,
+        outbox: B,
         asking: Asking<'a>,
         seed: u64,
-    ) -> Result<WorkerSockets<'a, R, S>, NoMemory>
+    ) -> Result<WorkerSockets<'a, R, B>, NoMemory>
         ensures port { IfOk result (λ sockets. sockets.server_port ≡ asking.entry.server_port) }
         ensures counts { IfOk result (λ sockets. sockets.counts ≡ no_counts) }
-        ensures outbox { IfOk result (λ sockets. sockets.outbox ≡ record { socket = listener.socket; waiting = [] }) }
+        ensures outbox { IfOk result (λ sockets. sockets.outbox ≡ outbox) }
     {
-        let room = Vec::from_elem(alloc, 0u8, MOST_MESSAGE)?;
-        let UdpListener {
-            poll,
-            socket,
-            place,
-        } = listener;
         Ok(WorkerSockets {
             rt,
             tally,
             alloc,
             poll,
             place,
-            outbox: Outbox::new(alloc, socket),
+            outbox,
             server_port: asking.server_port,
-            room,
+            room: Vec::from_elem(alloc, 0u8, MOST_MESSAGE)?,
             do_not_query: asking.do_not_query,
             pauses: Pauses::new(alloc, seed)?,
             refusals: Refusals::new(alloc, seed)?,
@@ -195,26 +144,6 @@ impl<'a, R: Log, S: ServiceSocket> WorkerSockets<'a, R, S> {
             moment: 0,
             counts: Counts::new(),
         })
-    }
-
-    /// Sends a reply with the next batch, or at once if there is no memory for it to wait.
-    fn send(&mut self, peer: SocketAddr, reply: ReplyOctets)
-        ensures posts { Posts S.takes S.sends [] (datagram_to peer (octets_of reply) ∷ []) self.old.outbox self.new.outbox }
-        ensures port { self.new.server_port ≡ self.old.server_port }
-        ensures counts { self.new.counts ≡ self.old.counts }
-    {
-        self.tally.reply(reply.as_slice());
-        self.outbox.post(self.rt, peer, reply);
-    }
-
-    /// Sends each reply that waits. Then none waits.
-    pub fn flush(&mut self)
-        ensures none { self.new.outbox.waiting ≡ [] }
-        ensures posts { Posts S.takes S.sends [] [] self.old.outbox self.new.outbox }
-        ensures port { self.new.server_port ≡ self.old.server_port }
-        ensures counts { self.new.counts ≡ self.old.counts }
-    {
-        self.outbox.flush(self.rt);
     }
 
     /// Sets the moment of the exchanges that begin and end from now on, in milliseconds. If servers may have to be tried anew, it forgets
@@ -250,6 +179,20 @@ impl<'a, R: Log, S: ServiceSocket> WorkerSockets<'a, R, S> {
         self.permits.next(self.moment)
     }
 
+    /// Sends SERVFAIL to the client of a query that would take too long to read.
+    pub fn refuse_dear<K: Client>(&mut self, client: K, octets: &[u8])
+    where
+        B: ReplySender<K>,
+        requires header { 12 ≤ length octets.now }
+        ensures port { self.new.server_port ≡ self.old.server_port }
+        ensures settled { CountsSettled self.old.counts self.new.counts }
+        ensures posts { B.posts self.old.outbox client (fault_octets octets.now 2) self.new.outbox }
+    {
+        self.send_to(client, report_of(octets, Rcode::SERVER_FAILURE));
+        warn!(self.rt; "resolver: a query is too dear to read");
+        self.counts.settle();
+    }
+
     /// Waits until a socket reports something, but no longer than this.
     pub fn wait(&mut self, events: &mut Events, most: Duration) -> io::Result<()>
         ensures port { self.new.server_port ≡ self.old.server_port }
@@ -257,6 +200,74 @@ impl<'a, R: Log, S: ServiceSocket> WorkerSockets<'a, R, S> {
         ensures kept { self.new.outbox ≡ self.old.outbox }
     {
         self.poll.poll(events, Some(most))
+    }
+
+    /// Sends a client its reply, and counts it.
+    fn send_to<K: Client>(&mut self, client: K, reply: ReplyOctets)
+    where
+        B: ReplySender<K>,
+        requires short { length (octets_of reply) ≤ most_octets (K.over client) }
+        ensures posts { B.posts self.old.outbox client (octets_of reply) self.new.outbox }
+        ensures port { self.new.server_port ≡ self.old.server_port }
+        ensures counts { self.new.counts ≡ self.old.counts }
+    {
+        self.tally.reply(reply.as_slice());
+        self.outbox.send_reply(self.rt, client, reply);
+    }
+
+    /// Logs why a client gets SERVFAIL.
+    fn log(&self, why: Unserved) {
+        match why {
+            Unserved::NoMemory => warn!(self.rt; "resolver: no memory"),
+            Unserved::TooMany => {
+                self.tally.exceed();
+                warn!(self.rt; "resolver: too many exchanges");
+            }
+            Unserved::TooLong => {
+                self.tally.exceed();
+                warn!(self.rt; "resolver: a question took too long");
+            }
+            Unserved::TooLarge => {
+                self.tally.exceed();
+                warn!(self.rt; "resolver: a question kept too much");
+            }
+            // It never happens at one seat: no other line fits.
+            Unserved::Elsewhere => warn!(self.rt; "{DEVICE_FAULT}"),
+        }
+    }
+}
+
+impl<'a, R: Log, S: ClientStream> WorkerSockets<'a, R, TcpFront<S>> {
+    /// Begins the connection of a client at this address.
+    pub fn begin_connection(&mut self, stream: S, peer: SocketAddr)
+        ensures tends { Tends S.reads S.writes self.old.outbox self.new.outbox }
+        ensures port { self.new.server_port ≡ self.old.server_port }
+        ensures counts { self.new.counts ≡ self.old.counts }
+    {
+        self.outbox
+            .begin(self.poll.registry(), stream, network_of(peer));
+    }
+}
+
+impl<'a, R: Log, S: ServiceSocket> WorkerSockets<'a, R, Outbox<S>> {
+    /// Sends a reply with the next batch, or at once if there is no memory for it to wait.
+    fn send(&mut self, peer: SocketAddr, reply: ReplyOctets)
+        ensures posts { Posts S.takes S.sends [] (datagram_to peer (octets_of reply) ∷ []) self.old.outbox self.new.outbox }
+        ensures port { self.new.server_port ≡ self.old.server_port }
+        ensures counts { self.new.counts ≡ self.old.counts }
+    {
+        self.tally.reply(reply.as_slice());
+        self.outbox.post(self.rt, peer, reply);
+    }
+
+    /// Sends each reply that waits. Then none waits.
+    pub fn flush(&mut self)
+        ensures none { self.new.outbox.waiting ≡ [] }
+        ensures posts { Posts S.takes S.sends [] [] self.old.outbox self.new.outbox }
+        ensures port { self.new.server_port ≡ self.old.server_port }
+        ensures counts { self.new.counts ≡ self.old.counts }
+    {
+        self.outbox.flush(self.rt);
     }
 
     /// Takes the datagrams that are there into an empty inbox, until it is full. Returns whether there may be more.
@@ -288,30 +299,9 @@ impl<'a, R: Log, S: ServiceSocket> WorkerSockets<'a, R, S> {
             self.send(peer, report_of(front, Rcode::FORMAT_ERROR));
         }
     }
-
-    /// Logs why a client gets SERVFAIL.
-    fn log(&self, why: Unserved) {
-        match why {
-            Unserved::NoMemory => warn!(self.rt; "resolver: no memory"),
-            Unserved::TooMany => {
-                self.tally.exceed();
-                warn!(self.rt; "resolver: too many exchanges");
-            }
-            Unserved::TooLong => {
-                self.tally.exceed();
-                warn!(self.rt; "resolver: a question took too long");
-            }
-            Unserved::TooLarge => {
-                self.tally.exceed();
-                warn!(self.rt; "resolver: a question kept too much");
-            }
-            // It never happens at one seat: no other line fits.
-            Unserved::Elsewhere => warn!(self.rt; "{DEVICE_FAULT}"),
-        }
-    }
 }
 
-impl<'a, R: ReadyNet + Log, S: ServiceSocket> WorkerSockets<'a, R, S> {
+impl<'a, R: ReadyNet + Log, B: Drop> WorkerSockets<'a, R, B> {
     /// Begins an exchange, which has its permit. Returns `None` if it could not begin.
     fn begin(
         &mut self,
@@ -380,29 +370,28 @@ impl<'a, R: ReadyNet + Log, S: ServiceSocket> WorkerSockets<'a, R, S> {
     }
 }
 
-impl<'a, D: Numbered, C: Clock, R: ReadyNet + Log, S: ServiceSocket> Outside<
+impl<'a, D: Numbered, C: Clock, R: ReadyNet + Log, K: Client, B: ReplySender<K>> Outside<
     D,
     SocketLine<R>,
     C,
-    UdpClient<S>,
-> for WorkerSockets<'a, R, S> {
+    K,
+> for WorkerSockets<'a, R, B> {
     ghost server_port = { λ sockets. sockets.server_port };
 
     ghost counts = { λ sockets. sockets.counts };
 
-    ghost Sending = { OutboxState S };
+    ghost Sending = { B };
 
     ghost outbox = { λ sockets. sockets.outbox };
 
-    // To the address from which the client's datagram came.
-    ghost posts = { PostsTo S.takes S.sends };
+    ghost posts = { B.posts };
 
     fn server_port(&self) -> u16 {
         self.server_port
     }
 
     fn buffer(&mut self) -> Vec<u8> {
-        self.outbox.buffer(self.alloc)
+        self.outbox.reply_buffer(self.alloc)
     }
 
     fn open(
@@ -547,21 +536,22 @@ impl<'a, D: Numbered, C: Clock, R: ReadyNet + Log, S: ServiceSocket> Outside<
         }
     }
 
-    fn give(&mut self, client: UdpClient<S>, octets: &[u8], reply: ReplyOctets) {
+    fn give(&mut self, client: K, octets: &[u8], reply: ReplyOctets) {
         if is_too_long(&reply) {
             log_too_long(self.rt, self.alloc, octets);
         }
-        self.send(client.peer(), reply);
+        self.send_to(client, reply);
         self.counts.settle();
     }
 
-    fn fail(&mut self, client: UdpClient<S>, octets: &[u8], why: Unserved) {
-        self.send(client.peer(), report_of(octets, Rcode::SERVER_FAILURE));
+    fn fail(&mut self, client: K, octets: &[u8], why: Unserved) {
+        self.send_to(client, report_of(octets, Rcode::SERVER_FAILURE));
         self.log(why);
         self.counts.settle();
     }
 
-    fn pass_over(&mut self, _client: UdpClient<S>, _octets: &[u8]) {
+    fn pass_over(&mut self, client: K, _octets: &[u8]) {
+        self.outbox.drop_client(client);
         self.tally.pass_over();
         self.counts.settle();
     }

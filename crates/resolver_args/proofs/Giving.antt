@@ -63,9 +63,12 @@ pub range_refuses : {Q : Type 0} (name word : Text) (fault : ArgsFault) → (ran
 range_refuses name word fault leads (inl is) = inl is
 range_refuses name word fault leads (inr why) = inr (blames_range name word fault why.1, leads why.0)
 
--- What is no number of 32 bits is none of 8.
-pub fewer_bits : (rows : List Row) (name : Text) → LacksNumber 32 rows name → LacksNumber 8 rows name
-fewer_bits rows name lacks n small given = lacks n (omega arith) given
+-- What is no number of 32 bits is none of 8, and none of 16.
+pub no_8_bits : (rows : List Row) (name : Text) → LacksNumber 32 rows name → LacksNumber 8 rows name
+no_8_bits rows name lacks n small given = lacks n (omega arith) given
+
+pub no_16_bits : (rows : List Row) (name : Text) → LacksNumber 32 rows name → LacksNumber 16 rows name
+no_16_bits rows name lacks n small given = lacks n (omega arith) given
 
 pub no_number : (rows : List Row) (name : Text) → LacksOption rows name → LacksNumber 32 rows name
 no_number rows name lacks n small given = lacks (Some n) (given, small)
@@ -174,12 +177,15 @@ same_counts rows a b first second has =
     let settings : a.settings ≡ b.settings = one_settings rows _ _ first.settings second.settings in
     let udp : a.udp ≡ b.udp = one_number rows _ _ _ first.udp second.udp in
     let tcp : a.tcp ≡ b.tcp = one_number rows _ _ _ first.tcp second.tcp in
+    let backlog : a.backlog ≡ b.backlog = one_number rows _ _ _ first.backlog second.backlog in
     let record_limit : a.record_limit ≡ b.record_limit = one_number rows _ _ _ first.record_limit second.record_limit in
     record {
       some_hints = subst (λ (s : Settings). 1 ≤ length s.hints) settings has.some_hints;
       some_udp = omega arith;
       some_tcp = omega arith;
       few_workers = omega arith;
+      some_waiting = omega arith;
+      few_waiting = omega arith;
       some_recorded = omega arith;
       few_recorded = omega arith;
     }

@@ -10,8 +10,8 @@ use Rattle.clap.specs.declared.builder.range.ValueRange.{ValueRange}
 use Rattle.clap.specs.declared.builder.value_parser.ValueParser.TheVariants.{Signed}
 use Rattle.shared_book.specs.declared.kept.TheConstants.{MOST_RECORDED}
 use Rattle.history.specs.declared.limits.TheConstants.{MOST_CELLS, MOST_COMMANDS}
-use Rattle.resolver_args.specs.declared.mode.TheConstants.{MOST_WORKERS}
-use Rattle.resolver_args.specs.declared.options.TheConstants.{DEFAULT_CELLS, DEFAULT_JOURNAL, DEFAULT_RECORD, DEFAULT_SECONDS}
+use Rattle.resolver_args.specs.declared.mode.TheConstants.{MOST_BACKLOG, MOST_WORKERS}
+use Rattle.resolver_args.specs.declared.options.TheConstants.{DEFAULT_BACKLOG, DEFAULT_CELLS, DEFAULT_JOURNAL, DEFAULT_RECORD, DEFAULT_SECONDS}
 use Rattle.resolver_args.specs.declared.options.TheConstants.{DEFAULT_SERVER_PORT, DEFAULT_WORKERS, MOST_PORT, MOST_SECONDS}
 
 -- The option `--name VALUE`, once at most.
@@ -63,10 +63,11 @@ address_rules = required (option_rule (codes "listen")) ∷ required (option_rul
 abbrev pub file_rules : List Rule
 file_rules = option_rule (codes "commands") ∷ []
 
--- The numbers of workers.
+-- The numbers of workers, and of the connections that wait for them.
 abbrev pub worker_rules : List Rule
 worker_rules = count_rule (codes "udp") (decimal DEFAULT_WORKERS) MOST_WORKERS
-    ∷ count_rule (codes "tcp") (decimal DEFAULT_WORKERS) MOST_WORKERS ∷ []
+    ∷ count_rule (codes "tcp") (decimal DEFAULT_WORKERS) MOST_WORKERS
+    ∷ count_rule (codes "backlog") (decimal DEFAULT_BACKLOG) MOST_BACKLOG ∷ []
 
 -- The length of the call log, and the seed of the query IDs.
 abbrev pub record_rules : List Rule

@@ -7,19 +7,21 @@ use Rattle.shared_book.specs.declared.kept.TheConstants.{MOST_RECORDED}
 use Rattle.resolver_args.specs.declared.mode.Mode.{Mode}
 use Rattle.resolver_args.specs.declared.mode.Mode.TheVariants.{Script, Serve, Control}
 use Rattle.resolver_args.specs.declared.mode.Service.{Service}
-use Rattle.resolver_args.specs.declared.mode.TheConstants.{MOST_WORKERS}
+use Rattle.resolver_args.specs.declared.mode.TheConstants.{MOST_BACKLOG, MOST_WORKERS}
 
 -- 127.0.0.0/8 or ::1: only this machine can send to it.
 abbrev pub IsLoopback : Ip → Type 0
 IsLoopback (V4 octets) = slice_index octets 0 ≡ 127
 IsLoopback (V6 octets) = octets ≡ 0 ∷ 0 ∷ 0 ∷ 0 ∷ 0 ∷ 0 ∷ 0 ∷ 0 ∷ 0 ∷ 0 ∷ 0 ∷ 0 ∷ 0 ∷ 0 ∷ 0 ∷ 1 ∷ []
 
--- There is a root server, there are UDP and TCP workers but not too many, and the call log has a length.
+-- There is a root server, there are UDP and TCP workers but not too many, connections may wait for them, and the call log has a length.
 pub record HasCounts (service : Service) : Type 0 where
   pub some_hints : 1 ≤ length service.settings.hints
   pub some_udp : 1 ≤ service.udp
   pub some_tcp : 1 ≤ service.tcp
   pub few_workers : service.udp + service.tcp ≤ MOST_WORKERS
+  pub some_waiting : 1 ≤ service.backlog
+  pub few_waiting : service.backlog ≤ MOST_BACKLOG
   pub some_recorded : 1 ≤ service.record_limit
   pub few_recorded : service.record_limit ≤ MOST_RECORDED
 

@@ -34,6 +34,7 @@ pub record GivesService (rows : List Row) (service : Service) : Type 0 where
   pub control : GivesAddr rows (codes "control") service.control
   pub udp : GivesNumber rows (codes "udp") service.udp
   pub tcp : GivesNumber rows (codes "tcp") service.tcp
+  pub backlog : GivesNumber rows (codes "backlog") service.backlog
   pub record_limit : GivesNumber rows (codes "record") service.record_limit
   pub seed : MayGive rows (codes "seed") service.seed
   pub commands : GivesText rows (codes "commands") (text_of service.commands)

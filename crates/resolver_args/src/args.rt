@@ -84,6 +84,17 @@ fn workers_in(found: &ArgMatches<'_>, name: &str, shown: &'static str) -> Result
     }
 }
 
+/// The most connections that wait to be accepted.
+fn backlog_in(found: &ArgMatches<'_>) -> Result<u16, ArgsFault>
+    ensures given { IfOk result (GivesNumber (rows_in found.now) (codes "backlog")) }
+    ensures fault { IfErr result (RefusedFor (LacksNumber 16 (rows_in found.now) (codes "backlog"))) }
+{
+    match u16::try_from(count_in(found, "backlog", "--backlog")?) {
+        Ok(backlog) => Ok(backlog),
+        Err(_) => Err(unfit("--backlog")),
+    }
+}
+
 /// The address of an option or argument, which is shown by this name.
 fn addr_in(
     alloc: Global,
@@ -161,6 +172,7 @@ fn service_in(alloc: Global, found: &ArgMatches<'_>) -> Result<Service, ArgsFaul
         control: addr_in(alloc, found, "control", "--control")?,
         udp: workers_in(found, "udp", "--udp")?,
         tcp: workers_in(found, "tcp", "--tcp")?,
+        backlog: backlog_in(found)?,
         record_limit: u64::from(count_in(found, "record", "--record")?),
         seed: number_in(found, "seed", "--seed")?,
         commands: text_in(alloc, found, "commands")?,

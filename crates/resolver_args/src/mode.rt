@@ -40,6 +40,8 @@ pub struct Service {
     pub udp: u8,
     /// The number of TCP workers.
     pub tcp: u8,
+    /// The most TCP connections that wait to be accepted.
+    pub backlog: u16,
     /// The length of the call log, in calls.
     pub record_limit: u64,
     /// The seed of the query IDs, if they are not to come from the system's randomness.
@@ -52,6 +54,9 @@ pub struct Service {
 
 /// The most workers, UDP and TCP together.
 pub const MOST_WORKERS: u8 = 16;
+
+/// The most connections that a service may let wait to be accepted.
+pub(crate) const MOST_BACKLOG: u16 = 65_535;
 
 /// These settings, if each number is in its range.
 pub(crate) fn settings_of(
@@ -109,8 +114,9 @@ impl Service {
         let has_hints = !self.settings.hints.as_slice().is_empty();
         let has_each = self.udp >= 1 && self.tcp >= 1;
         let has_few = u16::from(self.udp) + u16::from(self.tcp) <= u16::from(MOST_WORKERS);
+        let has_backlog = self.backlog >= 1;
         let has_record = self.record_limit >= 1 && self.record_limit <= MOST_RECORDED;
-        has_hints && has_each && has_few && has_record
+        has_hints && has_each && has_few && has_backlog && has_record
     }
 
     /// The number that does not fit, if not all of them do.
@@ -124,7 +130,7 @@ impl Service {
         if u16::from(udp) + u16::from(tcp) > u16::from(MOST_WORKERS) {
             return BadArgument::ManyWorkers { udp, tcp };
         }
-        BadArgument::Unfit("--udp, --tcp or --record")
+        BadArgument::Unfit("--udp, --tcp, --backlog or --record")
     }
 
     /// Returns the service if it can run. Checks its numbers before its control address.

@@ -9,7 +9,7 @@ ghost use Rattle.resolver_args.specs.CommandLine.{limit_rules, server_rules, pat
 ghost use Rattle.resolver_args.specs.CommandLine.{address_rules, file_rules, worker_rules, record_rules};
 ghost use Rattle.resolver_args.specs.CommandLine.{script_shape, serve_shape, control_shape, resolver_app};
 
-use crate::mode::MOST_WORKERS;
+use crate::mode::{MOST_BACKLOG, MOST_WORKERS};
 use clap::builder::ValueParser;
 use clap::{Arg, ArgAction, Command};
 use command_text::{Channel, help_text};
@@ -80,6 +80,12 @@ pub const DEFAULT_WORKERS: u32 = 1;
 
 /// `DEFAULT_WORKERS` as text.
 const WORKERS_TEXT: &str = "1";
+
+/// The default of `--backlog`, as unbound has it.
+pub const DEFAULT_BACKLOG: u32 = 256;
+
+/// `DEFAULT_BACKLOG` as text.
+const BACKLOG_TEXT: &str = "256";
 
 /// The default of `--record`.
 pub const DEFAULT_RECORD: u32 = 10_000;
@@ -214,7 +220,7 @@ fn with_file<'a>(alloc: Global, command: Command<'a>) -> Result<Command<'a>, All
     command.arg(file)
 }
 
-/// The workers of a service.
+/// The workers of a service, and the connections that wait for them.
 fn with_workers<'a>(alloc: Global, command: Command<'a>) -> Result<Command<'a>, AllocError>
     ensures { IfOk result (AddsRules command.entry worker_rules) }
 {
@@ -232,7 +238,14 @@ fn with_workers<'a>(alloc: Global, command: Command<'a>) -> Result<Command<'a>, 
         u32::from(MOST_WORKERS),
         "The number of TCP workers, at least 1",
     );
-    command.arg(udp)?.arg(tcp)
+    let backlog = count(
+        alloc,
+        "backlog",
+        BACKLOG_TEXT,
+        u32::from(MOST_BACKLOG),
+        "The most TCP connections that wait to be accepted, 1 to 65535; the system may allow fewer",
+    );
+    command.arg(udp)?.arg(tcp)?.arg(backlog)
 }
 
 /// The call log of a service, and the seed of its query IDs.

@@ -22,8 +22,6 @@ mod sockets;
 mod book_figures;
 // What an operator can read of a service while it runs.
 mod gauges;
-// The listener and the exchange of a TCP worker, with what they do counted.
-mod tallied;
 // One worker, in a thread of its own.
 mod worker;
 // The octets with which an operator's line may begin.

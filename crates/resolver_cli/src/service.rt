@@ -14,14 +14,14 @@ use crate::operator_queue::OperatorQueue;
 use crate::operators::obey_operators;
 use crate::service_log::ServiceLog;
 use crate::service_runtime::ServiceRuntime;
-use crate::sockets::{Bound, hold_descriptors, wake_all};
+use crate::sockets::{Bound, share_descriptors, wake_all};
 use crate::sweeper::sweep_often;
 use crate::worker::{
     Lent, OverTcp, OverUdp, ServiceBook, Terms, pass_of, run_tcp, run_udp, tcp_workers, udp_workers,
 };
 use cell_store::NameSeed;
-use dns_sockets::{descriptor_limit, place_of};
-use flight_sockets::{Asking, Permits, Waker, most_exchanges};
+use dns_sockets::place_of;
+use flight_sockets::{Asking, Permits, Waker};
 use history::Book;
 use log::{Log, info};
 use resolver_args::Service;
@@ -47,9 +47,9 @@ struct Workers<'a, L: CallLedger, R: Clock + Log + Net<Stream = TcpStream>> {
     /// The sweeper's place at the book.
     sweeper: Pass<L>,
     udp: Vec<OverUdp<'a, L, R>>,
-    /// The waker of each UDP worker.
-    wakers: Vec<Waker>,
     tcp: Vec<OverTcp<'a, L, R>>,
+    /// The waker of each worker.
+    wakers: Vec<Waker>,
 }
 
 /// Prints that the service is ready, and obeys operators until one sends `stop`.
@@ -116,7 +116,7 @@ where
             Err(CliFault::no_memory())
         };
         lent.stop.store(true, Ordering::SeqCst);
-        wake_all(rt, wakers.as_slice(), lent.terms.place, lent.terms.tcp);
+        wake_all(wakers.as_slice());
         ended
     })
 }
@@ -188,22 +188,15 @@ where
     ).unwrap();
     let Bound {
         sockets,
-        listeners,
+        udp,
+        tcp,
         wakers,
     } = bound;
     let workers = Workers {
         sweeper: pass_of(rt, &shared, &mut pass)?,
-        udp: udp_workers(
-            rt,
-            alloc,
-            &shared,
-            &mut pass,
-            &terms,
-            &gauges.udp,
-            listeners,
-        )?,
+        udp: udp_workers(rt, alloc, &shared, &mut pass, &terms, &gauges.udp, udp)?,
+        tcp: tcp_workers(rt, alloc, &shared, &mut pass, &terms, &gauges.tcp, tcp)?,
         wakers,
-        tcp: tcp_workers(rt, alloc, &shared, &mut pass, &terms, &gauges.tcp, stop)?,
     };
     let lent = Lent {
         book: &shared,
@@ -238,11 +231,16 @@ where
         + Net<Stream = TcpStream, Listener = TcpListener>,
     requires { IsService service }
 {
-    let bound = Bound::new(rt, alloc, &service.listen, &service.control, service.udp)?;
+    let bound = Bound::new(
+        rt,
+        alloc,
+        &service.listen,
+        &service.control,
+        service.udp,
+        service.tcp,
+        service.backlog,
+    )?;
     let Ok(start) = Instant::now(rt) else {
-        return Err(CliFault::cannot_start());
-    };
-    let Ok(descriptors) = descriptor_limit() else {
         return Err(CliFault::cannot_start());
     };
     let Ok(permits) = Permits::new(alloc, drawn_seed(rt)?) else {
@@ -253,12 +251,14 @@ where
     };
     // Moved out of the settings, since the terms borrow it while others are moved.
     let do_not_query = service.do_not_query;
+    let (udp, tcp) = (service.udp, service.tcp);
+    let shares = share_descriptors(alloc, &bound.sockets.control, udp, tcp)?;
     let terms = Terms {
         place: place_of(&service.listen),
-        udp: service.udp,
-        tcp: service.tcp,
+        udp,
+        tcp,
         seed: service.seed,
-        exchanges: most_exchanges(descriptors, service.udp),
+        shares,
         asking: Asking {
             server_port: service.settings.server_port,
             do_not_query: do_not_query.as_slice(),
@@ -267,8 +267,6 @@ where
         },
         start,
     };
-    let exchanges = terms.exchanges.saturating_mul(usize::from(terms.udp));
-    hold_descriptors(alloc, &bound.sockets.tcp, exchanges)?;
     let record_limit = service.record_limit;
     let seed = drawn_seed(rt)?;
     let Ok(figures) = gauges.book.share() else {

@@ -1,28 +1,31 @@
 //! The listening sockets of a service.
 
-ghost use Rattle.std.specs.Prelude.{◌≡◌, Ok, IfOk, vec_len};
+ghost use Rattle.std.specs.Prelude.{◌≡◌, ◌+◌, ◌≤◌, Ok, IfOk, vec_len};
+ghost use Rattle.resolver_args.specs.declared.mode.TheConstants.{MOST_WORKERS};
 
 use crate::fault::CliFault;
-use dns_sockets::{bind_clients, bind_tcp, place_of, wake_tcp};
+use dns_sockets::{bind_tcp, bind_with_backlog, descriptor_limit, place_of};
 use dns_text::Addr;
-use flight_sockets::{UdpListener, Waker, listen_each};
+use flight_sockets::{
+    TcpPoll, UdpListener, Waker, listen_each, most_connections, most_exchanges, share_listener,
+};
 use std::alloc::Global;
 use std::io;
 use std::io::ErrorKind;
-use std::net::{Net, SocketAddr, TcpListener, TcpStream};
+use std::net::{Net, TcpListener, TcpStream};
 
 /// The sockets that all threads of a service share.
 #[derive(Drop)]
 pub(crate) struct Sockets {
-    pub tcp: TcpListener,
     pub control: TcpListener,
 }
 
-/// All sockets of a service: the shared ones, and for each UDP worker a socket of its own, with the waker of its poll.
+/// All sockets of a service: the shared ones, and for each worker a listener of its own, with the waker of its poll.
 #[derive(Drop)]
 pub(crate) struct Bound {
     pub sockets: Sockets,
-    pub listeners: Vec<UdpListener>,
+    pub udp: Vec<UdpListener>,
+    pub tcp: Vec<TcpPoll>,
     pub wakers: Vec<Waker>,
 }
 
@@ -42,23 +45,33 @@ fn listening<S>(alloc: Global, addr: &Addr, socket: io::Result<S>) -> Result<S, 
 }
 
 impl Bound {
-    /// Binds a UDP socket for each of `udp` workers, then the TCP socket, then the control socket.
+    /// Binds a UDP socket for each of `udp` workers, then the TCP socket that `tcp` workers share and at which `backlog` connections may
+    /// wait to be accepted, then the control socket.
     pub fn new<R: Net<Stream = TcpStream, Listener = TcpListener>>(
         rt: &R,
         alloc: Global,
         listen: &Addr,
         control: &Addr,
         udp: u8,
+        tcp: u8,
+        backlog: u16,
     ) -> Result<Bound, CliFault>
-        ensures { IfOk result (λ bound. vec_len bound.listeners ≡ udp) }
+        ensures { IfOk result (λ bound. (vec_len bound.udp ≡ udp) × (vec_len bound.tcp ≡ tcp)) }
     {
         let place = place_of(listen);
-        let (listeners, wakers) = listening(alloc, listen, listen_each(rt, alloc, place, udp))?;
-        let tcp = listening(alloc, listen, bind_clients(rt, place))?;
+        let (udp, mut wakers) = listening(alloc, listen, listen_each(rt, alloc, place, udp))?;
+        let socket = listening(alloc, listen, bind_with_backlog(rt, place, backlog))?;
+        let (tcp, others) = listening(alloc, listen, share_listener(rt, alloc, &socket, tcp))?;
+        for waker in others {
+            if wakers.push(waker).is_err() {
+                return Err(CliFault::no_memory());
+            }
+        }
         let control = listening(alloc, control, bind_tcp(rt, place_of(control)))?;
         Ok(Bound {
-            sockets: Sockets { tcp, control },
-            listeners,
+            sockets: Sockets { control },
+            udp,
+            tcp,
             wakers,
         })
     }
@@ -67,11 +80,7 @@ impl Bound {
 /// Opens this many descriptors for a moment, so that the kernel's table of descriptors grows before the threads share it.
 /// Later the kernel would wait until no thread can be reading the old table. That takes milliseconds, and a worker would
 /// answer nobody meanwhile. If the system grants fewer descriptors, that is no fault here: exchanges log it when they need one.
-pub(crate) fn hold_descriptors(
-    alloc: Global,
-    socket: &TcpListener,
-    count: usize,
-) -> Result<(), CliFault> {
+fn hold_descriptors(alloc: Global, socket: &TcpListener, count: usize) -> Result<(), CliFault> {
     let Ok(mut held) = Vec::with_capacity(alloc, count) else {
         return Err(CliFault::no_memory());
     };
@@ -84,12 +93,47 @@ pub(crate) fn hold_descriptors(
     Ok(())
 }
 
+/// The descriptors that workers may have.
+#[derive(Clone, Copy)]
+pub(crate) struct Shares {
+    /// The most exchanges of each worker.
+    pub exchanges: usize,
+    /// The most connections of each TCP worker.
+    pub connections: usize,
+}
+
+/// Shares out the descriptors of the process among its workers. A TCP worker has connections of clients beside its exchanges, so it counts
+/// twice.
+pub(crate) fn share_descriptors(
+    alloc: Global,
+    socket: &TcpListener,
+    udp: u8,
+    tcp: u8,
+) -> Result<Shares, CliFault>
+    requires some { 1 ≤ tcp }
+    requires few { udp + tcp ≤ MOST_WORKERS }
+{
+    let Ok(descriptors) = descriptor_limit() else {
+        return Err(CliFault::cannot_start());
+    };
+    let exchanges = most_exchanges(descriptors, udp + 2 * tcp);
+    let connections = most_connections(descriptors, udp, tcp, exchanges);
+    let workers = usize::from(udp) + usize::from(tcp);
+    let held = connections.saturating_mul(usize::from(tcp));
+    hold_descriptors(
+        alloc,
+        socket,
+        exchanges.saturating_mul(workers).saturating_add(held),
+    )?;
+    Ok(Shares {
+        exchanges,
+        connections,
+    })
+}
+
 /// Wakes each worker that waits, so that it sees the stop flag. Whoever is not reached looks at the flag within half a second.
-pub(crate) fn wake_all<R: Net>(rt: &R, wakers: &[Waker], place: SocketAddr, tcp: u8) {
+pub(crate) fn wake_all(wakers: &[Waker]) {
     for waker in wakers {
         let _ = waker.wake();
-    }
-    for _ in 0..tcp {
-        let _ = wake_tcp(rt, place);
     }
 }

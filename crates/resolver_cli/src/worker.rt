@@ -6,18 +6,16 @@ ghost use Rattle.resolver_args.specs.declared.mode.TheConstants.{MOST_WORKERS};
 use crate::book_figures::WatchedBook;
 use crate::fault::CliFault;
 use crate::gauges::Gauges;
-use crate::sockets::Sockets;
-use crate::tallied::{TalliedExchange, TalliedListener};
-use dns_sockets::{Connections, MonotonicClock, SocketExchange};
-use flight_sockets::{Asking, Tally, UdpListener, UdpWorker, fly_udp};
-use front_workers::{Tools, work_tcp};
+use crate::sockets::{Shares, Sockets};
+use dns_sockets::MonotonicClock;
+use flight_sockets::{Asking, Tally, TcpPoll, TcpWorker, UdpListener, UdpWorker, fly_tcp, fly_udp};
 use log::Log;
 use rand::rngs::StdRng;
 use rand_core::{Rng, SeedableRng};
 use shared_book::{CallLedger, Pass, Seat, SharedBook};
 use std::alloc::Global;
 use std::io;
-use std::net::{Net, SocketAddr, TcpListener, TcpStream};
+use std::net::{Net, SocketAddr, TcpStream};
 use std::random::RandomSource;
 use std::rt::Clock;
 use std::sync::Wait;
@@ -39,9 +37,9 @@ pub(crate) struct Terms<'a> {
     pub tcp: u8,
     /// The seed of the identifiers of queries, if the operator fixed one.
     pub seed: Option<u32>,
-    /// The most exchanges that a UDP worker may have under way.
-    pub exchanges: usize,
-    /// How UDP workers ask name servers.
+    /// The descriptors that workers may have.
+    pub shares: Shares,
+    /// How name servers are asked.
     pub asking: Asking<'a>,
     /// The instant from which every worker's clock counts.
     pub start: Instant,
@@ -67,11 +65,10 @@ pub(crate) struct OverUdp<'a, L: CallLedger, R: Net<Stream = TcpStream> + Log + 
 
 /// The parts that a TCP worker owns.
 #[derive(Drop)]
-pub(crate) struct OverTcp<'a, L: CallLedger, R: Net<Stream = TcpStream> + Clock> {
+pub(crate) struct OverTcp<'a, L: CallLedger, R: Net<Stream = TcpStream> + Log + Clock> {
     pass: Pass<L>,
     ids: StdRng,
-    exchange: SocketExchange<'a, R, AtomicBool>,
-    tally: &'a Tally,
+    worker: TcpWorker<'a, R>,
 }
 
 /// The generator of a worker's query identifiers. It is seeded with the fixed seed and the worker's number if there is a fixed
@@ -136,7 +133,7 @@ where
     Ok(workers)
 }
 
-/// The TCP workers. Their numbers follow those of the UDP workers.
+/// A TCP worker for each listener. Their numbers follow those of the UDP workers.
 pub(crate) fn tcp_workers<'a, L: CallLedger, R>(
     rt: &'a R,
     alloc: Global,
@@ -144,30 +141,34 @@ pub(crate) fn tcp_workers<'a, L: CallLedger, R>(
     pass: &mut Pass<L>,
     terms: &Terms<'a>,
     tallies: &'a [Tally],
-    stop: &'a AtomicBool,
+    listeners: Vec<TcpPoll>,
 ) -> Result<Vec<OverTcp<'a, L, R>>, CliFault>
 where
     R: Wait + Clock + Log + RandomSource + Net<Stream = TcpStream>,
     requires { terms.now.udp + terms.now.tcp ≤ MOST_WORKERS }
 {
     let mut workers = Vec::new(alloc);
-    for (number, tally) in (terms.udp..terms.udp + terms.tcp).zip(tallies) {
+    let numbers = terms.udp..terms.udp + terms.tcp;
+    for ((number, tally), listener) in numbers.zip(tallies).zip(listeners) {
         let own = pass_of(rt, book, pass)?;
         let ids = generator(rt, terms.seed, number)?;
-        let Ok(exchange) = SocketExchange::new(
+        let seed = table_seed(rt, terms.seed, number)?;
+        let Ok(worker) = TcpWorker::new(
             rt,
+            tally,
             alloc,
-            terms.place,
-            terms.asking.do_not_query,
-            stop,
+            listener,
+            terms.shares.connections,
+            terms.asking,
+            seed,
+            terms.start,
         ) else {
             return Err(CliFault::no_memory());
         };
         let worker = OverTcp {
             pass: own,
             ids,
-            exchange,
-            tally,
+            worker,
         };
         if workers.push(worker).is_err() {
             return Err(CliFault::no_memory());
@@ -200,7 +201,7 @@ where
         clock,
         ids,
         &mut worker,
-        lent.terms.exchanges,
+        lent.terms.shares.exchanges,
         lent.stop,
     );
 }
@@ -213,22 +214,23 @@ pub(crate) fn run_tcp<L: CallLedger, R>(
     over: OverTcp<'_, L, R>,
 )
 where
-    R: Wait + Clock + Log + Net<Stream = TcpStream, Listener = TcpListener>,
+    R: Wait + Clock + Log + Net<Stream = TcpStream>,
 {
     let OverTcp {
         pass,
         ids,
-        exchange,
-        tally,
+        mut worker,
     } = over;
     let mut desk = Seat::new(rt, alloc, lent.book, pass);
-    let mut tools = Tools {
-        exchange: TalliedExchange::new(exchange, tally),
-        clock: MonotonicClock::new(rt, lent.terms.start),
+    let clock = MonotonicClock::new(rt, lent.terms.start);
+    fly_tcp(
+        rt,
+        alloc,
+        &mut desk,
+        clock,
         ids,
-        server_port: lent.terms.asking.server_port,
-    };
-    let connections = Connections::new(rt, alloc, &lent.sockets.tcp, lent.stop);
-    let mut listener = TalliedListener::new(connections, tally);
-    work_tcp(rt, alloc, &mut desk, &mut listener, &mut tools);
+        &mut worker,
+        lent.terms.shares.exchanges,
+        lent.stop,
+    );
 }

@@ -12,7 +12,7 @@ const EMFILE: i32 = 24;
 const ENFILE: i32 = 23;
 
 /// Whether a call failed since no file descriptor was left.
-pub(crate) fn lacks_descriptors(error: &io::Error) -> bool
+pub fn lacks_descriptors(error: &io::Error) -> bool
     ensures { IsTrue result ↔ LacksDescriptors error.now }
 {
     let code = error.raw_os_error();

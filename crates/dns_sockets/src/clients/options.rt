@@ -50,6 +50,11 @@ pub(crate) fn limit_accept(listener: &TcpListener, most: Duration) -> io::Result
     })
 }
 
+/// Sets how many connections may wait at a socket to be accepted (`listen(2)`). The system allows fewer if its own limit is lower.
+pub(crate) fn set_backlog(listener: &TcpListener, backlog: u16) -> io::Result<()> {
+    check(c::listen(listener.as_raw_fd(), i32::from(backlog)))
+}
+
 /// Whether a descriptor takes octets now (`poll(2)`): a pipe that does takes a line of up to 4,096 octets without waiting. A descriptor
 /// that would fail takes them too, since that call does not wait either.
 pub fn takes_octets(descriptor: i32) -> bool {

@@ -1,6 +1,6 @@
 //! The TCP sockets of the service, and the connection that wakes a worker.
 
-use crate::clients::options::limit_accept;
+use crate::clients::options::{limit_accept, set_backlog};
 use crate::deadline::glance;
 use mio::net;
 use std::io;
@@ -12,6 +12,18 @@ pub fn bind_tcp<R: Net<Stream = TcpStream, Listener = TcpListener>>(
     addr: SocketAddr,
 ) -> io::Result<TcpListener> {
     TcpListener::bind(rt, addr)
+}
+
+/// A socket at which clients' connections come in, of which `backlog` may wait to be accepted. std has no argument for their number,
+/// so it is set once the socket listens.
+pub fn bind_with_backlog<R: Net<Stream = TcpStream, Listener = TcpListener>>(
+    rt: &R,
+    addr: SocketAddr,
+    backlog: u16,
+) -> io::Result<TcpListener> {
+    let listener = bind_tcp(rt, addr)?;
+    set_backlog(&listener, backlog)?;
+    Ok(listener)
 }
 
 /// A socket for `Connections`. Accepting waits no longer than `glance`, so that whoever waits there sees the stop flag.

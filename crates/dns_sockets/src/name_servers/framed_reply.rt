@@ -20,8 +20,8 @@ pub(crate) struct FramedReply {
     ghost within: { length octets.items ≤ framed_size octets.items },
 }
 
-/// The number of octets that a message still lacks, if these came.
-fn wanting(came: &[u8]) -> usize
+/// The number of octets that a message preceded by its length still lacks, if these came of it.
+pub fn octets_wanting(came: &[u8]) -> usize
     ensures wanting { result ≡ octets_wanting came.now }
     ensures none { length came.now ≤ framed_size came.now → ((result ≡ 0) ↔ IsWholeFrame came.now) }
 {
@@ -67,7 +67,7 @@ impl FramedReply {
         ensures whole { IfOk result (λ is_whole. IsTrue is_whole ↔ IsWholeFrame self.new.octets.items) }
     {
         for _ in 0..MOST_CALLS {
-            let most = wanting(&self.octets).min(room.len());
+            let most = octets_wanting(&self.octets).min(room.len());
             if most == 0 {
                 return Ok(true);
             }

@@ -1,13 +1,13 @@
 use Rattle.std.proofs.Common.{◌∙◌, arith, refl}
 use Rattle.flight_sockets.proofs.Accounting.{accounted_on, same_counts}
-use Rattle.flight_sockets.proofs.Posting.{endings_none, endings_of, endings_then, endings_within, posts_none}
+use Rattle.flight.proofs.Leaving.{ends_behind, ends_then, none_ends}
 use Rattle.flight_sockets.proofs.Relieving.{patient_more, timely_more}
 use Rattle.flight_sockets.proofs.turns.begin_anew.Goals as goal
 
 pub loop-init : goal.loop-init
 loop-init g c = record {
   so_far = same_counts _ _;
-  ends = endings_none (posts_none refl) refl;
+  ends = none_ends 0 _ _ refl (omega arith);
   joins = λ test. omega arith;
   no_more = omega arith;
   bounded = λ few. few;
@@ -22,7 +22,7 @@ loop-preserved g c =
     let loses = c.look.ensures.loses_none in
     record {
       so_far = accounted_on _ _ _ _ _ _ before.so_far (rw c.next_permitted.ensures.counts at loses.accounted);
-      ends = endings_then before.ends (endings_within c.next_permitted.ensures.kept refl (endings_of loses.ends));
+      ends = ends_then before.ends (ends_behind c.next_permitted.ensures.kept loses.ends);
       joins = λ test. omega (arith, loses.joins_none test, before.joins test);
       no_more = omega (arith, loses.no_more, before.no_more);
       bounded = λ few. loses.bounded (before.bounded few);

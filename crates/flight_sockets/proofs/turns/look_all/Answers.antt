@@ -1,14 +1,14 @@
 use Rattle.std.proofs.Common.{◌∙◌, ap, arith, refl, rules}
 use Rattle.flight.specs.declared.counts.Counts.{Counts}
 use Rattle.flight_sockets.proofs.Accounting.{accounted_on, same_counts}
-use Rattle.flight_sockets.proofs.Posting.{endings_none, endings_of, endings_then, endings_within, posts_none}
+use Rattle.flight.proofs.Leaving.{ends_behind, ends_then, none_ends}
 use Rattle.flight_sockets.specs.Patience.{once_more, unread}
 use Rattle.flight_sockets.proofs.Watching.{seen_on}
 use Rattle.flight_sockets.proofs.turns.look_all.Goals as goal
 
 pub loop-event-init : goal.loop-event-init
 loop-event-init g c =
-    record { so_far = same_counts _ _; ends = endings_none (posts_none refl) refl; no_more = omega arith; in_time = refl; bounded = λ few. few; limit = refl; read = unread; looked = (refl, refl) }
+    record { so_far = same_counts _ _; ends = none_ends 0 _ _ refl (omega arith); no_more = omega arith; in_time = refl; bounded = λ few. few; limit = refl; read = unread; looked = (refl, refl) }
 
 pub loop-event-preserved-then-ne : goal.loop-event-preserved-then-ne
 loop-event-preserved-then-ne g c =
@@ -16,7 +16,7 @@ loop-event-preserved-then-ne g c =
     let loses = c.look.ensures.loses_none in
     record {
       so_far = accounted_on _ _ _ _ _ _ before.so_far (rw c.set_now.ensures.counts at loses.accounted);
-      ends = endings_then before.ends (endings_within c.set_now.ensures.kept refl (endings_of loses.ends));
+      ends = ends_then before.ends (ends_behind c.set_now.ensures.kept loses.ends);
       no_more = omega (arith, loses.no_more, before.no_more);
       in_time = c.look.ensures.unexpired ∙ ap (λ (counts : Counts). counts.expired) c.set_now.ensures.counts ∙ before.in_time;
       bounded = λ few. loses.bounded (before.bounded few);

@@ -1,7 +1,7 @@
 use Rattle.std.proofs.Common.{◌≡◌, ◌≤◌, map}
 use Rattle.flight.specs.Bounds.{IsBounded}
 use Rattle.flight.specs.Waiting.{IsAccounted, outstanding}
-use Rattle.flight_sockets.specs.Endings.{Endings}
+use Rattle.flight.specs.Leaving.{Ends}
 use Rattle.flight_sockets.specs.Looked.{AllLookedAt}
 use Rattle.flight_sockets.specs.Patience.{AreRead}
 use Rattle.flight_sockets.proofs.turns.look_all.Given as goal
@@ -10,7 +10,7 @@ use Rattle.flight_sockets.proofs.turns.look_all.Given as goal
 abbrev pub invariant-loop-event : goal.invariant-loop-event
 invariant-loop-event g l = record {
   so_far : IsAccounted 0 (outstanding l.initial.questions) l.initial.sockets.counts (outstanding l.questions) l.sockets.counts;
-  ends : Endings g.S.ServiceSocket.takes g.S.ServiceSocket.sends 0 (outstanding l.initial.questions) l.initial.sockets.outbox (outstanding l.questions) l.sockets.outbox;
+  ends : Ends g.K.Client.sent g.B.ReplySender.posts 0 (outstanding l.initial.questions) l.initial.sockets.outbox (outstanding l.questions) l.sockets.outbox;
   no_more : outstanding l.questions ≤ outstanding l.initial.questions;
   in_time : l.sockets.counts.expired ≡ l.initial.sockets.counts.expired;
   bounded : IsBounded l.initial.questions → IsBounded l.questions;

@@ -38,6 +38,13 @@ returns-in_err-workers_in-2-clause-fault c =
     let leads : LacksNumber 8 (rows_in c.args.found.now) (codes "tcp") → LacksService (rows_in c.args.found.now) = λ lacks s given fits. let few = fits.1.few_workers in lacks s.tcp (omega arith) given.tcp in
     IfErr-weaker c.from_residual-in_err-workers_in-2.result _ _ (λ fault why. inl (for_reason fault leads why)) told
 
+pub returns-in_err-backlog_in-clause-fault : goal.returns-in_err-backlog_in-clause-fault
+returns-in_err-backlog_in-clause-fault c =
+    let rows = rows_in c.args.found.now in
+    let told : IfErr c.from_residual-in_err-backlog_in.result (RefusedFor (LacksNumber 16 (rows_in c.args.found.now) (codes "backlog"))) = search rules in
+    let leads : LacksNumber 16 (rows_in c.args.found.now) (codes "backlog") → LacksService (rows_in c.args.found.now) = λ lacks s given fits. let few = fits.1.few_waiting in lacks s.backlog (omega arith) given.backlog in
+    IfErr-weaker c.from_residual-in_err-backlog_in.result _ _ (λ fault why. inl (for_reason fault leads why)) told
+
 pub returns-in_err-count_in-clause-fault : goal.returns-in_err-count_in-clause-fault
 returns-in_err-count_in-clause-fault c =
     let rows = rows_in c.args.found.now in
@@ -66,6 +73,7 @@ made c = record {
   control = c.in_ok-addr_in-2.field-0;
   udp = c.in_ok-workers_in.field-0;
   tcp = c.in_ok-workers_in-2.field-0;
+  backlog = c.in_ok-backlog_in.field-0;
   record_limit = c.from.result;
   seed = c.in_ok-number_in.field-0;
   commands = c.in_ok-text_in.field-0;
@@ -79,6 +87,7 @@ built c = record {
   control = c.in_ok-addr_in-2.ensures.given;
   udp = c.in_ok-workers_in.ensures.given;
   tcp = c.in_ok-workers_in-2.ensures.given;
+  backlog = c.in_ok-backlog_in.ensures.given;
   record_limit = search rules;
   seed = c.in_ok-number_in.ensures.given;
   commands = c.in_ok-text_in.ensures;

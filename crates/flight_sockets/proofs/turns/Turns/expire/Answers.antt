@@ -19,7 +19,7 @@ returns-clause-goes_on g c =
     let last = worker_of c.begin_anew.new.sockets.server_port inside.taken inside.failures c.begin_anew.new.sockets.outbox c.begin_anew.new.sockets.counts clock inside.events.inner.items in
     rw (← c.self.view_is) (gone_on between between done _ before last (stayed between _ before (endings_none (posts_none c.set_now.ensures.kept) refl) refl c.set_now.ensures.counts refl)
     (gone_on between left done before after last (looked_on between left before after refl ends.accounted (endings_of ends.ends) ends.no_more ends.bounded ends.limit refl)
-    (looked_on left done after last refl anew.accounted anew.ends anew.no_more anew.bounded anew.limit refl)))
+    (looked_on left done after last refl anew.accounted (endings_of anew.ends) anew.no_more anew.bounded anew.limit refl)))
 
 pub returns-clause-no_more : goal.returns-clause-no_more
 returns-clause-no_more g c = omega (arith, c.begin_anew.ensures.no_more, c.expire.ensures.loses_none.no_more)
@@ -36,7 +36,7 @@ returns-clause-takes_none g c =
     let last = worker_of c.begin_anew.new.sockets.server_port inside.taken inside.failures c.begin_anew.new.sockets.outbox c.begin_anew.new.sockets.counts clock inside.events.inner.items in
     rw (← c.self.view_is) (takes_none_then between between done _ before last (rests between _ before c.set_now.ensures.kept refl)
     (takes_none_then between left done before after last (record { taken = refl; ends = endings_of c.expire.ensures.loses_none.ends })
-    (record { taken = refl; ends = c.begin_anew.ensures.ends })))
+    (record { taken = refl; ends = endings_of c.begin_anew.ensures.ends })))
 
 pub returns-clause-early : goal.returns-clause-early
 returns-clause-early g c =

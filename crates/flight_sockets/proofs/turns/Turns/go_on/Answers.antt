@@ -3,7 +3,7 @@ use Rattle.dns_sockets.specs.Moments.{ClockState, IsRead, millis_at}
 use Rattle.flight.specs.Waiting.{EarlyGoOn, IsPatient, IsTimely}
 use Rattle.flight_sockets.proofs.Accounting.{gone_on, looked_on, stayed, worker_of}
 use Rattle.flight_sockets.proofs.Beginning.{takes_none_then}
-use Rattle.flight_sockets.proofs.Posting.{endings_none}
+use Rattle.flight_sockets.proofs.Posting.{endings_none, endings_of}
 use Rattle.flight_sockets.proofs.Relieving.{patient_on, timely_on}
 use Rattle.flight_sockets.proofs.turns.Turns.go_on.Goals as goal
 
@@ -16,7 +16,7 @@ returns-clause-goes_on g c =
     let done = c.relieve.new.questions in
     let looked = worker_of c.look_all.new.sockets.server_port inside.taken inside.failures c.look_all.new.sockets.outbox c.look_all.new.sockets.counts c.look_all.new.clock inside.events.inner.items in
     let relieved = rw (← c.self-2.view_is) at c.relieve.ensures.goes_on in
-    rw (← c.self.view_is) (gone_on _ between done _ looked _ (looked_on _ between _ looked refl looks.accounted looks.ends looks.no_more looks.bounded looks.limit refl)
+    rw (← c.self.view_is) (gone_on _ between done _ looked _ (looked_on _ between _ looked refl looks.accounted (endings_of looks.ends) looks.no_more looks.bounded looks.limit refl)
     (gone_on between left done looked _ _ c.expire.ensures.goes_on
     (gone_on left done done _ _ _ relieved (stayed done _ _ (endings_none c.flush.ensures.posts refl) refl c.flush.ensures.counts refl))))
 
@@ -29,7 +29,7 @@ returns-clause-takes_none g c =
     let done = c.relieve.new.questions in
     let looked = worker_of c.look_all.new.sockets.server_port inside.taken inside.failures c.look_all.new.sockets.outbox c.look_all.new.sockets.counts c.look_all.new.clock inside.events.inner.items in
     let relieved = rw (← c.self-2.view_is) at c.relieve.ensures.takes_none in
-    rw (← c.self.view_is) (takes_none_then _ between done _ looked _ (record { taken = refl; ends = looks.ends })
+    rw (← c.self.view_is) (takes_none_then _ between done _ looked _ (record { taken = refl; ends = endings_of looks.ends })
     (takes_none_then between left done looked _ _ c.expire.ensures.takes_none
     (takes_none_then left done done _ _ _ relieved (record { taken = refl; ends = endings_none c.flush.ensures.posts refl }))))
 

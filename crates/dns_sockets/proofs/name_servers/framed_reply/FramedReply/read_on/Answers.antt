@@ -7,8 +7,8 @@ use Rattle.dns_sockets.proofs.name_servers.framed_reply.FramedReply.read_on.Goal
 
 pub returns-then-most-eq0-clause-whole : goal.returns-then-most-eq0-clause-whole
 returns-then-most-eq0-clause-whole g c =
-    let none : c.wanting.result ≡ 0 = omega (arith, c.requires) in
-    let is = c.wanting.ensures.none (subst (λ (l : List ℕ). length l ≤ framed_size l) (sym c.deref.ensures.value) c.loop.self.within) in
+    let none : c.octets_wanting.result ≡ 0 = omega (arith, c.requires) in
+    let is = c.octets_wanting.ensures.none (subst (λ (l : List ℕ). length l ≤ framed_size l) (sym c.deref.ensures.value) c.loop.self.within) in
     (λ _. subst IsWholeFrame c.deref.ensures.value (is.0 none), λ _. search rules)
 
 pub loop-preserved : goal.loop-preserved

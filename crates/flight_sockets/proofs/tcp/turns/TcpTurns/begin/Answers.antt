@@ -1,0 +1,35 @@
+use Rattle.std.proofs.Common.{[], ◌∷◌, Some, refl, arith, rules}
+use Rattle.front_workers.specs.Serves.{fault_octets}
+use Rattle.flight.proofs.Settling.{accounted_settled}
+use Rattle.flight_sockets.proofs.Flowing.{accounts_one}
+use Rattle.flight_sockets.proofs.tcp.turns.TcpTurns.begin.Goals as goal
+use Rattle.flight_sockets.proofs.tcp.turns.TcpTurns.begin.Goals.{then-octets-gt-MOST_DATAGRAM+then-is_dear+then-wants_reply, else-octets-gt-MOST_DATAGRAM}
+
+pub returns : goal.returns
+returns g c =
+    elim c.if-octets-gt-MOST_DATAGRAM.branch [
+      | then-octets-gt-MOST_DATAGRAM+then-is_dear+then-wants_reply w ↦ rw (w.questions-is, w.self-inside-is) (rw (← c.self.view_is) (record {
+        ends = record {
+          counted = search rules;
+          ends = record { ends = (record { client = c.args.client; octets = c.args.octets.now; own = c.requires; reply = Some (fault_octets c.args.octets.now 2) }) ∷ []; left = (_, w.refuse_dear.ensures.posts, refl); count = omega arith };
+          own = (refl, tt);
+          accounts = accounts_one _ _ _ _ _ _ (search rules) (accounted_settled _ _ _ w.refuse_dear.ensures.settled);
+          within = λ few. few;
+          bounded = λ few. few;
+          limit = refl;
+          failures = refl;
+        };
+      }))
+      | else-octets-gt-MOST_DATAGRAM w ↦ rw (w.questions-is, w.self-inside-is) (rw (← c.self.view_is) (record {
+        ends = record {
+          counted = search rules;
+          ends = w.begin.ensures.ends;
+          own = w.begin.ensures.own;
+          accounts = accounts_one _ _ _ _ _ _ (search rules) w.begin.ensures.accounted;
+          within = w.begin.ensures.within;
+          bounded = w.begin.ensures.bounded;
+          limit = w.begin.ensures.limit;
+          failures = refl;
+        };
+      }))
+    ]

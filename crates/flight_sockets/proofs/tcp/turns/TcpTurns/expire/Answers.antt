@@ -1,0 +1,22 @@
+use Rattle.std.proofs.Common.{ℕ, refl, subst}
+use Rattle.flight.specs.Waiting.{IsPatient, IsTimely}
+use Rattle.flight_sockets.proofs.Serving.{tends_none}
+use Rattle.flight_sockets.proofs.Flowing.{stream_of, streams_settle, streams_tend, streams_then}
+use Rattle.flight_sockets.proofs.tcp.turns.TcpTurns.expire.Goals as goal
+
+pub returns-clause-goes_on : goal.returns-clause-goes_on
+returns-clause-goes_on g c =
+    let inside = c.self.inside in
+    let set = c.set_now-now.ensures in
+    let expires = c.expire.ensures.loses_none in
+    let anew = c.begin_anew.ensures in
+    let reported = inside.events.inner.items in
+    let ready = stream_of inside.sockets.server_port inside.taken inside.failures inside.sockets.outbox inside.sockets.counts inside.clock reported in
+    let left = stream_of c.expire.new.outside.server_port inside.taken inside.failures c.expire.new.outside.outbox c.expire.new.outside.counts inside.clock reported in
+    let done = stream_of c.begin_anew.new.sockets.server_port inside.taken inside.failures c.begin_anew.new.sockets.outbox c.begin_anew.new.sockets.counts inside.clock reported in
+    let before = c.args.questions.now in
+    let between = c.expire.new.self in
+    let last = c.begin_anew.new.questions in
+    streams_then before before last c.args.self.now c.set_now-now.new.self done (streams_tend before c.args.self.now c.set_now-now.new.self (tends_none set.kept) set.taken set.counts set.failures)
+    (rw (← c.self.view_is) (streams_then before between last ready left done (streams_settle before between ready left expires.ends expires.accounted expires.no_more expires.bounded expires.limit refl refl)
+    (streams_settle between last left done anew.ends anew.accounted anew.no_more anew.bounded anew.limit refl refl)))

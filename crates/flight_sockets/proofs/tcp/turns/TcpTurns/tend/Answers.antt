@@ -1,0 +1,23 @@
+use Rattle.std.proofs.Common.{◌∙◌, ap}
+use Rattle.flight_sockets.specs.Streaming.{StreamWorker}
+use Rattle.flight_sockets.proofs.Serving.{tends_none, tends_then}
+use Rattle.flight_sockets.proofs.tcp.turns.TcpTurns.tend.Goals as goal
+
+pub returns-clause-tends : goal.returns-clause-tends
+returns-clause-tends g c =
+    tends_then (tends_none (c.set_now-now.ensures.kept ∙ ap (λ (worker : StreamWorker _). worker.connections) c.note.ensures)) (tends_then c.end_overdue.ensures.tends c.accept_each.ensures.tends)
+
+pub returns-clause-taken : goal.returns-clause-taken
+returns-clause-taken g c =
+    ap (λ (worker : StreamWorker _). worker.taken) c.accept_each.ensures.kept ∙ ap (λ (worker : StreamWorker _). worker.taken) c.end_overdue.ensures.kept ∙ c.set_now-now.ensures.taken
+    ∙ ap (λ (worker : StreamWorker _). worker.taken) c.note.ensures
+
+pub returns-clause-counts : goal.returns-clause-counts
+returns-clause-counts g c =
+    ap (λ (worker : StreamWorker _). worker.counts) c.accept_each.ensures.kept ∙ ap (λ (worker : StreamWorker _). worker.counts) c.end_overdue.ensures.kept ∙ c.set_now-now.ensures.counts
+    ∙ ap (λ (worker : StreamWorker _). worker.counts) c.note.ensures
+
+pub returns-clause-failures : goal.returns-clause-failures
+returns-clause-failures g c =
+    ap (λ (worker : StreamWorker _). worker.failures) c.accept_each.ensures.kept ∙ ap (λ (worker : StreamWorker _). worker.failures) c.end_overdue.ensures.kept ∙ c.set_now-now.ensures.failures
+    ∙ ap (λ (worker : StreamWorker _). worker.failures) c.note.ensures

@@ -1,0 +1,9 @@
+use Rattle.std.proofs.Common.{rules}
+use Rattle.flight.proofs.Answering.{header_fits}
+use Rattle.flight_sockets.proofs.worker_sockets.WorkerSocketsOutsideSocketLine.fail.Goals as goal
+
+pub send_to-requires : goal.send_to-requires
+send_to-requires g c = record { short = rw c.report_of.ensures.short (header_fits (g.K.Client.over c.args.client)) }
+
+pub returns : goal.returns
+returns g c = record { port = search rules; settled = search rules; left = rw c.report_of.ensures.octets at c.send_to.ensures.posts }

@@ -1,0 +1,106 @@
+//! The replies that a connection is owed.
+
+ghost use Rattle.std.specs.Prelude.{◌≡◌, ◌↔◌, ◌≤◌, ◌++◌, [], drop, length, take, IfErr, IfOk, IsTrue, OnErr, OnOk};
+ghost use Rattle.std.specs.IoError.{error_kind};
+ghost use Rattle.front_workers.specs.declared.limits.TheConstants.{MOST_MESSAGE};
+ghost use Rattle.front_workers.specs.Framing.{framed};
+
+use crate::tcp::client_stream::ClientStream;
+use dns_text::NoMemory;
+use front_workers::MOST_MESSAGE;
+use std::alloc::Global;
+use std::io;
+use std::io::ErrorKind;
+use std::marker::Model;
+
+/// The most octets of memory that a connection keeps while it is owed nothing.
+pub(crate) const MOST_AT_REST: usize = 512;
+
+/// The replies that a connection is owed, each preceded by its length (RFC 1035, section 4.2.2). Contracts see the octets that have not
+/// left, in order.
+#[derive(Drop)]
+pub(crate) struct OwedReplies {
+    octets: Vec<u8>,
+    /// The count of octets that have left.
+    left: usize,
+}
+
+impl Model for OwedReplies {
+    ghost use Rattle.std.specs.Prelude.{◌≤◌, ℕ, List, drop, vec_len};
+
+    ghost Value = { List ℕ };
+
+    ghost view = { λ owed. drop owed.left owed.octets.items };
+
+    ghost invariant = { λ owed. owed.left ≤ vec_len owed.octets };
+}
+
+impl OwedReplies {
+    /// No reply.
+    pub fn new(alloc: Global) -> OwedReplies
+        ensures { result ≡ [] }
+    {
+        OwedReplies {
+            octets: Vec::new(alloc),
+            left: 0,
+        }
+    }
+
+    /// Whether all has left.
+    pub fn is_empty(&self) -> bool
+        ensures { IsTrue result ↔ (self.now ≡ []) }
+    {
+        self.octets[self.left..].is_empty()
+    }
+
+    /// The octets of memory that it keeps.
+    pub fn kept(&self) -> usize {
+        self.octets.capacity()
+    }
+
+    /// Adds a reply behind the others. After an error some of its octets may be there, and the connection is of no more use.
+    pub fn add(&mut self, reply: &[u8]) -> Result<(), NoMemory>
+        requires { length reply.now ≤ MOST_MESSAGE }
+        ensures { OnOk result (self.new ≡ self.old ++ framed reply.now) }
+    {
+        let size = reply.len();
+        self.octets.push((size / 256) as u8)?;
+        self.octets.push((size % 256) as u8)?;
+        self.octets.extend_from_slice(reply)?;
+        Ok(())
+    }
+
+    /// Frees the memory of what has left, if all has and it is not little.
+    fn forget_left(&mut self, alloc: Global)
+        ensures { self.new ≡ self.old }
+    {
+        if self.left < self.octets.len() {
+            return;
+        }
+        if self.octets.capacity() > MOST_AT_REST {
+            self.octets = Vec::new(alloc);
+        } else {
+            self.octets.clear();
+        }
+        self.left = 0;
+    }
+
+    /// Writes the first of what is owed, by one call: the number of octets that left.
+    pub fn write_next<S: ClientStream>(
+        &mut self,
+        alloc: Global,
+        stream: &mut S,
+    ) -> io::Result<usize>
+        ensures within { IfOk result (λ count. count ≤ length self.old) }
+        ensures written { IfOk result (λ count. S.writes stream.old (take count self.old) stream.new) }
+        ensures left { IfOk result (λ count. self.new ≡ drop count self.old) }
+        ensures kept { OnErr result (self.new ≡ self.old) }
+        ensures none { OnErr result (stream.new ≡ stream.old) }
+        ensures drained { IfErr result (λ error. error_kind error ≡ ErrorKind.WouldBlock → S.drained) }
+    {
+        let count = stream.write_octets(&self.octets[self.left..])?;
+        self.left += count;
+        self.forget_left(alloc);
+        Ok(count)
+    }
+}
