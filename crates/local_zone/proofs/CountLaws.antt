@@ -93,7 +93,7 @@ any_same p q h [] = refl
 any_same p q h (x ∷ xs) = λ i. h x i || any_same p q h xs i
 
 -- some pass the first test and not the second, which only those pass that pass the first, just where more pass the first
-more_pass : {X : Type 0} (p q : X → Bool) → ((x : X) → q x ≡ true → p x ≡ true) → (xs : List X) →
+pub more_pass : {X : Type 0} (p q : X → Bool) → ((x : X) → q x ≡ true → p x ≡ true) → (xs : List X) →
     length (filter p xs) ≡ length (filter q xs) + length (filter (λ x. p x && not (q x)) xs)
 more_pass p q only [] = refl
 more_pass p q only (x ∷ xs) = by (p x) (q x) (only x) (more_pass p q only xs)
@@ -125,7 +125,7 @@ same_itself : (found : Option Zone) → same_zone found found ≡ true
 same_itself None = refl
 same_itself (Some z) = name_eq_itself z.name
 
-own_counts : (zones : List Zone) (name : Labels) (r : Record) → name_eq r.owner name ≡ true → counts_for zones name r ≡ true
+pub own_counts : (zones : List Zone) (name : Labels) (r : Record) → name_eq r.owner name ≡ true → counts_for zones name r ≡ true
 own_counts zones name r e =
     let are : name ≡ r.owner = sym (name_eq_exact r.owner name e) in
     subst (λ (n : Labels). counts_for zones n r ≡ true) (sym are) (λ i. (below_itself r.owner ∙ refl) i && same_itself (closest zones r.owner) i)

@@ -1,26 +1,25 @@
--- The counts of the records below names: what they are after a step, and what they tell of the records.
-use Rattle.std.proofs.Common.{◌≡◌, ℕ, zero, suc, ◌+◌, ◌-◌, ◌<◌, Bool, true, false, ◌||◌, ◌&&◌, not, cond, nat_lt, is_some, List, [], ◌∷◌, ◌++◌, map, filter, length, take, drop, Option, Some, None, refl, ap, sym, subst, ◌∙◌, arith, length-append}
-use Rattle.std.specs.Prelude.{nat_eq, unwrap_or, is_err, OnErr, OnOk, Result, Ok, Err}
+-- The counts below names: what they are after a step of a walk, and after a change of the records.
+use Rattle.std.proofs.Common.{◌≡◌, ℕ, zero, suc, ◌+◌, ◌-◌, ◌<◌, ◌≤◌, Bool, true, false, ◌||◌, ◌&&◌, not, cond, List, [], ◌∷◌, ◌++◌, map, filter, length, take, drop, Option, Some, None, refl, ap, sym, subst, ◌∙◌, inl, inr, arith, length-append}
+use Rattle.std.specs.Prelude.{nat_eq, nat_le, unwrap_or, is_err, OnErr, OnOk, Result, Ok, Err}
 use Rattle.std.specs.Map.{KeepsOthers}
 use Rattle.std.specs.Cmp.Lexicographic.{pointwise}
-use Rattle.std.specs.List.{list_any}
-use Rattle.std.proofs.lemmas.Bool.{false≢true, lt-ltb}
+use Rattle.std.proofs.lemmas.Bool.{false≢true, le-leb, lt-leb, or_cases}
 use Rattle.std.proofs.lemmas.List.{take-append-drop}
 use Rattle.std.proofs.lemmas.List.Elements.{filter-append}
 use Rattle.std.proofs.lemmas.Slice.Eq.{bytes_eq-Decides}
-use Rattle.dns_name.specs.Labels.{Labels, octets_of, parent_of}
+use Rattle.dns_name.specs.Labels.{Labels, octets_of, parent_of, with_length}
+use Rattle.dns_name.specs.Octets.{octets_of-child}
 use Rattle.dns_name.specs.Order.{name_eq, name_eq_exact}
 use Rattle.dns_name.specs.Below.{is_at_or_below}
 use Rattle.dns_name.specs.BelowLaws.{below_itself}
 use Rattle.dns_text.specs.declared.record.Record.{Record}
 use Rattle.local_zone.specs.declared.taken.Taken.{Taken}
 use Rattle.local_zone.specs.Change.{retimed_by}
-use Rattle.local_zone.specs.CountsBelow.{is_below, count_below, count_under, counted, AreCounted, AreAboveZero}
+use Rattle.local_zone.specs.CountsBelow.{is_below, is_below_from, count_under, count_where, counted, AreAboveZero, AreCountedBy}
 use Rattle.local_zone.specs.Gaps.{records_of, put_back, at_gaps, rest_of, AreWithin}
-use Rattle.local_zone.specs.Index.{of_owner, under}
+use Rattle.local_zone.specs.Index.{under}
 use Rattle.local_zone.specs.Tables.{is_of_set}
 use Rattle.local_zone.proofs.ClosestLaws.{not_longer}
-use Rattle.local_zone.proofs.CountLaws.{any_some}
 use Rattle.local_zone.proofs.GapLaws.{back_at}
 
 pub on_err : {X E A : Type 0} (r : Result X E) → A → OnErr r A
@@ -30,6 +29,14 @@ on_err (Err e) h = h
 pub is_err_of : {X E A : Type 0} (r : Result X E) → is_err r ≡ true → OnErr r A → A
 is_err_of (Ok x) i h = absurd (false≢true i)
 is_err_of (Err e) i h = h
+
+pub is_ok_of : {X E A : Type 0} (r : Result X E) → is_err r ≡ false → OnOk r A → A
+is_ok_of (Ok x) i h = h
+is_ok_of (Err e) i h = absurd (false≢true (sym i))
+
+pub either : {X E A B C : Type 0} (r : Result X E) → OnOk r A → OnErr r B → (A → C) → (B → C) → C
+either (Ok x) a b f g = f a
+either (Err e) a b f g = g b
 
 pub on_ok : {X E A B : Type 0} (r : Result X E) → (A → B) → OnOk r A → OnOk r B
 on_ok (Ok x) f h = f h
@@ -64,12 +71,12 @@ module _ {K : Type 0} (octets : K → List ℕ) where
       by false e = others o es after keeps other e
 
   module _ (o : List ℕ) (es after : List (K × ℕ)) (w : ℕ) (is : (other : List ℕ) → under octets other after ≡ cond (pointwise nat_eq o other) (Some w) (under octets other es)) where
-    pub raised : w ≡ count_under octets o es + 1 → (other : List ℕ) → count_under octets other after ≡ count_under octets other es + cond (pointwise nat_eq o other) 1 0
-    raised more other = by (pointwise nat_eq o other) refl (is other)
+    pub raised : (m : ℕ) → w ≡ count_under octets o es + m → (other : List ℕ) → count_under octets other after ≡ count_under octets other es + cond (pointwise nat_eq o other) m 0
+    raised m more other = by (pointwise nat_eq o other) refl (is other)
       where
         by : (b : Bool) → pointwise nat_eq o other ≡ b → under octets other after ≡ cond b (Some w) (under octets other es)
-            → count_under octets other after ≡ count_under octets other es + cond b 1 0
-        by true e here = ap (λ v. unwrap_or v 0) here ∙ more ∙ ap (λ (s : List ℕ). count_under octets s es + 1) ((bytes_eq-Decides o other).0 e)
+            → count_under octets other after ≡ count_under octets other es + cond b m 0
+        by true e here = ap (λ v. unwrap_or v 0) here ∙ more ∙ ap (λ (s : List ℕ). count_under octets s es + m) ((bytes_eq-Decides o other).0 e)
         by false e here = omega (arith, ap (λ v. unwrap_or v 0) here)
 
     -- the same count is written
@@ -93,13 +100,13 @@ module _ {K : Type 0} (octets : K → List ℕ) where
 
   module _ (o : List ℕ) (es mid after : List (K × ℕ)) (kept : (other : List ℕ) → pointwise nat_eq o other ≡ false → under octets other mid ≡ under octets other es)
       (is : (other : List ℕ) → under octets other after ≡ cond (pointwise nat_eq o other) None (under octets other mid)) where
-    pub lowered : count_under octets o mid ≡ count_under octets o es - 1 → count_under octets o mid ≡ 0
-        → (other : List ℕ) → count_under octets other after ≡ count_under octets other es - cond (pointwise nat_eq o other) 1 0
-    lowered less none other = by (pointwise nat_eq o other) refl (is other)
+    pub lowered : (m : ℕ) → count_under octets o mid ≡ count_under octets o es - m → count_under octets o mid ≡ 0
+        → (other : List ℕ) → count_under octets other after ≡ count_under octets other es - cond (pointwise nat_eq o other) m 0
+    lowered m less none other = by (pointwise nat_eq o other) refl (is other)
       where
         by : (b : Bool) → pointwise nat_eq o other ≡ b → under octets other after ≡ cond b None (under octets other mid)
-            → count_under octets other after ≡ count_under octets other es - cond b 1 0
-        by true e here = ap (λ v. unwrap_or v 0) here ∙ sym none ∙ less ∙ ap (λ (s : List ℕ). count_under octets s es - 1) ((bytes_eq-Decides o other).0 e)
+            → count_under octets other after ≡ count_under octets other es - cond b m 0
+        by true e here = ap (λ v. unwrap_or v 0) here ∙ sym none ∙ less ∙ ap (λ (s : List ℕ). count_under octets s es - m) ((bytes_eq-Decides o other).0 e)
         by false e here = omega (arith, ap (λ v. unwrap_or v 0) (here ∙ kept other e))
 
     pub lowered_above : AreAboveZero octets es → AreAboveZero octets after
@@ -120,20 +127,7 @@ module _ {K : Type 0} (octets : K → List ℕ) where
       by [] = refl
       by (e ∷ es) = ap (λ r. cond (pointwise nat_eq o (octets e.0)) (Some e.1) r) (by es)
 
-  -- where a count is found, it is above 0
-  pub found_above : (o : List ℕ) (es : List (K × ℕ)) → AreAboveZero octets es → (found : Option ℕ) → under octets o es ≡ found → is_some found ≡ nat_lt 0 (count_under octets o es)
-  found_above o es h None e = sym (ap (λ v. nat_lt 0 (unwrap_or v 0)) e)
-  found_above o es h (Some n) e = sym (lt-ltb 0 n (h o n e)) ∙ sym (ap (λ v. nat_lt 0 (unwrap_or v 0)) e)
-
 -- ---- the names above
-
-pub below_root : (n z : Labels) → parent_of n ≡ None → is_below n z ≡ false
-below_root [] z e = by (name_eq [] z)
-  where
-    by : (b : Bool) → (b && not b) ≡ false
-    by true = refl
-    by false = refl
-below_root (l ∷ n) z e = absurd cc
 
 parent_is : (l : List ℕ) (n p : Labels) → parent_of (l ∷ n) ≡ Some p → n ≡ p
 parent_is l n p e = ap (λ (v : Option Labels). unwrap_or v []) e
@@ -142,11 +136,19 @@ and_true : (b : Bool) → (b && true) ≡ b
 and_true true = refl
 and_true false = refl
 
-and_false : (b : Bool) → (b && false) ≡ false
-and_false true = refl
-and_false false = refl
+-- every name above has so many octets
+pub from_root : (n z : Labels) → is_below_from 0 n z ≡ is_below n z
+from_root n z = ap (λ b. is_below n z && b) (le-leb 0 (length (octets_of z)) (omega arith)) ∙ and_true (is_below n z)
 
-below_parent : (l : List ℕ) (n z : Labels) → is_below (l ∷ n) z ≡ is_at_or_below n z
+pub below_root : (least : ℕ) (n z : Labels) → parent_of n ≡ None → is_below_from least n z ≡ false
+below_root least [] z e = by (name_eq [] z)
+  where
+    by : (b : Bool) → ((b && not b) && nat_le least (length (octets_of z))) ≡ false
+    by true = refl
+    by false = refl
+below_root least (l ∷ n) z e = absurd cc
+
+pub below_parent : (l : List ℕ) (n z : Labels) → is_below (l ∷ n) z ≡ is_at_or_below n z
 below_parent l n z = by (name_eq (l ∷ n) z) refl (is_at_or_below n z) refl
   where
     by : (a : Bool) → name_eq (l ∷ n) z ≡ a → (b : Bool) → is_at_or_below n z ≡ b → ((a || b) && not a) ≡ b
@@ -154,85 +156,125 @@ below_parent l n z = by (name_eq (l ∷ n) z) refl (is_at_or_below n z) refl
     by true e false below = refl
     by false e b below = and_true b
 
-at_or_below : (n z : Labels) → cond (is_at_or_below n z) 1 0 ≡ cond (name_eq n z) 1 0 + cond (is_below n z) 1 0
-at_or_below n z = by (name_eq n z) refl
+child_length : (l : List ℕ) (n : Labels) → length (octets_of (l ∷ n)) ≡ length (octets_of n) + (length l + 1)
+child_length l n = omega (arith, ap length (octets_of-child l n), length-append (octets_of n) (with_length l))
+
+-- a name above has no more octets
+pub no_longer : (n z : Labels) → is_at_or_below n z ≡ true → length (octets_of z) ≤ length (octets_of n)
+no_longer [] z e = omega (arith, ap (λ (x : Labels). length (octets_of x)) (name_eq_exact [] z e))
+no_longer (l ∷ n) z e =
+    elim (or_cases (name_eq (l ∷ n) z) (is_at_or_below n z) e) [
+      | inl same ↦ omega (arith, ap (λ (x : Labels). length (octets_of x)) (name_eq_exact (l ∷ n) z same))
+      | inr below ↦ omega (arith, no_longer n z below, child_length l n)
+    ]
+
+-- a name strictly above has fewer
+pub shorter : (n z : Labels) → is_below n z ≡ true → length (octets_of z) < length (octets_of n)
+shorter [] z e = by (name_eq [] z) e
   where
-    by : (a : Bool) → name_eq n z ≡ a → cond (is_at_or_below n z) 1 0 ≡ cond a 1 0 + cond (is_at_or_below n z && not a) 1 0
+    by : (b : Bool) → (b && not b) ≡ true → length (octets_of z) < length (octets_of [])
+    by true e = absurd cc
+    by false e = absurd cc
+shorter (l ∷ n) z e = omega (arith, no_longer n z (sym (below_parent l n z) ∙ e), child_length l n)
+
+-- what lies above a name with too few octets has too few
+pub beyond : (least : ℕ) (n p z : Labels) → parent_of n ≡ Some p → length (octets_of p) < least → is_below_from least n z ≡ false
+beyond least [] p z e short = absurd cc
+beyond least (l ∷ n) p z e short = ap (λ b. b && nat_le least (length (octets_of z))) (below_parent l n z) ∙ by (is_at_or_below n z) refl
+  where
+    few : length (octets_of n) < least
+    few = omega (arith, short, ap (λ (x : Labels). length (octets_of x)) (parent_is l n p e))
+
+    by : (b : Bool) → is_at_or_below n z ≡ b → (b && nat_le least (length (octets_of z))) ≡ false
+    by true below = lt-leb least (length (octets_of z)) (omega (arith, few, no_longer n z below))
+    by false below = refl
+
+at_or_below : (least m : ℕ) (n z : Labels) → least ≤ length (octets_of n)
+    → cond (is_at_or_below n z && nat_le least (length (octets_of z))) m 0 ≡ cond (name_eq n z) m 0 + cond (is_below_from least n z) m 0
+at_or_below least m n z reach = by (name_eq n z) refl
+  where
+    here : (b c : Bool) → b ≡ true → c ≡ true → cond (b && c) m 0 ≡ m + cond ((b && false) && c) m 0
+    here true true e f = omega arith
+    here true false e f = absurd cc
+    here false c e f = absurd cc
+
+    above : (b c : Bool) → cond (b && c) m 0 ≡ 0 + cond ((b && true) && c) m 0
+    above true c = omega arith
+    above false c = omega arith
+
+    by : (a : Bool) → name_eq n z ≡ a
+        → cond (is_at_or_below n z && nat_le least (length (octets_of z))) m 0 ≡ cond a m 0 + cond ((is_at_or_below n z && not a) && nat_le least (length (octets_of z))) m 0
     by true e =
-        let below : is_at_or_below n z ≡ true = subst (λ (x : Labels). is_at_or_below n x ≡ true) (name_eq_exact n z e) (below_itself n) in
-        (λ i. cond (below i) 1 0) ∙ sym (ap (λ b. 1 + cond b 1 0) (and_false (is_at_or_below n z)))
-    by false e = omega (arith, ap {B = ℕ} (λ b. cond b 1 0) (and_true (is_at_or_below n z)))
+        let is : n ≡ z = name_eq_exact n z e in
+        here (is_at_or_below n z) (nat_le least (length (octets_of z))) (subst (λ (x : Labels). is_at_or_below n x ≡ true) is (below_itself n))
+        (le-leb least (length (octets_of z)) (omega (arith, reach, ap (λ (x : Labels). length (octets_of x)) is)))
+    by false e = above (is_at_or_below n z) (nat_le least (length (octets_of z)))
 
-pub step_above : (n p z : Labels) → parent_of n ≡ Some p → cond (is_below n z) 1 0 ≡ cond (name_eq p z) 1 0 + cond (is_below p z) 1 0
-step_above [] p z e = absurd cc
-step_above (l ∷ n) p z e =
-    ap (λ b. cond b 1 0) (below_parent l n z ∙ ap (λ (x : Labels). is_at_or_below x z) (parent_is l n p e)) ∙ at_or_below p z
-
-pub fewer_labels : (n p : Labels) → parent_of n ≡ Some p → length p < length n
-fewer_labels [] p e = absurd cc
-fewer_labels (l ∷ n) p e = omega (arith, ap length (parent_is l n p e))
+pub step_above : (least m : ℕ) (n p z : Labels) → parent_of n ≡ Some p → least ≤ length (octets_of p)
+    → cond (is_below_from least n z) m 0 ≡ cond (name_eq p z) m 0 + cond (is_below_from least p z) m 0
+step_above least m [] p z e reach = absurd cc
+step_above least m (l ∷ n) p z e reach =
+    ap (λ b. cond (b && nat_le least (length (octets_of z))) m 0) (below_parent l n z ∙ ap (λ (x : Labels). is_at_or_below x z) (parent_is l n p e)) ∙ at_or_below least m p z reach
 
 module _ {K : Type 0} (octets : K → List ℕ) (n p : Labels) (above : List ℕ) (parent : parent_of n ≡ Some p) (are : above ≡ octets_of p) where
   abbrev pub view_of : List (K × ℕ) → List (List ℕ × ℕ)
   view_of es = map (λ e. (octets e.0, e.1)) es
 
   module _ (start : List (List ℕ × ℕ)) (es mid : List (K × ℕ)) (is : view_of es ≡ start) where
-    pub less_here : ((other : List ℕ) → count_under octets other mid ≡ count_under octets other es - cond (pointwise nat_eq above other) 1 0)
-        → (z : Labels) → counted z (view_of mid) ≡ counted z start - cond (name_eq p z) 1 0
-    less_here less z =
-        seen octets (octets_of z) mid ∙ less (octets_of z) ∙ ap (λ n. n - cond (pointwise nat_eq above (octets_of z)) 1 0) (sym (seen octets (octets_of z) es) ∙ ap (counted z) is)
-        ∙ ap (λ (s : List ℕ). counted z start - cond (pointwise nat_eq s (octets_of z)) 1 0) are
+    pub less_here : (m : ℕ) → ((other : List ℕ) → count_under octets other mid ≡ count_under octets other es - cond (pointwise nat_eq above other) m 0)
+        → (z : Labels) → counted z (view_of mid) ≡ counted z start - cond (name_eq p z) m 0
+    less_here m less z =
+        seen octets (octets_of z) mid ∙ less (octets_of z) ∙ ap (λ n. n - cond (pointwise nat_eq above (octets_of z)) m 0) (sym (seen octets (octets_of z) es) ∙ ap (counted z) is)
+        ∙ ap (λ (s : List ℕ). counted z start - cond (pointwise nat_eq s (octets_of z)) m 0) are
 
-    pub more_here : ((other : List ℕ) → count_under octets other mid ≡ count_under octets other es + cond (pointwise nat_eq above other) 1 0)
-        → (z : Labels) → counted z (view_of mid) ≡ counted z start + cond (name_eq p z) 1 0
-    more_here more z =
-        seen octets (octets_of z) mid ∙ more (octets_of z) ∙ ap (λ n. n + cond (pointwise nat_eq above (octets_of z)) 1 0) (sym (seen octets (octets_of z) es) ∙ ap (counted z) is)
-        ∙ ap (λ (s : List ℕ). counted z start + cond (pointwise nat_eq s (octets_of z)) 1 0) are
+    pub more_here : (m : ℕ) → ((other : List ℕ) → count_under octets other mid ≡ count_under octets other es + cond (pointwise nat_eq above other) m 0)
+        → (z : Labels) → counted z (view_of mid) ≡ counted z start + cond (name_eq p z) m 0
+    more_here m more z =
+        seen octets (octets_of z) mid ∙ more (octets_of z) ∙ ap (λ n. n + cond (pointwise nat_eq above (octets_of z)) m 0) (sym (seen octets (octets_of z) es) ∙ ap (counted z) is)
+        ∙ ap (λ (s : List ℕ). counted z start + cond (pointwise nat_eq s (octets_of z)) m 0) are
 
     pub same_here : ((other : List ℕ) → count_under octets other mid ≡ count_under octets other es) → (z : Labels) → counted z (view_of mid) ≡ counted z start
     same_here same z = seen octets (octets_of z) mid ∙ same (octets_of z) ∙ sym (seen octets (octets_of z) es) ∙ ap (counted z) is
 
-  pub less_above : (z : Labels) (a b c : ℕ) → b ≡ a - cond (name_eq p z) 1 0 → c ≡ b - cond (is_below p z) 1 0 → c ≡ a - cond (is_below n z) 1 0
-  less_above z a b c first rest = omega (arith, first, rest, step_above n p z parent)
+  module _ (least m : ℕ) (reach : least ≤ length above) where
+    enough : least ≤ length (octets_of p)
+    enough = omega (arith, reach, ap length are)
 
-  pub more_above : (z : Labels) (a b c : ℕ) → b ≡ a + cond (name_eq p z) 1 0 → c ≡ b + cond (is_below p z) 1 0 → c ≡ a + cond (is_below n z) 1 0
-  more_above z a b c first rest = omega (arith, first, rest, step_above n p z parent)
+    pub less_above : (z : Labels) (a b c : ℕ) → b ≡ a - cond (name_eq p z) m 0 → c ≡ b - cond (is_below_from least p z) m 0 → c ≡ a - cond (is_below_from least n z) m 0
+    less_above z a b c first rest = omega (arith, first, rest, step_above least m n p z parent enough)
 
--- ---- how many records
+    pub more_above : (z : Labels) (a b c : ℕ) → b ≡ a + cond (name_eq p z) m 0 → c ≡ b + cond (is_below_from least p z) m 0 → c ≡ a + cond (is_below_from least n z) m 0
+    more_above z a b c first rest = omega (arith, first, rest, step_above least m n p z parent enough)
 
-pub count_push : (name : Labels) (records : List Record) (r : Record) → count_below name (records ++ r ∷ []) ≡ count_below name records + cond (is_below r.owner name) 1 0
-count_push name records r =
-    ap length (filter-append (λ r. is_below r.owner name) records (r ∷ [])) ∙ length-append (filter (λ r. is_below r.owner name) records) (filter (λ r. is_below r.owner name) (r ∷ []))
-    ∙ ap (λ n. count_below name records + n) (by (is_below r.owner name))
-  where
-    by : (b : Bool) → length (cond b (r ∷ []) []) ≡ cond b 1 0
-    by true = refl
-    by false = refl
+-- ---- how many records have an owner that passes
 
-count_both : (name : Labels) (a b : List Record) → count_below name (a ++ b) ≡ count_below name a + count_below name b
-count_both name a b =
-    ap length (filter-append (λ r. is_below r.owner name) a b) ∙ length-append (filter (λ r. is_below r.owner name) a) (filter (λ r. is_below r.owner name) b)
+module _ (p : Labels → Bool) where
+  pub count_both : (a b : List Record) → count_where p (a ++ b) ≡ count_where p a + count_where p b
+  count_both a b = ap length (filter-append (λ r. p r.owner) a b) ∙ length-append (filter (λ r. p r.owner) a) (filter (λ r. p r.owner) b)
 
-count_one : (name : Labels) (r : Record) (records : List Record) → count_below name (r ∷ records) ≡ cond (is_below r.owner name) 1 0 + count_below name records
-count_one name r records = by (is_below r.owner name)
-  where
-    by : (b : Bool) → length (cond b (r ∷ filter (λ r. is_below r.owner name) records) (filter (λ r. is_below r.owner name) records)) ≡ cond b 1 0 + length (filter (λ r. is_below r.owner name) records)
-    by true = omega arith
-    by false = omega arith
+  pub count_one : (r : Record) (records : List Record) → count_where p (r ∷ records) ≡ cond (p r.owner) 1 0 + count_where p records
+  count_one r records = by (p r.owner)
+    where
+      by : (b : Bool) → length (cond b (r ∷ filter (λ r. p r.owner) records) (filter (λ r. p r.owner) records)) ≡ cond b 1 0 + length (filter (λ r. p r.owner) records)
+      by true = omega arith
+      by false = omega arith
 
--- those taken and those left are all
-pub count_back : (name : Labels) (taken : List Taken) (left : List Record) → count_below name (put_back taken left) ≡ count_below name (records_of taken) + count_below name left
-count_back name [] left = omega arith
-count_back name (t ∷ more) left =
-    omega (
-      arith,
-      count_both name (take t.gap left) (t.item ∷ put_back more (drop t.gap left)),
-      count_one name t.item (put_back more (drop t.gap left)),
-      count_back name more (drop t.gap left),
-      count_one name t.item (records_of more),
-      count_both name (take t.gap left) (drop t.gap left),
-      ap (count_below name) (take-append-drop t.gap left),
-    )
+  pub count_push : (records : List Record) (r : Record) → count_where p (records ++ r ∷ []) ≡ count_where p records + cond (p r.owner) 1 0
+  count_push records r = omega (arith, count_both records (r ∷ []), count_one r [])
+
+  -- those taken and those left are all
+  pub count_back : (taken : List Taken) (left : List Record) → count_where p (put_back taken left) ≡ count_where p (records_of taken) + count_where p left
+  count_back [] left = omega arith
+  count_back (t ∷ more) left =
+      omega (
+        arith,
+        count_both (take t.gap left) (t.item ∷ put_back more (drop t.gap left)),
+        count_one t.item (put_back more (drop t.gap left)),
+        count_back more (drop t.gap left),
+        count_one t.item (records_of more),
+        count_both (take t.gap left) (drop t.gap left),
+        ap (count_where p) (take-append-drop t.gap left),
+      )
 
 owner_kept : (new r : Record) → (retimed_by new r).owner ≡ r.owner
 owner_kept new r = by (is_of_set r new)
@@ -241,80 +283,39 @@ owner_kept new r = by (is_of_set r new)
     by true = refl
     by false = refl
 
-count_retimed : (name : Labels) (new : Record) (records : List Record) → count_below name (map (retimed_by new) records) ≡ count_below name records
-count_retimed name new [] = refl
-count_retimed name new (r ∷ records) =
-    count_one name (retimed_by new r) (map (retimed_by new) records) ∙ (λ i. cond (is_below (owner_kept new r i) name) 1 0 + count_retimed name new records i) ∙ sym (count_one name r records)
+count_retimed : (p : Labels → Bool) (new : Record) (records : List Record) → count_where p (map (retimed_by new) records) ≡ count_where p records
+count_retimed p new [] = refl
+count_retimed p new (r ∷ records) =
+    count_one p (retimed_by new r) (map (retimed_by new) records) ∙ (λ i. cond (p (owner_kept new r i)) 1 0 + count_retimed p new records i) ∙ sym (count_one p r records)
 
--- ---- the counts of a list
+-- ---- the counts of a list, by any test
 
-pub counted_same : (records : List Record) (start after : List (List ℕ × ℕ)) → AreCounted records start → ((name : Labels) → counted name after ≡ counted name start) → AreCounted records after
-counted_same records start after h same name = same name ∙ h name
+module _ (counts : Labels → Labels → Bool) where
+  pub counted_same : (records : List Record) (start after : List (List ℕ × ℕ)) → AreCountedBy counts records start → ((name : Labels) → counted name after ≡ counted name start) → AreCountedBy counts records after
+  counted_same records start after h same name = same name ∙ h name
 
-pub counted_undone : (records : List Record) (new : Record) (start mid after : List (List ℕ × ℕ)) → AreCounted records start
-    → ((name : Labels) → counted name mid ≡ counted name start + cond (is_below new.owner name) 1 0) → ((name : Labels) → counted name after ≡ counted name mid - cond (is_below new.owner name) 1 0)
-    → AreCounted records after
-counted_undone records new start mid after h more less name = omega (arith, h name, more name, less name)
+  pub counted_undone : (records : List Record) (new : Record) (start mid after : List (List ℕ × ℕ)) → AreCountedBy counts records start
+      → ((name : Labels) → counted name mid ≡ counted name start + cond (counts name new.owner) 1 0) → ((name : Labels) → counted name after ≡ counted name mid - cond (counts name new.owner) 1 0)
+      → AreCountedBy counts records after
+  counted_undone records new start mid after h more less name = omega (arith, h name, more name, less name)
 
-pub counted_push : (records : List Record) (new : Record) (start after : List (List ℕ × ℕ)) → AreCounted records start
-    → ((name : Labels) → counted name after ≡ counted name start + cond (is_below new.owner name) 1 0) → AreCounted (records ++ new ∷ []) after
-counted_push records new start after h more name = omega (arith, h name, more name, count_push name records new)
+  pub counted_push : (records : List Record) (new : Record) (start after : List (List ℕ × ℕ)) → AreCountedBy counts records start
+      → ((name : Labels) → counted name after ≡ counted name start + cond (counts name new.owner) 1 0) → AreCountedBy counts (records ++ new ∷ []) after
+  counted_push records new start after h more name = omega (arith, h name, more name, count_push (counts name) records new)
 
-pub counted_pop : (front : List Record) (last : Record) (start after : List (List ℕ × ℕ)) → AreCounted (front ++ last ∷ []) start
-    → ((name : Labels) → counted name after ≡ counted name start - cond (is_below last.owner name) 1 0) → AreCounted front after
-counted_pop front last start after h less name = omega (arith, h name, less name, count_push name front last)
+  pub counted_pop : (front : List Record) (last : Record) (start after : List (List ℕ × ℕ)) → AreCountedBy counts (front ++ last ∷ []) start
+      → ((name : Labels) → counted name after ≡ counted name start - cond (counts name last.owner) 1 0) → AreCountedBy counts front after
+  counted_pop front last start after h less name = omega (arith, h name, less name, count_push (counts name) front last)
 
-pub counted_retimed : (records : List Record) (new : Record) (start : List (List ℕ × ℕ)) → AreCounted records start → AreCounted (map (retimed_by new) records) start
-counted_retimed records new start h name = h name ∙ sym (count_retimed name new records)
+  pub counted_retimed : (records : List Record) (new : Record) (start : List (List ℕ × ℕ)) → AreCountedBy counts records start → AreCountedBy counts (map (retimed_by new) records) start
+  counted_retimed records new start h name = h name ∙ sym (count_retimed (counts name) new records)
 
-pub counted_left : (before : List Record) (gaps : List ℕ) (taken : List Taken) (left : List Record) (start after : List (List ℕ × ℕ)) → AreWithin gaps before → taken ≡ at_gaps gaps before → left ≡ rest_of gaps before
-    → AreCounted before start → ((name : Labels) → counted name after ≡ counted name start - count_below name (records_of taken)) → AreCounted left after
-counted_left before gaps taken left start after within taken_is left_is h less name =
-    let same : put_back taken left ≡ before = (λ i. put_back (taken_is i) (left_is i)) ∙ back_at gaps before within in
-    omega (arith, h name, less name, count_back name taken left, ap (count_below name) same)
+  pub counted_left : (before : List Record) (gaps : List ℕ) (taken : List Taken) (left : List Record) (start after : List (List ℕ × ℕ)) → AreWithin gaps before → taken ≡ at_gaps gaps before → left ≡ rest_of gaps before
+      → AreCountedBy counts before start → ((name : Labels) → counted name after ≡ counted name start - count_where (counts name) (records_of taken)) → AreCountedBy counts left after
+  counted_left before gaps taken left start after within taken_is left_is h less name =
+      let same : put_back taken left ≡ before = (λ i. put_back (taken_is i) (left_is i)) ∙ back_at gaps before within in
+      omega (arith, h name, less name, count_back (counts name) taken left, ap (count_where (counts name)) same)
 
-pub counted_back : (taken : List Taken) (left : List Record) (start after : List (List ℕ × ℕ)) → AreCounted left start
-    → ((name : Labels) → counted name after ≡ counted name start + count_below name (records_of taken)) → AreCounted (put_back taken left) after
-counted_back taken left start after h more name = omega (arith, h name, more name, count_back name taken left)
-
--- ---- what the counts tell
-
-pub any_below : (records : List Record) (counts : List (List ℕ × ℕ)) (name : Labels) → AreCounted records counts → nat_lt 0 (counted name counts) ≡ list_any (λ r. is_below r.owner name) records
-any_below records counts name h = ap (nat_lt 0) (h name) ∙ sym (any_some (λ (r : Record). is_below r.owner name) records)
-
-or_false : (a b : Bool) → (a || b) ≡ false → (a ≡ false) × (b ≡ false)
-or_false true b e = absurd cc
-or_false false b e = (refl, e)
-
--- where no record lies below a name, those at or below it are its own
-pub none_below : (lies : Record → Bool) (name : Labels) (records : List Record) → list_any (λ r. is_below r.owner name) records ≡ false
-    → list_any (λ r. is_at_or_below r.owner name && lies r) (of_owner name records) ≡ false → list_any (λ r. is_at_or_below r.owner name && lies r) records ≡ false
-none_below lies name [] none own = refl
-none_below lies name (r ∷ records) none own = by (name_eq r.owner name) (is_at_or_below r.owner name) refl none own (none_below lies name records)
-  where
-    p : Record → Bool
-    p r = is_at_or_below r.owner name && lies r
-
-    by : (same at : Bool) → is_at_or_below r.owner name ≡ at → ((at && not same) || list_any (λ r. is_below r.owner name) records) ≡ false
-        → list_any p (cond same (r ∷ of_owner name records) (of_owner name records)) ≡ false
-        → (list_any (λ r. is_below r.owner name) records ≡ false → list_any p (of_owner name records) ≡ false → list_any p records ≡ false) → (p r || list_any p records) ≡ false
-    by true at is none own more =
-        let parts = or_false (p r) (list_any p (of_owner name records)) own in
-        let rest : list_any (λ r. is_below r.owner name) records ≡ false = (or_false (at && false) (list_any (λ r. is_below r.owner name) records) none).1 in
-        (λ i. parts.0 i || more rest parts.1 i)
-    by false true is none own more = absurd cc
-    by false false is none own more = (λ i. (is i && lies r) || more none own i)
-
--- nor would one lie in a zone of that name
-pub none_would : (lies : Record → Bool) (name : Labels) (records : List Record) → list_any (λ r. is_below r.owner name) records ≡ false
-    → list_any (λ r. is_at_or_below r.owner name && (lies r && not (name_eq r.owner name))) records ≡ false
-none_would lies name [] none = refl
-none_would lies name (r ∷ records) none = by (is_at_or_below r.owner name) (lies r) (name_eq r.owner name) none (none_would lies name records)
-  where
-    by : (at lie same : Bool) → ((at && not same) || list_any (λ r. is_below r.owner name) records) ≡ false
-        → (list_any (λ r. is_below r.owner name) records ≡ false → list_any (λ r. is_at_or_below r.owner name && (lies r && not (name_eq r.owner name))) records ≡ false)
-        → ((at && (lie && not same)) || list_any (λ r. is_at_or_below r.owner name && (lies r && not (name_eq r.owner name))) records) ≡ false
-    by true true true none more = more none
-    by true false true none more = more none
-    by true lie false none more = absurd cc
-    by false lie same none more = more none
+  pub counted_back : (taken : List Taken) (left : List Record) (start after : List (List ℕ × ℕ)) → AreCountedBy counts left start
+      → ((name : Labels) → counted name after ≡ counted name start + count_where (counts name) (records_of taken)) → AreCountedBy counts (put_back taken left) after
+  counted_back taken left start after h more name = omega (arith, h name, more name, count_back (counts name) taken left)

@@ -13,5 +13,5 @@ pub mod TagLaws
 pub mod CountLaws
 pub mod MaskLaws
 pub mod CountsBelowLaws
-pub mod ZonesBelowLaws
+pub mod ZonedLaws
 pub mod InPlaceLaws

@@ -1,6 +1,5 @@
 -- The mask of a name has the bits of each name at or above it.
-use Rattle.std.proofs.Common.{◌≡◌, ℕ, ◌-◌, min, Bool, true, false, not, ◌||◌, ◌&&◌, ◌==◌, cond, List, [], ◌∷◌, ◌++◌, fold, filter, length, take, refl, ap, sym, subst, ◌∙◌, arith, length-append}
-use Rattle.std.specs.List.{list_any}
+use Rattle.std.proofs.Common.{◌≡◌, ℕ, ◌-◌, min, Bool, true, false, ◌||◌, ◌==◌, List, [], ◌∷◌, ◌++◌, fold, length, take, refl, ap, sym, subst, ◌∙◌, arith, length-append}
 use Rattle.std.specs.Int.{bit_at}
 use Rattle.std.specs.Int.Bits.{bit_and, bit_or}
 use Rattle.std.proofs.lemmas.Bool.{false≢true, eq-eqb}
@@ -11,13 +10,8 @@ use Rattle.dns_name.specs.Below.{is_at_or_below}
 use Rattle.dns_name.specs.Labels.{Labels, octets_of, with_length}
 use Rattle.dns_name.specs.Octets.{octets_of-child}
 use Rattle.dns_name.specs.Order.{name_eq, name_eq_exact}
-use Rattle.dns_text.specs.declared.record.Record.{Record}
-use Rattle.local_zone.specs.declared.zone.Zone.{Zone}
-use Rattle.local_zone.specs.Change.{zones_with}
 use Rattle.local_zone.specs.Mask.{bits_of, mask_of, mask_with}
-use Rattle.local_zone.specs.Reason.{would_lie_below}
 use Rattle.local_zone.specs.Tag.{tag_of, tag_with}
-use Rattle.local_zone.proofs.ZoneLaws.{lies_below}
 
 -- ---- bits
 
@@ -74,34 +68,3 @@ mask_more mask bits tag octets name label rest b t o is =
 pub mask_last : (mask bits tag : ℕ) (octets : List ℕ) (name : Labels) → bits ≡ bits_of tag → tag ≡ fold tag_with 0 octets → octets ≡ octets_of name → name ≡ [] → bit_or mask bits ≡ mask_with mask name
 mask_last mask bits tag octets name b t o is =
     ap (λ (n : ℕ). bit_or mask n) (b ∙ ap (λ n. bits_of n) (t ∙ ap (λ (x : List ℕ). fold tag_with 0 x) (o ∙ ap octets_of is))) ∙ sym (ap (λ (n : Labels). mask_with mask n) is)
-
--- ---- a test of many owners
-
-any_alike : (p q : Record → Bool) (rs : List Record) → ((r : Record) → p r ≡ q r) → list_any p rs ≡ list_any q rs
-any_alike p q [] same = refl
-any_alike p q (r ∷ rs) same = λ i. same r i || any_alike p q rs same i
-
--- what would lie in a zone is at or below it
-pub any_would : (new : Zone) (zones : List Zone) (rs : List Record) → list_any (λ r. is_at_or_below r.owner new.name && would_lie_below new zones r.owner) rs ≡ list_any (λ r. would_lie_below new zones r.owner) rs
-any_would new zones rs = any_alike (λ r. is_at_or_below r.owner new.name && would_lie_below new zones r.owner) (λ r. would_lie_below new zones r.owner) rs (λ r. by r (is_at_or_below r.owner new.name) refl)
-  where
-    by : (r : Record) (b : Bool) → is_at_or_below r.owner new.name ≡ b → (b && would_lie_below new zones r.owner) ≡ would_lie_below new zones r.owner
-    by r true e = refl
-    by r false e = sym (ap (λ b. b && not (name_eq r.owner new.name)) (lies_below (zones_with new zones) new.name r.owner e))
-
--- what some of a list pass, some of all pass
-pub any_within : (p q : Record → Bool) (rs : List Record) → list_any p (filter q rs) ≡ true → list_any p rs ≡ true
-any_within p q [] e = e
-any_within p q (r ∷ rs) e = by (q r) e (any_within p q rs)
-  where
-    by : (b : Bool) → list_any p (cond b (r ∷ filter q rs) (filter q rs)) ≡ true → (list_any p (filter q rs) ≡ true → list_any p rs ≡ true) → (p r || list_any p rs) ≡ true
-    by true e more = at (p r) e more
-      where
-        at : (b : Bool) → (b || list_any p (filter q rs)) ≡ true → (list_any p (filter q rs) ≡ true → list_any p rs ≡ true) → (b || list_any p rs) ≡ true
-        at true e more = refl
-        at false e more = more e
-    by false e more = at (p r) (more e)
-      where
-        at : (b : Bool) → list_any p rs ≡ true → (b || list_any p rs) ≡ true
-        at true e = refl
-        at false e = e

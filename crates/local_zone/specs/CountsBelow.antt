@@ -1,27 +1,51 @@
--- How many records, and how many zones, lie strictly below a name.
-use Rattle.std.specs.Prelude.{◌≡◌, ◌<◌, ℕ, Bool, ◌&&◌, not, List, length, slice_get, Option, None, Some, unwrap_or, if◌then◌else◌}
+-- How many records lie strictly below a name, and how many of them lie in zones strictly below it.
+use Rattle.std.specs.Prelude.{◌≡◌, ◌<◌, ℕ, Bool, false, ◌&&◌, not, List, length, nat_le, Option, None, Some, unwrap_or}
 use Rattle.std.specs.List.{filter}
-use Rattle.std.specs.Option.{option_map}
 use Rattle.dns_name.specs.Labels.{Labels, octets_of}
 use Rattle.dns_name.specs.Order.{name_eq}
 use Rattle.dns_name.specs.Below.{is_at_or_below}
 use Rattle.dns_text.specs.declared.record.Record.{Record}
-use Rattle.named_list.specs.declared.turn.Turn.{Turn}
-use Rattle.named_list.specs.declared.turn.Turn.TheVariants.{Without}
 use Rattle.local_zone.specs.declared.zone.Zone.{Zone}
+use Rattle.local_zone.specs.Closest.{closest}
 use Rattle.local_zone.specs.Index.{under}
 
 -- whether a name lies strictly below another
 abbrev pub is_below : Labels → Labels → Bool
 is_below name other = is_at_or_below name other && not (name_eq name other)
 
+-- whether a name lies strictly below another, which has so many octets at least
+abbrev pub is_below_from : ℕ → Labels → Labels → Bool
+is_below_from least name other = is_below name other && nat_le least (length (octets_of other))
+
+-- whether the zone that was found, if one was, lies strictly below a name
+abbrev pub is_zone_below : Labels → Option Zone → Bool
+is_zone_below name None = false
+is_zone_below name (Some zone) = is_below zone.name name
+
+-- how many octets the name of the zone has that was found, or 0 if none was
+abbrev pub octets_over : Option Zone → ℕ
+octets_over None = 0
+octets_over (Some zone) = length (octets_of zone.name)
+
+-- whether an owner counts for a name above it
+abbrev pub lies_below : Labels → Labels → Bool
+lies_below name owner = is_below owner name
+
+-- whether an owner counts for a name above the zone in which it lies
+abbrev pub is_zoned : List Zone → Labels → Labels → Bool
+is_zoned zones name owner = is_zone_below name (closest zones owner)
+
+-- how many records have an owner that passes
+abbrev pub count_where : (Labels → Bool) → List Record → ℕ
+count_where test records = length (filter (λ r. test r.owner) records)
+
 -- how many records lie strictly below a name
 abbrev pub count_below : Labels → List Record → ℕ
-count_below name records = length (filter (λ r. is_below r.owner name) records)
+count_below name records = count_where (lies_below name) records
 
--- how many zones lie strictly below a name
-abbrev pub zones_below : Labels → List Zone → ℕ
-zones_below name zones = length (filter (λ z. is_below z.name name) zones)
+-- how many records lie in zones strictly below a name
+abbrev pub count_zoned : List Zone → Labels → List Record → ℕ
+count_zoned zones name records = count_where (is_zoned zones name) records
 
 -- the count under a run of octets, or 0 if there is none
 abbrev pub count_under : {K : Type 0} → (K → List ℕ) → List ℕ → List (K × ℕ) → ℕ
@@ -31,24 +55,18 @@ count_under octets spelled counts = unwrap_or (under octets spelled counts) 0
 abbrev pub counted : Labels → List (List ℕ × ℕ) → ℕ
 counted name counts = count_under (λ octets. octets) (octets_of name) counts
 
+-- The count of each name is the number of records whose owner counts for it.
+abbrev pub AreCountedBy : (Labels → Labels → Bool) → List Record → List (List ℕ × ℕ) → Type 0
+AreCountedBy counts_for records counts = (name : Labels) → counted name counts ≡ count_where (counts_for name) records
+
 -- The count of each name is the number of records that lie strictly below it.
 abbrev pub AreCounted : List Record → List (List ℕ × ℕ) → Type 0
-AreCounted records counts = (name : Labels) → counted name counts ≡ count_below name records
+AreCounted records counts = AreCountedBy lies_below records counts
 
--- The count of each name is the number of zones that lie strictly below it.
-abbrev pub AreZonesCounted : List Zone → List (List ℕ × ℕ) → Type 0
-AreZonesCounted zones counts = (name : Labels) → counted name counts ≡ zones_below name zones
+-- The count of each name is the number of records that lie in zones strictly below it.
+abbrev pub AreZoned : List Zone → List Record → List (List ℕ × ℕ) → Type 0
+AreZoned zones records counts = AreCountedBy (is_zoned zones) records counts
 
 -- There is no count of 0.
 abbrev pub AreAboveZero : {K : Type 0} → (K → List ℕ) → List (K × ℕ) → Type 0
 AreAboveZero octets counts = (spelled : List ℕ) (count : ℕ) → under octets spelled counts ≡ Some count → 0 < count
-
--- what a name adds to the count of another, if there is one
-abbrev pub one_below : Labels → Option Labels → ℕ
-one_below other None = 0
-one_below other (Some name) = if is_below name other then 1 else 0
-
--- the name of the zone at a place, which a list on the other side of a change lacks
-abbrev pub lacked : Turn Zone → List Zone → Option Labels
-lacked (Without place) zones = option_map (λ z. z.name) (slice_get zones place)
-lacked _ zones = None

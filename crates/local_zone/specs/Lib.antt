@@ -16,4 +16,5 @@ pub mod EqualLaws
 pub mod Gaps
 pub mod Count
 pub mod CountsBelow
+pub mod Zoned
 pub mod InPlace

@@ -1,9 +1,9 @@
-//! The number of records, or of zones, strictly below each name. Where there are none, it spares a pass over all records.
+//! The number of records strictly below each name, or of those that lie in zones strictly below it. It spares a pass over all records.
 
-ghost use Rattle.std.specs.Prelude.{◌≡◌, ◌+◌, ◌-◌, ℕ, List, None, Some, OnErr, OnOk, MatchOption, IsTrue, false, nat_eq, if◌then◌else◌};
+ghost use Rattle.std.specs.Prelude.{◌≡◌, ◌+◌, ◌-◌, ◌<◌, ◌≤◌, ℕ, List, None, Some, OnErr, OnOk, MatchOption, IsTrue, false, length, nat_eq, if◌then◌else◌};
 ghost use Rattle.std.specs.Cmp.Lexicographic.{pointwise};
-ghost use Rattle.dns_name.specs.Labels.{octets_of, parent_of};
-ghost use Rattle.local_zone.specs.CountsBelow.{count_under, AreAboveZero};
+ghost use Rattle.dns_name.specs.Labels.{octets_of, parent_of, Labels};
+ghost use Rattle.local_zone.specs.CountsBelow.{count_under, is_below_from, AreAboveZero};
 ghost use Rattle.local_zone.specs.Index.{under};
 
 use crate::taken::Taken;
@@ -23,39 +23,68 @@ fn octets_above<'a>(octets: &'a [u8], labels: &mut dns_name::Labels) -> Option<&
     Some(&octets[..end])
 }
 
-/// Adds one to the count under these octets.
-fn raise(alloc: Global, counts: &mut IndexMap<Vec<u8>, u64>, octets: &[u8]) -> Result<(), NoMemory>
+/// The same, if the name above has so many octets at least.
+fn octets_above_from<'a>(
+    octets: &'a [u8],
+    labels: &mut dns_name::Labels,
+    least: usize,
+) -> Option<&'a [u8]>
+    requires { octets.now ≡ octets_of labels.old }
+    ensures { MatchOption result ((name : Labels) → is_below_from least labels.old name ≡ false)
+        (λ above. (parent_of labels.old ≡ Some labels.new) × (above.now ≡ octets_of labels.new) × (least ≤ length above.now)) }
+{
+    let above = octets_above(octets, labels)?;
+    if above.len() < least {
+        return None;
+    }
+    Some(above)
+}
+
+/// Adds to the count under these octets.
+fn raise(
+    alloc: Global,
+    counts: &mut IndexMap<Vec<u8>, u64>,
+    octets: &[u8],
+    more: u64,
+) -> Result<(), NoMemory>
+    requires { 0 < more }
     ensures ok { OnOk result ((other : List ℕ) → count_under (λ k. k.items) other counts.new.entries
-        ≡ count_under (λ k. k.items) other counts.old.entries + (if pointwise nat_eq octets.now other then 1 else 0)) }
+        ≡ count_under (λ k. k.items) other counts.old.entries + (if pointwise nat_eq octets.now other then more else 0)) }
     ensures err { OnErr result ((other : List ℕ) → count_under (λ k. k.items) other counts.new.entries
         ≡ count_under (λ k. k.items) other counts.old.entries) }
     ensures above_zero { AreAboveZero (λ k. k.items) counts.old.entries → AreAboveZero (λ k. k.items) counts.new.entries }
 {
     match counts.get_mut(octets) {
         Some(count) => {
-            *count = count.checked_add(1).ok_or(AllocError)?;
+            *count = count.checked_add(more).ok_or(AllocError)?;
             Ok(())
         }
-        None => start(alloc, counts, octets),
+        None => start(alloc, counts, octets, more),
     }
 }
 
-/// Makes a count of one.
-fn start(alloc: Global, counts: &mut IndexMap<Vec<u8>, u64>, octets: &[u8]) -> Result<(), NoMemory>
+/// Makes a count.
+fn start(
+    alloc: Global,
+    counts: &mut IndexMap<Vec<u8>, u64>,
+    octets: &[u8],
+    count: u64,
+) -> Result<(), NoMemory>
     requires { under (λ k. k.items) octets.now counts.old.entries ≡ None }
     ensures ok { OnOk result ((other : List ℕ) → under (λ k. k.items) other counts.new.entries
-        ≡ (if pointwise nat_eq octets.now other then Some 1 else under (λ k. k.items) other counts.old.entries)) }
+        ≡ (if pointwise nat_eq octets.now other then Some count else under (λ k. k.items) other counts.old.entries)) }
     ensures err { OnErr result (counts.new.entries ≡ counts.old.entries) }
 {
     let mut key = Vec::new(alloc);
     key.extend_from_slice(octets)?;
-    counts.insert(key, 1)?;
+    counts.insert(key, count)?;
     Ok(())
 }
 
-/// Takes one from the count under these octets, and returns whether none is left. It takes no memory.
-fn lower_count(counts: &mut IndexMap<Vec<u8>, u64>, octets: &[u8]) -> bool
-    ensures here { count_under (λ k. k.items) octets.now counts.new.entries ≡ count_under (λ k. k.items) octets.now counts.old.entries - 1 }
+/// Takes from the count under these octets, and returns whether none is left. It takes no memory.
+fn lower_count(counts: &mut IndexMap<Vec<u8>, u64>, octets: &[u8], less: u64) -> bool
+    ensures here { count_under (λ k. k.items) octets.now counts.new.entries
+        ≡ count_under (λ k. k.items) octets.now counts.old.entries - less }
     ensures others { (other : List ℕ) → pointwise nat_eq octets.now other ≡ false →
         under (λ k. k.items) other counts.new.entries ≡ under (λ k. k.items) other counts.old.entries }
     ensures empty { IsTrue result → count_under (λ k. k.items) octets.now counts.new.entries ≡ 0 }
@@ -63,26 +92,26 @@ fn lower_count(counts: &mut IndexMap<Vec<u8>, u64>, octets: &[u8]) -> bool
 {
     match counts.get_mut(octets) {
         Some(count) => {
-            *count = count.saturating_sub(1);
+            *count = count.saturating_sub(less);
             *count == 0
         }
         None => false,
     }
 }
 
-/// Takes one from the count under these octets, and the count away if none is left. It takes no memory.
-fn lower(counts: &mut IndexMap<Vec<u8>, u64>, octets: &[u8])
+/// Takes from the count under these octets, and takes the count away if none is left. It takes no memory.
+fn lower(counts: &mut IndexMap<Vec<u8>, u64>, octets: &[u8], less: u64)
     ensures count { (other : List ℕ) → count_under (λ k. k.items) other counts.new.entries
-        ≡ count_under (λ k. k.items) other counts.old.entries - (if pointwise nat_eq octets.now other then 1 else 0) }
+        ≡ count_under (λ k. k.items) other counts.old.entries - (if pointwise nat_eq octets.now other then less else 0) }
     ensures above_zero { AreAboveZero (λ k. k.items) counts.old.entries → AreAboveZero (λ k. k.items) counts.new.entries }
 {
-    if lower_count(counts, octets) {
+    if lower_count(counts, octets, less) {
         counts.swap_remove(octets);
     }
 }
 
-/// For each name the number of records, or of zones, strictly below it. Contracts see these counts, each under the octets of its
-/// name. A name with nothing below it takes no memory.
+/// For each name the number of records strictly below it, or of those that lie in zones strictly below it. Contracts see these
+/// counts, each under the octets of its name. A name whose count is 0 takes no memory.
 #[derive(Drop)]
 pub(crate) struct CountsBelow {
     counts: IndexMap<Vec<u8>, u64>,
@@ -100,9 +129,9 @@ impl Model for CountsBelow {
 }
 
 impl CountsBelow {
-    ghost use Rattle.std.specs.Prelude.{[], nat_lt};
+    ghost use Rattle.std.specs.Prelude.{[]};
     ghost use Rattle.dns_name.specs.Labels.{Labels};
-    ghost use Rattle.local_zone.specs.CountsBelow.{count_below, counted, is_below};
+    ghost use Rattle.local_zone.specs.CountsBelow.{count_below, counted, is_below, is_below_from};
     ghost use Rattle.local_zone.specs.Gaps.{records_of};
 
     /// Nothing is counted. It takes no memory.
@@ -114,63 +143,103 @@ impl CountsBelow {
         }
     }
 
-    /// Whether a record or zone lies strictly below a name. It is one lookup.
-    pub(crate) fn has(&self, name: &Name) -> bool
-        ensures { result ≡ nat_lt 0 (counted name.now self.now) }
+    /// The count of a name. It is one lookup.
+    pub(crate) fn of(&self, name: &Name) -> u64
+        ensures { result ≡ counted name.now self.now }
     {
-        self.counts.contains_key(name.octets())
+        match self.counts.get(name.octets()) {
+            Some(count) => *count,
+            None => 0,
+        }
     }
 
-    /// Counts one more below each name above this one, the nearest first. A name has 127 above it at most. If that fails, no
-    /// count has changed.
+    /// Counts so many more below each name above this one that has enough octets, the nearest first. A name has 127 above it at
+    /// most. If that fails, no count has changed.
     fn add_above(
         &mut self,
         alloc: Global,
         octets: &[u8],
         labels: &mut dns_name::Labels,
+        least: usize,
+        more: u64,
     ) -> Result<(), NoMemory>
-        requires { octets.now ≡ octets_of labels.old }
+        requires octets { octets.now ≡ octets_of labels.old }
+        requires some { 0 < more }
         ensures ok { OnOk result ((name : Labels) → counted name self.new
-            ≡ counted name self.old + (if is_below labels.old name then 1 else 0)) }
+            ≡ counted name self.old + (if is_below_from least labels.old name then more else 0)) }
         ensures err { OnErr result ((name : Labels) → counted name self.new ≡ counted name self.old) }
     {
-        let Some(above) = octets_above(octets, labels) else {
+        let Some(above) = octets_above_from(octets, labels, least) else {
             return Ok(());
         };
-        raise(alloc, &mut self.counts, above)?;
-        let added = self.add_above(alloc, above, labels);
+        raise(alloc, &mut self.counts, above, more)?;
+        let added = self.add_above(alloc, above, labels, least, more);
         if added.is_err() {
-            lower(&mut self.counts, above);
+            lower(&mut self.counts, above, more);
         }
         added
     }
 
-    /// Counts one less below each name above this one, the nearest first. It takes no memory.
-    fn remove_above(&mut self, octets: &[u8], labels: &mut dns_name::Labels)
+    /// Counts so many less below each name above this one that has enough octets, the nearest first. It takes no memory.
+    fn remove_above(
+        &mut self,
+        octets: &[u8],
+        labels: &mut dns_name::Labels,
+        least: usize,
+        less: u64,
+    )
         requires { octets.now ≡ octets_of labels.old }
-        ensures { (name : Labels) → counted name self.new ≡ counted name self.old - (if is_below labels.old name then 1 else 0) }
+        ensures { (name : Labels) → counted name self.new
+            ≡ counted name self.old - (if is_below_from least labels.old name then less else 0) }
     {
-        if let Some(above) = octets_above(octets, labels) {
-            lower(&mut self.counts, above);
-            self.remove_above(above, labels);
+        if let Some(above) = octets_above_from(octets, labels, least) {
+            lower(&mut self.counts, above, less);
+            self.remove_above(above, labels, least, less);
         }
     }
 
-    /// Counts a record of this owner, or a zone of this name. If memory is refused, or there are more than can be counted, no count
-    /// has changed.
+    /// Counts so many more below each name above this one that has so many octets at least. If memory is refused, or there are more
+    /// than can be counted, no count has changed.
+    pub(crate) fn add_from(
+        &mut self,
+        alloc: Global,
+        name: &Name,
+        least: usize,
+        more: u64,
+    ) -> Result<(), NoMemory>
+        ensures ok { OnOk result ((other : Labels) → counted other self.new
+            ≡ counted other self.old + (if is_below_from least name.now other then more else 0)) }
+        ensures err { OnErr result ((other : Labels) → counted other self.new ≡ counted other self.old) }
+    {
+        if more == 0 {
+            return Ok(());
+        }
+        self.add_above(alloc, name.octets(), &mut name.labels(), least, more)
+    }
+
+    /// Counts so many less below each name above this one that has so many octets at least. It takes no memory.
+    pub(crate) fn remove_from(&mut self, name: &Name, least: usize, less: u64)
+        ensures { (other : Labels) → counted other self.new
+            ≡ counted other self.old - (if is_below_from least name.now other then less else 0) }
+    {
+        self.remove_above(name.octets(), &mut name.labels(), least, less);
+    }
+
+    /// Counts one more below each name above this one. If memory is refused, or there are more than can be counted, no count has
+    /// changed.
     pub(crate) fn add(&mut self, alloc: Global, owner: &Name) -> Result<(), NoMemory>
         ensures ok { OnOk result ((name : Labels) → counted name self.new
             ≡ counted name self.old + (if is_below owner.now name then 1 else 0)) }
         ensures err { OnErr result ((name : Labels) → counted name self.new ≡ counted name self.old) }
     {
-        self.add_above(alloc, owner.octets(), &mut owner.labels())
+        self.add_from(alloc, owner, 0, 1)
     }
 
-    /// Counts a record of this owner, or a zone of this name, no more. It takes no memory.
+    /// Counts one less below each name above this one. It takes no memory.
     pub(crate) fn remove(&mut self, owner: &Name)
         ensures { (name : Labels) → counted name self.new ≡ counted name self.old - (if is_below owner.now name then 1 else 0) }
     {
-        self.remove_above(owner.octets(), &mut owner.labels());
+        self.remove_from(owner, 0, 1);
     }
 
     /// Counts records that come back. If memory is refused, no count has changed.

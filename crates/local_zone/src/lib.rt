@@ -12,14 +12,12 @@ mod sought;
 mod tag;
 // A zone, with its name in the list of zones.
 mod zone;
-// The zones in order, with the number of them strictly below each name.
-mod zone_list;
 // The zone that covers a name.
 mod closest;
 mod zones;
 // The records in order with an index by owner. `passes` takes many out, or puts them back, in one walk. `in_place` does so with
 // few of a long list, which costs less. `groups` moves their owners' groups out of the index, or back. `counts_below` says of a
-// name whether records lie strictly below it.
+// name how many records lie strictly below it.
 mod counts_below;
 mod groups;
 mod in_place;
@@ -27,6 +25,10 @@ mod passes;
 mod record_list;
 mod removed;
 mod taken;
+// The number of records that lie in zones strictly below each name.
+mod zoned;
+// The changes of the list of zones.
+mod zone_list;
 // The changes of the list of records, each with its way back.
 mod added;
 mod records;

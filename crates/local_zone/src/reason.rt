@@ -1,27 +1,26 @@
 //! Reasons to refuse a change. Finding one takes no memory.
 
-ghost use Rattle.std.specs.Prelude.{◌≡◌, ◌≤◌, ◌&&◌, true, length};
-ghost use Rattle.std.specs.List.{list_any};
-ghost use Rattle.dns_name.specs.Below.{is_at_or_below};
-ghost use Rattle.local_zone.specs.Reason.{clashes, differ, has_data_below, reason_of_add, reason_of_set, redirects_below, would_lie_below};
+ghost use Rattle.std.specs.Prelude.{◌≡◌, ◌≤◌, List, length};
+ghost use Rattle.local_zone.specs.Reason.{clashes, differ, has_data_below, reason_of_add, reason_of_set, redirects_below};
 ghost use Rattle.local_zone.specs.ZoneType.{is_redirect};
 ghost use Rattle.local_zone.specs.Closest.{closest};
-ghost use Rattle.local_zone.specs.CountsBelow.{is_below};
+ghost use Rattle.local_zone.specs.CountsBelow.{AreZoned};
 ghost use Rattle.local_zone.specs.Tables.{is_cname};
 ghost use Rattle.local_zone.specs.declared.table.TheConstants.{MOST_ZONES, MOST_RECORDS};
+ghost use Rattle.local_zone.specs.declared.zone.Zone.{Zone};
 
+use crate::counts_below::CountsBelow;
 use crate::fault::TableFault;
 use crate::record::LocalRecord;
 use crate::record_list::RecordList;
-use crate::sought::Sought;
 use crate::zone::Zone;
-use crate::zone_list::ZoneList;
 use crate::zone_type::ZoneType;
-use crate::zones::{closest, has_no_room_for, would_lie_below};
+use crate::zones::{closest, has_no_room_for};
 use crate::{records, zones};
 use dns_name::Name;
 use dns_text::Record;
 use dns_text::types::CNAME;
+use named_list::NamedList;
 
 fn is_cname(kind: u16) -> bool
     ensures { result ≡ is_cname kind }
@@ -42,43 +41,17 @@ fn differ(a: bool, b: bool) -> bool
     if a { !b } else { b }
 }
 
-/// Whether one of these records is at or below a name, and would lie in the new zone, strictly below its name.
-fn is_any_below(zones: &ZoneList, records: &[LocalRecord], new: &Zone, name: &Sought) -> bool
-    ensures { result ≡ list_any (λ r. is_at_or_below r.owner name.now && would_lie_below new.now zones.now r.owner) records.now }
+/// Whether a record would lie strictly below the name of the redirect zone. A lookup tells how many records are below the name, and
+/// another how many of these lie in other zones.
+fn has_data_below(records: &RecordList, zoned: &CountsBelow, new: &Zone) -> bool
+    ensures { (zones : List Zone) → AreZoned zones records.now zoned.now →
+        result ≡ has_data_below new.now (record { zones = zones; records = records.now }) }
 {
-    records.iter().any(|r| r.is_at_or_below(name) && would_lie_below(zones, new, r.owner()))
-}
-
-/// Whether a record would lie in the new zone, strictly below its name, if there are records strictly below it. All of those would,
-/// unless a zone lies below the name. Only then are records read.
-fn has_record_within(zones: &ZoneList, records: &RecordList, new: &Zone) -> bool
-    requires { list_any (λ r. is_below r.owner new.now.name) records.now ≡ true }
-    ensures { result ≡ list_any (λ r. would_lie_below new.now zones.now r.owner) records.now }
-{
-    if zones.has_below(&new.name) {
-        let name = Sought::new(&new.name);
-        is_any_below(zones, records.as_slice(), new, &name)
-    } else {
-        true
-    }
-}
-
-/// Whether a record would lie in the new zone, strictly below its name.
-fn has_record_below(zones: &ZoneList, records: &RecordList, new: &Zone) -> bool
-    ensures { result ≡ list_any (λ r. would_lie_below new.now zones.now r.owner) records.now }
-{
-    records.has_below(&new.name) && has_record_within(zones, records, new)
-}
-
-/// Whether a record would lie strictly below the name of the redirect zone.
-fn has_data_below(zones: &ZoneList, records: &RecordList, new: &Zone) -> bool
-    ensures { result ≡ has_data_below new.now (record { zones = zones.now; records = records.now }) }
-{
-    is_redirect(new.kind) && has_record_below(zones, records, new)
+    is_redirect(new.kind) && zoned.of(&new.name) < records.count_below(&new.name)
 }
 
 /// Whether the owner lies strictly below the name of the redirect zone that it lies in.
-fn is_below_redirect(zones: &ZoneList, owner: &Name) -> bool
+fn is_below_redirect(zones: &NamedList<Zone>, owner: &Name) -> bool
     ensures { result ≡ redirects_below owner.now (closest zones.now owner.now) }
 {
     match closest(zones, owner) {
@@ -88,7 +61,7 @@ fn is_below_redirect(zones: &ZoneList, owner: &Name) -> bool
 }
 
 /// Whether a CNAME would not be alone at the owner.
-fn clashes(zones: &ZoneList, records: &[LocalRecord], new: &Record) -> bool
+fn clashes(zones: &NamedList<Zone>, records: &[LocalRecord], new: &Record) -> bool
     ensures { result ≡ clashes new.now (record { zones = zones.now; records = records.now }) }
 {
     // The types come first: they seldom differ, and are compared sooner than owners.
@@ -97,7 +70,7 @@ fn clashes(zones: &ZoneList, records: &[LocalRecord], new: &Record) -> bool
 }
 
 /// The same of all records.
-fn clashes_in(zones: &ZoneList, records: &RecordList, new: &Record) -> bool
+fn clashes_in(zones: &NamedList<Zone>, records: &RecordList, new: &Record) -> bool
     ensures { result ≡ clashes new.now (record { zones = zones.now; records = records.now }) }
 {
     clashes(zones, records.of(&new.owner), new)
@@ -105,15 +78,17 @@ fn clashes_in(zones: &ZoneList, records: &RecordList, new: &Record) -> bool
 
 /// The reason to refuse a zone, if there is one.
 pub(crate) fn reason_of_set(
-    zones: &ZoneList,
+    zones: &NamedList<Zone>,
     records: &RecordList,
+    zoned: &CountsBelow,
     new: &Zone,
 ) -> Option<TableFault>
+    requires zoned { AreZoned zones.now records.now zoned.now }
     requires few_zones { length zones.now ≤ MOST_ZONES }
     requires few_records { length records.now ≤ MOST_RECORDS }
     ensures { result ≡ reason_of_set new.now (record { zones = zones.now; records = records.now }) }
 {
-    if has_data_below(zones, records, new) {
+    if has_data_below(records, zoned, new) {
         return Some(TableFault::DataBelow);
     }
     if zones::has_no_room(zones, new) {
@@ -124,7 +99,7 @@ pub(crate) fn reason_of_set(
 
 /// The reason to refuse a record, if there is one.
 pub(crate) fn reason_of_add(
-    zones: &ZoneList,
+    zones: &NamedList<Zone>,
     records: &RecordList,
     new: &Record,
 ) -> Option<TableFault>

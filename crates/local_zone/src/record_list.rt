@@ -5,7 +5,7 @@ ghost use Rattle.std.specs.Vec.{vec_len, vec_capacity};
 ghost use Rattle.local_zone.specs.Gaps.{at_gaps, gaps_of, put_back, rest_of, AreApart, AreWithin};
 ghost use Rattle.std.specs.Prelude.{◌-◌, List, None, map, take, length, false, IsTrue, ◌&&◌, ◌==◌, not};
 ghost use Rattle.std.specs.List.{list_any};
-ghost use Rattle.local_zone.specs.CountsBelow.{is_below};
+ghost use Rattle.local_zone.specs.CountsBelow.{count_below};
 ghost use Rattle.local_zone.specs.Tables.{is_of_set};
 ghost use Rattle.local_zone.specs.Change.{retimed_by};
 ghost use Rattle.dns_name.specs.Labels.{Labels, octets_of};
@@ -198,7 +198,7 @@ fn put_all(
 }
 
 /// Records in order. Contracts see the list alone. An index finds those of an owner in one lookup, and counts say in one lookup
-/// whether there are any below a name.
+/// how many are below a name.
 #[derive(Drop)]
 pub(crate) struct RecordList {
     list: Vec<LocalRecord>,
@@ -251,11 +251,11 @@ impl RecordList {
         }
     }
 
-    /// Whether a record lies strictly below a name. It is one lookup.
-    pub(crate) fn has_below(&self, name: &Name) -> bool
-        ensures { result ≡ list_any (λ r. is_below r.owner name.now) self.now }
+    /// How many records lie strictly below a name. It is one lookup.
+    pub(crate) fn count_below(&self, name: &Name) -> u64
+        ensures { result ≡ count_below name.now self.now }
     {
-        self.below.has(name)
+        self.below.of(name)
     }
 
     /// Puts a record last. If memory is refused, nothing has changed.

@@ -1,9 +1,9 @@
 //! The changes of the list of records, each with its way back.
 
-ghost use Rattle.std.specs.Prelude.{◌≡◌, ◌≤◌, [], false, filter, length, nat_lt, not, true, IfOk, IsOk, OnOk, OnErr};
+ghost use Rattle.std.specs.Prelude.{◌≡◌, ◌≤◌, ◌-◌, ◌++◌, ◌∷◌, [], false, filter, length, nat_lt, not, take, true, IfOk, IsOk, OnOk, OnErr};
 ghost use Rattle.dns_name.specs.Order.{name_eq};
 ghost use Rattle.local_zone.specs.Closest.{lies_in};
-ghost use Rattle.local_zone.specs.Gaps.{at_gaps, gaps_where, put_back, rest_of, AreApart, AreWithin};
+ghost use Rattle.local_zone.specs.Gaps.{at_gaps, gaps_of, gaps_where, put_back, rest_of, AreApart, AreWithin};
 ghost use Rattle.std.specs.List.{Contains, find, list_any};
 ghost use Rattle.std.specs.Option.{option_map};
 ghost use Rattle.dns_text.specs.declared.record.Record.{Record};
@@ -11,9 +11,11 @@ ghost use Rattle.local_zone.specs.Added.{ttl_of, records_before, records_other, 
 ghost use Rattle.local_zone.specs.declared.added.RecordTurn.TheVariants as RecordTurn;
 ghost use Rattle.local_zone.specs.Tables.{is_of_set};
 ghost use Rattle.local_zone.specs.Change.{is_there, records_with, with_record};
+ghost use Rattle.local_zone.specs.CountsBelow.{AreZoned};
 ghost use Rattle.local_zone.specs.declared.table.TheConstants.{MOST_RECORDS};
 
 use crate::added::{Added, RecordTurn};
+use crate::counts_below::CountsBelow;
 use crate::record::LocalRecord;
 use crate::record_list::RecordList;
 use crate::removed::Removed;
@@ -21,10 +23,11 @@ use crate::sought::Sought;
 use crate::table::MOST_RECORDS;
 use crate::tag::tag_of;
 use crate::zone::Zone;
-use crate::zone_list::ZoneList;
+use crate::zoned::{count_zone, count_zones, uncount_zone, uncount_zones};
 use crate::zones::lies_in;
 use dns_name::{Name, NoMemory};
 use dns_text::{Record, Shared, Ttl};
+use named_list::NamedList;
 use std::alloc::Global;
 use std::mem;
 
@@ -74,23 +77,74 @@ fn ttl_of(records: &RecordList, new: &Record) -> Ttl
     ttl_among(records.of(&new.owner), new)
 }
 
+/// Puts a record last, and counts it. If memory is refused, nothing has changed.
+fn push(
+    alloc: Global,
+    zones: &NamedList<Zone>,
+    records: &mut RecordList,
+    zoned: &mut CountsBelow,
+    new: LocalRecord,
+) -> Result<(), NoMemory>
+    ensures ok { OnOk result (records.new ≡ records.old ++ new ∷ []) }
+    ensures err { OnErr result (records.new ≡ records.old) }
+    ensures zoned { AreZoned zones.now records.old zoned.old → AreZoned zones.now records.new zoned.new }
+{
+    let twin = new.share()?;
+    count_zone(alloc, zones, zoned, twin.owner())?;
+    match records.push(alloc, new) {
+        Ok(()) => Ok(()),
+        Err(e) => {
+            uncount_zone(zones, zoned, twin.owner());
+            Err(e)
+        }
+    }
+}
+
+/// Counts the last record no more, if there is one. It takes no memory.
+fn uncount_last(zones: &NamedList<Zone>, records: &RecordList, zoned: &mut CountsBelow)
+    ensures { AreZoned zones.now records.now zoned.old →
+        AreZoned zones.now (take (length records.now - 1) records.now) zoned.new }
+{
+    if let Some(last) = records.as_slice().last() {
+        uncount_zone(zones, zoned, last.owner());
+    }
+}
+
+/// Takes the last record out, if there is one, and counts it no more. It takes no memory.
+fn pop(zones: &NamedList<Zone>, records: &mut RecordList, zoned: &mut CountsBelow)
+    ensures list { records.new ≡ take (length records.old - 1) records.old }
+    ensures zoned { AreZoned zones.now records.old zoned.old → AreZoned zones.now records.new zoned.new }
+{
+    uncount_last(zones, records, zoned);
+    records.pop();
+}
+
 /// Puts a record last unless it is there, and returns whether it did.
-fn put_last(alloc: Global, records: &mut RecordList, new: &Shared<Record>) -> Result<bool, NoMemory>
+fn put_last(
+    alloc: Global,
+    zones: &NamedList<Zone>,
+    records: &mut RecordList,
+    zoned: &mut CountsBelow,
+    new: &Shared<Record>,
+) -> Result<bool, NoMemory>
     ensures ok { OnOk result (records.new ≡ with_record new.now records.old) }
     ensures put { IfOk result (λ put. put ≡ not (is_there records.old new.now)) }
     ensures err { OnErr result (records.new ≡ records.old) }
+    ensures zoned { AreZoned zones.now records.old zoned.old → AreZoned zones.now records.new zoned.new }
 {
     if is_there(records, new.get()) {
         return Ok(false);
     }
-    records.push(alloc, LocalRecord::new(new.share()?))?;
+    push(alloc, zones, records, zoned, LocalRecord::new(new.share()?))?;
     Ok(true)
 }
 
 /// Puts a record last unless it is there, and gives its TTL to its set.
 pub(crate) fn put_record(
     alloc: Global,
+    zones: &NamedList<Zone>,
     records: &mut RecordList,
+    zoned: &mut CountsBelow,
     new: &Shared<Record>,
 ) -> Result<Added, NoMemory>
     requires { (r s : Record) → Contains records.old r → Contains records.old s → is_of_set r s ≡ true → r.ttl ≡ s.ttl }
@@ -98,31 +152,44 @@ pub(crate) fn put_record(
     ensures err { OnErr result (records.new ≡ records.old) }
     ensures saved { IfOk result (λ added. records_before added records.new ≡ records.old) }
     ensures said { IfOk result (λ added. added.said ≡ new.now) }
+    ensures zoned { AreZoned zones.now records.old zoned.old → AreZoned zones.now records.new zoned.new }
 {
     let said = new.share()?;
     let ttl = ttl_of(records, new.get());
-    let is_new = put_last(alloc, records, new)?;
+    let is_new = put_last(alloc, zones, records, zoned, new)?;
     records.retime(new.get(), new.get().ttl);
     Ok(Added { said, ttl, is_new })
 }
 
 /// Takes back what `put_record` did. It takes no memory.
-pub(crate) fn take_back(records: &mut RecordList, added: &Added)
-    ensures { records.new ≡ records_before added.now records.old }
+pub(crate) fn take_back(
+    zones: &NamedList<Zone>,
+    records: &mut RecordList,
+    zoned: &mut CountsBelow,
+    added: &Added,
+)
+    ensures list { records.new ≡ records_before added.now records.old }
+    ensures zoned { AreZoned zones.now records.old zoned.old → AreZoned zones.now records.new zoned.new }
 {
     if added.is_new {
-        records.pop();
+        pop(zones, records, zoned);
     }
     records.retime(added.said.get(), added.ttl);
 }
 
 /// Takes back an addition, and returns the way to make it again. It takes no memory.
-fn take_added(records: &mut RecordList, added: Added) -> RecordTurn
+fn take_added(
+    zones: &NamedList<Zone>,
+    records: &mut RecordList,
+    zoned: &mut CountsBelow,
+    added: Added,
+) -> RecordTurn
     requires { GoesBack (RecordTurn.Added added) records.old }
     ensures list { records.new ≡ records_before added records.old }
     ensures again { GoesBack result records.new × (records_other result records.new ≡ records.old) }
+    ensures zoned { AreZoned zones.now records.old zoned.old → AreZoned zones.now records.new zoned.new }
 {
-    take_back(records, &added);
+    take_back(zones, records, zoned, &added);
     let Added { said, .. } = added;
     RecordTurn::Adds(said)
 }
@@ -130,7 +197,9 @@ fn take_added(records: &mut RecordList, added: Added) -> RecordTurn
 /// Adds a record once more. If there is no memory, `turn` still leads to the other side.
 fn add_again(
     alloc: Global,
+    zones: &NamedList<Zone>,
     records: &mut RecordList,
+    zoned: &mut CountsBelow,
     new: Shared<Record>,
     turn: &mut RecordTurn,
 ) -> Result<(), NoMemory>
@@ -138,8 +207,9 @@ fn add_again(
     ensures ok { OnOk result (records.new ≡ records_with new records.old) }
     ensures again { OnOk result (GoesBack turn.new records.new × (records_other turn.new records.new ≡ records.old)) }
     ensures err { OnErr result ((records.new ≡ records.old) × (turn.new ≡ RecordTurn.Adds new)) }
+    ensures zoned { AreZoned zones.now records.old zoned.old → AreZoned zones.now records.new zoned.new }
 {
-    match put_record(alloc, records, &new) {
+    match put_record(alloc, zones, records, zoned, &new) {
         Ok(added) => {
             *turn = RecordTurn::Added(added);
             Ok(())
@@ -151,10 +221,34 @@ fn add_again(
     }
 }
 
+/// Puts records back in their places, and counts them. If memory is refused, nothing has changed.
+fn put_in(
+    alloc: Global,
+    zones: &NamedList<Zone>,
+    records: &mut RecordList,
+    zoned: &mut CountsBelow,
+    removed: &mut Removed,
+) -> Result<Vec<usize>, NoMemory>
+    requires { AreApart removed.old records.old }
+    ensures ok { OnOk result (records.new ≡ put_back removed.old records.old) }
+    ensures gaps { IfOk result (λ gaps. gaps.items ≡ gaps_of removed.old) }
+    ensures err { OnErr result ((records.new ≡ records.old) × (removed.new ≡ removed.old)) }
+    ensures zoned { AreZoned zones.now records.old zoned.old → AreZoned zones.now records.new zoned.new }
+{
+    count_zones(alloc, zones, zoned, removed.as_slice())?;
+    let gaps = records.put_in(alloc, removed);
+    if gaps.is_err() {
+        uncount_zones(zones, zoned, removed.as_slice());
+    }
+    gaps
+}
+
 /// Puts records back in their places. If there is no memory, `turn` still leads to the other side.
 fn put_again(
     alloc: Global,
+    zones: &NamedList<Zone>,
     records: &mut RecordList,
+    zoned: &mut CountsBelow,
     removed: Removed,
     turn: &mut RecordTurn,
 ) -> Result<(), NoMemory>
@@ -162,9 +256,10 @@ fn put_again(
     ensures ok { OnOk result (records.new ≡ put_back removed records.old) }
     ensures again { OnOk result (GoesBack turn.new records.new × (records_other turn.new records.new ≡ records.old)) }
     ensures err { OnErr result ((records.new ≡ records.old) × (turn.new ≡ RecordTurn.Removed removed)) }
+    ensures zoned { AreZoned zones.now records.old zoned.old → AreZoned zones.now records.new zoned.new }
 {
     let mut removed = removed;
-    match records.put_in(alloc, &mut removed) {
+    match put_in(alloc, zones, records, zoned, &mut removed) {
         Ok(gaps) => {
             *turn = RecordTurn::Removes(gaps);
             Ok(())
@@ -176,10 +271,32 @@ fn put_again(
     }
 }
 
+/// Takes the records at the gaps out, and counts them no more. If memory is refused, nothing has changed.
+fn take_out(
+    alloc: Global,
+    zones: &NamedList<Zone>,
+    records: &mut RecordList,
+    zoned: &mut CountsBelow,
+    gaps: &[usize],
+) -> Result<Removed, NoMemory>
+    requires within { AreWithin gaps.now records.old }
+    requires apart { AreApart (at_gaps gaps.now records.old) (rest_of gaps.now records.old) }
+    ensures ok { OnOk result (records.new ≡ rest_of gaps.now records.old) }
+    ensures removed { IfOk result (λ removed. removed ≡ at_gaps gaps.now records.old) }
+    ensures err { OnErr result (records.new ≡ records.old) }
+    ensures zoned { AreZoned zones.now records.old zoned.old → AreZoned zones.now records.new zoned.new }
+{
+    let removed = records.take_out(alloc, gaps)?;
+    uncount_zones(zones, zoned, removed.as_slice());
+    Ok(removed)
+}
+
 /// Takes the records at the gaps out. If there is no memory, `turn` still leads to the other side.
 fn take_again(
     alloc: Global,
+    zones: &NamedList<Zone>,
     records: &mut RecordList,
+    zoned: &mut CountsBelow,
     gaps: Vec<usize>,
     turn: &mut RecordTurn,
 ) -> Result<(), NoMemory>
@@ -187,8 +304,9 @@ fn take_again(
     ensures ok { OnOk result (records.new ≡ rest_of gaps.items records.old) }
     ensures again { OnOk result (GoesBack turn.new records.new × (records_other turn.new records.new ≡ records.old)) }
     ensures err { OnErr result ((records.new ≡ records.old) × (turn.new ≡ RecordTurn.Removes gaps)) }
+    ensures zoned { AreZoned zones.now records.old zoned.old → AreZoned zones.now records.new zoned.new }
 {
-    match records.take_out(alloc, gaps.as_slice()) {
+    match take_out(alloc, zones, records, zoned, gaps.as_slice()) {
         Ok(removed) => {
             *turn = RecordTurn::Removed(removed);
             Ok(())
@@ -203,7 +321,9 @@ fn take_again(
 /// Goes to the other side of a change, and leaves the way back in `turn`.
 pub(crate) fn turn_over(
     alloc: Global,
+    zones: &NamedList<Zone>,
     records: &mut RecordList,
+    zoned: &mut CountsBelow,
     turn: &mut RecordTurn,
 ) -> Result<(), NoMemory>
     requires goes { GoesBack turn.old records.old }
@@ -211,16 +331,17 @@ pub(crate) fn turn_over(
     ensures ok { OnOk result (records.new ≡ records_other turn.old records.old) }
     ensures again { OnOk result (GoesBack turn.new records.new × (records_other turn.new records.new ≡ records.old)) }
     ensures err { OnErr result ((records.new ≡ records.old) × (turn.new ≡ turn.old)) }
+    ensures zoned { AreZoned zones.now records.old zoned.old → AreZoned zones.now records.new zoned.new }
 {
     match mem::replace(turn, RecordTurn::Nothing) {
         RecordTurn::Nothing => Ok(()),
         RecordTurn::Added(added) => {
-            *turn = take_added(records, added);
+            *turn = take_added(zones, records, zoned, added);
             Ok(())
         }
-        RecordTurn::Adds(new) => add_again(alloc, records, new, turn),
-        RecordTurn::Removed(removed) => put_again(alloc, records, removed, turn),
-        RecordTurn::Removes(gaps) => take_again(alloc, records, gaps, turn),
+        RecordTurn::Adds(new) => add_again(alloc, zones, records, zoned, new, turn),
+        RecordTurn::Removed(removed) => put_again(alloc, zones, records, zoned, removed, turn),
+        RecordTurn::Removes(gaps) => take_again(alloc, zones, records, zoned, gaps, turn),
     }
 }
 
@@ -228,7 +349,7 @@ pub(crate) fn turn_over(
 fn gaps_in(
     alloc: Global,
     records: &[LocalRecord],
-    zones: &ZoneList,
+    zones: &NamedList<Zone>,
     name: &Name,
 ) -> Result<Vec<usize>, NoMemory>
     ensures ok { IfOk result (λ gaps. gaps.items ≡ gaps_where (λ r. lies_in zones.now name.now r.owner) 0 records.now) }
@@ -270,7 +391,9 @@ fn gaps_of(alloc: Global, records: &[LocalRecord], owner: &Name) -> Result<Vec<u
 /// Takes the records at the gaps out, and returns the way back. If there are none, it copies nothing.
 fn take_gaps(
     alloc: Global,
+    zones: &NamedList<Zone>,
     records: &mut RecordList,
+    zoned: &mut CountsBelow,
     gaps: &[usize],
 ) -> Result<RecordTurn, NoMemory>
     requires within { AreWithin gaps.now records.old }
@@ -279,11 +402,12 @@ fn take_gaps(
     ensures saved { IfOk result (λ turn. GoesBack turn records.new × (records_other turn records.new ≡ records.old)) }
     ensures err { OnErr result (records.new ≡ records.old) }
     ensures free { gaps.now ≡ [] → IsOk result }
+    ensures zoned { AreZoned zones.now records.old zoned.old → AreZoned zones.now records.new zoned.new }
 {
     if gaps.is_empty() {
         return Ok(RecordTurn::Nothing);
     }
-    let removed = records.take_out(alloc, gaps)?;
+    let removed = take_out(alloc, zones, records, zoned, gaps)?;
     Ok(RecordTurn::Removed(removed))
 }
 
@@ -291,17 +415,19 @@ fn take_gaps(
 /// none, it takes no memory.
 pub(crate) fn take_in(
     alloc: Global,
+    zones: &NamedList<Zone>,
     records: &mut RecordList,
-    zones: &ZoneList,
+    zoned: &mut CountsBelow,
     name: &Name,
 ) -> Result<RecordTurn, NoMemory>
     ensures ok { OnOk result (records.new ≡ filter (λ r. not (lies_in zones.now name.now r.owner)) records.old) }
     ensures saved { IfOk result (λ turn. GoesBack turn records.new × (records_other turn records.new ≡ records.old)) }
     ensures err { OnErr result (records.new ≡ records.old) }
     ensures free { list_any (λ r. lies_in zones.now name.now r.owner) records.old ≡ false → IsOk result }
+    ensures zoned { AreZoned zones.now records.old zoned.old → AreZoned zones.now records.new zoned.new }
 {
     let gaps = gaps_in(alloc, records.as_slice(), zones, name)?;
-    let turn = take_gaps(alloc, records, gaps.as_slice())?;
+    let turn = take_gaps(alloc, zones, records, zoned, gaps.as_slice())?;
     Ok(turn)
 }
 
@@ -309,15 +435,18 @@ pub(crate) fn take_in(
 /// takes no memory.
 pub(crate) fn take_of(
     alloc: Global,
+    zones: &NamedList<Zone>,
     records: &mut RecordList,
+    zoned: &mut CountsBelow,
     owner: &Name,
 ) -> Result<RecordTurn, NoMemory>
     ensures ok { OnOk result (records.new ≡ filter (λ r. not (name_eq r.owner owner.now)) records.old) }
     ensures saved { IfOk result (λ turn. GoesBack turn records.new × (records_other turn records.new ≡ records.old)) }
     ensures err { OnErr result (records.new ≡ records.old) }
     ensures free { list_any (λ r. name_eq r.owner owner.now) records.old ≡ false → IsOk result }
+    ensures zoned { AreZoned zones.now records.old zoned.old → AreZoned zones.now records.new zoned.new }
 {
     let gaps = gaps_of(alloc, records.as_slice(), owner)?;
-    let turn = take_gaps(alloc, records, gaps.as_slice())?;
+    let turn = take_gaps(alloc, zones, records, zoned, gaps.as_slice())?;
     Ok(turn)
 }

@@ -29,6 +29,13 @@ impl Model for Removed {
 impl Removed {
     ghost use Rattle.std.specs.Prelude.{◌≡◌, []};
 
+    /// The records, each with its gap.
+    pub(crate) fn as_slice(&self) -> &[Taken]
+        ensures { result.now ≡ self.now }
+    {
+        &self.taken
+    }
+
     /// No records. It takes no memory.
     pub(crate) fn new(alloc: Global) -> Removed
         ensures { result ≡ [] }

@@ -1,12 +1,13 @@
 //! Local zones and local data.
 
-ghost use Rattle.std.specs.Prelude.{◌≡◌, [], false, IfErr, IfOk, IsOk, OnErr, OnOk, None};
+ghost use Rattle.std.specs.Prelude.{◌≡◌, [], true, false, IfErr, IfOk, IsOk, OnErr, OnOk, None};
 ghost use Rattle.std.specs.List.{list_any};
 ghost use Rattle.dns_name.specs.Order.{name_eq};
 ghost use Rattle.local_zone.specs.Closest.{lies_in};
 
 use crate::added::RecordTurn;
 use crate::answer::answer;
+use crate::counts_below::CountsBelow;
 use crate::fault::TableFault;
 use crate::local_answer::{Local, LocalSet};
 use crate::reason::{reason_of_add, reason_of_set};
@@ -15,12 +16,12 @@ use crate::record_list::RecordList;
 use crate::records::{put_record, take_back, take_in, take_of, turn_over};
 use crate::saved::SavedTables;
 use crate::zone::Zone;
-use crate::zone_list::ZoneList;
+use crate::zone_list::{put_zone, put_zone_in, turn_zone_out};
 use crate::zone_type::ZoneType;
 use crate::zones::put_implied;
 use dns_name::{Name, NoMemory};
 use dns_text::{Question, Record, Shared};
-use named_list::Turn;
+use named_list::{NamedList, Turn};
 use std::alloc::Global;
 use std::marker::Model;
 
@@ -33,19 +34,22 @@ pub const MOST_RECORDS: usize = 65536;
 /// Local zones and local data, each a list in the order of arrival.
 #[derive(Drop)]
 pub struct ZoneTable {
-    zones: ZoneList,
+    zones: NamedList<Zone>,
     records: RecordList,
+    // For each name the number of records in zones strictly below it, so that no answer passes over records.
+    zoned: CountsBelow,
     alloc: Global,
 }
 
 impl Model for ZoneTable {
+    ghost use Rattle.local_zone.specs.CountsBelow.{AreZoned};
     ghost use Rattle.local_zone.specs.Tables.{Tables, AreTables};
 
     ghost Value = { Tables };
 
     ghost view = { λ t. record { zones = t.zones; records = t.records } };
 
-    ghost invariant = { λ t. AreTables (record { zones = t.zones; records = t.records }) };
+    ghost invariant = { λ t. AreTables (record { zones = t.zones; records = t.records }) × AreZoned t.zones t.records t.zoned };
 }
 
 impl ZoneTable {
@@ -54,14 +58,16 @@ impl ZoneTable {
     ghost use Rattle.local_zone.specs.Change.{after_set, after_drop, after_add, after_drop_name};
     ghost use Rattle.local_zone.specs.Reason.{reason_of_set, reason_of_add, IsFaultFor};
     ghost use Rattle.local_zone.specs.Saved.{before_of, TakesBack};
+    ghost use Rattle.named_list.specs.Turn.{puts_in};
 
     /// A table of no zones and no records. It takes no memory.
     pub fn new(alloc: Global) -> ZoneTable
         ensures { result ≡ record { zones = []; records = [] } }
     {
         ZoneTable {
-            zones: ZoneList::new(alloc),
+            zones: NamedList::new(alloc),
             records: RecordList::new(alloc),
+            zoned: CountsBelow::new(alloc),
             alloc,
         }
     }
@@ -84,7 +90,7 @@ impl ZoneTable {
     pub fn answer<'a>(&'a self, question: &'a Question) -> Local<LocalSet<'a>, &'a LocalRecord>
         ensures { local_now result ≡ local_of self.now question.now }
     {
-        answer(&self.zones, &self.records, question)
+        answer(&self.zones, &self.records, &self.zoned, question)
     }
 
     /// Adds a zone, or gives the zone of this name another type. The only faults are `DataBelow`, `TooMany` and `NoMemory`.
@@ -96,11 +102,17 @@ impl ZoneTable {
         ensures saved { IfOk result (λ saved. TakesBack saved self.new self.old) }
     {
         let new = Zone { name, kind };
-        if let Some(reason) = reason_of_set(&self.zones, &self.records, &new) {
+        if let Some(reason) = reason_of_set(&self.zones, &self.records, &self.zoned, &new) {
             return Err(reason);
         }
         let new = Shared::new(self.alloc, new)?;
-        let zones = self.zones.put(self.alloc, new)?;
+        let zones = put_zone(
+            self.alloc,
+            &mut self.zones,
+            &self.records,
+            &mut self.zoned,
+            new,
+        )?;
         Ok(SavedTables {
             zones,
             records: RecordTurn::Nothing,
@@ -117,14 +129,26 @@ impl ZoneTable {
         if let Some(reason) = reason_of_add(&self.zones, &self.records, new.get()) {
             return Err(reason);
         }
-        let added = put_record(self.alloc, &mut self.records, &new)?;
-        match put_implied(self.alloc, &mut self.zones, &new.get().owner) {
+        let added = put_record(
+            self.alloc,
+            &self.zones,
+            &mut self.records,
+            &mut self.zoned,
+            &new,
+        )?;
+        match put_implied(
+            self.alloc,
+            &mut self.zones,
+            &self.records,
+            &mut self.zoned,
+            &new.get().owner,
+        ) {
             Ok(zones) => Ok(SavedTables {
                 zones,
                 records: RecordTurn::Added(added),
             }),
             Err(_) => {
-                take_back(&mut self.records, &added);
+                take_back(&self.zones, &mut self.records, &mut self.zoned, &added);
                 Err(TableFault::NoMemory)
             }
         }
@@ -137,7 +161,13 @@ impl ZoneTable {
         ensures saved { IfOk result (λ saved. TakesBack saved self.new self.old) }
         ensures free { list_any (λ r. lies_in self.old.zones name.now r.owner) self.old.records ≡ false → IsOk result }
     {
-        let records = take_in(self.alloc, &mut self.records, &self.zones, name)?;
+        let records = take_in(
+            self.alloc,
+            &self.zones,
+            &mut self.records,
+            &mut self.zoned,
+            name,
+        )?;
         let zones = self.zones.take(name);
         Ok(SavedTables { zones, records })
     }
@@ -149,15 +179,80 @@ impl ZoneTable {
         ensures saved { IfOk result (λ saved. TakesBack saved self.new self.old) }
         ensures free { list_any (λ r. name_eq r.owner name.now) self.old.records ≡ false → IsOk result }
     {
-        let records = take_of(self.alloc, &mut self.records, name)?;
+        let records = take_of(
+            self.alloc,
+            &self.zones,
+            &mut self.records,
+            &mut self.zoned,
+            name,
+        )?;
         Ok(SavedTables {
             zones: Turn::Nothing,
             records,
         })
     }
 
-    // Goes to the other side of a change, and leaves the way back. A zone that goes in may need memory, and so may records. If
-    // the records get none, the zone is taken out again, which needs none.
+    // Goes to the other side of a change that puts a zone in, and leaves the way back. The zone may need memory, and so may the records.
+    // If the records get none, the zone is taken out again, which needs none.
+    fn turn_in(&mut self, saved: &mut SavedTables) -> Result<(), NoMemory>
+        requires takes { (other : Tables) × TakesBack saved.old self.old other }
+        requires puts { puts_in saved.old.zones ≡ true }
+        ensures ok { OnOk result (self.new ≡ before_of saved.old self.old) }
+        ensures again { OnOk result (TakesBack saved.new self.new self.old) }
+        ensures err { OnErr result ((self.new ≡ self.old) × (saved.new ≡ saved.old)) }
+    {
+        put_zone_in(
+            self.alloc,
+            &mut self.zones,
+            &self.records,
+            &mut self.zoned,
+            &mut saved.zones,
+        )?;
+        match turn_over(
+            self.alloc,
+            &self.zones,
+            &mut self.records,
+            &mut self.zoned,
+            &mut saved.records,
+        ) {
+            Ok(()) => Ok(()),
+            Err(e) => {
+                turn_zone_out(
+                    &mut self.zones,
+                    &self.records,
+                    &mut self.zoned,
+                    &mut saved.zones,
+                );
+                Err(e)
+            }
+        }
+    }
+
+    // Goes to the other side of any other change, and leaves the way back. Only the records may need memory.
+    fn turn_out(&mut self, saved: &mut SavedTables) -> Result<(), NoMemory>
+        requires takes { (other : Tables) × TakesBack saved.old self.old other }
+        requires puts { puts_in saved.old.zones ≡ false }
+        ensures ok { OnOk result (self.new ≡ before_of saved.old self.old) }
+        ensures again { OnOk result (TakesBack saved.new self.new self.old) }
+        ensures err { OnErr result ((self.new ≡ self.old) × (saved.new ≡ saved.old)) }
+    {
+        turn_over(
+            self.alloc,
+            &self.zones,
+            &mut self.records,
+            &mut self.zoned,
+            &mut saved.records,
+        )?;
+        turn_zone_out(
+            &mut self.zones,
+            &self.records,
+            &mut self.zoned,
+            &mut saved.zones,
+        );
+        Ok(())
+    }
+
+    // Goes to the other side of a change, and leaves the way back.
     fn turn_over(&mut self, saved: &mut SavedTables) -> Result<(), NoMemory>
         requires { (other : Tables) × TakesBack saved.old self.old other }
         ensures ok { OnOk result (self.new ≡ before_of saved.old self.old) }
@@ -165,18 +260,9 @@ impl ZoneTable {
         ensures err { OnErr result ((self.new ≡ self.old) × (saved.new ≡ saved.old)) }
     {
         if saved.zones.puts_in() {
-            self.zones.put_in(self.alloc, &mut saved.zones)?;
-            match turn_over(self.alloc, &mut self.records, &mut saved.records) {
-                Ok(()) => Ok(()),
-                Err(e) => {
-                    self.zones.turn_out(&mut saved.zones);
-                    Err(e)
-                }
-            }
+            self.turn_in(saved)
         } else {
-            turn_over(self.alloc, &mut self.records, &mut saved.records)?;
-            self.zones.turn_out(&mut saved.zones);
-            Ok(())
+            self.turn_out(saved)
         }
     }
 

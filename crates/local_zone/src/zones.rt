@@ -3,24 +3,26 @@
 ghost use Rattle.std.specs.Prelude.{◌≡◌, ◌≤◌, length, nat_lt, IfOk, OnErr, OnOk};
 ghost use Rattle.std.specs.Option.{option_map};
 ghost use Rattle.local_zone.specs.Change.{zones_for, zones_with};
-ghost use Rattle.local_zone.specs.Closest.{closest, gives_way, lies_in};
-ghost use Rattle.local_zone.specs.Reason.{would_lie_below};
+ghost use Rattle.local_zone.specs.Closest.{closest, lies_in};
+ghost use Rattle.local_zone.specs.CountsBelow.{AreZoned};
 ghost use Rattle.named_list.specs.Turn.{IsWayBack};
 ghost use Rattle.local_zone.specs.declared.table.TheConstants.{MOST_ZONES};
 
+use crate::counts_below::CountsBelow;
 use crate::record::LocalRecord;
+use crate::record_list::RecordList;
 use crate::sought::Sought;
 use crate::table::MOST_ZONES;
 use crate::zone::Zone;
-use crate::zone_list::ZoneList;
+use crate::zone_list::put_zone;
 use crate::zone_type::ZoneType;
 use dns_name::{Name, NoMemory};
 use dns_text::Shared;
-use named_list::Turn;
+use named_list::{NamedList, Turn};
 use std::alloc::Global;
 
 /// The longest zone at or above a name.
-pub(crate) fn closest<'a>(zones: &'a ZoneList, name: &Name) -> Option<&'a Zone>
+pub(crate) fn closest<'a>(zones: &'a NamedList<Zone>, name: &Name) -> Option<&'a Zone>
     ensures { option_map (λ z. z.now) result ≡ closest zones.now name.now }
 {
     match zones.closest(name) {
@@ -32,12 +34,15 @@ pub(crate) fn closest<'a>(zones: &'a ZoneList, name: &Name) -> Option<&'a Zone>
 /// If no zone covers the owner, puts a transparent one of its name last.
 pub(crate) fn put_implied(
     alloc: Global,
-    zones: &mut ZoneList,
+    zones: &mut NamedList<Zone>,
+    records: &RecordList,
+    zoned: &mut CountsBelow,
     owner: &Name,
 ) -> Result<Turn<Zone>, NoMemory>
     ensures ok { OnOk result (zones.new ≡ zones_for owner.now zones.old) }
     ensures err { OnErr result (zones.new ≡ zones.old) }
     ensures saved { IfOk result (λ turn. IsWayBack (λ z. z.name) turn zones.new zones.old) }
+    ensures zoned { AreZoned zones.old records.now zoned.old → AreZoned zones.new records.now zoned.new }
 {
     if closest(zones, owner).is_some() {
         return Ok(Turn::Nothing);
@@ -47,11 +52,11 @@ pub(crate) fn put_implied(
         kind: ZoneType::Transparent,
     };
     let implied = Shared::new(alloc, implied)?;
-    zones.put(alloc, implied)
+    put_zone(alloc, zones, records, zoned, implied)
 }
 
 /// Whether a record lies in the zone of that name.
-pub(crate) fn lies_in(zones: &ZoneList, name: &Sought, r: &LocalRecord) -> bool
+pub(crate) fn lies_in(zones: &NamedList<Zone>, name: &Sought, r: &LocalRecord) -> bool
     ensures { result ≡ lies_in zones.now name.now r.now.owner }
 {
     if r.is_at_or_below(name) {
@@ -64,36 +69,8 @@ pub(crate) fn lies_in(zones: &ZoneList, name: &Sought, r: &LocalRecord) -> bool
     }
 }
 
-/// Whether a zone gives way, at and below a name, to a zone of that name.
-fn gives_way(name: &Name, zone: Option<&Zone>) -> bool
-    ensures { result ≡ gives_way name.now (option_map (λ z. z.now) zone.entry) }
-{
-    match zone {
-        Some(zone) => zone.name == *name || !zone.name.at_or_below(name),
-        None => true,
-    }
-}
-
-/// Whether records of this owner would lie in the new zone.
-fn would_lie_in(zones: &ZoneList, new: &Zone, owner: &Name) -> bool
-    ensures { result ≡ lies_in (zones_with new.now zones.now) new.now.name owner.now }
-{
-    if owner.at_or_below(&new.name) {
-        gives_way(&new.name, closest(zones, owner))
-    } else {
-        false
-    }
-}
-
-/// Whether records of this owner would lie in the new zone, strictly below its name.
-pub(crate) fn would_lie_below(zones: &ZoneList, new: &Zone, owner: &Name) -> bool
-    ensures { result ≡ would_lie_below new.now zones.now owner.now }
-{
-    would_lie_in(zones, new, owner) && *owner != new.name
-}
-
 /// Whether there would be too many zones with the new one.
-pub(crate) fn has_no_room(zones: &ZoneList, new: &Zone) -> bool
+pub(crate) fn has_no_room(zones: &NamedList<Zone>, new: &Zone) -> bool
     requires { length zones.now ≤ MOST_ZONES }
     ensures { result ≡ nat_lt MOST_ZONES (length (zones_with new.now zones.now)) }
 {
@@ -101,7 +78,7 @@ pub(crate) fn has_no_room(zones: &ZoneList, new: &Zone) -> bool
 }
 
 /// Whether there would be too many zones with one for the owner.
-pub(crate) fn has_no_room_for(zones: &ZoneList, owner: &Name) -> bool
+pub(crate) fn has_no_room_for(zones: &NamedList<Zone>, owner: &Name) -> bool
     requires { length zones.now ≤ MOST_ZONES }
     ensures { result ≡ nat_lt MOST_ZONES (length (zones_for owner.now zones.now)) }
 {

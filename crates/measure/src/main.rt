@@ -13,6 +13,7 @@
 //! | `cells` | a number of names | looks names up in a cache of so many, each with one address |
 //! | `room` | a number of names | gives new names to a full cache with room for so many |
 //! | `tables` | a number of records | asks for names of so many local records, in a sixteenth as many zones |
+//! | `fill` | a number of records | makes a table of so many local records, by a call for each zone and each record |
 #![tactic(auto)]
 
 mod calls; // calls by their names
@@ -25,10 +26,12 @@ mod lookups; // lookups of many names
 mod cells; // lookups in a cache of many names
 mod room; // new names for a full cache
 mod tables; // answers from many local records
+mod fill; // tables filled by their own calls
 
 use anyhow::anyhow;
 use book::measure_book;
 use cells::measure_cells;
+use fill::measure_fill;
 use front::measure_front;
 use messages::measure_messages;
 use room::measure_room;
@@ -39,8 +42,8 @@ use tables::measure_tables;
 use tasks::measure_tasks;
 
 /// Every word, in the order in which it is shown.
-const WORDS: [&str; 7] = [
-    "front", "tasks", "messages", "book", "cells", "room", "tables",
+const WORDS: [&str; 8] = [
+    "front", "tasks", "messages", "book", "cells", "room", "tables", "fill",
 ];
 
 /// Makes the calls of a word: the one that the next words name, or each.
@@ -58,6 +61,7 @@ fn measure<R: Print + Wait>(
         "cells" => measure_cells(rt, alloc, words),
         "room" => measure_room(rt, alloc, words),
         "tables" => measure_tables(rt, alloc, words),
+        "fill" => measure_fill(rt, alloc, words),
         _ => Err(anyhow!("there is no such word")),
     }
 }

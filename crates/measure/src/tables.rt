@@ -10,14 +10,14 @@ use local_zone::ZoneType;
 use std::alloc::Global;
 
 /// The number of the last zone, for so many records: there are 16 to a zone, and two zones at least.
-fn last_zone(records: u32) -> u32
+pub fn last_zone(records: u32) -> u32
     ensures { 1 ≤ result }
 {
     (records / 16).max(2) - 1
 }
 
 /// The text of a record's owner. The first zone has a hundredth of all records, and the others share the rest.
-fn owner(alloc: Global, place: u32, records: u32) -> anyhow::Result<String> {
+pub fn owner(alloc: Global, place: u32, records: u32) -> anyhow::Result<String> {
     let zone = if place < records / 100 {
         0
     } else {

@@ -36,3 +36,8 @@ puts_in _ = false
 abbrev pub with_at : {T : Type 0} → ℕ → Option T → Turn T
 with_at place None = Nothing
 with_at place (Some thing) = With place thing
+
+-- the name of the thing that the step to the other side puts in, if it puts one in
+abbrev pub name_in : {T : Type 0} → (T → Labels) → Turn T → Option Labels
+name_in named (With place thing) = Some (named thing)
+name_in named _ = None

@@ -35,3 +35,12 @@ impl<T: Named> Model for Keyed<T> {
 
     ghost invariant = { λ k. k.key.items ≡ octets_of (T.named k.thing) };
 }
+
+impl<T: Named> Keyed<T> {
+    /// The name of the thing.
+    pub(crate) fn name(&self) -> &Name
+        ensures { result.now ≡ T.named self.now }
+    {
+        self.thing.get().name()
+    }
+}

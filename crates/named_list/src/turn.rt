@@ -2,10 +2,12 @@
 
 ghost use Rattle.std.specs.Prelude.{◌≡◌, ℕ, length};
 ghost use Rattle.dns_name.specs.Labels.{octets_of};
-ghost use Rattle.named_list.specs.Turn.{puts_in};
+ghost use Rattle.named_list.specs.Turn.{name_in, puts_in};
+ghost use Rattle.std.specs.Option.{option_map};
 
 use crate::keyed::Keyed;
 use crate::named::Named;
+use dns_name::Name;
 use dns_text::Shared;
 
 /// The difference between a list and the one on the other side of a change.
@@ -27,6 +29,16 @@ impl<T: Named> Turn<T> {
         ensures { result ≡ puts_in self.now }
     {
         matches!(self, Turn::With { .. })
+    }
+
+    /// The name of the thing that the step to the other side puts in, if it puts one in.
+    pub fn name_in(&self) -> Option<&Name>
+        ensures { option_map (λ name. name.now) result ≡ name_in T.named self.now }
+    {
+        match self {
+            Turn::With { thing, .. } => Some(thing.name()),
+            _ => None,
+        }
     }
 
     /// How many octets the name of the thing has that the step to the other side puts in, if it puts one in.

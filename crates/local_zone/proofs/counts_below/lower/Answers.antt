@@ -11,7 +11,7 @@ returns-then-lower_count-clause-count c =
     let o = c.args.octets.now in
     let mid = c.lower_count.new.counts.entries in
     let after = c.swap_remove.new.self.entries in
-    lowered octets o es mid after c.lower_count.ensures.others (changed octets o mid after None c.swap_remove.ensures.updates.1 c.swap_remove.ensures.updates.3) c.lower_count.ensures.here (c.if-lower_count.ensures.empty refl)
+    lowered octets o es mid after c.lower_count.ensures.others (changed octets o mid after None c.swap_remove.ensures.updates.1 c.swap_remove.ensures.updates.3) c.args.less c.lower_count.ensures.here (c.if-lower_count.ensures.empty refl)
 
 pub returns-then-lower_count-clause-above_zero : goal.returns-then-lower_count-clause-above_zero
 returns-then-lower_count-clause-above_zero c =

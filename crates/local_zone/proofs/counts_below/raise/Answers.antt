@@ -36,9 +36,9 @@ returns-in_ok-count-in-Some-clause-ok c =
     let w = c.in_ok-count-in-Some.field-0 in
     let found : under octets o es ≡ Some c.in-Some.count.now = sym c.in-Some.ensures.value in
     let updates = (c.get_mut.follows.holds w).3 (ap is_some found) in
-    let more : w ≡ c.in-Some.count.now + 1 = (subst (λ r. SomeIff r (c.in-Some.count.now + 1 < 2 ^ 64) (c.in-Some.count.now + 1)) c.in_ok-count-in-Some.ensures.ok_part c.checked_add.ensures).1 in
-    raised octets o es (c.get_mut.follows.lender w).entries w (changed octets o es (c.get_mut.follows.lender w).entries (Some w) updates.1 updates.3)
-    (more ∙ ap (λ n. n + 1) (sym (ap (λ v. unwrap_or v 0) found)))
+    let more : w ≡ c.in-Some.count.now + c.args.more = (subst (λ r. SomeIff r (c.in-Some.count.now + c.args.more < 2 ^ 64) (c.in-Some.count.now + c.args.more)) c.in_ok-count-in-Some.ensures.ok_part c.checked_add.ensures).1 in
+    raised octets o es (c.get_mut.follows.lender w).entries w (changed octets o es (c.get_mut.follows.lender w).entries (Some w) updates.1 updates.3) c.args.more
+    (more ∙ ap (λ n. n + c.args.more) (sym (ap (λ v. unwrap_or v 0) found)))
 
 pub returns-in_ok-count-in-Some-clause-above_zero : goal.returns-in_ok-count-in-Some-clause-above_zero
 returns-in_ok-count-in-Some-clause-above_zero c =
@@ -47,5 +47,5 @@ returns-in_ok-count-in-Some-clause-above_zero c =
     let w = c.in_ok-count-in-Some.field-0 in
     let found : under octets o es ≡ Some c.in-Some.count.now = sym c.in-Some.ensures.value in
     let updates = (c.get_mut.follows.holds w).3 (ap is_some found) in
-    let more : w ≡ c.in-Some.count.now + 1 = (subst (λ r. SomeIff r (c.in-Some.count.now + 1 < 2 ^ 64) (c.in-Some.count.now + 1)) c.in_ok-count-in-Some.ensures.ok_part c.checked_add.ensures).1 in
-    written_above octets o es (c.get_mut.follows.lender w).entries w (changed octets o es (c.get_mut.follows.lender w).entries (Some w) updates.1 updates.3) (omega (arith, more))
+    let more : w ≡ c.in-Some.count.now + c.args.more = (subst (λ r. SomeIff r (c.in-Some.count.now + c.args.more < 2 ^ 64) (c.in-Some.count.now + c.args.more)) c.in_ok-count-in-Some.ensures.ok_part c.checked_add.ensures).1 in
+    written_above octets o es (c.get_mut.follows.lender w).entries w (changed octets o es (c.get_mut.follows.lender w).entries (Some w) updates.1 updates.3) (omega (arith, more, c.requires))

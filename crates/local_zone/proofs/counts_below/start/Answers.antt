@@ -12,5 +12,5 @@ returns-clause-ok c other =
     let es = c.args.counts.now.entries in
     let key : c.extend_from_slice.new.self.items ≡ c.args.octets.now = c.in_ok-extend_from_slice.ensures.items ∙ ap (λ (xs : List ℕ). xs ++ c.args.octets.now) c.new-key.ensures.items in
     let updates = c.in_ok-insert.ensures.updates in
-    changed octets c.extend_from_slice.new.self.items es c.insert.new.self.entries (Some 1) updates.1 updates.3 other
-    ∙ ap (λ (s : List ℕ). cond (pointwise nat_eq s other) (Some 1) (under octets other es)) key
+    changed octets c.extend_from_slice.new.self.items es c.insert.new.self.entries (Some c.args.count) updates.1 updates.3 other
+    ∙ ap (λ (s : List ℕ). cond (pointwise nat_eq s other) (Some c.args.count) (under octets other es)) key

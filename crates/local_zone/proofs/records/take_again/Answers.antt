@@ -5,5 +5,5 @@ use Rattle.local_zone.proofs.records.take_again.Goals as goal
 
 pub returns-in-Ok-clause-again : goal.returns-in-Ok-clause-again
 returns-in-Ok-clause-again c =
-    goes_out c.args.gaps.items c.args.records.now c.take_out.new.self c.in-Ok.removed c.requires.0 c.requires.1
+    goes_out c.args.gaps.items c.args.records.now c.take_out.new.records c.in-Ok.removed c.requires.0 c.requires.1
     (c.in-Ok.ensures.ok ∙ ap (λ (g : List ℕ). rest_of g c.args.records.now) c.as_slice.ensures.value) (c.in-Ok.ensures.removed ∙ ap (λ (g : List ℕ). at_gaps g c.args.records.now) c.as_slice.ensures.value)

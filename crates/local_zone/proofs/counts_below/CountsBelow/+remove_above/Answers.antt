@@ -9,9 +9,9 @@ octets k = k.items
 pub returns-in-Some : goal.returns-in-Some
 returns-in-Some t c z =
     let n = c.args.labels.now in
-    let p = c.octets_above.new.labels in
+    let p = c.octets_above_from.new.labels in
     let up = c.in-Some.ensures in
     let es = c.self.inside.counts.entries in
     let mid = c.lower.new.counts.entries in
-    less_above octets n p c.in-Some.above.now up.0 up.1 z (counted z c.args.self.now) (counted z (view_of octets n p c.in-Some.above.now up.0 up.1 mid)) (counted z c.remove_above.new.self)
-    (less_here octets n p c.in-Some.above.now up.0 up.1 c.args.self.now es mid c.self.view_is c.lower.ensures.count z) (c.remove_above.ensures z)
+    less_above octets n p c.in-Some.above.now up.0 up.1 c.args.least c.args.less up.2 z (counted z c.args.self.now) (counted z (view_of octets n p c.in-Some.above.now up.0 up.1 mid)) (counted z c.remove_above.new.self)
+    (less_here octets n p c.in-Some.above.now up.0 up.1 c.args.self.now es mid c.self.view_is c.args.less c.lower.ensures.count z) (c.remove_above.ensures z)

@@ -2,7 +2,7 @@ use Rattle.std.proofs.Common.{◌≡◌, ◌+◌, ℕ, List, ◌++◌, Vec, Glob
 use Rattle.dns_text.specs.declared.record.Record.{Record}
 use Rattle.local_zone.specs.declared.record.LocalRecord.{LocalRecord}
 use Rattle.local_zone.specs.declared.taken.Taken.{Taken}
-use Rattle.local_zone.specs.CountsBelow.{count_below, counted, AreCounted}
+use Rattle.local_zone.specs.CountsBelow.{count_below, counted, AreCounted, lies_below}
 use Rattle.local_zone.specs.Gaps.{records_of, put_back, AreApart}
 use Rattle.local_zone.specs.Index.{IsGrouped}
 use Rattle.local_zone.proofs.CountsBelowLaws.{counted_back}
@@ -28,6 +28,6 @@ invariant_of-self-2 c =
     = subst (λ gs. IsGrouped octets items (put_back taken left) (gs ++ c.reserve.new.self.entries)) (sym (ap (λ v. v.items) c.replace-groups.ensures.value))
     (subst (λ es. IsGrouped octets items (put_back taken left) (c.removed.inside.groups.items ++ es)) (sym entries) both) in (
       subst (λ (x : List Record). IsGrouped octets items x c.put_groups.new.owners.entries) (sym list_is) (c.put_groups.ensures (put_back taken left) now),
-      subst (λ (x : List Record). AreCounted x c.add_all.new.self) (sym list_is) (counted_back taken left c.self.inside.below c.add_all.new.self c.self.invariant.1
+      subst (λ (x : List Record). AreCounted x c.add_all.new.self) (sym list_is) (counted_back lies_below taken left c.self.inside.below c.add_all.new.self c.self.invariant.1
           (λ name. c.in_ok-add_all.ensures.ok name ∙ ap (λ (ts : List Taken). counted name c.self.inside.below + count_below name (records_of ts)) c.deref-2.ensures.value)),
     )

@@ -5,7 +5,7 @@ use Rattle.std.proofs.lemmas.List.{with_items_is}
 use Rattle.dns_text.specs.declared.record.Record.{Record}
 use Rattle.local_zone.specs.declared.record.LocalRecord.{LocalRecord}
 use Rattle.local_zone.specs.Change.{retimed_by}
-use Rattle.local_zone.specs.CountsBelow.{AreCounted}
+use Rattle.local_zone.specs.CountsBelow.{AreCounted, lies_below}
 use Rattle.local_zone.specs.Index.{IsGrouped}
 use Rattle.local_zone.specs.Tables.{is_of_set}
 use Rattle.local_zone.proofs.CountsBelowLaws.{counted_retimed}
@@ -30,5 +30,5 @@ invariant_of-self c =
     let is : items (with_items c.self.inside.list c.retime_each.new.records) ≡ map (retimed_by new) c.self.inside.list.items
     = with_items_is c.self.inside.list c.retime_each.new.records (c.retime_each.auto.records ∙ c.as_mut_slice.ensures.len) ∙ c.retime_each.ensures ∙ ap (λ (rs : List Record). map (retimed_by new) rs) c.as_mut_slice.ensures.value in (
       subst (λ (rs : List Record). IsGrouped octets items rs c.retime_index.new.owners.entries) (sym is) (c.retime_index.ensures c.self.inside.list.items c.self.invariant.0),
-      subst (λ (rs : List Record). AreCounted rs c.self.inside.below) (sym is) (counted_retimed c.self.inside.list.items new c.self.inside.below c.self.invariant.1),
+      subst (λ (rs : List Record). AreCounted rs c.self.inside.below) (sym is) (counted_retimed lies_below c.self.inside.list.items new c.self.inside.below c.self.invariant.1),
     )

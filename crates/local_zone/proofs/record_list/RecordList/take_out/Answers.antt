@@ -4,7 +4,7 @@ use Rattle.dns_name.specs.Labels.{octets_of}
 use Rattle.dns_text.specs.declared.record.Record.{Record}
 use Rattle.local_zone.specs.declared.record.LocalRecord.{LocalRecord}
 use Rattle.local_zone.specs.declared.taken.Taken.{Taken}
-use Rattle.local_zone.specs.CountsBelow.{count_below, counted, AreCounted}
+use Rattle.local_zone.specs.CountsBelow.{count_below, counted, AreCounted, lies_below}
 use Rattle.local_zone.specs.Gaps.{records_of, at_gaps, rest_of, AreApart, AreWithin}
 use Rattle.local_zone.specs.Index.{of_owner, under, IsGrouped}
 use Rattle.local_zone.proofs.CountsBelowLaws.{counted_left}
@@ -60,6 +60,6 @@ invariant_of-self-2 c =
     (subst (λ (ts : List Taken). AllByRecursion (λ (t : Taken). under octets (octets_of t.item.owner) c.move_groups.new.owners.entries ≡ None) ts) c.deref.ensures.value c.move_groups.ensures.gone)
     (λ owner none. c.move_groups.ensures.only owner (ap (λ (ts : List Taken). of_owner owner (records_of ts)) c.deref.ensures.value ∙ none) (ap (λ gs. under octets (octets_of owner) gs) c.in_ok-groups.ensures.items))).1 in (
       grouped,
-      counted_left before gaps c.cut_out.new.taken.items c.cut_out.new.list.items c.self.inside.below c.remove_all.new.self within taken_is left_is c.self.invariant.1
+      counted_left lies_below before gaps c.cut_out.new.taken.items c.cut_out.new.list.items c.self.inside.below c.remove_all.new.self within taken_is left_is c.self.invariant.1
           (λ name. c.remove_all.ensures name ∙ ap (λ (ts : List Taken). counted name c.self.inside.below - count_below name (records_of ts)) c.deref-2.ensures.value),
     )

@@ -11,4 +11,4 @@ invariant_of-self-in-Ok c =
     let before : Tables = record { zones = c.self.inside.zones; records = c.self.inside.records } in
     let none : reason_of_add c.args.new before ≡ None = ap (λ (new : Record). reason_of_add new before) (sym c.get.ensures) ∙ sym c.reason_of_add.ensures ∙ c.in_default.is in
     let implied = c.in-Ok.ensures.ok ∙ ap (λ (new : Record). zones_for new.owner c.self.inside.zones) c.get-2.ensures in
-    rw (implied, c.in_ok-added.ensures.ok) (add_is_sound c.args.new before c.self.invariant none)
+    (rw (implied, c.in_ok-added.ensures.ok) (add_is_sound c.args.new before c.self.invariant.0 none), c.in-Ok.ensures.zoned (c.in_ok-added.ensures.zoned c.self.invariant.1))

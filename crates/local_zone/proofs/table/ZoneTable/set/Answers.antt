@@ -10,4 +10,4 @@ invariant_of-self-2 c =
     let before : Tables = record { zones = c.self.inside.zones; records = c.self.inside.records } in
     let new : Zone = record { name = c.args.name; kind = c.args.kind } in
     let none : reason_of_set new before ≡ None = sym c.reason_of_set.ensures ∙ c.in_default.is in
-    rw (c.in_ok-zones.ensures.ok, c.in_ok-new.ensures) (set_is_sound new before c.self.invariant none)
+    (rw (c.in_ok-zones.ensures.ok, c.in_ok-new.ensures) (set_is_sound new before c.self.invariant.0 none), c.in_ok-zones.ensures.zoned c.self.invariant.1)

@@ -1,0 +1,42 @@
+use Rattle.std.proofs.Common.{◌≡◌, ℕ, List, Some, ap, sym, subst, ◌∙◌, insert, slice_get}
+use Rattle.named_list.specs.declared.turn.Turn.{Turn}
+use Rattle.named_list.specs.declared.turn.Turn.TheVariants.{With, Without}
+use Rattle.local_zone.specs.declared.zone.Zone.{Zone}
+use Rattle.local_zone.specs.Saved.{before_of}
+use Rattle.local_zone.specs.Tables.{AreTables, Tables}
+use Rattle.named_list.specs.Turn.{other_of, with_at, HasPlace}
+use Rattle.local_zone.proofs.ImpliedLaws.{get-insert}
+use Rattle.local_zone.proofs.table.ZoneTable.turn_in.Goals as goal
+
+pub invariant_of-self-in-Ok : goal.invariant_of-self-in-Ok
+invariant_of-self-in-Ok c =
+    let other : Tables = c.requires.takes.0 in
+    let now : Tables = record { zones = c.put_zone_in.new.zones; records = c.turn_over.new.records } in
+    let is : now ≡ other
+    = (λ i. record { zones = c.in_ok-put_zone_in.ensures.ok i; records = c.in-Ok.ensures.ok i }) ∙ ap (λ (t : Tables). before_of c.args.saved.now t) c.self.view_is ∙ c.requires.takes.1.gives in
+    (subst (λ (t : Tables). AreTables t) (sym is) c.requires.takes.1.sound, c.in-Ok.ensures.zoned (c.in_ok-put_zone_in.ensures.zoned c.self.invariant.1))
+
+pub invariant_of-self-in-Err : goal.invariant_of-self-in-Err
+invariant_of-self-in-Err c =
+    let before : Tables = record { zones = c.self.inside.zones; records = c.self.inside.records } in
+    let now : Tables = record { zones = c.turn_zone_out.new.zones; records = c.turn_over.new.records } in
+    let zones : c.turn_zone_out.new.zones ≡ c.self.inside.zones = c.turn_zone_out.ensures.list ∙ c.in_ok-put_zone_in.ensures.again.1 in
+    let is : now ≡ before = λ i. record { zones = zones i; records = c.in-Err.ensures.err.0 i } in
+    (subst (λ (t : Tables). AreTables t) (sym is) c.self.invariant.0, c.turn_zone_out.ensures.zoned (c.in-Err.ensures.zoned (c.in_ok-put_zone_in.ensures.zoned c.self.invariant.1)))
+
+-- the zone that went in comes out again, and the way is the one that it was
+pub returns-in-Err-clause-err : goal.returns-in-Err-clause-err
+returns-in-Err-clause-err c =
+    let zones : List Zone = c.self.inside.zones in
+    let way = c.in_ok-put_zone_in.ensures.without in
+    let place : ℕ = way.0 in
+    let zone : Zone = way.1.0 in
+    let was : c.args.saved.now.zones ≡ With place zone = way.1.1.0 in
+    let now : c.put_zone_in.new.turn ≡ Without place = way.1.1.1 in
+    let there : HasPlace (λ (z : Zone). z.name) (With place zone) c.args.self.now.zones = subst (λ (t : Turn Zone). HasPlace (λ (z : Zone). z.name) t c.args.self.now.zones) was c.requires.takes.1.fits in
+    let fits : HasPlace (λ (z : Zone). z.name) (With place zone) zones = subst (λ (t : Tables). HasPlace (λ (z : Zone). z.name) (With place zone) t.zones) (sym c.self.view_is) there in
+    let list : c.put_zone_in.new.zones ≡ insert zones place zone = c.in_ok-put_zone_in.ensures.ok ∙ ap (λ (t : Turn Zone). other_of t zones) was in
+    let got : slice_get c.put_zone_in.new.zones place ≡ Some zone = ap (λ (zs : List Zone). slice_get zs place) list ∙ get-insert zones place zone fits in
+    let back : c.turn_zone_out.new.turn ≡ c.args.saved.now.zones = c.turn_zone_out.ensures.taken place now ∙ ap (with_at place) got ∙ sym was in
+    let same : c.turn_zone_out.new.zones ≡ zones = c.turn_zone_out.ensures.list ∙ c.in_ok-put_zone_in.ensures.again.1 in
+    ((λ i. record { zones = same i; records = c.in-Err.ensures.err.0 i }) ∙ c.self.view_is, λ i. record { zones = back i; records = c.in-Err.ensures.err.1 i })
