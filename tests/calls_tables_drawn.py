@@ -1,17 +1,19 @@
-"""100,000 random changes of local zones and stubs, undos and redos, through `play journal`, compared with plain lists in Python.
+"""100,000 random changes of local zones and stubs, undos and redos, of the last or by ticket, through `play journal`, compared with
+plain lists in Python.
 
-A run keeps, for each change that can be undone or redone, the tables before and after it: `lib/model.py` computes
-the tables after a change, and the reason to refuse one. Most runs have few entries, which change often. Some begin with 5,000 of them.
+A run replays the changes that can be undone, from the tables before them: `lib/model.py` computes the tables after a change, the reason
+to refuse one, and what an undo or a redo moves. Most runs have few entries, which change often. Some begin with 5,000 of them.
 """
 
 import random
+from bisect import insort
 from collections import Counter
 from concurrent.futures import ThreadPoolExecutor
 from functools import lru_cache
 
 from lib.checks import Checks
 from lib.drawing import ADDRESSES, FORMS
-from lib.model import Tables, after, list_text, local, reason
+from lib.model import Tables, after, list_text, local, moved, reason
 from lib.programs import PLAY, run
 from lib.reading import ZONE_TYPES, said_by
 
@@ -23,13 +25,14 @@ LISTS = ("list_local_zones", "list_local_data", "list_stubs")
 # How many zones, records and stubs a large run begins with.
 SIZES = [(4_096, 20, 884), (20, 4_960, 20), (20, 3_956, 1_024), (4_000, 20, 980)]
 
-# How often each kind of change is drawn; `back` is some undos and some redos.
+# How often each kind of change is drawn; `back` is some undos and some redos, and `by_ticket` some of tickets.
 WEIGHTS = dict(
-    local_zone=14, local_zone_remove=7, local_data=26, local_data_remove=5, stub_add=10, stub_remove=5, back=20, undo=1, redo=2,
+    local_zone=14, local_zone_remove=7, local_data=26, local_data_remove=5, stub_add=10, stub_remove=5, back=20, by_ticket=6, undo=1,
+    redo=2,
 )
 
 KINDS = """
-ok, undone, redone, error nothing_to_undo, error nothing_to_redo
+ok, undone, redone, error nothing_to_undo, error nothing_to_redo, error not_kept, error buried N
 error below_redirect, error data_below, error cname_clash, error too_many
 unknown, local data, local nodata, local noname, local refuse, local drop
 """.strip().replace("\n", ", ").split(", ")
@@ -42,12 +45,16 @@ def said(line):
 
 
 class Lists:
-    """The tables, and the changes that can be undone or redone: each with its ticket and the tables before and after it."""
+    """The changes that can be undone or redone, by their tickets, and the tables before the first and after each of the done ones."""
 
     def __init__(self, limit):
         self.limit, self.tickets = limit, 0
-        self.tables = Tables()
-        self.done, self.undone = [], []
+        self.given, self.done, self.undone = {}, [], []
+        self.before, self.after_done = Tables(), []
+
+    @property
+    def tables(self):
+        return self.after_done[-1] if self.after_done else self.before
 
     def do(self, command):
         then = after(self.tables, command)
@@ -55,24 +62,31 @@ class Lists:
         if why:
             return f"error {why}"
         self.tickets += 1
-        self.done = (self.done + [(self.tickets, self.tables, then)])[-self.limit :]
+        self.given[self.tickets] = command
+        self.done.append(self.tickets)
+        self.after_done.append(then)
         self.undone = []
-        self.tables = then
+        if len(self.done) > self.limit:
+            self.done.pop(0)
+            self.before = self.after_done.pop(0)
         return f"ok {self.tickets}"
 
-    def undo(self):
-        if not self.done:
-            return "error nothing_to_undo"
-        self.undone.append(self.done.pop())
-        ticket, self.tables, _ = self.undone[-1]
-        return f"undone {ticket}"
-
-    def redo(self):
-        if not self.undone:
-            return "error nothing_to_redo"
-        self.done.append(self.undone.pop())
-        ticket, _, self.tables = self.done[-1]
-        return f"redone {ticket}"
+    def move(self, event):
+        """An undo or a redo. The done changes are replayed from the one that moved on."""
+        ticket, told = moved(self.given, event, self.done, self.undone)
+        if ticket is None:
+            return told
+        source, target = (self.done, self.undone) if event.verb == "undo" else (self.undone, self.done)
+        place = sum(other < ticket for other in self.done)
+        source.remove(ticket)
+        if event.verb == "undo":
+            target.append(ticket)
+        else:
+            insort(target, ticket)
+        del self.after_done[place:]
+        for other in self.done[place:]:
+            self.after_done.append(after(self.tables, self.given[other]))
+        return told
 
     def reply(self, line):
         """The lines of the reply to a line."""
@@ -82,16 +96,16 @@ class Lists:
         if event.verb == "look":
             answer = local(self.tables, event.what[1:])
             return [f"local {answer}" if answer else "unknown"]
-        return [self.do(event.what) if event.verb == "do" else getattr(self, event.verb)()]
+        return [self.do(event.what) if event.verb == "do" else self.move(event)]
 
 
 # ---- lines
 
 class Drawer:
-    """Draws lines about names of up to three labels."""
+    """Draws lines about names of up to three labels, and about the tickets that the lists have given."""
 
-    def __init__(self, draw, names):
-        self.draw, self.names = draw, names
+    def __init__(self, draw, names, lists):
+        self.draw, self.names, self.lists = draw, names, lists
 
     def name(self):
         return self.draw.choice(self.names)
@@ -110,8 +124,18 @@ class Drawer:
         if verb == "back":
             undos = self.draw.choice([1, 1, 1, 2, 3, 5])
             return ["undo"] * undos + ["redo"] * self.draw.choice([0, undos, self.draw.randint(0, undos)])
+        if verb == "by_ticket":
+            return self.by_ticket()
         words = {"local_zone": self.zone_type, "local_data": self.record, "stub_add": self.addresses}
         return [" ".join([verb, self.name(), *([words[verb]()] if verb in words else [])])]
+
+    def by_ticket(self):
+        """Undos of tickets up to the next, and redos of some of them."""
+        next_one = self.lists.tickets + 1
+        first = max(1, next_one - self.draw.choice([3, 8, self.lists.limit]))
+        tickets = [self.draw.randint(first, next_one) for _ in range(self.draw.choice([1, 2, 3, 5]))]
+        again = self.draw.sample(tickets, self.draw.randint(0, len(tickets)))
+        return [*(f"undo {ticket}" for ticket in tickets), *(f"redo {ticket}" for ticket in again)]
 
     def addresses(self):
         return " ".join(self.draw.choices(ADDRESSES, k=self.draw.choice([1, 1, 1, 2, 8, 9])))
@@ -156,7 +180,7 @@ def filled(lists, lines):
     events = [said_by(line, 0).what for line in lines]
     others = events[: -lists.limit]
     lists.tickets = len(others)
-    lists.tables = Tables(
+    lists.before = Tables(
         tuple(tuple(rest) for verb, *rest in others if verb == "local_zone"),
         tuple(tuple(rest) for verb, *rest in others if verb == "local_data"),
         tuple(tuple(rest) for verb, *rest in others if verb == "stub_add"),
@@ -172,7 +196,7 @@ def kind_of(line, reply):
         return None
     if words[0] == "local":
         return f"local {words[1] if len(words) == 2 else 'data'}"
-    return reply[0] if words[0] in ("error", "unknown") else words[0]
+    return " ".join("N" if word.isdigit() else word for word in words) if words[0] in ("error", "unknown") else words[0]
 
 
 def octets(lines):
@@ -189,7 +213,7 @@ def drawn_run(seed, size, counts):
         lines += filling(*size)
         wanted += filled(lists, lines)
         names, changes, each = many_names(draw, *size), LARGE, 60
-    for line in Drawer(draw, names).lines(changes, each):
+    for line in Drawer(draw, names, lists).lines(changes, each):
         reply = lists.reply(line)
         lines.append(line)
         wanted += reply

@@ -13,7 +13,7 @@ SCRIPTS, SEED = 200, 20_261_122
 # Every kind of reply has to occur.
 KINDS = """
 ok, taken, outranked, swept, forgotten, ok N, ok N with a zone of its own, undone N, redone N
-error nothing_to_undo, error nothing_to_redo
+error nothing_to_undo, error nothing_to_redo, error not_kept, error buried N
 error below_redirect, error data_below, error cname_clash, error too_many
 error unknown, error missing, error bad_name, error bad_type, error bad_data, error bad_address, error too_long
 fault bad_moment, fault full

@@ -118,6 +118,9 @@ undo
 undo
 redo
 redo
+undo 1
+undo 1
+redo 1
 admit 4 a. 60 A 192.0.2.2
 noname n. 60 . ns. host. 1 2 3 4 300
 undo
@@ -133,14 +136,14 @@ look n. TXT
 admit 4 b. 60 A 192.0.2.5
 look b. A
 """
-FLUSHES, TURNS, NEWER, FRESH = slice(2, 4), slice(4, 11), (11, 12, 14, 15, 17), 23
+FLUSHES, TURNS, NEWER, FRESH = slice(2, 4), slice(4, 14), (14, 15, 17, 18, 20), 26
 
 
 def check_ways_back(checks):
     """After the two flushes every allocation is refused. Sweeps, undos and redos take none."""
     lines = HELD_TEXT.splitlines()[: TURNS.stop]
     done = run([RESOLVER, "script"], b"".join(line + b"\n" for line in lines), preload="refuse", REFUSE_AFTER=FLUSHES.stop)
-    wanted = b"taken,taken,ok 1,ok 2,swept,undone 2,redone 2,undone 2,undone 1,redone 1,redone 2".split(b",")
+    wanted = b"taken,taken,ok 1,ok 2,swept,undone 2,redone 2,undone 2,undone 1,redone 1,redone 2,undone 1,error not_kept,redone 1".split(b",")
     checks.equal("without memory after two flushes", (done.out.splitlines(), done.status), (wanted, 0))
     lost = run([RESOLVER, "script"], HELD_TEXT, preload="refuse", REFUSE_AFTER=FLUSHES.stop).out.splitlines()
     is_refused = lost[NEWER[0]] == b"error no_memory" and lost[FRESH] == b"error no_memory"

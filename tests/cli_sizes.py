@@ -11,7 +11,7 @@ from lib.programs import RESOLVER, run, run_measured
 
 
 def flushes_undone():
-    """300 flushes. The newest 256 of them are undone, the newest first, and then redone."""
+    """300 flushes. The newest 256 of them are undone, the newest first, and then redone; then every other one by its ticket."""
     for place in range(300):
         yield f"admit 4 n{place}.test. 60 A {address(place)}", "taken"
     for place in range(300):
@@ -26,6 +26,19 @@ def flushes_undone():
     for ticket in range(45, 301):
         yield "redo", f"redone {ticket}"
     yield "redo", "error nothing_to_redo"
+    for place in range(300):
+        yield f"look n{place}.test. A", "unknown"
+    # By ticket, every other of the 256, in an order that jumps about.
+    tickets = [45 + 14 * place % 256 for place in range(128)]
+    for ticket in tickets:
+        yield f"undo {ticket}", f"undone {ticket}"
+    for place in range(300):
+        shown = f"found 4 60 n{place}.test. A {address(place)}" if place >= 44 and place % 2 == 0 else "unknown"
+        yield f"look n{place}.test. A", shown
+    yield "undo 44", "error not_kept"
+    yield "list_buried", "end"
+    for ticket in sorted(tickets):
+        yield f"redo {ticket}", f"redone {ticket}"
     for place in range(300):
         yield f"look n{place}.test. A", "unknown"
 

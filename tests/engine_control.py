@@ -33,6 +33,15 @@ AT_A_BOOK = [
     (b"local_data_remove a.\nlocal_zone_remove a.\nlist_local_data\n", b"ok 1\nok 2\nend\n", END),
     (b"stub_add a. 192.0.2.1\nlist_stubs\nstub_remove a.\n", b"ok 1\na. 192.0.2.1@53\nend\nok 2\n", END),
     (b"flush a.\nundo\nredo\nundo\nlist_commands\n", b"ok 1\nundone 1\nredone 1\nundone 1\n1 undone flush a.\nend\n", END),
+    # By ticket: a flush in any order, and of one table the later command first.
+    (b"flush a.\nflush b.\nundo 1\nundo\nredo 1\nredo\n", b"ok 1\nok 2\nundone 1\nundone 2\nredone 1\nredone 2\n", END),
+    (
+        b"local_zone a. deny\nflush a.\nlocal_zone b. deny\nlist_buried\nundo 1\nundo 3\nundo 1\nlist_buried\nredo 3\nredo 1\nredo 1\nundo 4\n",
+        b"ok 1\nok 2\nok 3\n1 by 3\nend\nerror buried 3\nundone 3\nundone 1\n3 by 1\nend\nerror buried 1\nredone 1\nerror not_kept\nerror not_kept\n",
+        END,
+    ),
+    (b"undo 0\nredo 0\nundo x\nundo 1 2\nredo 4611686018427387904\nredo 4611686018427387903\nlist_buried x\n",
+     b"error bad_data\n" * 5 + b"error not_kept\nerror bad_data\n", END),
     (b"undo\nredo\nlook\nlook a..b A\nlook a. NOPE\n", b"error nothing_to_undo\nerror nothing_to_redo\nerror missing\nerror bad_name\nerror bad_type\n", END),
     (b"x" * 1_025 + b"\n" + b"#" * 1_025 + b"\nundo\n", b"error too_long\nerror nothing_to_undo\n", END),
 ]

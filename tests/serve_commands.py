@@ -55,6 +55,7 @@ def check_obeyed(checks, folder):
         # Lines that change nothing, and an undo.
         (f"{ZONE}\n{RECORD}\nlist_local_zones\nlook nas.test. A\nsweep\nundo".encode(), [], f"1 done {ZONE} / 2 undone {RECORD} / end"),
         (f"{RECORD}\nundo\nredo\n{ZONE}\nundo\n".encode(), [], f"1 done {RECORD} / 2 undone {ZONE} / end"),
+        (f"flush a.\n{ZONE}\nundo 1\nredo 1\nundo 1\n".encode(), [], f"1 undone flush a. / 2 done {ZONE} / end"),
         (f"{ZONE}\n{RECORD}\n".encode(), ["--journal", "1"], f"2 done {RECORD} / end"),
         # More than one read takes, and more calls than the call log has.
         (b"\n" * 10_000 + b"#" + b"x" * 100_000 + f"\n{ZONE}\n{RECORD}".encode(), ["--record", "1"], LISTED),
@@ -82,7 +83,9 @@ def check_refused(checks, folder):
         (f"{ZONE}\nundo\nundo\n{ZONE}\n".encode(), 3, b"error nothing_to_undo: undo"),
         (b"# one\n\nlocal_zone a. block\nfrob\n", 3, b"error bad_type: local_zone a. block"),
         (b"flush a..b\r\n", 1, b"error bad_name: flush a..b"),
-        (b"undo 3\n", 1, b"error bad_data: undo 3"),
+        (b"undo x\n", 1, b"error bad_data: undo x"),
+        (b"undo 3\n", 1, b"error not_kept: undo 3"),
+        (f"{ZONE}\nlocal_zone b. deny\nundo 1\n".encode(), 3, b"error buried 2: undo 1"),
         (b"local_zone a. redirect\nlocal_data x.a. A 192.0.2.1\n", 2, b"error below_redirect: local_data x.a. A 192.0.2.1"),
         # What only a script has, and what would end the service.
         (b"at 5\n", 1, b"error unknown: at 5"),

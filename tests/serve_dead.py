@@ -138,10 +138,13 @@ def check_all(checks):
 
 
 def check_tried_anew(checks, over):
-    """A server that is passed over is tried by the first question after a command about its stub, and after the undo of one."""
+    """A server that is passed over is tried by the first question after a command about its stub, and after the undo and the redo of one."""
     zone = {"*": None}
     with NameServers({DEAD[0]: zone}) as servers, Service([f"{DEAD[0]}@{servers.port}"]) as service:
-        for name, line, told in (("a.test.", f"stub_add test. {DEAD[0]}@{servers.port}", "ok 1"), ("b.test.", "undo", "undone 1")):
+        stub = f"stub_add test. {DEAD[0]}@{servers.port}"
+        for name, line, told in (
+            ("a.test.", stub, "ok 1"), ("b.test.", "undo", "undone 1"), ("c.test.", "redo 1", "redone 1"), ("d.test.", "undo 1", "undone 1"),
+        ):
             zone["*"] = None
             checks.equal(f"{over}, before {line}", service.ask(name, "A", over).words(), FAILED)
             zone["*"] = good

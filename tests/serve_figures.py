@@ -193,6 +193,7 @@ def check_book(checks):
                 f"local_zone z{place}. static", f"local_zone_remove z{place}.", f"local_data a.z{place}. A 192.0.2.{turn}",
                 f"local_data_remove a.z{place}.", f"stub_add s{place}. 192.0.2.1", f"stub_remove s{place}.", "flush_zone .",
                 "undo", "undo", "undo", "redo", "redo", "local_zone z. redirect", "look a.z1. A", "sweep",
+                *(f"{word} {max(1, tickets - drawn.randrange(5))}" for word in ("undo", "undo", "redo", "redo")),
             ])
             told = control.tell(line)
             tickets += told.startswith("ok ")

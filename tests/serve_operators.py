@@ -246,10 +246,13 @@ def think_alone():
 
 
 def check_operators_at_once(checks):
-    """Fifty operators at once are all obeyed, each line once."""
+    """Fifty operators at once are all obeyed, each line once. Then each gives a flush, and takes back its own."""
     with Service(["192.0.2.1"]) as service, ThreadPoolExecutor(50) as pool:
         told = list(pool.map(lambda place: service.obey(f"local_zone z{place}. static")[0], range(50)))
         checks.equal("fifty operators", sorted(told), sorted(f"ok {ticket}" for ticket in range(1, 51)))
+        tickets = [words[0].split()[1] for words in pool.map(lambda place: service.obey(f"flush n{place}."), range(50))]
+        undone = list(pool.map(lambda ticket: service.obey(f"undo {ticket}")[0], tickets))
+        checks.equal("fifty operators: each takes back its own", undone, [f"undone {ticket}" for ticket in tickets])
         checks.equal("fifty operators: stopped", service.stop(), STOPPED)
 
 

@@ -21,7 +21,8 @@ FORMS = {
 }
 ADDRESSES = "127.0.0.1 127.0.0.1@5353 ::1 2001:db8::7@5300".split()
 HINTS = "198.51.100.1 198.51.100.2@5301 2001:db8::9".split()
-LISTS = "list_local_zones list_local_data list_stubs list_commands".split()
+LISTS = "list_local_zones list_local_data list_stubs list_commands list_buried".split()
+COMMANDS = tuple("local_zone local_data stub_ flush".split())
 
 # Lines with faults of every kind.
 WRONG = """
@@ -44,8 +45,10 @@ local_zone a.test. statics
 nodata a.test. 60 OPT test. a. b. 1 2 3 4 5
 noname a.test. 0 test. a. b. 1 2 3 4 5
 noname a.test. 60 test. a. b. 1 2 3 4
-undo 3
-redo 1
+undo 0
+undo x
+redo 1 2
+redo 4611686018427387904
 sweep now
 list_commands all
 servers a.test. b.test.
@@ -69,11 +72,11 @@ at 1 2
 WEIGHTS = [
     dict(
         at=6, clock=1, admit=16, ns=8, denial=6, look=16, servers=8, flush=7,
-        stub=4, zone=2, record=3, list=5, back=5, sweep=1, forget=1, oldest=1, wrong=2,
+        stub=4, zone=2, record=3, list=5, back=5, by_ticket=4, sweep=1, forget=1, oldest=1, wrong=2,
     ),
-    dict(at=6, clock=4, admit=20, denial=8, look=20, flush=12, flushed_type=4, list=1, back=6, sweep=4, forget=4, oldest=4, wrong=1),
-    dict(at=6, admit=4, ns=24, denial=3, servers=32, flush=4, stub=7, list=2, back=6),
-    dict(at=2, admit=4, look=20, zone=12, record=24, stub=4, list=10, back=8, wrong=1),
+    dict(at=6, clock=4, admit=20, denial=8, look=20, flush=12, flushed_type=4, list=1, back=6, by_ticket=6, sweep=4, forget=4, oldest=4, wrong=1),
+    dict(at=6, admit=4, ns=24, denial=3, servers=32, flush=4, stub=7, list=2, back=6, by_ticket=4),
+    dict(at=2, admit=4, look=20, zone=12, record=24, stub=4, list=10, back=8, by_ticket=8, wrong=1),
 ]
 OFTEN = [3, 3, 2, 2]
 
@@ -83,13 +86,16 @@ class Drawer:
         self.draw = draw
         self.weights = draw.choices(WEIGHTS, OFTEN)[0]
         self.moment = 0
+        self.given = 0  # the commands so far, refused ones too
         self.met = [("a.test.", "A")]
         self.next = []
 
     def line(self):
         if not self.next:
             self.next = getattr(self, self.draw.choices(list(self.weights), list(self.weights.values()))[0])()
-        return self.next.pop(0)
+        line = self.next.pop(0)
+        self.given += line.startswith(COMMANDS)
+        return line
 
     # ---- words
 
@@ -186,6 +192,13 @@ class Drawer:
         undos = self.draw.choice([1, 1, 2, 3])
         seen = [self.draw.choice([self.look, self.look, self.list])() for _ in range(2)]
         return ["undo"] * undos + seen[0] + ["redo"] * self.draw.randint(0, undos) + seen[1]
+
+    def by_ticket(self):
+        """Undos and redos of tickets, with a lookup or a list after them. The tickets are of late commands, if few were refused."""
+        tickets = [self.draw.randint(self.given // 2 + 1, self.given + 1) for _ in range(self.draw.choice([1, 2, 3, 4]))]
+        seen = [self.draw.choice([self.look, self.look, self.list])() for _ in range(2)]
+        again = self.draw.sample(tickets, self.draw.randint(0, len(tickets)))
+        return [*(f"undo {ticket}" for ticket in tickets), *seen[0], *(f"redo {ticket}" for ticket in again), *seen[1]]
 
     def sweep(self):
         return ["sweep"]

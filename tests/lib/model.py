@@ -32,20 +32,59 @@ def tickets(history):
     return sum(entry.ticket is not None for entry in history)
 
 
+def given_in(history):
+    """The accepted commands by their tickets."""
+    return {entry.ticket: entry.event.what for entry in history if entry.ticket is not None}
+
+
+def table_of(command):
+    """The table that a command changes: that of local zones and records, or that of stubs. A flush changes none."""
+    word = command[0]
+    return None if word.startswith("flush") else "stubs" if word.startswith("stub") else "local"
+
+
+def in_the_way(given, event, done, undone):
+    """The commands that have to be undone, or redone, before the one that an undo or a redo names."""
+    own = table_of(given[event.what])
+    later = event.verb == "undo"
+    return [t for t in (done if later else undone) if (t > event.what) == later and own is not None and table_of(given[t]) == own]
+
+
+def moved(given, event, done, undone):
+    """The ticket that an undo or a redo moves, if any, and the reply to it."""
+    reached, word = {"undo": (done, "undone"), "redo": (undone, "redone")}[event.verb]
+    ticket = event.what
+    if ticket is None:
+        return (reached[-1], f"{word} {reached[-1]}") if reached else (None, f"error nothing_to_{event.verb}")
+    if ticket not in reached:
+        return None, "error not_kept"
+    others = [other for other in in_the_way(given, event, done, undone) if other != ticket]
+    if others:
+        return None, f"error buried {max(others) if event.verb == 'undo' else min(others)}"
+    return ticket, f"{word} {ticket}"
+
+
 def marks(bound, history):
-    """The tickets that can be undone, that can be redone, and that are struck."""
-    done, undone, struck = [], [], set()
+    """The tickets that can be undone, in their order; those that can be redone, the one undone last at the end; those that are struck."""
+    given, done, undone, struck = {}, [], [], set()
     for entry in history:
-        verb = entry.event.verb
+        event = entry.event
         if entry.ticket is not None:
+            given[entry.ticket] = event.what
             done = (done + [entry.ticket])[-bound:]
             undone = []
-        elif verb == "undo" and done:
-            undone.append(done.pop())
-            struck.add(undone[-1])
-        elif verb == "redo" and undone:
-            done.append(undone.pop())
-            struck.remove(done[-1])
+        elif event.verb == "undo":
+            ticket = moved(given, event, done, undone)[0]
+            if ticket is not None:
+                done.remove(ticket)
+                undone.append(ticket)
+                struck.add(ticket)
+        elif event.verb == "redo":
+            ticket = moved(given, event, done, undone)[0]
+            if ticket is not None:
+                undone.remove(ticket)
+                done = sorted([*done, ticket])
+                struck.remove(ticket)
     return done, undone, struck
 
 
@@ -427,9 +466,20 @@ def command_text(command):
 
 def commands_text(settings, history):
     done, undone, _ = marks(settings.journal, history)
-    given = {entry.ticket: entry.event.what for entry in history}
+    given = given_in(history)
     told = {**{ticket: "done" for ticket in done}, **{ticket: "undone" for ticket in undone}}
     return [f"{ticket} {told[ticket]} {command_text(given[ticket])}" for ticket in sorted(told)]
+
+
+def buried_text(settings, history):
+    """The commands that cannot be undone, or redone, before another of their table, each with that one."""
+    done, undone, _ = marks(settings.journal, history)
+    given, lines = given_in(history), []
+    for ticket in sorted([*done, *undone]):
+        event = Event("undo" if ticket in done else "redo", 0, ticket)
+        reply = moved(given, event, done, undone)[1].split()
+        lines += [f"{ticket} by {reply[2]}"] if reply[:2] == ["error", "buried"] else []
+    return lines
 
 
 def list_text(tables, word):
@@ -458,6 +508,8 @@ def seen_text(settings, history, entries, ask, moment):
         return [" ".join(["servers", name_text(zone), source, *addrs, *(["|", *missing] if missing else [])])]
     if word == "list_commands":
         return commands_text(settings, history) + ["end"]
+    if word == "list_buried":
+        return buried_text(settings, history) + ["end"]
     if word == "oldest":
         name = oldest(settings.journal, history, moment)
         return ["unknown" if name is None else f"oldest {name_text(name)}"]
@@ -472,8 +524,7 @@ def reply_text(settings, history, event):
     if event.verb == "forget":
         return ["forgotten"], None
     if event.verb in ("undo", "redo"):
-        reached = marks(settings.journal, history)[event.verb == "redo"]
-        return [f"{event.verb.replace('do', 'done')} {reached[-1]}" if reached else f"error nothing_to_{event.verb}"], None
+        return [moved(given_in(history), event, *marks(settings.journal, history)[:2])[1]], None
     entries = standing(settings.journal, history)
     if event.verb == "look":
         return seen_text(settings, history, entries, event.what, moment), None

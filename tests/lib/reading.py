@@ -10,6 +10,7 @@ from dataclasses import dataclass
 LONGEST_LINE = 1_024
 LONGEST_TTL, LONGEST_NEGATIVE_TTL = 86_400, 3_600
 GREATEST_TTL = 2**31 - 1
+MOST_TICKETS = 2**62 - 1
 
 TYPES = {
     "A": 1, "NS": 2, "CNAME": 5, "SOA": 6, "PTR": 12, "MX": 15, "TXT": 16, "AAAA": 28, "SRV": 33, "NAPTR": 35, "DNAME": 39,
@@ -122,7 +123,7 @@ class Find:
 
 @dataclass(frozen=True)
 class Event:
-    """An admission of a find, a lookup with its question, `sweep`, `forget` with a name, `do` with a command, `undo` or `redo`."""
+    """An admission of a find, a lookup with its question, `sweep`, `forget` with a name, `do` with a command, `undo` or `redo` of the last or of a ticket."""
 
     verb: str
     moment: int
@@ -134,7 +135,7 @@ class Event:
 # The least number of words of each line.
 LEAST = {
     "at": 1, "admit": 5, "nodata": 5, "noname": 4, "forget": 1, "look": 2, "servers": 1, "oldest": 0, "sweep": 0, "undo": 0,
-    "redo": 0, "list_local_zones": 0, "list_local_data": 0, "list_stubs": 0, "list_commands": 0,
+    "redo": 0, "list_local_zones": 0, "list_local_data": 0, "list_stubs": 0, "list_commands": 0, "list_buried": 0,
     "local_zone": 2, "local_zone_remove": 1, "local_data": 3, "local_data_remove": 1,
     "stub_add": 2, "stub_remove": 1, "flush": 1, "flush_type": 2, "flush_zone": 1,
 }
@@ -199,9 +200,12 @@ def command_in(verb, words):
 
 def event_in(verb, words, moment):
     """The event of a line that has all its words."""
-    if verb in ("undo", "redo", "sweep"):
+    if verb == "sweep":
         none_left(words)
         return Event(verb, moment)
+    if verb in ("undo", "redo"):
+        none_left(words[1:])
+        return Event(verb, moment, number_in(words[0], 1, MOST_TICKETS) if words else None)
     if verb == "forget":
         owner = name_in(words[0])
         none_left(words[1:])

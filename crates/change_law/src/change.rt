@@ -30,6 +30,10 @@ pub trait Change: Drop {
     /// Its description.
     ghost told: { Self → Self.World.Told };
 
+    /// The number of the table that it changes. A change of cells has none.
+    fn table(&self) -> Option<u8>
+        ensures { result ≡ table self.now };
+
     /// Makes the change under a new ticket. After that nothing can be redone.
     fn apply(
         self,

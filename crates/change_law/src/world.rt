@@ -63,6 +63,10 @@ pub trait World: Drop {
     /// Whether the place of a pair counts: that of the finds of one owner and scope. As many count as cells are stored.
     ghost counts: { Self → (Labels × Scope) → Bool };
 
+    /// The number of the table of a change, by the data that it saved. A change of cells has none.
+    fn table(saved: &Self::Saved) -> Option<u8>
+        ensures { result ≡ table saved.now };
+
     /// Admits a find, to each face separately. It is `Full` only if the world stores as many cells as it may.
     fn admit(&mut self, find: SharedFind, moment: u64) -> Result<Fate, WorldFault>
         ensures told { IfOk result (λ fate. fate ≡ fate_in (shown self.old) find moment find.scope) }

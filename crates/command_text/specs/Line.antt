@@ -1,18 +1,18 @@
 -- Lines: the first word is a command, and the words after it are the command's.
-use Rattle.std.specs.Prelude.{◌≡◌, ◌≤◌, ℕ, ◌-◌, ◌^◌, Bool, true, false, nat_lt, ◌==◌, Option, Some, None, Result, Ok, Err, is_ok, List, [], ◌∷◌, length, if◌then◌else◌}
+use Rattle.std.specs.Prelude.{◌≡◌, ◌≤◌, ℕ, ◌-◌, ◌^◌, Bool, true, false, nat_lt, ◌==◌, Option, Some, None, is_some, Result, Ok, Err, is_ok, List, [], ◌∷◌, length, if◌then◌else◌}
 use Rattle.streams.specs.declared.held_line.TheConstants.{LONGEST_LINE}
 use Rattle.dns_name.specs.Results.{◌>>=◌, or_fault}
 use Rattle.dns_text.specs.Word.{next_word}
 use Rattle.dns_text.specs.Number.{number_in}
-use Rattle.history.specs.declared.event.Ask.TheVariants.{Answer, Servers as ServersAsk, Zones, Records, Stubs, Commands as CommandsAsk, Oldest as OldestAsk}
+use Rattle.history.specs.declared.event.Ask.TheVariants.{Answer, Servers as ServersAsk, Zones, Records, Stubs, Commands as CommandsAsk, Buried as BuriedAsk, Oldest as OldestAsk}
 use Rattle.history.specs.declared.event.Command.TheVariants.{Flush as FlushCommand, FlushType as FlushTypeCommand, FlushZone as FlushZoneCommand}
 use Rattle.command_text.specs.declared.line.Line.{Line}
 use Rattle.command_text.specs.declared.line.Line.TheVariants.{Silent, At as AtLine, Admit as AdmitLine, Deny as DenyLine, Request as RequestLine, Stop as StopLine}
-use Rattle.command_text.specs.declared.request.Request.TheVariants.{Look as LookRequest, Sweep as SweepRequest, Forget as ForgetRequest, Do as DoRequest, Undo as UndoRequest, Redo as RedoRequest}
+use Rattle.command_text.specs.declared.request.Request.TheVariants.{Look as LookRequest, Sweep as SweepRequest, Forget as ForgetRequest, Do as DoRequest, Undo as UndoRequest, Redo as RedoRequest, UndoOf as UndoOfRequest, RedoOf as RedoOfRequest}
 use Rattle.command_text.specs.declared.fault.LineFault.{LineFault}
 use Rattle.command_text.specs.declared.fault.LineFault.TheVariants.{Unknown, BadData, TooLong}
 use Rattle.command_text.specs.declared.words.Verb.{Verb}
-use Rattle.command_text.specs.declared.words.Verb.TheVariants.{At, Admit, NoData, NoName, Forget, Oldest, Look, Servers, Sweep, Flush, FlushType, FlushZone, LocalZone, LocalZoneRemove, LocalData, LocalDataRemove, StubAdd, StubRemove, ListLocalZones, ListLocalData, ListStubs, ListCommands, Undo, Redo, Stop}
+use Rattle.command_text.specs.declared.words.Verb.TheVariants.{At, Admit, NoData, NoName, Forget, Oldest, Look, Servers, Sweep, Flush, FlushType, FlushZone, LocalZone, LocalZoneRemove, LocalData, LocalDataRemove, StubAdd, StubRemove, ListLocalZones, ListLocalData, ListStubs, ListCommands, ListBuried, Undo, Redo, Stop}
 use Rattle.command_text.specs.declared.words.Channel.{Channel}
 use Rattle.command_text.specs.Words.{verb_in}
 use Rattle.command_text.specs.Parts.{word_in, ends, question_words, question_in, only_name}
@@ -39,6 +39,29 @@ at_in text = do
   moment ← or_fault BadData (number_in (2 ^ 64 - 1) n.0)
   end ← ends n.1
   Ok (AtLine moment)
+
+-- A ticket: from 1 to 2^62 - 1.
+abbrev pub given_ticket : Option ℕ → Option ℕ
+given_ticket None = None
+given_ticket (Some n) = if n == 0 then None else Some n
+
+-- A ticket, and no more.
+unfoldable pub ticket_in : List ℕ → Result ℕ LineFault
+ticket_in text = do
+  n ← word_in text
+  ticket ← or_fault BadData (given_ticket (number_in (2 ^ 62 - 1) n.0))
+  end ← ends n.1
+  Ok ticket
+
+-- `undo`: undoes the newest command. `undo N`: undoes that of a ticket.
+unfoldable pub undo_in : List ℕ → Result Line LineFault
+undo_in text =
+    if is_some (next_word text) then (ticket_in text >>= λ ticket. Ok (RequestLine (UndoOfRequest ticket))) else Ok (RequestLine UndoRequest)
+
+-- `redo`: redoes the command that was undone last. `redo N`: redoes that of a ticket.
+unfoldable pub redo_in : List ℕ → Result Line LineFault
+redo_in text =
+    if is_some (next_word text) then (ticket_in text >>= λ ticket. Ok (RequestLine (RedoOfRequest ticket))) else Ok (RequestLine RedoRequest)
 
 -- `admit RANK NAME TTL TYPE DATA [| DATA]..`: a set that was found.
 unfoldable pub admit_in : List ℕ → Result Line LineFault
@@ -157,8 +180,9 @@ said_by ListLocalZones text = alone (RequestLine (LookRequest Zones)) text
 said_by ListLocalData text = alone (RequestLine (LookRequest Records)) text
 said_by ListStubs text = alone (RequestLine (LookRequest Stubs)) text
 said_by ListCommands text = alone (RequestLine (LookRequest CommandsAsk)) text
-said_by Undo text = alone (RequestLine UndoRequest) text
-said_by Redo text = alone (RequestLine RedoRequest) text
+said_by ListBuried text = alone (RequestLine (LookRequest BuriedAsk)) text
+said_by Undo text = undo_in text
+said_by Redo text = redo_in text
 said_by Stop text = alone StopLine text
 
 -- Reads a line. It is unknown if it has no word, or if its first word is no command of the channel.
@@ -201,6 +225,7 @@ takes_by ListLocalZones text = false
 takes_by ListLocalData text = false
 takes_by ListStubs text = false
 takes_by ListCommands text = false
+takes_by ListBuried text = false
 takes_by Undo text = false
 takes_by Redo text = false
 takes_by Stop text = false

@@ -21,6 +21,7 @@ use Rattle.local_zone.specs.declared.local_answer.Local.TheVariants as local
 use Rattle.local_zone.specs.declared.zone.Zone.{Zone}
 use Rattle.local_zone.specs.ZoneType.{word_of}
 use Rattle.stub_table.specs.declared.stub.Stub.{Stub}
+use Rattle.history.specs.declared.event.BuriedCommand.{BuriedCommand}
 use Rattle.history.specs.declared.event.Journalled.{Journalled}
 use Rattle.history.specs.declared.servers.Servers.{Servers as ServersOf}
 use Rattle.history.specs.declared.servers.Origin.{Origin}
@@ -28,9 +29,9 @@ use Rattle.history.specs.declared.servers.Origin.TheVariants as source
 use Rattle.history.specs.declared.event.Reason.{Reason}
 use Rattle.history.specs.declared.event.Reason.TheVariants.{BelowRedirect, DataBelow, CnameClash, TooMany}
 use Rattle.history.specs.declared.event.Seen.{Seen as Sight}
-use Rattle.history.specs.declared.event.Seen.TheVariants.{Unknown as NothingHeld, Held, Local as LocalSeen, Servers, Zones, Records, Stubs, Commands, Oldest}
+use Rattle.history.specs.declared.event.Seen.TheVariants.{Unknown as NothingHeld, Held, Local as LocalSeen, Servers, Zones, Records, Stubs, Commands, Buried as BuriedSeen, Oldest}
 use Rattle.history.specs.declared.event.Reply.{Reply}
-use Rattle.history.specs.declared.event.Reply.TheVariants.{Taken, Outranked, Swept, Forgotten, Seen, Done, Refused, Undone, Redone, NothingToUndo, NothingToRedo}
+use Rattle.history.specs.declared.event.Reply.TheVariants.{Taken, Outranked, Swept, Forgotten, Seen, Done, Refused, Undone, Redone, NothingToUndo, NothingToRedo, NotKept, Buried}
 use Rattle.history.specs.declared.book.StepFault.{StepFault}
 use Rattle.history.specs.declared.book.StepFault.TheVariants.{BadMoment, CountEnded, Full, NoMemory as StepNoMemory}
 use Rattle.history.specs.declared.desk.DeskFault.{DeskFault}
@@ -101,6 +102,10 @@ state_text false = codes " undone "
 abbrev pub journalled_line : Journalled → List ℕ
 journalled_line j = with_end (decimal j.ticket ++ state_text j.done ++ command_words j.command)
 
+-- TICKET by TICKET, of a command and of the one that must be undone, or redone, before it.
+abbrev pub buried_line : BuriedCommand → List ℕ
+buried_line b = with_end (decimal b.ticket ++ codes " by " ++ decimal b.by)
+
 -- SOURCE: where the addresses of the servers come from.
 abbrev pub source_text : Origin → List ℕ
 source_text source.Hints = codes "hints"
@@ -135,6 +140,7 @@ seen_text (Zones zones) = flat_map zone_line zones ++ codes "end"
 seen_text (Records records) = flat_map record_line records ++ codes "end"
 seen_text (Stubs stubs) = flat_map stub_line stubs ++ codes "end"
 seen_text (Commands commands) = flat_map journalled_line commands ++ codes "end"
+seen_text (BuriedSeen buried) = flat_map buried_line buried ++ codes "end"
 seen_text (Oldest name) = oldest_text name
 
 -- Why a command is refused.
@@ -158,6 +164,7 @@ is_long (Seen (Zones zones)) = true
 is_long (Seen (Records records)) = true
 is_long (Seen (Stubs stubs)) = true
 is_long (Seen (Commands commands)) = true
+is_long (Seen (BuriedSeen buried)) = true
 is_long (Seen (Oldest name)) = is_some name
 is_long _ = false
 
@@ -174,6 +181,8 @@ reply_text (Undone ticket) = with_end (codes "undone " ++ decimal ticket)
 reply_text (Redone ticket) = with_end (codes "redone " ++ decimal ticket)
 reply_text NothingToUndo = with_end (codes "error nothing_to_undo")
 reply_text NothingToRedo = with_end (codes "error nothing_to_redo")
+reply_text NotKept = with_end (codes "error not_kept")
+reply_text (Buried ticket) = with_end (codes "error buried " ++ decimal ticket)
 
 -- Why a book did not take an event.
 abbrev pub fault_text : StepFault → List ℕ

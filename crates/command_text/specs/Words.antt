@@ -3,7 +3,7 @@ use Rattle.std.specs.Prelude.{ℕ, Bool, true, false, List, [], ◌∷◌, ◌++
 use Rattle.std.specs.Str.{bytes_eq}
 use Rattle.dns_name.specs.Options.{◌>>=◌}
 use Rattle.command_text.specs.declared.words.Verb.{Verb}
-use Rattle.command_text.specs.declared.words.Verb.TheVariants.{At, Admit, NoData, NoName, Forget, Oldest, Look, Servers, Sweep, Flush, FlushType, FlushZone, LocalZone, LocalZoneRemove, LocalData, LocalDataRemove, StubAdd, StubRemove, ListLocalZones, ListLocalData, ListStubs, ListCommands, Undo, Redo, Stop}
+use Rattle.command_text.specs.declared.words.Verb.TheVariants.{At, Admit, NoData, NoName, Forget, Oldest, Look, Servers, Sweep, Flush, FlushType, FlushZone, LocalZone, LocalZoneRemove, LocalData, LocalDataRemove, StubAdd, StubRemove, ListLocalZones, ListLocalData, ListStubs, ListCommands, ListBuried, Undo, Redo, Stop}
 use Rattle.command_text.specs.declared.words.Channel.{Channel}
 use Rattle.command_text.specs.declared.words.Channel.TheVariants.{Script, Control}
 use Rattle.command_text.specs.declared.words.Usage.{Usage}
@@ -50,8 +50,9 @@ commands =
     ∷ anywhere ListLocalData (codes "list_local_data") []
     ∷ anywhere ListStubs (codes "list_stubs") []
     ∷ anywhere ListCommands (codes "list_commands") []
-    ∷ anywhere Undo (codes "undo") []
-    ∷ anywhere Redo (codes "redo") []
+    ∷ anywhere ListBuried (codes "list_buried") []
+    ∷ anywhere Undo (codes "undo") (codes "[N]")
+    ∷ anywhere Redo (codes "redo") (codes "[N]")
     ∷ control_only Stop (codes "stop") []
     ∷ []
 

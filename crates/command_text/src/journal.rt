@@ -1,12 +1,12 @@
-//! The text of the list of commands that can be undone or redone.
+//! The text of the lists of commands that can be undone or redone.
 
 ghost use Rattle.std.specs.Prelude.{◌≡◌, ◌++◌, IfOk, OnOk, codes, flat_map};
 ghost use Rattle.streams.specs.Split.{with_end};
-ghost use Rattle.command_text.specs.Text.{state_text, journalled_line};
+ghost use Rattle.command_text.specs.Text.{state_text, buried_line, journalled_line};
 
 use crate::command_words::push_command;
 use dns_text::{Items, NoMemory};
-use history::Journalled;
+use history::{BuriedCommand, Journalled};
 use itoa::Buffer;
 use std::alloc::Global;
 
@@ -45,6 +45,39 @@ pub(crate) fn commands_lines(
 {
     let mut out = Vec::new(alloc);
     push_commands(commands.as_slice(), &mut out)?;
+    out.extend_from_slice(b"end\n")?;
+    Ok(out)
+}
+
+fn push_buried(buried: &BuriedCommand, out: &mut Vec<u8>) -> Result<(), NoMemory>
+    ensures { OnOk result (out.new.items ≡ out.old.items ++ buried_line buried.now) }
+{
+    let mut digits = Buffer::new();
+    out.extend_from_slice(digits.format(buried.ticket).as_bytes())?;
+    out.extend_from_slice(b" by ")?;
+    out.extend_from_slice(digits.format(buried.by).as_bytes())?;
+    out.push(b'\n')?;
+    Ok(())
+}
+
+fn push_all_buried(buried: &[BuriedCommand], out: &mut Vec<u8>) -> Result<(), NoMemory>
+    ensures { OnOk result (out.new.items ≡ out.old.items ++ flat_map buried_line buried.now) }
+{
+    for one in buried {
+        push_buried(one, out)?;
+    }
+    Ok(())
+}
+
+/// A line for each buried command, the oldest first, and `end`.
+pub(crate) fn buried_lines(
+    alloc: Global,
+    buried: &Items<BuriedCommand>,
+) -> Result<Vec<u8>, NoMemory>
+    ensures { IfOk result (λ text. text.items ≡ with_end (flat_map buried_line buried.now ++ codes "end")) }
+{
+    let mut out = Vec::new(alloc);
+    push_all_buried(buried.as_slice(), &mut out)?;
     out.extend_from_slice(b"end\n")?;
     Ok(out)
 }

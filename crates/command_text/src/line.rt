@@ -1,9 +1,9 @@
 //! Lines: commands, read from their words.
 
-ghost use Rattle.std.specs.Prelude.{◌≡◌, IsTrue, IfErr, IsErrOf, is_ok};
-ghost use Rattle.command_text.specs.declared.fault.LineFault.TheVariants.{BadData, NoMemory};
+ghost use Rattle.std.specs.Prelude.{◌≡◌, ◌⊎◌, IsTrue, IfErr, IsErrOf, is_ok};
+ghost use Rattle.command_text.specs.declared.fault.LineFault.TheVariants.{BadData, Missing, NoMemory};
 ghost use Rattle.command_text.specs.Fault.{Gives};
-ghost use Rattle.command_text.specs.Line.{is_silent, alone, at_in, admit_in, no_data_in, no_name_in, forget_in, look_in, servers_in, flush_in, flush_type_in, flush_zone_in, local_zone_in, local_zone_remove_in, local_data_in, local_data_remove_in, stub_add_in, stub_remove_in, said_by, takes_by, read_of, takes_memory};
+ghost use Rattle.command_text.specs.Line.{is_silent, alone, at_in, admit_in, no_data_in, no_name_in, forget_in, look_in, servers_in, flush_in, flush_type_in, flush_zone_in, local_zone_in, local_zone_remove_in, local_data_in, local_data_remove_in, stub_add_in, stub_remove_in, ticket_in, undo_in, redo_in, said_by, takes_by, read_of, takes_memory};
 
 use crate::admission_find::Admission;
 use crate::admission_words::{admit_words, read_admission};
@@ -19,6 +19,9 @@ use dns_text::{next_word, read_number};
 use history::{Ask, Command};
 use std::alloc::Global;
 use streams::LONGEST_LINE;
+
+/// The greatest ticket: no more events are counted.
+const MOST_TICKETS: u64 = (1 << 62) - 1;
 
 /// A line that was read.
 #[derive(Drop)]
@@ -56,6 +59,49 @@ fn read_at(text: &[u8]) -> Result<Line, LineFault>
     let moment = read_number(word, u64::MAX).ok_or(LineFault::BadData)?;
     read_end(rest)?;
     Ok(Line::At { moment })
+}
+
+/// A ticket: from 1 to 2^62 - 1.
+#[tactic(auto, unfolding(crate::specs::Line::ticket_in))]
+fn read_ticket(text: &[u8]) -> Result<u64, LineFault>
+    ensures value { result ≡ ticket_in text.now }
+    ensures fault { IfErr result (λ e. (e ≡ Missing) ⊎ (e ≡ BadData)) }
+{
+    let (word, rest) = read_word(text)?;
+    let ticket = read_number(word, MOST_TICKETS).ok_or(LineFault::BadData)?;
+    if ticket == 0 {
+        return Err(LineFault::BadData);
+    }
+    read_end(rest)?;
+    Ok(ticket)
+}
+
+#[tactic(auto, unfolding(crate::specs::Line::undo_in))]
+fn read_undo(text: &[u8]) -> Result<Line, LineFault>
+    ensures value { Gives result (undo_in text.now) }
+    ensures no_memory { IsErrOf result NoMemory → IsTrue (takes_by Verb.Undo text.now) }
+{
+    match next_word(text) {
+        None => Ok(Line::Request(Request::Undo)),
+        Some(_) => {
+            let ticket = read_ticket(text)?;
+            Ok(Line::Request(Request::UndoOf { ticket }))
+        }
+    }
+}
+
+#[tactic(auto, unfolding(crate::specs::Line::redo_in))]
+fn read_redo(text: &[u8]) -> Result<Line, LineFault>
+    ensures value { Gives result (redo_in text.now) }
+    ensures no_memory { IsErrOf result NoMemory → IsTrue (takes_by Verb.Redo text.now) }
+{
+    match next_word(text) {
+        None => Ok(Line::Request(Request::Redo)),
+        Some(_) => {
+            let ticket = read_ticket(text)?;
+            Ok(Line::Request(Request::RedoOf { ticket }))
+        }
+    }
 }
 
 #[tactic(auto, unfolding(crate::specs::Line::admit_in))]
@@ -234,8 +280,9 @@ fn read_command(alloc: Global, verb: Verb, text: &[u8]) -> Result<Line, LineFaul
         Verb::ListLocalData => read_alone(Line::Request(Request::Look(Ask::Records)), text),
         Verb::ListStubs => read_alone(Line::Request(Request::Look(Ask::Stubs)), text),
         Verb::ListCommands => read_alone(Line::Request(Request::Look(Ask::Commands)), text),
-        Verb::Undo => read_alone(Line::Request(Request::Undo), text),
-        Verb::Redo => read_alone(Line::Request(Request::Redo), text),
+        Verb::ListBuried => read_alone(Line::Request(Request::Look(Ask::Buried)), text),
+        Verb::Undo => read_undo(text),
+        Verb::Redo => read_redo(text),
         Verb::Stop => read_alone(Line::Stop, text),
     }
 }

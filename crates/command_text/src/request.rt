@@ -21,6 +21,10 @@ pub enum Request {
     Undo,
     /// Redoes the command that was undone last.
     Redo,
+    /// Undoes the command of a ticket.
+    UndoOf { ticket: u64 },
+    /// Redoes the command of a ticket.
+    RedoOf { ticket: u64 },
 }
 
 /// The event of a request at a moment.
@@ -34,5 +38,7 @@ pub(crate) fn event_at(moment: u64, request: Request) -> Event
         Request::Do(command) => Event::Do { moment, command },
         Request::Undo => Event::Undo { moment },
         Request::Redo => Event::Redo { moment },
+        Request::UndoOf { ticket } => Event::UndoOf { moment, ticket },
+        Request::RedoOf { ticket } => Event::RedoOf { moment, ticket },
     }
 }

@@ -12,7 +12,7 @@ ghost use Rattle.command_text.specs.Obeying.{IsTextOf};
 
 use crate::answers::answer_line;
 use crate::fault::LineFault;
-use crate::journal::commands_lines;
+use crate::journal::{buried_lines, commands_lines};
 use crate::lists::{records_lines, stubs_lines, zones_lines};
 use crate::servers::servers_line;
 use arrayvec::ArrayVec;
@@ -169,6 +169,7 @@ pub fn reply_text(alloc: Global, reply: &Reply) -> Result<Text, NoMemory>
         Reply::Seen(Seen::Records(records)) => Ok(Text::Made(records_lines(alloc, records)?)),
         Reply::Seen(Seen::Stubs(stubs)) => Ok(Text::Made(stubs_lines(alloc, stubs)?)),
         Reply::Seen(Seen::Commands(commands)) => Ok(Text::Made(commands_lines(alloc, commands)?)),
+        Reply::Seen(Seen::Buried(buried)) => Ok(Text::Made(buried_lines(alloc, buried)?)),
         Reply::Seen(Seen::Oldest(name)) => oldest_line(alloc, name),
         Reply::Done { ticket } => Ok(number_line(b"ok", *ticket)),
         Reply::Refused(reason) => Ok(reason_line(*reason)),
@@ -176,6 +177,8 @@ pub fn reply_text(alloc: Global, reply: &Reply) -> Result<Text, NoMemory>
         Reply::Redone { ticket } => Ok(number_line(b"redone", *ticket)),
         Reply::NothingToUndo => Ok(Text::Fixed(b"error nothing_to_undo\n")),
         Reply::NothingToRedo => Ok(Text::Fixed(b"error nothing_to_redo\n")),
+        Reply::NotKept => Ok(Text::Fixed(b"error not_kept\n")),
+        Reply::Buried { ticket } => Ok(number_line(b"error buried", *ticket)),
     }
 }
 

@@ -31,6 +31,7 @@ pub(crate) enum Verb {
     ListLocalData,
     ListStubs,
     ListCommands,
+    ListBuried,
     Undo,
     Redo,
     Stop,
@@ -56,7 +57,7 @@ struct Usage {
     in_control: bool,
 }
 
-static COMMANDS: [Usage; 25] = [
+static COMMANDS: [Usage; 26] = [
     Usage {
         verb: Verb::At,
         word: "at",
@@ -212,16 +213,23 @@ static COMMANDS: [Usage; 25] = [
         in_control: true,
     },
     Usage {
+        verb: Verb::ListBuried,
+        word: "list_buried",
+        form: "",
+        in_script: true,
+        in_control: true,
+    },
+    Usage {
         verb: Verb::Undo,
         word: "undo",
-        form: "",
+        form: "[N]",
         in_script: true,
         in_control: true,
     },
     Usage {
         verb: Verb::Redo,
         word: "redo",
-        form: "",
+        form: "[N]",
         in_script: true,
         in_control: true,
     },

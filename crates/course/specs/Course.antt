@@ -5,11 +5,14 @@ use Rattle.dns_name.specs.Labels.{Labels}
 use Rattle.dns_text.specs.declared.record.Question.{Question}
 use Rattle.ranked.specs.declared.find.Find.{Find}
 use Rattle.change_law.specs.declared.kept.KeptChange.{KeptChange}
-use Rattle.change_law.specs.Choice.{IsChoice}
+use Rattle.change_law.specs.Choice.{IsChoice, is_done}
 use Rattle.change_law.specs.Effect.{effect}
 use Rattle.change_law.specs.Face.{Face, IsSameAt, face_with, face_without}
 use Rattle.change_law.specs.Row.{where_chosen}
-use Rattle.undo_journal.specs.Journal.{Changes, tickets_of, done_of, undone_of}
+pub use Rattle.undo_journal.specs.Journal.{AreAscending}
+use Rattle.undo_journal.specs.declared.outcome.Outcome.{Outcome}
+use Rattle.undo_journal.specs.declared.outcome.Outcome.TheVariants.{Moved, NotKept, Buried}
+use Rattle.undo_journal.specs.Journal.{Changes, tickets_of, standings_of}
 
 -- a deed: a find came at a moment, a name was forgotten, or a change was made under a ticket
 pub data Deed (T : Type 0) : Type 0 where
@@ -27,23 +30,17 @@ face_after has_cells chosen face (Made ticket after empties) = where_chosen tick
 abbrev pub face_by : {T : Type 0} → Bool → (ℕ → Bool) → Face T → List (Deed T) → Face T
 face_by has_cells chosen start deeds = fold (face_after has_cells chosen) start deeds
 
--- Each ticket is less than the later ones.
-abbrev pub AreAscending : List ℕ → Type 0
-AreAscending [] = Unit {0}
-AreAscending (ticket ∷ tickets) = AllByRecursion (λ t. ticket < t) tickets × AreAscending tickets
-
 -- Among the changes that are not kept any more, exactly those that are not struck are chosen.
 abbrev pub IsFair : {S : Type 0} → Changes S → (ℕ → Bool) → (ℕ → Bool) → Type 0
 IsFair changes struck chosen = (t : ℕ) → t ≤ changes.tickets → AllByRecursion (λ u. u ≢ t) (tickets_of changes.kept) → chosen t ≡ not (struck t)
 
--- For each choice of the kept changes, the face of the world is that of a replay of its deeds.
+-- For each choice of the kept changes, the face of the world is that of a replay of its deeds. Of the kept changes those not in effect are struck.
 pub record Stands {W S T : Type 0} (has_cells : Bool) (table : S → Option ℕ) (keeps : W → List (KeptChange S) → Type 0) (face : W → List (KeptChange S) → (ℕ → Bool) → Face T)
     (start : Face T) (world : W) (changes : Changes S) (now : ℕ) (deeds : List (Deed T)) (struck : ℕ → Bool) : Type 0 where
   pub kept : keeps world changes.kept
   pub ascending : AreAscending (tickets_of changes.kept)
   pub given : AllByRecursion (λ t. t ≤ changes.tickets) (tickets_of changes.kept)
-  pub done : AllByRecursion (λ t. struck t ≡ false) (done_of changes)
-  pub undone : AllByRecursion (λ t. struck t ≡ true) (undone_of changes)
+  pub marked : AllByRecursion (λ one. struck one.0 ≡ not (is_done one.1)) (standings_of changes.kept)
   pub later : (t : ℕ) → changes.tickets < t → struck t ≡ false
   pub faces : (chosen : ℕ → Bool) → IsChoice table changes.kept chosen → IsFair changes struck chosen →
       IsSameAt now (face world changes.kept chosen) (face_by has_cells chosen start deeds)
@@ -57,3 +54,9 @@ struck_with struck (Some ticket) t = if t == ticket then true else struck t
 abbrev pub struck_without : (ℕ → Bool) → Option ℕ → ℕ → Bool
 struck_without struck None t = struck t
 struck_without struck (Some ticket) t = if t == ticket then false else struck t
+
+-- the ticket that an undo or a redo of a ticket moved
+abbrev pub moved_by : Outcome → ℕ → Option ℕ
+moved_by Moved ticket = Some ticket
+moved_by NotKept ticket = None
+moved_by (Buried other) ticket = None

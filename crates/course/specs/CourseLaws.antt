@@ -1,6 +1,6 @@
 -- The course of a world: lemmas by which a book shows that after each event its faces are those of a replay.
 use Rattle.std.proofs.Common.{◌≡◌, ◌≢◌, ℕ, zero, suc, ◌+◌, ◌-◌, ◌<◌, ◌≤◌, Bool, true, false, not, cond, eqb, eq-eqb, ltb, Option, Some, None, ◌⊎◌, inl, inr, List, [], ◌∷◌, ◌++◌, length, take, drop, map, refl, sym, ap, subst, ◌∙◌, arith, rules, length-append, append_assoc}
-use Rattle.std.specs.Prelude.{⊤, fold, nat_lt, ◌==◌, ◌&&◌, if◌then◌else◌}
+use Rattle.std.specs.Prelude.{⊤, filter, fold, nat_lt, ◌==◌, ◌&&◌, ◌||◌, if◌then◌else◌}
 use Rattle.std.specs.List.{AllByRecursion}
 use Rattle.std.proofs.lemmas.Bool.{false≢true, eqb-true}
 use Rattle.std.proofs.lemmas.List.{append-nil, take-append-drop}
@@ -16,12 +16,14 @@ use Rattle.ranked.specs.Rank.{level_of}
 use Rattle.change_law.specs.declared.kept.KeptChange.{KeptChange}
 use Rattle.change_law.specs.declared.kept.Standing.{Standing}
 use Rattle.change_law.specs.declared.kept.Standing.TheVariants.{Done, Undone, Cleared}
-use Rattle.change_law.specs.Choice.{IsChoice, IsPresent, AllowsAt, AreLeftOut, is_done}
+use Rattle.change_law.specs.Choice.{IsChoice, IsOneTable, IsPresent, IsUncovered, AllowsAt, AreLeftOut, is_done}
 use Rattle.change_law.specs.Effect.{effect}
 use Rattle.change_law.specs.Face.{Face, IsSame, IsSameAt, alive_at, cell_with, face_with, face_without}
 use Rattle.change_law.specs.Row.{IsRowAfter, IsRowFrom, any, same_face, where_chosen}
-use Rattle.undo_journal.specs.Journal.{Changes, AreChanges, IsChange, IsUndo, IsRedo, tickets_of, done_of, undone_of, newest, settled_by}
-use Rattle.course.specs.Course.{Deed, Came, Forgot, Made, face_after, face_by, AreAscending, IsFair, Stands, struck_with, struck_without}
+use Rattle.undo_journal.specs.declared.outcome.Outcome.{Outcome}
+use Rattle.undo_journal.specs.declared.outcome.Outcome.TheVariants.{Moved, NotKept, Buried}
+use Rattle.undo_journal.specs.Journal.{Changes, AreChanges, IsChange, IsClosed, IsPutBack, IsRedo, IsRedoOf, IsTakenBack, IsUndo, IsUndoOf, done_of, in_effect, is_among, newest, out_of_effect, settled_by, standings_of, standings_with, tickets_of}
+use Rattle.course.specs.Course.{Deed, Came, Forgot, Made, face_after, face_by, AreAscending, IsFair, Stands, moved_by, struck_with, struck_without}
 
 -- ---- cells where they are alive
 
@@ -111,6 +113,10 @@ fold_push f a (y ∷ xs) x = fold_push f (f a y) xs x
 pub all_back : {X Y : Type 0} (f : X → Y) (P : Y → Type 0) (xs : List X) → AllByRecursion P (map f xs) → AllByRecursion (λ x. P (f x)) xs
 all_back f P [] h = tt
 all_back f P (x ∷ xs) h = (h.0, all_back f P xs h.1)
+
+pub all_images : {X Y : Type 0} (f : X → Y) (P : Y → Type 0) (xs : List X) → AllByRecursion (λ x. P (f x)) xs → AllByRecursion P (map f xs)
+all_images f P [] h = tt
+all_images f P (x ∷ xs) h = (h.0, all_images f P xs h.1)
 
 -- The front of an ascending list ascends.
 pub asc_front : (xs ys : List ℕ) → AreAscending (xs ++ ys) → AreAscending xs
@@ -204,6 +210,97 @@ other_struck struck b t u n = ap (λ (c : Bool). if c then b else struck u) (dif
 pub this_struck : (struck : ℕ → Bool) (b : Bool) (t : ℕ) → (if t == t then b else struck t) ≡ b
 this_struck struck b t = ap (λ (c : Bool). if c then b else struck t) (eq-eqb t t refl)
 
+-- A change that is not in effect has no standing of one that is.
+not_done : (s : Standing) → s ≢ Done → is_done s ≡ false
+not_done Done n = absurd (n refl)
+not_done Undone n = refl
+not_done Cleared n = refl
+
+abbrev is_cleared : Standing → Bool
+is_cleared Cleared = true
+is_cleared s = false
+
+-- ---- the kept changes
+
+module _ {S : Type 0} where
+  pub all_filter : (P : KeptChange S → Type 0) (p : KeptChange S → Bool) (kept : List (KeptChange S)) → AllByRecursion P kept → AllByRecursion P (filter p kept)
+  all_filter P p [] h = tt
+  all_filter P p (k ∷ kept) h = elim (is_or_not (p k)) [ inl yes' ↦ rw yes' (h.0, all_filter P p kept h.1) | inr no' ↦ rw no' (all_filter P p kept h.1) ]
+
+  in_effect_done : (kept : List (KeptChange S)) → AllByRecursion (λ k. k.standing ≡ Done) (in_effect kept)
+  in_effect_done [] = tt
+  in_effect_done (k ∷ kept) = by k.standing refl (in_effect_done kept)
+    where
+      by : (s : Standing) → k.standing ≡ s → AllByRecursion (λ k. k.standing ≡ Done) (in_effect kept) → AllByRecursion (λ k. k.standing ≡ Done) (if is_done s then k ∷ in_effect kept else in_effect kept)
+      by Done e more = (e, more)
+      by Undone e more = more
+      by Cleared e more = more
+
+  all_in_effect : (kept : List (KeptChange S)) → AllByRecursion (λ k. k.standing ≡ Done) kept → in_effect kept ≡ kept
+  all_in_effect [] h = refl
+  all_in_effect (k ∷ kept) h = ap (λ (s : Standing). if is_done s then k ∷ in_effect kept else in_effect kept) h.0 ∙ ap (λ (l : List (KeptChange S)). k ∷ l) (all_in_effect kept h.1)
+
+  -- The tickets that are left of an ascending list ascend.
+  pub asc_filter : (p : KeptChange S → Bool) (kept : List (KeptChange S)) → AreAscending (tickets_of kept) → AreAscending (tickets_of (filter p kept))
+  asc_filter p [] h = tt
+  asc_filter p (k ∷ kept) h =
+      let above : AllByRecursion (λ t. k.ticket < t) (tickets_of (filter p kept))
+      = all_images (λ (x : KeptChange S). x.ticket) (λ t. k.ticket < t) (filter p kept) (all_filter (λ x. k.ticket < x.ticket) p kept (all_back (λ (x : KeptChange S). x.ticket) (λ t. k.ticket < t) kept h.0)) in
+      elim (is_or_not (p k)) [ inl yes' ↦ rw yes' (above, asc_filter p kept h.1) | inr no' ↦ rw no' (asc_filter p kept h.1) ]
+
+  -- No change in effect has the ticket of another.
+  parts_apart : (kept : List (KeptChange S)) → AreAscending (tickets_of kept) → AllByRecursion (λ k. AllByRecursion (λ v. v ≢ k.ticket) (tickets_of (in_effect kept))) (out_of_effect kept)
+  parts_apart [] h = tt
+  parts_apart (k ∷ kept) h =
+      let more = parts_apart kept h.1 in
+      let above : AllByRecursion (λ x. k.ticket < x.ticket) kept = all_back (λ (x : KeptChange S). x.ticket) (λ t. k.ticket < t) kept h.0 in
+      elim (is_or_not (is_done k.standing)) [
+        | inl yes' ↦
+            rw yes' (all_both (λ x. k.ticket < x.ticket) (λ x. AllByRecursion (λ v. v ≢ x.ticket) (tickets_of (in_effect kept))) _ (λ x less out. (λ e. omega (arith, less, e), out)) (out_of_effect kept)
+            (all_filter (λ x. k.ticket < x.ticket) (λ x. not (is_done x.standing)) kept above) more)
+        | inr no' ↦
+            rw no' (
+              all_images (λ (x : KeptChange S). x.ticket) (λ v. v ≢ k.ticket) (in_effect kept)
+                  (all_weaker _ _ (λ x less e. omega (arith, less, e)) (in_effect kept) (all_filter (λ x. k.ticket < x.ticket) (λ x. is_done x.standing) kept above)),
+              more,
+            )
+      ]
+
+  pub firsts : (kept : List (KeptChange S)) → map (λ (one : ℕ × Standing). one.0) (standings_of kept) ≡ tickets_of kept
+  firsts [] = refl
+  firsts (k ∷ kept) = ap (λ (l : List ℕ). k.ticket ∷ l) (firsts kept)
+
+  -- what is in effect is kept
+  pub done_known : (kept : List (KeptChange S)) (t : ℕ) → is_among (tickets_of (in_effect kept)) t ≡ true → is_among (tickets_of kept) t ≡ true
+  done_known [] t e = e
+  done_known (k ∷ kept) t e = by (is_done k.standing) (done_known kept t) e
+    where
+      or_more : (x y z : Bool) → (y ≡ true → z ≡ true) → (x || y) ≡ true → (x || z) ≡ true
+      or_more true y z f h = refl
+      or_more false y z f h = f h
+
+      or_after : (x z : Bool) → z ≡ true → (x || z) ≡ true
+      or_after true z h = refl
+      or_after false z h = h
+
+      by : (b : Bool) → (is_among (tickets_of (in_effect kept)) t ≡ true → is_among (tickets_of kept) t ≡ true) →
+          is_among (tickets_of (if b then k ∷ in_effect kept else in_effect kept)) t ≡ true → is_among (tickets_of (k ∷ kept)) t ≡ true
+      by true more e = or_more (k.ticket == t) (is_among (tickets_of (in_effect kept)) t) (is_among (tickets_of kept) t) more e
+      by false more e = or_after (k.ticket == t) (is_among (tickets_of kept) t) (more e)
+
+pub firsts_with : (t : ℕ) (s : Standing) (standings : List (ℕ × Standing)) → map (λ (one : ℕ × Standing). one.0) (standings_with t s standings) ≡ map (λ (one : ℕ × Standing). one.0) standings
+firsts_with t s [] = refl
+firsts_with t s (one ∷ standings) = ap (λ (l : List ℕ). one.0 ∷ l) (firsts_with t s standings)
+
+-- what all have, one of them has
+pub all_among : (P : ℕ → Type 0) (xs : List ℕ) (t : ℕ) → AllByRecursion P xs → is_among xs t ≡ true → P t
+all_among P [] t h e = absurd (false≢true e)
+all_among P (x ∷ xs) t h e =
+    elim (is_or_not (x == t)) [
+      | inl same ↦ subst P (eqb-true x t same) h.0
+      | inr other ↦ all_among P xs t h.1 (sym (ap (λ (b : Bool). b || is_among xs t) other) ∙ e)
+    ]
+
 -- ---- the course goes on
 
 module _ {W S T : Type 0} (has_cells : Bool) (table : S → Option ℕ) (keeps : W → List (KeptChange S) → Type 0) (face : W → List (KeptChange S) → (ℕ → Bool) → Face T) (start : Face T) where
@@ -214,8 +311,7 @@ module _ {W S T : Type 0} (has_cells : Bool) (table : S → Option ℕ) (keeps :
     kept = row.keeps_still;
     ascending = st.ascending;
     given = st.given;
-    done = st.done;
-    undone = st.undone;
+    marked = st.marked;
     later = st.later;
     faces = λ chosen choice fair.
         let old = same_at_later now moment (face w changes.kept chosen) (face_by has_cells chosen start deeds) less (st.faces chosen choice fair) in
@@ -231,8 +327,7 @@ module _ {W S T : Type 0} (has_cells : Bool) (table : S → Option ℕ) (keeps :
     kept = row.keeps_still;
     ascending = st.ascending;
     given = st.given;
-    done = st.done;
-    undone = st.undone;
+    marked = st.marked;
     later = st.later;
     faces = λ chosen choice fair.
         same_at_then (row.faces chosen choice) (same_at_later now moment (face w changes.kept chosen) (face_by has_cells chosen start deeds) less (st.faces chosen choice fair));
@@ -245,8 +340,7 @@ module _ {W S T : Type 0} (has_cells : Bool) (table : S → Option ℕ) (keeps :
     kept = row.keeps_left;
     ascending = st.ascending;
     given = st.given;
-    done = st.done;
-    undone = st.undone;
+    marked = st.marked;
     later = st.later;
     faces = λ chosen choice fair.
         let old = same_at_later now moment (face w changes.kept chosen) (face_by has_cells chosen start deeds) less (st.faces chosen choice fair) in
@@ -255,66 +349,76 @@ module _ {W S T : Type 0} (has_cells : Bool) (table : S → Option ℕ) (keeps :
         (same_at_then (same_at moment (face w' changes.kept chosen) (face_without has_cells owner (face w changes.kept chosen)) (row.faces chosen tt choice)) new);
   }
 
+  -- what is chosen of these changes, if they are not kept any more
+  present_of : (chosen struck : ℕ → Bool) (changes : Changes S) → IsFair changes struck chosen → (those : List (KeptChange S)) → AllByRecursion (λ k. struck k.ticket ≡ not (is_done k.standing)) those →
+      AllByRecursion (λ k. k.ticket ≤ changes.tickets) those → AllByRecursion (λ k. AllByRecursion (λ v. v ≢ k.ticket) (tickets_of changes.kept)) those → IsPresent those chosen
+  present_of chosen struck changes fair [] marked given out = tt
+  present_of chosen struck changes fair (k ∷ those) marked given out =
+      (fair k.ticket given.0 out.0 ∙ ap not marked.0 ∙ not_not (is_done k.standing), present_of chosen struck changes fair those marked.1 given.1 out.1)
+    where
+      not_not : (b : Bool) → not (not b) ≡ b
+      not_not true = refl
+      not_not false = refl
+
   pub stands_made : (w w' : W) (before after : Changes S) (now : ℕ) (deeds : List (Deed T)) (struck : ℕ → Bool) (ticket : ℕ) (tables : T → T) (empties : Question → Bool) →
-      AreChanges before → IsChange before ticket after →
+      AreChanges table before → IsChange before ticket after →
       IsRowAfter table keeps face (where_chosen ticket (effect tables empties)) (IsPresent (settled_by before)) w before.kept w' after.kept →
       ((chosen : ℕ → Bool) → IsPresent (settled_by before) chosen → IsChoice table after.kept chosen → IsChoice table before.kept chosen) →
       Stands has_cells table keeps face start w before now deeds struck →
       Stands has_cells table keeps face start w' after now (deeds ++ Made ticket tables empties ∷ []) struck
+  unfolding present_of
   stands_made w w' before after now deeds struck ticket tables empties are is row choices st =
-      let D = done_of before in
-      let U = undone_of before in
+      let ticket_of : KeptChange S → ℕ = λ k. k.ticket in
+      let left = in_effect before.kept in
+      let gone = out_of_effect before.kept in
+      let D = tickets_of left in
       let m = length (D ++ ticket ∷ []) - before.limit in
-      let all : tickets_of before.kept ≡ D ++ U = sym (take-append-drop before.done (tickets_of before.kept)) in
       let now_all : tickets_of after.kept ≡ drop m (D ++ ticket ∷ [])
-      = sym (take-append-drop after.done (tickets_of after.kept)) ∙ ap (λ (l : List ℕ). done_of after ++ l) is.undone ∙ append-nil (done_of after) ∙ is.done in
-      let asc = subst AreAscending all st.ascending in
-      let given = all_split (λ t. t ≤ before.tickets) D U (subst (λ (l : List ℕ). AllByRecursion (λ t. t ≤ before.tickets) l) all st.given) in
-      let below : AllByRecursion (λ t. t < ticket) D = all_weaker _ _ (λ t h. omega (arith, h, is.next)) D given.0 in
-      let asc_all : AreAscending (D ++ ticket ∷ []) = asc_push D ticket (asc_front D U asc) below in
+      = ap (λ (l : List (KeptChange S)). tickets_of l) (sym (all_in_effect after.kept is.present)) ∙ is.done in
+      let marked : AllByRecursion (λ k. struck k.ticket ≡ not (is_done k.standing)) before.kept = all_back (λ (k : KeptChange S). (k.ticket, k.standing)) (λ one. struck one.0 ≡ not (is_done one.1)) before.kept st.marked in
+      let below : AllByRecursion (λ k. k.ticket < ticket) before.kept = all_weaker (λ k. k.ticket ≤ before.tickets) (λ k. k.ticket < ticket) (λ k h. omega (arith, h, is.next)) before.kept are.given in
+      let below_left = all_filter (λ k. k.ticket < ticket) (λ k. is_done k.standing) before.kept below in
+      let asc_left : AreAscending D = asc_filter (λ k. is_done k.standing) before.kept are.ascending in
+      let asc_all : AreAscending (D ++ ticket ∷ []) = asc_push D ticket asc_left (all_images ticket_of (λ t. t < ticket) left below_left) in
       let ticket_free : struck ticket ≡ false = st.later ticket (omega (arith, is.next)) in
+      let absent : (t : ℕ) → t ≢ ticket → AllByRecursion (λ u. u ≢ t) D → AllByRecursion (λ u. u ≢ t) (tickets_of after.kept)
+      = λ t apart out. subst (λ (l : List ℕ). AllByRecursion (λ u. u ≢ t) l) (sym now_all) (all-drop (λ u. u ≢ t) m (D ++ ticket ∷ []) (all-append (λ u. u ≢ t) D (ticket ∷ []) out (λ e. apart (sym e), tt))) in
       let fair_before : (chosen : ℕ → Bool) → IsFair after struck chosen → IsFair before struck chosen
-      = λ chosen fair t h absent.
-      let parts = all_split (λ u. u ≢ t) D U (subst (λ (l : List ℕ). AllByRecursion (λ u. u ≢ t) l) all absent) in
+      = λ chosen fair t h out.
       fair t (omega (arith, h, is.next, is.tickets))
-      (subst (λ (l : List ℕ). AllByRecursion (λ u. u ≢ t) l) (sym now_all) (all-drop (λ u. u ≢ t) m (D ++ ticket ∷ []) (all-append (λ u. u ≢ t) D (ticket ∷ []) parts.0 (λ e. omega (arith, h, e, is.next), tt)))) in
+      (absent t (λ e. omega (arith, h, e, is.next)) (all_images ticket_of (λ u. u ≢ t) left (all_filter (λ k. k.ticket ≢ t) (λ k. is_done k.standing) before.kept (all_back ticket_of (λ u. u ≢ t) before.kept out)))) in
       let settled : (chosen : ℕ → Bool) → IsFair after struck chosen → IsPresent (settled_by before) chosen
       = λ chosen fair.
-      let ticket_of : KeptChange S → ℕ = λ k. k.ticket in
-      let long : length D ≡ before.done = length_taken before.done (tickets_of before.kept) (omega (arith, are.within, map_length ticket_of before.kept)) in
-      let m' = before.done + 1 - before.limit in
-      let same : m ≡ m' = omega (arith, long, length-append D (ticket ∷ [])) in
-      let few : m ≤ length D = omega (arith, same, long, are.room) in
-      let apart = asc_apart m (D ++ ticket ∷ []) asc_all in
-      let old_tickets : map ticket_of (take m' before.kept) ≡ take m (D ++ ticket ∷ [])
-      = take_map ticket_of m' before.kept ∙ sym (take_less m' before.done (tickets_of before.kept) (omega (arith, are.room))) ∙ ap (λ (n : ℕ). take n D) (sym same) ∙ sym (take_within m D (ticket ∷ []) few) in
-      let free : AllByRecursion (λ u. struck u ≡ false) (take m (D ++ ticket ∷ [])) = all-take (λ u. struck u ≡ false) m (D ++ ticket ∷ []) (all-append (λ u. struck u ≡ false) D (ticket ∷ []) st.done (ticket_free, tt)) in
-      let known : AllByRecursion (λ u. u ≤ after.tickets) (take m (D ++ ticket ∷ []))
-      = all-take (λ u. u ≤ after.tickets) m (D ++ ticket ∷ []) (all-append (λ u. u ≤ after.tickets) D (ticket ∷ []) (all_weaker _ _ (λ u h. omega (arith, h, is.tickets)) D below) (omega (arith, is.tickets), tt)) in
-      let chosen_old : AllByRecursion (λ u. chosen u ≡ true) (take m (D ++ ticket ∷ []))
-      = all_both (λ u. (u ≤ after.tickets) × (struck u ≡ false)) (λ u. AllByRecursion (λ v. v ≢ u) (drop m (D ++ ticket ∷ []))) (λ u. chosen u ≡ true)
-      (λ u k a. fair u k.0 (subst (λ (l : List ℕ). AllByRecursion (λ v. v ≢ u) l) (sym now_all) a) ∙ ap not k.1)
-      (take m (D ++ ticket ∷ [])) (all_both _ _ (λ u. (u ≤ after.tickets) × (struck u ≡ false)) (λ u x y. (x, y)) (take m (D ++ ticket ∷ [])) known free) apart in
-      let old = all_both (λ k. chosen k.ticket ≡ true) (λ k. k.standing ≡ Done) (λ k. chosen k.ticket ≡ is_done k.standing) (λ k x y. x ∙ sym (ap is_done y)) (take m' before.kept)
-      (all_back ticket_of (λ u. chosen u ≡ true) (take m' before.kept) (subst (λ (l : List ℕ). AllByRecursion (λ u. chosen u ≡ true) l) (sym old_tickets) chosen_old))
-      (subst (λ (l : List (KeptChange S)). AllByRecursion (λ k. k.standing ≡ Done) l) (take_less m' before.done before.kept (omega (arith, are.room))) (all-take _ m' (take before.done before.kept) are.first)) in
-      let gone_tickets : map ticket_of (drop before.done before.kept) ≡ U = drop_map ticket_of before.done before.kept in
-      let chosen_gone : AllByRecursion (λ u. chosen u ≡ false) U
-      = all_both (λ u. (u ≤ before.tickets) × (struck u ≡ true)) (λ u. AllByRecursion (λ v. v < u) D) (λ u. chosen u ≡ false)
-      (λ u k a. fair u (omega (arith, k.0, is.next, is.tickets))
-      (subst (λ (l : List ℕ). AllByRecursion (λ v. v ≢ u) l) (sym now_all)
-      (all-drop (λ v. v ≢ u) m (D ++ ticket ∷ []) (all-append (λ v. v ≢ u) D (ticket ∷ []) (all_weaker _ _ (λ v less e. omega (arith, less, e)) D a) (λ e. omega (arith, k.0, e, is.next), tt)))) ∙ ap not k.1)
-      U (all_both _ _ (λ u. (u ≤ before.tickets) × (struck u ≡ true)) (λ u x y. (x, y)) U given.1 st.undone) (asc_cross D U asc) in
-      let gone = all_both (λ k. chosen k.ticket ≡ false) (λ k. k.standing ≡ Undone) (λ k. chosen k.ticket ≡ is_done k.standing) (λ k x y. x ∙ sym (ap is_done y)) (drop before.done before.kept)
-      (all_back ticket_of (λ u. chosen u ≡ false) (drop before.done before.kept) (subst (λ (l : List ℕ). AllByRecursion (λ u. chosen u ≡ false) l) (sym gone_tickets) chosen_gone)) are.others in
-      all-append (λ k. chosen k.ticket ≡ is_done k.standing) (take m' before.kept) (drop before.done before.kept) old gone in
+      let m' = length left + 1 - before.limit in
+      let long : length (D ++ ticket ∷ []) ≡ length left + 1 = omega (arith, length-append D (ticket ∷ []), map_length ticket_of left) in
+      let same : m' ≡ m = omega (arith, long) in
+      let few : m' ≤ length D = omega (arith, are.room, map_length ticket_of left) in
+      let old = take m' left in
+      let old_tickets : tickets_of old ≡ take m (D ++ ticket ∷ []) = take_map ticket_of m' left ∙ sym (take_within m' D (ticket ∷ []) few) ∙ ap (λ (n : ℕ). take n (D ++ ticket ∷ [])) same in
+      let apart = subst (λ (l : List ℕ). AllByRecursion (λ u. AllByRecursion (λ v. v ≢ u) (drop m (D ++ ticket ∷ []))) l) (sym old_tickets) (asc_apart m (D ++ ticket ∷ []) asc_all) in
+      let old_out : AllByRecursion (λ k. AllByRecursion (λ v. v ≢ k.ticket) (tickets_of after.kept)) old
+      = all_back ticket_of (λ u. AllByRecursion (λ v. v ≢ u) (tickets_of after.kept)) old
+      (all_weaker _ _ (λ u h. subst (λ (l : List ℕ). AllByRecursion (λ v. v ≢ u) l) (sym now_all) h) (tickets_of old) apart) in
+      let gone_out : AllByRecursion (λ k. AllByRecursion (λ v. v ≢ k.ticket) (tickets_of after.kept)) gone
+      = all_both (λ k. k.ticket < ticket) (λ k. AllByRecursion (λ v. v ≢ k.ticket) D) (λ k. AllByRecursion (λ v. v ≢ k.ticket) (tickets_of after.kept))
+      (λ k less out. absent k.ticket (λ e. omega (arith, less, e)) out) gone (all_filter (λ k. k.ticket < ticket) (λ k. not (is_done k.standing)) before.kept below) (parts_apart before.kept are.ascending) in
+      let known : (those : List (KeptChange S)) → AllByRecursion (λ k. k.ticket < ticket) those → AllByRecursion (λ k. k.ticket ≤ after.tickets) those
+      = λ those h. all_weaker (λ k. k.ticket < ticket) (λ k. k.ticket ≤ after.tickets) (λ k less. omega (arith, less, is.tickets)) those h in
+      all-append (λ k. chosen k.ticket ≡ is_done k.standing) old gone
+      (present_of chosen struck after fair old (all-take _ m' left (all_filter _ (λ k. is_done k.standing) before.kept marked)) (known old (all-take _ m' left below_left)) old_out)
+      (present_of chosen struck after fair gone (all_filter _ (λ k. not (is_done k.standing)) before.kept marked) (known gone (all_filter _ (λ k. not (is_done k.standing)) before.kept below)) gone_out) in
+      let free_left : AllByRecursion (λ t. struck t ≡ false) D
+      = all_images ticket_of (λ t. struck t ≡ false) left (all_both (λ k. struck k.ticket ≡ not (is_done k.standing)) (λ k. k.standing ≡ Done) (λ k. struck k.ticket ≡ false) (λ k x y. x ∙ ap (λ (s : Standing). not (is_done s)) y) left
+      (all_filter _ (λ k. is_done k.standing) before.kept marked) (in_effect_done before.kept)) in
+      let free : AllByRecursion (λ t. struck t ≡ false) (tickets_of after.kept)
+      = subst (λ (l : List ℕ). AllByRecursion (λ t. struck t ≡ false) l) (sym now_all) (all-drop (λ t. struck t ≡ false) m (D ++ ticket ∷ []) (all-append (λ t. struck t ≡ false) D (ticket ∷ []) free_left (ticket_free, tt))) in
       record {
         kept = row.keeps_left;
         ascending = subst AreAscending (sym now_all) (asc_drop m (D ++ ticket ∷ []) asc_all);
         given = subst (λ (l : List ℕ). AllByRecursion (λ t. t ≤ after.tickets) l) (sym now_all)
-            (all-drop (λ t. t ≤ after.tickets) m (D ++ ticket ∷ []) (all-append (λ t. t ≤ after.tickets) D (ticket ∷ []) (all_weaker _ _ (λ t h. omega (arith, h, is.tickets)) D below) (omega (arith, is.tickets), tt)));
-        done = subst (λ (l : List ℕ). AllByRecursion (λ t. struck t ≡ false) l) (sym is.done) (all-drop (λ t. struck t ≡ false) m (D ++ ticket ∷ []) (all-append (λ t. struck t ≡ false) D (ticket ∷ []) st.done (ticket_free, tt)));
-        undone = subst (λ (l : List ℕ). AllByRecursion (λ t. struck t ≡ true) l) (sym is.undone) tt;
+            (all-drop (λ t. t ≤ after.tickets) m (D ++ ticket ∷ []) (all-append (λ t. t ≤ after.tickets) D (ticket ∷ []) (all_images ticket_of (λ t. t ≤ after.tickets) left (all_weaker _ _ (λ k h. omega (arith, h, is.tickets)) left below_left)) (omega (arith, is.tickets), tt)));
+        marked = all_images (λ (k : KeptChange S). (k.ticket, k.standing)) (λ one. struck one.0 ≡ not (is_done one.1)) after.kept
+            (all_both (λ k. struck k.ticket ≡ false) (λ k. k.standing ≡ Done) _ (λ k x y. x ∙ sym (ap (λ (s : Standing). not (is_done s)) y)) after.kept (all_back ticket_of (λ t. struck t ≡ false) after.kept free) is.present);
         later = λ t h. st.later t (omega (arith, h, is.next, is.tickets));
         faces = λ chosen choice fair.
             let p = settled chosen fair in
@@ -324,83 +428,54 @@ module _ {W S T : Type 0} (has_cells : Bool) (table : S → Option ℕ) (keeps :
             (same_at_then (same_at now (face w' after.kept chosen) (where_chosen ticket (effect tables empties) chosen (face w before.kept chosen)) (row.faces chosen p choice)) new);
       }
 
-  -- a ticket goes from one list to the other
-  moved : (D' U : List ℕ) (t : ℕ) (all all' : List ℕ) → all ≡ (D' ++ t ∷ []) ++ U → all' ≡ D' ++ t ∷ U → all' ≡ all
-  moved D' U t all all' e e' = e' ∙ sym (append_assoc D' (t ∷ []) U) ∙ sym e
-
-  pub stands_undone : (w w' : W) (before after : Changes S) (now : ℕ) (deeds : List (Deed T)) (struck : ℕ → Bool) (ticket : ℕ) →
-      IsUndo before (Some ticket) after → IsRowAfter table keeps face same_face any w before.kept w' after.kept →
+  -- a kept change is undone, or in effect again
+  stands_turned : (w w' : W) (before after : Changes S) (now : ℕ) (deeds : List (Deed T)) (struck : ℕ → Bool) (t : ℕ) (s : Standing) →
+      is_among (tickets_of before.kept) t ≡ true → standings_of after.kept ≡ standings_with t s (standings_of before.kept) → after.tickets ≡ before.tickets →
+      IsRowAfter table keeps face same_face any w before.kept w' after.kept →
       ((chosen : ℕ → Bool) → IsChoice table after.kept chosen → IsChoice table before.kept chosen) →
       Stands has_cells table keeps face start w before now deeds struck →
-      Stands has_cells table keeps face start w' after now deeds (struck_with struck (Some ticket))
-  unfolding moved
-  stands_undone w w' before after now deeds struck t is row choices st =
-      let D = done_of after in
-      let U = undone_of before in
-      let all : tickets_of before.kept ≡ (D ++ t ∷ []) ++ U = sym (take-append-drop before.done (tickets_of before.kept)) ∙ ap (λ (l : List ℕ). l ++ U) is.0 in
-      let all' : tickets_of after.kept ≡ D ++ t ∷ U = sym (take-append-drop after.done (tickets_of after.kept)) ∙ ap (λ (l : List ℕ). D ++ l) is.1 in
-      let same : tickets_of after.kept ≡ tickets_of before.kept = moved D U t (tickets_of before.kept) (tickets_of after.kept) all all' in
-      let whole : tickets_of before.kept ≡ D ++ t ∷ U = sym same ∙ all' in
-      let less = (asc_cross D (t ∷ U) (subst AreAscending whole st.ascending)).0 in
-      let given = (all_split (λ u. u ≤ before.tickets) D (t ∷ U) (subst (λ (l : List ℕ). AllByRecursion (λ u. u ≤ before.tickets) l) whole st.given)).1.0 in
-      let free = (all_split (λ u. struck u ≡ false) D (t ∷ []) (subst (λ (l : List ℕ). AllByRecursion (λ u. struck u ≡ false) l) is.0 st.done)).0 in
+      Stands has_cells table keeps face start w' after now deeds (λ u. if u == t then not (is_done s) else struck u)
+  stands_turned w w' before after now deeds struck t s there standings tickets row choices st =
+      let same : tickets_of after.kept ≡ tickets_of before.kept = sym (firsts after.kept) ∙ ap (map (λ (one : ℕ × Standing). one.0)) standings ∙ firsts_with t s (standings_of before.kept) ∙ firsts before.kept in
+      let given : t ≤ before.tickets = all_among (λ u. u ≤ before.tickets) (tickets_of before.kept) t st.given there in
       record {
         kept = row.keeps_left;
         ascending = subst AreAscending (sym same) st.ascending;
-        given = subst (λ (l : List ℕ). AllByRecursion (λ u. u ≤ after.tickets) l) (sym same) (all_weaker _ _ (λ u h. omega (arith, h, is.2)) (tickets_of before.kept) st.given);
-        done = all_both (λ u. u < t) (λ u. struck u ≡ false) _ (λ u h e. other_struck struck true t u (λ f. omega (arith, h, f)) ∙ e) D less free;
-        undone = subst (λ (l : List ℕ). AllByRecursion (λ u. struck_with struck (Some t) u ≡ true) l) (sym is.1)
-            (this_struck struck true t, all_weaker _ _ (λ u e. still_struck u e (u == t)) U st.undone);
-        later = λ u h. other_struck struck true t u (λ f. omega (arith, h, f, given, is.2)) ∙ st.later u (omega (arith, h, is.2));
+        given = subst (λ (l : List ℕ). AllByRecursion (λ u. u ≤ after.tickets) l) (sym same) (all_weaker _ _ (λ u h. omega (arith, h, tickets)) (tickets_of before.kept) st.given);
+        marked = subst (λ (l : List (ℕ × Standing)). AllByRecursion (λ one. (if one.0 == t then not (is_done s) else struck one.0) ≡ not (is_done one.1)) l) (sym standings) (marked_with (standings_of before.kept) st.marked);
+        later = λ u h. other_struck struck (not (is_done s)) t u (λ f. omega (arith, h, f, given, tickets)) ∙ st.later u (omega (arith, h, tickets));
         faces = λ chosen choice fair.
             let fair_before : IsFair before struck chosen
             = λ u h absent.
-            let n : t ≢ u = (all_split (λ v. v ≢ u) D (t ∷ U) (subst (λ (l : List ℕ). AllByRecursion (λ v. v ≢ u) l) whole absent)).1.0 in
-            fair u (omega (arith, h, is.2)) (subst (λ (l : List ℕ). AllByRecursion (λ v. v ≢ u) l) (sym same) absent) ∙ ap not (other_struck struck true t u (λ f. n (sym f))) in
+            let n : t ≢ u = all_among (λ v. v ≢ u) (tickets_of before.kept) t absent there in
+            fair u (omega (arith, h, tickets)) (subst (λ (l : List ℕ). AllByRecursion (λ v. v ≢ u) l) (sym same) absent) ∙ ap not (other_struck struck (not (is_done s)) t u (λ f. n (sym f))) in
             same_at_then (same_at now (face w' after.kept chosen) (face w before.kept chosen) (row.faces chosen tt choice)) (st.faces chosen (choices chosen choice) fair_before);
       }
     where
-      still_struck : (u : ℕ) → struck u ≡ true → (b : Bool) → (if b then true else struck u) ≡ true
-      still_struck u e true = refl
-      still_struck u e false = e
+      marked_with : (standings : List (ℕ × Standing)) → AllByRecursion (λ one. struck one.0 ≡ not (is_done one.1)) standings →
+          AllByRecursion (λ one. (if one.0 == t then not (is_done s) else struck one.0) ≡ not (is_done one.1)) (standings_with t s standings)
+      marked_with [] h = tt
+      marked_with (one ∷ standings) h = (by (one.0 == t), marked_with standings h.1)
+        where
+          by : (b : Bool) → (if b then not (is_done s) else struck one.0) ≡ not (is_done (if b then s else one.1))
+          by true = refl
+          by false = h.0
 
-  pub stands_redone : (w w' : W) (before after : Changes S) (now : ℕ) (deeds : List (Deed T)) (struck : ℕ → Bool) (ticket : ℕ) →
-      IsRedo before (Some ticket) after → IsRowAfter table keeps face same_face any w before.kept w' after.kept →
+  pub stands_taken_back : (w w' : W) (before after : Changes S) (now : ℕ) (deeds : List (Deed T)) (struck : ℕ → Bool) (ticket : ℕ) →
+      IsTakenBack before ticket after → IsRowAfter table keeps face same_face any w before.kept w' after.kept →
       ((chosen : ℕ → Bool) → IsChoice table after.kept chosen → IsChoice table before.kept chosen) →
-      Stands has_cells table keeps face start w before now deeds struck →
-      Stands has_cells table keeps face start w' after now deeds (struck_without struck (Some ticket))
-  unfolding moved
-  stands_redone w w' before after now deeds struck t is row choices st =
-      let D = done_of before in
-      let U = undone_of after in
-      let all : tickets_of before.kept ≡ D ++ t ∷ U = sym (take-append-drop before.done (tickets_of before.kept)) ∙ ap (λ (l : List ℕ). D ++ l) is.1 in
-      let all' : tickets_of after.kept ≡ (D ++ t ∷ []) ++ U = sym (take-append-drop after.done (tickets_of after.kept)) ∙ ap (λ (l : List ℕ). l ++ U) is.0 in
-      let same : tickets_of after.kept ≡ tickets_of before.kept = sym (moved D U t (tickets_of after.kept) (tickets_of before.kept) all' all) in
-      let asc = subst AreAscending all st.ascending in
-      let less = (asc_cross D (t ∷ U) asc).0 in
-      let more = (behind_all D t U asc) in
-      let given = (all_split (λ u. u ≤ before.tickets) D (t ∷ U) (subst (λ (l : List ℕ). AllByRecursion (λ u. u ≤ before.tickets) l) all st.given)).1.0 in
-      let struck_rest = (subst (λ (l : List ℕ). AllByRecursion (λ u. struck u ≡ true) l) is.1 st.undone).1 in
-      record {
-        kept = row.keeps_left;
-        ascending = subst AreAscending (sym same) st.ascending;
-        given = subst (λ (l : List ℕ). AllByRecursion (λ u. u ≤ after.tickets) l) (sym same) (all_weaker _ _ (λ u h. omega (arith, h, is.2)) (tickets_of before.kept) st.given);
-        done = subst (λ (l : List ℕ). AllByRecursion (λ u. struck_without struck (Some t) u ≡ false) l) (sym is.0)
-            (all-append (λ u. struck_without struck (Some t) u ≡ false) D (t ∷ [])
-            (all_both (λ u. u < t) (λ u. struck u ≡ false) _ (λ u h e. other_struck struck false t u (λ f. omega (arith, h, f)) ∙ e) D less st.done) (this_struck struck false t, tt));
-        undone = all_both (λ u. t < u) (λ u. struck u ≡ true) _ (λ u h e. other_struck struck false t u (λ f. omega (arith, h, f)) ∙ e) U more struck_rest;
-        later = λ u h. other_struck struck false t u (λ f. omega (arith, h, f, given, is.2)) ∙ st.later u (omega (arith, h, is.2));
-        faces = λ chosen choice fair.
-            let fair_before : IsFair before struck chosen
-            = λ u h absent.
-            let n : t ≢ u = (all_split (λ v. v ≢ u) D (t ∷ U) (subst (λ (l : List ℕ). AllByRecursion (λ v. v ≢ u) l) all absent)).1.0 in
-            fair u (omega (arith, h, is.2)) (subst (λ (l : List ℕ). AllByRecursion (λ v. v ≢ u) l) (sym same) absent) ∙ ap not (other_struck struck false t u (λ f. n (sym f))) in
-            same_at_then (same_at now (face w' after.kept chosen) (face w before.kept chosen) (row.faces chosen tt choice)) (st.faces chosen (choices chosen choice) fair_before);
-      }
-    where
-      behind_all : (D : List ℕ) (t : ℕ) (U : List ℕ) → AreAscending (D ++ t ∷ U) → AllByRecursion (λ u. t < u) U
-      behind_all [] t U h = h.0
-      behind_all (d ∷ D) t U h = behind_all D t U h.1
+      Stands has_cells table keeps face start w before now deeds struck → Stands has_cells table keeps face start w' after now deeds (struck_with struck (Some ticket))
+  unfolding stands_turned
+  stands_taken_back w w' before after now deeds struck t is row choices st =
+      stands_turned w w' before after now deeds struck t Undone (done_known before.kept t is.reached) is.standings is.tickets row choices st
+
+  pub stands_put_back : (w w' : W) (before after : Changes S) (now : ℕ) (deeds : List (Deed T)) (struck : ℕ → Bool) (ticket : ℕ) → AreChanges table before →
+      IsPutBack before ticket after → IsRowAfter table keeps face same_face any w before.kept w' after.kept →
+      ((chosen : ℕ → Bool) → IsChoice table after.kept chosen → IsChoice table before.kept chosen) →
+      Stands has_cells table keeps face start w before now deeds struck → Stands has_cells table keeps face start w' after now deeds (struck_without struck (Some ticket))
+  unfolding stands_turned
+  stands_put_back w w' before after now deeds struck t are is row choices st =
+      stands_turned w w' before after now deeds struck t Done (all_among (λ u. is_among (tickets_of before.kept) u ≡ true) before.undone t are.known is.reached) is.standings is.tickets row choices st
 
   pub stands_still : (w w' : W) (before after : Changes S) (now : ℕ) (deeds : List (Deed T)) (struck : ℕ → Bool) →
       after ≡ before → IsRowAfter table keeps face same_face any w before.kept w' after.kept →
@@ -411,8 +486,7 @@ module _ {W S T : Type 0} (has_cells : Bool) (table : S → Option ℕ) (keeps :
         kept = row'.keeps_left;
         ascending = st.ascending;
         given = st.given;
-        done = st.done;
-        undone = st.undone;
+        marked = st.marked;
         later = st.later;
         faces = λ chosen choice fair. same_at_then (same_at now (face w' before.kept chosen) (face w before.kept chosen) (row'.faces chosen tt choice)) (st.faces chosen choice fair);
       })
@@ -422,42 +496,59 @@ module _ {W S T : Type 0} (has_cells : Bool) (table : S → Option ℕ) (keeps :
       ((chosen : ℕ → Bool) → IsChoice table after.kept chosen → IsChoice table before.kept chosen) →
       Stands has_cells table keeps face start w before now deeds struck → Stands has_cells table keeps face start w' after now deeds (struck_with struck ticket)
   stands_undo w w' before after now deeds struck None is row choices st = stands_still w w' before after now deeds struck is.1 row st
-  stands_undo w w' before after now deeds struck (Some t) is row choices st = stands_undone w w' before after now deeds struck t is row choices st
+  stands_undo w w' before after now deeds struck (Some t) is row choices st = stands_taken_back w w' before after now deeds struck t is.1 row choices st
 
-  pub stands_redo : (w w' : W) (before after : Changes S) (now : ℕ) (deeds : List (Deed T)) (struck : ℕ → Bool) (ticket : Option ℕ) →
+  pub stands_redo : (w w' : W) (before after : Changes S) (now : ℕ) (deeds : List (Deed T)) (struck : ℕ → Bool) (ticket : Option ℕ) → AreChanges table before →
       IsRedo before ticket after → IsRowAfter table keeps face same_face any w before.kept w' after.kept →
       ((chosen : ℕ → Bool) → IsChoice table after.kept chosen → IsChoice table before.kept chosen) →
       Stands has_cells table keeps face start w before now deeds struck → Stands has_cells table keeps face start w' after now deeds (struck_without struck ticket)
-  stands_redo w w' before after now deeds struck None is row choices st = stands_still w w' before after now deeds struck is.1 row st
-  stands_redo w w' before after now deeds struck (Some t) is row choices st = stands_redone w w' before after now deeds struck t is row choices st
+  stands_redo w w' before after now deeds struck None are is row choices st = stands_still w w' before after now deeds struck is.1 row st
+  stands_redo w w' before after now deeds struck (Some t) are is row choices st = stands_put_back w w' before after now deeds struck t are is.1 row choices st
+
+  pub stands_undo_of : (w w' : W) (before after : Changes S) (now : ℕ) (deeds : List (Deed T)) (struck : ℕ → Bool) (ticket : ℕ) (outcome : Outcome) →
+      IsUndoOf table before ticket outcome after → IsRowAfter table keeps face same_face any w before.kept w' after.kept →
+      ((chosen : ℕ → Bool) → IsChoice table after.kept chosen → IsChoice table before.kept chosen) →
+      Stands has_cells table keeps face start w before now deeds struck → Stands has_cells table keeps face start w' after now deeds (struck_with struck (moved_by outcome ticket))
+  stands_undo_of w w' before after now deeds struck t Moved is row choices st = stands_taken_back w w' before after now deeds struck t is.1 row choices st
+  stands_undo_of w w' before after now deeds struck t NotKept is row choices st = stands_still w w' before after now deeds struck is.1 row st
+  stands_undo_of w w' before after now deeds struck t (Buried other) is row choices st = stands_still w w' before after now deeds struck is.2 row st
+
+  pub stands_redo_of : (w w' : W) (before after : Changes S) (now : ℕ) (deeds : List (Deed T)) (struck : ℕ → Bool) (ticket : ℕ) (outcome : Outcome) → AreChanges table before →
+      IsRedoOf table before ticket outcome after → IsRowAfter table keeps face same_face any w before.kept w' after.kept →
+      ((chosen : ℕ → Bool) → IsChoice table after.kept chosen → IsChoice table before.kept chosen) →
+      Stands has_cells table keeps face start w before now deeds struck → Stands has_cells table keeps face start w' after now deeds (struck_without struck (moved_by outcome ticket))
+  stands_redo_of w w' before after now deeds struck t Moved are is row choices st = stands_put_back w w' before after now deeds struck t are is.1 row choices st
+  stands_redo_of w w' before after now deeds struck t NotKept are is row choices st = stands_still w w' before after now deeds struck is.1 row st
+  stands_redo_of w w' before after now deeds struck t (Buried other) are is row choices st = stands_still w w' before after now deeds struck is.2 row st
 
   -- what the world shows is what a replay gives, with what is struck left out
   pub stands_shown : (shown : W → Face T) → ((w : W) (kept : List (KeptChange S)) (chosen : ℕ → Bool) → keeps w kept → IsPresent kept chosen → IsSame (face w kept chosen) (shown w)) →
-      (w : W) (changes : Changes S) (now : ℕ) (deeds : List (Deed T)) (struck : ℕ → Bool) → AreChanges changes →
+      (w : W) (changes : Changes S) (now : ℕ) (deeds : List (Deed T)) (struck : ℕ → Bool) → AreChanges table changes →
       Stands has_cells table keeps face start w changes now deeds struck → IsSameAt now (shown w) (face_by has_cells (λ t. not (struck t)) start deeds)
   stands_shown shown shows w changes now deeds struck are st =
-      let ticket_of : KeptChange S → ℕ = λ k. k.ticket in
       let stand : ℕ → Bool = λ t. not (struck t) in
-      let old = all_both (λ k. struck k.ticket ≡ false) (λ k. k.standing ≡ Done) (λ k. stand k.ticket ≡ is_done k.standing) (λ k x y. ap not x ∙ sym (ap is_done y)) (take changes.done changes.kept)
-      (all_back ticket_of (λ u. struck u ≡ false) (take changes.done changes.kept) (subst (λ (l : List ℕ). AllByRecursion (λ u. struck u ≡ false) l) (sym (take_map ticket_of changes.done changes.kept)) st.done)) are.first in
-      let gone = all_both (λ k. struck k.ticket ≡ true) (λ k. k.standing ≡ Undone) (λ k. stand k.ticket ≡ is_done k.standing) (λ k x y. ap not x ∙ sym (ap is_done y)) (drop changes.done changes.kept)
-      (all_back ticket_of (λ u. struck u ≡ true) (drop changes.done changes.kept) (subst (λ (l : List ℕ). AllByRecursion (λ u. struck u ≡ true) l) (sym (drop_map ticket_of changes.done changes.kept)) st.undone)) are.others in
       let present : IsPresent changes.kept stand
-      = subst (λ (l : List (KeptChange S)). IsPresent l stand) (take-append-drop changes.done changes.kept) (all-append (λ k. stand k.ticket ≡ is_done k.standing) (take changes.done changes.kept) (drop changes.done changes.kept) old gone) in
-      let choice : IsChoice table changes.kept stand
-      = subst (λ (l : List (KeptChange S)). IsChoice table l stand) (take-append-drop changes.done changes.kept)
-      (done_first (take changes.done changes.kept) (drop changes.done changes.kept) are.first are.others old gone) in
+      = all_weaker _ _ (λ k e. ap not e ∙ not_not (is_done k.standing)) changes.kept (all_back (λ (k : KeptChange S). (k.ticket, k.standing)) (λ one. struck one.0 ≡ not (is_done one.1)) changes.kept st.marked) in
+      let choice : IsChoice table changes.kept stand = present_choice stand changes.kept are.closed present (all_weaker _ _ (λ k e. never_cleared k.standing (is_among changes.undone k.ticket) e) changes.kept are.standings) in
       same_at_then (same_at now (shown w) (face w changes.kept stand) (record { tables = sym (shows w changes.kept stand st.kept present).tables; cell = λ q. sym ((shows w changes.kept stand st.kept present).cell q) }))
       (st.faces stand choice (λ t h absent. refl))
     where
-      done_first : (xs ys : List (KeptChange S)) → AllByRecursion (λ k. k.standing ≡ Done) xs → AllByRecursion (λ k. k.standing ≡ Undone) ys →
-          IsPresent xs (λ t. not (struck t)) → IsPresent ys (λ t. not (struck t)) → IsChoice table (xs ++ ys) (λ t. not (struck t))
-      done_first [] [] d u p q = tt
-      done_first [] (y ∷ ys) d u p q =
-          (subst (λ (s : Standing). AllowsAt table (λ t. not (struck t)) s y ys) (sym u.0) (λ out. rest_out ys u.1 q.1), done_first [] ys tt u.1 tt q.1)
+      not_not : (b : Bool) → not (not b) ≡ b
+      not_not true = refl
+      not_not false = refl
+
+      never_cleared : (s : Standing) (b : Bool) → s ≡ (if b then Undone else Done) → s ≢ Cleared
+      never_cleared s true e c = false≢true (ap is_cleared (sym e ∙ c))
+      never_cleared s false e c = false≢true (ap is_cleared (sym e ∙ c))
+
+      present_choice : (chosen : ℕ → Bool) (kept : List (KeptChange S)) → IsClosed table kept → IsPresent kept chosen → AllByRecursion (λ k. k.standing ≢ Cleared) kept → IsChoice table kept chosen
+      present_choice chosen [] closed p n = tt
+      present_choice chosen (k ∷ kept) closed p n = (by k.standing refl, present_choice chosen kept closed.1 p.1 n.1)
         where
-          rest_out : (ys : List (KeptChange S)) → AllByRecursion (λ k. k.standing ≡ Undone) ys → IsPresent ys (λ t. not (struck t)) → AreLeftOut table (λ t. not (struck t)) y.saved ys
-          rest_out [] u q = tt
-          rest_out (z ∷ zs) u q = (λ same. q.0 ∙ ap is_done u.0, rest_out zs u.1 q.1)
-      done_first (x ∷ xs) ys d u p q =
-          (subst (λ (s : Standing). AllowsAt table (λ t. not (struck t)) s x (xs ++ ys)) (sym d.0) (λ out. absurd (false≢true (sym out ∙ p.0 ∙ ap is_done d.0))), done_first xs ys d.1 u p.1 q)
+          out : (those : List (KeptChange S)) → IsUncovered table k.saved those → IsPresent those chosen → AreLeftOut table chosen k.saved those
+          out those u q = all_both (λ j. IsOneTable (table k.saved) (table j.saved) → j.standing ≢ Done) (λ j. chosen j.ticket ≡ is_done j.standing) _ (λ j f e same. e ∙ not_done j.standing (f same)) those u q
+
+          by : (s : Standing) → k.standing ≡ s → AllowsAt table chosen k.standing k kept
+          by Done e = subst (λ (s : Standing). AllowsAt table chosen s k kept) (sym e) (λ left. absurd (false≢true (sym left ∙ (p.0 ∙ ap is_done e))))
+          by Undone e = subst (λ (s : Standing). AllowsAt table chosen s k kept) (sym e) (λ left. out kept (closed.0 e) p.1)
+          by Cleared e = absurd (n.0 e)

@@ -3,12 +3,12 @@
 
 ghost use Rattle.std.specs.Prelude.{◌≡◌, ℕ, ◌≤◌, ◌<◌, ◌^◌, Bool, not, List, [], ◌∷◌, ◌++◌, IfOk, OnOk};
 ghost use Rattle.change_law.specs.Face.{Face, IsSameAt};
-ghost use Rattle.course.specs.Course.{Deed, Came, Forgot, Made, Stands, face_by, struck_with, struck_without};
+ghost use Rattle.course.specs.Course.{Deed, Came, Forgot, Made, Stands, face_by, moved_by, struck_with, struck_without};
 
 use change_law::{Change, ChangeFault, World, WorldFault};
 use dns_name::{Name, NoMemory};
 use ranked::{Fate, SharedFind};
-use undo_journal::Journal;
+use undo_journal::{Journal, Outcome};
 
 /// Admits a find to the world. The replay gains the admission.
 pub fn admit<C: Change>(
@@ -97,8 +97,44 @@ pub fn redo<C: Change>(
         Stands C.World.has_cells C.World.table C.World.keeps C.World.face start world.new journal.new now deeds
         (struck_without struck ticket)) }
 {
+    let _undone = journal.undone();
     let ticket = journal.redo(world)?;
     Ok(ticket)
+}
+
+/// Undoes the change of a ticket, if it can be undone, and strikes the ticket from the replay.
+pub fn undo_of<C: Change>(
+    journal: &mut Journal<C>,
+    world: &mut C::World,
+    ticket: u64,
+) -> Result<Outcome, NoMemory>
+    requires { C.World.keeps world.old journal.old.kept }
+    ensures { IfOk result (λ outcome. (start : Face C.World.Tables) (now : ℕ) (deeds : List (Deed C.World.Tables))
+        (struck : ℕ → Bool) →
+        Stands C.World.has_cells C.World.table C.World.keeps C.World.face start world.old journal.old now deeds struck →
+        Stands C.World.has_cells C.World.table C.World.keeps C.World.face start world.new journal.new now deeds
+        (struck_with struck (moved_by outcome ticket))) }
+{
+    let outcome = journal.undo_of(world, ticket)?;
+    Ok(outcome)
+}
+
+/// Redoes the change of a ticket, if it can be redone. The ticket is not struck any more then.
+pub fn redo_of<C: Change>(
+    journal: &mut Journal<C>,
+    world: &mut C::World,
+    ticket: u64,
+) -> Result<Outcome, NoMemory>
+    requires { C.World.keeps world.old journal.old.kept }
+    ensures { IfOk result (λ outcome. (start : Face C.World.Tables) (now : ℕ) (deeds : List (Deed C.World.Tables))
+        (struck : ℕ → Bool) →
+        Stands C.World.has_cells C.World.table C.World.keeps C.World.face start world.old journal.old now deeds struck →
+        Stands C.World.has_cells C.World.table C.World.keeps C.World.face start world.new journal.new now deeds
+        (struck_without struck (moved_by outcome ticket))) }
+{
+    let _undone = journal.undone();
+    let outcome = journal.redo_of(world, ticket)?;
+    Ok(outcome)
 }
 
 /// The face that the world shows is that of a replay without the struck changes. It returns the number of undone changes.

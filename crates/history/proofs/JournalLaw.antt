@@ -10,16 +10,16 @@ use Rattle.std.proofs.lemmas.List.Elements.{filter_map-append}
 use Rattle.std.proofs.lemmas.Map.Views.{any-filter_same}
 use Rattle.dns_name.specs.ListLaws.{all_push, all_weaker}
 use Rattle.history.specs.declared.event.Event.{Event}
-use Rattle.history.specs.declared.event.Event.TheVariants.{Admit, Look, Sweep, Forget, Do, Undo, Redo}
+use Rattle.history.specs.declared.event.Event.TheVariants.{Admit, Look, Sweep, Forget, Do, Undo, Redo, UndoOf, RedoOf}
 use Rattle.history.specs.declared.event.Command.{Command}
 use Rattle.history.specs.declared.event.Entry.{Entry}
 use Rattle.history.specs.declared.event.Journalled.{Journalled}
 use Rattle.history.specs.declared.event.Reason.{Reason}
 use Rattle.history.specs.Marks.{Marks, AreAscending, last_of, without, strike, restore, after_command}
 use Rattle.history.specs.Tickets.{tally, occurs}
-use Rattle.history.specs.History.{Past, past_of, nothing, followed_by, marks_after, ticket_unless, reason_of}
+use Rattle.history.specs.History.{Past, past_of, nothing, followed_by, marks_after, ticket_moved, ticket_unless, reason_of}
 use Rattle.history.specs.Journal.{is_among, journalled_of, commands_of, tickets_of}
-use Rattle.history.specs.TicketLaws.{tally_same, tally_other, occurs_push, occurs_newest, occurs_in_place, last_occurs, not_struck}
+use Rattle.history.specs.TicketLaws.{tally_same, tally_other, occurs_push, occurs_newest, occurs_in_place, last_occurs, not_struck, among_occurs, occurs_among, undo_of_there, redo_of_there}
 use Rattle.history.proofs.OrderLaw.{of_one, above_both, absent_below, ascending_push, done_ascends, orderly}
 
 -- ---- what is picked of an ascending list
@@ -109,7 +109,11 @@ one_done marks (Forget m n) (Some t) js ts h is = absurd h
 one_done marks (Undo m) None js ts h is = is
 one_done marks (Undo m) (Some t) js ts h is = absurd h
 one_done marks (Redo m) None js ts h is = is
+one_done marks (UndoOf m named) None js ts h is = is
+one_done marks (RedoOf m named) None js ts h is = is
 one_done marks (Redo m) (Some t) js ts h is = absurd h
+one_done marks (UndoOf m named) (Some t) js ts h is = absurd h
+one_done marks (RedoOf m named) (Some t) js ts h is = absurd h
 
 done_picked : (marks : Marks) (log : List Entry) → AreTaken log
     → tickets_of (filter (λ j. j.done) (filter_map (λ entry. journalled_of marks entry.event entry.ticket) log)) ≡ filter (is_among marks.done) (tickets_in log)
@@ -139,7 +143,11 @@ one_held marks (Forget m n) (Some t) js ts h is = absurd h
 one_held marks (Undo m) None js ts h is = is
 one_held marks (Undo m) (Some t) js ts h is = absurd h
 one_held marks (Redo m) None js ts h is = is
+one_held marks (UndoOf m named) None js ts h is = is
+one_held marks (RedoOf m named) None js ts h is = is
 one_held marks (Redo m) (Some t) js ts h is = absurd h
+one_held marks (UndoOf m named) (Some t) js ts h is = absurd h
+one_held marks (RedoOf m named) (Some t) js ts h is = absurd h
 
 held_picked : (marks : Marks) (log : List Entry) → AreTaken log
     → tickets_of (filter_map (λ entry. journalled_of marks entry.event entry.ticket) log) ≡ filter (λ t. is_among marks.done t || is_among marks.undone t) (tickets_in log)
@@ -218,13 +226,13 @@ after_do : (bound : ℕ) (j : Marks) (log : List Entry) (moment m : ℕ) (c : Co
 after_do bound j log moment m c None h = one_more_ticket bound j log moment m c h
 after_do bound j log moment m c (Some reason) h = no_more j j log _ refl refl (λ t some. some) h
 
-after_undo_or_not : (j : Marks) (log : List Entry) (e : Entry) (o : Option ℕ) → last_of j.done ≡ o → e.ticket ≡ None → IsOrderly j log → IsOrderly (option_map_or (strike j) o j) (log ++ e ∷ [])
-after_undo_or_not j log e None last none h = no_more j j log e none refl (λ t some. some) h
-after_undo_or_not j log e (Some x) last none h = no_more j (strike j x) log e none refl (λ t some. struck_held j x t (last_occurs j.done x last) some) h
+after_undo_or_not : (j : Marks) (log : List Entry) (e : Entry) (o : Option ℕ) → ((x : ℕ) → o ≡ Some x → 1 ≤ occurs x j.done) → e.ticket ≡ None → IsOrderly j log → IsOrderly (option_map_or (strike j) o j) (log ++ e ∷ [])
+after_undo_or_not j log e None some none h = no_more j j log e none refl (λ t there. there) h
+after_undo_or_not j log e (Some x) some none h = no_more j (strike j x) log e none refl (λ t there. struck_held j x t (some x refl) there) h
 
-after_redo_or_not : (j : Marks) (log : List Entry) (e : Entry) (o : Option ℕ) → last_of j.undone ≡ o → e.ticket ≡ None → IsOrderly j log → IsOrderly (option_map_or (restore j) o j) (log ++ e ∷ [])
-after_redo_or_not j log e None last none h = no_more j j log e none refl (λ t some. some) h
-after_redo_or_not j log e (Some x) last none h = no_more j (restore j x) log e none refl (λ t some. restored_held j x t (last_occurs j.undone x last) some) h
+after_redo_or_not : (j : Marks) (log : List Entry) (e : Entry) (o : Option ℕ) → ((x : ℕ) → o ≡ Some x → 1 ≤ occurs x j.undone) → e.ticket ≡ None → IsOrderly j log → IsOrderly (option_map_or (restore j) o j) (log ++ e ∷ [])
+after_redo_or_not j log e None some none h = no_more j j log e none refl (λ t there. there) h
+after_redo_or_not j log e (Some x) some none h = no_more j (restore j x) log e none refl (λ t there. restored_held j x t (some x refl) there) h
 
 next_is_orderly : (bound : ℕ) (past : Past) (e : Event) → IsOrderly past.marks past.log → IsOrderly (followed_by bound past e).marks (followed_by bound past e).log
 next_is_orderly bound past (Admit m f) h = no_more past.marks past.marks past.log _ refl refl (λ t some. some) h
@@ -232,8 +240,10 @@ next_is_orderly bound past (Look m a) h = no_more past.marks past.marks past.log
 next_is_orderly bound past (Sweep m) h = no_more past.marks past.marks past.log _ refl refl (λ t some. some) h
 next_is_orderly bound past (Forget m n) h = no_more past.marks past.marks past.log _ refl refl (λ t some. some) h
 next_is_orderly bound past (Do m c) h = after_do bound past.marks past.log _ m c (reason_of past c) h
-next_is_orderly bound past (Undo m) h = after_undo_or_not past.marks past.log _ (last_of past.marks.done) refl refl h
-next_is_orderly bound past (Redo m) h = after_redo_or_not past.marks past.log _ (last_of past.marks.undone) refl refl h
+next_is_orderly bound past (Undo m) h = after_undo_or_not past.marks past.log _ (last_of past.marks.done) (λ x last. last_occurs past.marks.done x last) refl h
+next_is_orderly bound past (Redo m) h = after_redo_or_not past.marks past.log _ (last_of past.marks.undone) (λ x last. last_occurs past.marks.undone x last) refl h
+next_is_orderly bound past (UndoOf m t) h = after_undo_or_not past.marks past.log _ (ticket_moved past (UndoOf m t)) (λ x is. undo_of_there past m t x is) refl h
+next_is_orderly bound past (RedoOf m t) h = after_redo_or_not past.marks past.log _ (ticket_moved past (RedoOf m t)) (λ x is. redo_of_there past m t x is) refl h
 
 is_orderly : (bound : ℕ) (past : Past) (events : List Event) → IsOrderly past.marks past.log → IsOrderly (fold (followed_by bound) past events).marks (fold (followed_by bound) past events).log
 is_orderly bound past [] h = h
@@ -279,29 +289,16 @@ one_undone marks (Forget m n) (Some t) js ts h is = absurd h
 one_undone marks (Undo m) None js ts h is = is
 one_undone marks (Undo m) (Some t) js ts h is = absurd h
 one_undone marks (Redo m) None js ts h is = is
+one_undone marks (UndoOf m named) None js ts h is = is
+one_undone marks (RedoOf m named) None js ts h is = is
 one_undone marks (Redo m) (Some t) js ts h is = absurd h
+one_undone marks (UndoOf m named) (Some t) js ts h is = absurd h
+one_undone marks (RedoOf m named) (Some t) js ts h is = absurd h
 
 undone_picked : (marks : Marks) (log : List Entry) → AreTaken log
     → tickets_of (filter (λ j. not j.done) (filter_map (λ entry. journalled_of marks entry.event entry.ticket) log)) ≡ filter (λ t. not (is_among marks.done t) && is_among marks.undone t) (tickets_in log)
 undone_picked marks [] h = refl
 undone_picked marks (e ∷ log) h = one_undone marks e.event e.ticket _ (tickets_in log) h.0 (undone_picked marks log h.1)
-
--- a ticket is in a list where it occurs there
-among_occurs : (t : ℕ) (xs : List ℕ) → 1 ≤ occurs t xs → is_among xs t ≡ true
-among_occurs t [] some = absurd (omega arith)
-among_occurs t (x ∷ xs) some =
-    elim (cases_Bool (x == t)) [
-      | inl same ↦ rw same refl
-      | inr other ↦ let zero = tally_other x t other in rw other (among_occurs t xs (omega arith))
-    ]
-
-occurs_among : (t : ℕ) (xs : List ℕ) → is_among xs t ≡ true → 1 ≤ occurs t xs
-occurs_among t [] is = absurd (false≢true is)
-occurs_among t (x ∷ xs) is =
-    elim (cases_Bool (x == t)) [
-      | inl same ↦ let one = tally_same x t same in omega arith
-      | inr other ↦ let more = occurs_among t xs (sym (ap (λ b. b || is_among xs t) other) ∙ is) in omega arith
-    ]
 
 -- in an ascending list whose tickets pass a test just where they are in another list, which has no more
 among_picked : (p : ℕ → Bool) (t : ℕ) (xs ys : List ℕ) → (is_among ys t ≡ true → (p t ≡ true) × (1 ≤ occurs t xs)) → (is_among ys t ≡ false → p t ≡ false) → is_among (filter p xs) t ≡ is_among ys t

@@ -1,5 +1,7 @@
 mod JournalLaw
 mod OrderLaw
+mod ReachLaws
+mod RefusalLaw
 mod RedoLaw
 mod Replying
 mod ServersLaws

@@ -7,13 +7,13 @@ use Rattle.std.proofs.lemmas.Bool.{cases_Bool, eq-eqb, eqb-true, ltb-true, lt-lt
 use Rattle.std.proofs.lemmas.Bool.Decides.{nat_tests}
 use Rattle.dns_name.specs.ListLaws.{all_push, all_weaker}
 use Rattle.history.specs.declared.event.Event.{Event}
-use Rattle.history.specs.declared.event.Event.TheVariants.{Admit, Look, Sweep, Forget, Do, Undo, Redo}
+use Rattle.history.specs.declared.event.Event.TheVariants.{Admit, Look, Sweep, Forget, Do, Undo, Redo, UndoOf, RedoOf}
 use Rattle.history.specs.declared.event.Command.{Command}
 use Rattle.history.specs.declared.event.Reason.{Reason}
 use Rattle.history.specs.Marks.{Marks, AreAscending, last_of, without, in_place, strike, restore}
 use Rattle.history.specs.Tickets.{InOne, occurs}
-use Rattle.history.specs.TicketLaws.{tally_same, tally_other, without_absent, last_occurs, next_in_one}
-use Rattle.history.specs.History.{Past, past_of, nothing, followed_by, marks_after, ticket_unless, reason_of}
+use Rattle.history.specs.TicketLaws.{tally_same, tally_other, without_absent, last_occurs, next_in_one, redo_of_there}
+use Rattle.history.specs.History.{Past, past_of, nothing, followed_by, marks_after, ticket_moved, ticket_unless, reason_of}
 
 -- ---- the order of tickets
 
@@ -137,10 +137,10 @@ undo_ascends : (j : Marks) (o : Option ℕ) → AreOrderly j → AreAscending (o
 undo_ascends j None h = h.ascending
 undo_ascends j (Some x) h = ascending_without x j.done h.ascending
 
-redo_ascends : (j : Marks) (o : Option ℕ) → last_of j.undone ≡ o → AreOrderly j → AreAscending (option_map_or (restore j) o j).done
-redo_ascends j None last h = h.ascending
-redo_ascends j (Some x) last h =
-    let here = last_occurs j.undone x last in
+redo_ascends : (j : Marks) (o : Option ℕ) → ((x : ℕ) → o ≡ Some x → 1 ≤ occurs x j.undone) → AreOrderly j → AreAscending (option_map_or (restore j) o j).done
+redo_ascends j None some h = h.ascending
+redo_ascends j (Some x) some h =
+    let here = some x refl in
     let one = h.in_one x in
     let once = one.once in
     let few = one.undone in
@@ -153,7 +153,9 @@ next_ascends bound past (Sweep m) h = h.ascending
 next_ascends bound past (Forget m n) h = h.ascending
 next_ascends bound past (Do m c) h = do_ascends bound past.marks m c (reason_of past c) h
 next_ascends bound past (Undo m) h = undo_ascends past.marks (last_of past.marks.done) h
-next_ascends bound past (Redo m) h = redo_ascends past.marks (last_of past.marks.undone) refl h
+next_ascends bound past (Redo m) h = redo_ascends past.marks (last_of past.marks.undone) (λ x last. last_occurs past.marks.undone x last) h
+next_ascends bound past (UndoOf m t) h = undo_ascends past.marks (ticket_moved past (UndoOf m t)) h
+next_ascends bound past (RedoOf m t) h = redo_ascends past.marks (ticket_moved past (RedoOf m t)) (λ x is. redo_of_there past m t x is) h
 
 orderly_after : (bound : ℕ) (past : Past) (events : List Event) → AreOrderly past.marks → AreOrderly (fold (followed_by bound) past events).marks
 orderly_after bound past [] h = h

@@ -7,7 +7,7 @@ use Rattle.std.proofs.lemmas.List.Elements.{filter-append}
 use Rattle.std.proofs.lemmas.List.Sums.{fold-append}
 use Rattle.ranked.specs.Cell.{shown_at}
 use Rattle.history.specs.declared.event.Event.{Event}
-use Rattle.history.specs.declared.event.Event.TheVariants.{Do, Undo, Redo}
+use Rattle.history.specs.declared.event.Event.TheVariants.{Do, Undo, Redo, UndoOf, RedoOf}
 use Rattle.history.specs.declared.event.Command.{Command}
 use Rattle.history.specs.declared.event.Settings.{Settings}
 use Rattle.history.specs.declared.event.Entry.{Entry}

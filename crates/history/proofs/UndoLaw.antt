@@ -8,12 +8,12 @@ use Rattle.std.proofs.lemmas.List.Elements.{filter-append}
 use Rattle.std.proofs.lemmas.List.Sums.{fold-append}
 use Rattle.std.proofs.lemmas.Bool.Decides.{nat_tests}
 use Rattle.history.specs.declared.event.Event.{Event}
-use Rattle.history.specs.declared.event.Event.TheVariants.{Admit, Look, Sweep, Forget, Do, Undo, Redo}
+use Rattle.history.specs.declared.event.Event.TheVariants.{Admit, Look, Sweep, Forget, Do, Undo, Redo, UndoOf, RedoOf}
 use Rattle.history.specs.declared.event.Command.{Command}
 use Rattle.history.specs.declared.event.Entry.{Entry}
 use Rattle.history.specs.declared.event.Reason.{Reason}
 use Rattle.history.specs.Marks.{Marks, newest, last_of, strike, restore}
-use Rattle.history.specs.History.{Past, past_of, nothing, followed_by, marks_after, ticket_for, ticket_unless, reason_of, standing_of, stands_by, is_unstruck, stands}
+use Rattle.history.specs.History.{Past, past_of, nothing, followed_by, marks_after, ticket_for, ticket_moved, ticket_unless, reason_of, standing_of, stands_by, is_unstruck, stands}
 use Rattle.dns_text.specs.declared.record.Question.{Question}
 use Rattle.ranked.specs.Cell.{shown_at}
 use Rattle.history.specs.TicketLaws.{struck_now, struck_other}
@@ -58,6 +58,8 @@ step_tickets bound past (Forget m n) = (omega arith, tt)
 step_tickets bound past (Do m c) = do_tickets bound past.marks m c (reason_of past c)
 step_tickets bound past (Undo m) = (omega (arith, undo_tickets past.marks (last_of past.marks.done)), tt)
 step_tickets bound past (Redo m) = (omega (arith, redo_tickets past.marks (last_of past.marks.undone)), tt)
+step_tickets bound past (UndoOf m named) = (omega (arith, undo_tickets past.marks (ticket_moved past (UndoOf m named))), tt)
+step_tickets bound past (RedoOf m named) = (omega (arith, redo_tickets past.marks (ticket_moved past (RedoOf m named))), tt)
 
 each_given : (bound : ℕ) (past : Past) (events : List Event) → EachUpTo past.marks.tickets past.log → EachUpTo (fold (followed_by bound) past events).marks.tickets (fold (followed_by bound) past events).log
 each_given bound past [] h = h
@@ -78,6 +80,8 @@ same_stands j k t n is lt (Do m c) (Some ticket) h =
     ap (λ (l : List ℕ). not (list_any (λ s. s == ticket) l)) is ∙ ap not (struck_other j.struck t ticket other)
 same_stands j k t n is lt (Undo m) o h = refl
 same_stands j k t n is lt (Redo m) o h = refl
+same_stands j k t n is lt (UndoOf m named) o h = refl
+same_stands j k t n is lt (RedoOf m named) o h = refl
 
 same_standing : (j k : Marks) (t n : ℕ) → k.struck ≡ j.struck ++ t ∷ [] → n < t → (es : List Entry) → EachUpTo n es → filter (stands k) es ≡ filter (stands j) es
 same_standing j k t n is lt [] h = refl

@@ -5,7 +5,7 @@ use Rattle.std.proofs.Common.{arith, ap, cond, max, sym, ◌∙◌, length-appen
 use Rattle.std.proofs.lemmas.List.{append-nil, map-append}
 use Rattle.std.proofs.lemmas.List.Sums.{sum_by-append}
 use Rattle.history.specs.declared.event.Event.{Event}
-use Rattle.history.specs.declared.event.Event.TheVariants.{Admit, Look, Sweep, Forget, Do, Undo, Redo}
+use Rattle.history.specs.declared.event.Event.TheVariants.{Admit, Look, Sweep, Forget, Do, Undo, Redo, UndoOf, RedoOf}
 use Rattle.history.specs.declared.event.Entry.{Entry}
 use Rattle.history.specs.Event.{is_admission, forgets, moment_of}
 use Rattle.history.specs.History.{Past, past_of, followed_by, ticket_for}
@@ -55,6 +55,8 @@ counted_once_few (Forget moment owner) later = omega arith
 counted_once_few (Do moment command) later = omega arith
 counted_once_few (Undo moment) later = omega arith
 counted_once_few (Redo moment) later = omega arith
+counted_once_few (UndoOf moment named) later = omega arith
+counted_once_few (RedoOf moment named) later = omega arith
 
 -- No more are counted than were admitted.
 pub counted_few : (events : List Event) → counted_of events ≤ count_by is_admission events

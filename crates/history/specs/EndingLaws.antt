@@ -24,7 +24,7 @@ use Rattle.ranked.specs.Rank.{level_of}
 use Rattle.history.specs.declared.event.Command.TheVariants.{FlushType, Flush, FlushZone, SetZone, DropZone, AddRecord, DropName, SetStub, DropStub}
 use Rattle.history.specs.declared.event.Entry.{Entry}
 use Rattle.history.specs.declared.event.Event.{Event}
-use Rattle.history.specs.declared.event.Event.TheVariants.{Admit, Look, Sweep, Forget, Do, Undo, Redo}
+use Rattle.history.specs.declared.event.Event.TheVariants.{Admit, Look, Sweep, Forget, Do, Undo, Redo, UndoOf, RedoOf}
 use Rattle.history.specs.declared.event.Journalled.{Journalled}
 use Rattle.history.specs.Cells.{cell_after, cell_by, effect}
 use Rattle.history.specs.Event.{covers}
@@ -176,6 +176,8 @@ came_by question cell held moment (Forget m name) is = inl (kept cell held (name
 came_by question cell held moment (Do m command) is = inl (kept cell held (covers command question) is)
 came_by question cell held moment (Undo m) is = inl is
 came_by question cell held moment (Redo m) is = inl is
+came_by question cell held moment (UndoOf m named) is = inl is
+came_by question cell held moment (RedoOf m named) is = inl is
 
 came : (question : Question) (entries : List Entry) (cell : Option (Admitted Find)) (held : Admitted Find) → fold (cell_after question) cell entries ≡ Some held
     → (cell ≡ Some held) ⊎ ((entry : Entry) × IsAmong entry entries × Admits question held entry.moment entry.event)
@@ -273,6 +275,8 @@ follows_after owner kind cell whole moment (Do m (SetStub new)) follows = follow
 follows_after owner kind cell whole moment (Do m (DropStub name)) follows = follows
 follows_after owner kind cell whole moment (Undo m) follows = follows
 follows_after owner kind cell whole moment (Redo m) follows = follows
+follows_after owner kind cell whole moment (UndoOf m named) follows = follows
+follows_after owner kind cell whole moment (RedoOf m named) follows = follows
 
 follows_all : (owner : Labels) (kind : ℕ) (entries : List Entry) (cell whole : Option (Admitted Find)) → Follows cell whole
     → Follows (fold (cell_after (record { owner = owner; kind = kind })) cell entries) (fold (whole_after owner) whole entries)
@@ -290,6 +294,8 @@ one_effect owner kind cell moment (Forget m name) = refl
 one_effect owner kind cell moment (Do m command) = refl
 one_effect owner kind cell moment (Undo m) = refl
 one_effect owner kind cell moment (Redo m) = refl
+one_effect owner kind cell moment (UndoOf m named) = refl
+one_effect owner kind cell moment (RedoOf m named) = refl
 
 one_cell : (owner : Labels) (kind : ℕ) (entries : List Entry) (cell : Option (Admitted Find))
     → fold (cell_after (record { owner = owner; kind = kind })) cell entries ≡ fold (scope_after owner (One kind)) cell entries
@@ -338,6 +344,8 @@ same_effect owner kind unflushed cell moment (Do m (SetStub new)) fresh = refl
 same_effect owner kind unflushed cell moment (Do m (DropStub name)) fresh = refl
 same_effect owner kind unflushed cell moment (Undo m) fresh = refl
 same_effect owner kind unflushed cell moment (Redo m) fresh = refl
+same_effect owner kind unflushed cell moment (UndoOf m named) fresh = refl
+same_effect owner kind unflushed cell moment (RedoOf m named) fresh = refl
 
 same_cell : (owner : Labels) (kind : ℕ) → is_flushed kind ≡ false → (entries : List Entry) (cell : Option (Admitted Find)) → AllByRecursion (λ e. IsFresh kind e.event) entries
     → fold (cell_after (record { owner = owner; kind = kind })) cell entries ≡ fold (whole_after owner) cell entries
@@ -383,6 +391,8 @@ is_fresh (Do m (SetStub new)) kind low = tt
 is_fresh (Do m (DropStub name)) kind low = tt
 is_fresh (Undo m) kind low = tt
 is_fresh (Redo m) kind low = tt
+is_fresh (UndoOf m named) kind low = tt
+is_fresh (RedoOf m named) kind low = tt
 
 all_fresh : (log : List Entry) (kind : ℕ) → kinds_above log ≤ kind → AllByRecursion (λ e. IsFresh kind e.event) log
 unfolding kinds_above

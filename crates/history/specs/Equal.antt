@@ -4,6 +4,7 @@ use Rattle.history.specs.declared.servers.Servers.{Servers}
 use Rattle.history.specs.declared.servers.Origin.{Origin}
 use Rattle.history.specs.declared.event.Ask.{Ask}
 use Rattle.history.specs.declared.event.Command.{Command}
+use Rattle.history.specs.declared.event.BuriedCommand.{BuriedCommand}
 use Rattle.history.specs.declared.event.Journalled.{Journalled}
 use Rattle.history.specs.declared.event.Event.{Event}
 use Rattle.history.specs.declared.event.Seen.{Seen}
@@ -14,6 +15,7 @@ use Rattle.history.specs.contracts.servers.OriginPartialEq.TheImpl as source_imp
 use Rattle.history.specs.contracts.event.AskPartialEq.TheImpl as ask_impl
 use Rattle.history.specs.contracts.event.CommandPartialEq.TheImpl as command_impl
 use Rattle.history.specs.contracts.event.JournalledPartialEq.TheImpl as journalled_impl
+use Rattle.history.specs.contracts.event.BuriedCommandPartialEq.TheImpl as buried_impl
 use Rattle.history.specs.contracts.event.EventPartialEq.TheImpl as event_impl
 use Rattle.history.specs.contracts.event.SeenPartialEq.TheImpl as seen_impl
 use Rattle.history.specs.contracts.event.ReasonPartialEq.TheImpl as reason_impl
@@ -30,6 +32,10 @@ command_eq a b = command_impl.ghosts.eq a b
 -- whether `==` calls two commands of the journal equal
 abbrev pub journalled_eq : Journalled → Journalled → Bool
 journalled_eq a b = journalled_impl.ghosts.eq a b
+
+-- whether `==` calls two buried commands equal
+abbrev pub buried_eq : BuriedCommand → BuriedCommand → Bool
+buried_eq a b = buried_impl.ghosts.eq a b
 
 -- whether `==` calls two events equal
 abbrev pub event_eq : Event → Event → Bool

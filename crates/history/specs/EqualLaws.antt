@@ -32,15 +32,16 @@ use Rattle.history.specs.declared.event.Ask.TheVariants as ask
 use Rattle.history.specs.declared.event.Command.{Command}
 use Rattle.history.specs.declared.event.Command.TheVariants.{FlushType, Flush, FlushZone, SetZone, DropZone, AddRecord, DropName, SetStub, DropStub}
 use Rattle.history.specs.declared.event.Event.{Event}
-use Rattle.history.specs.declared.event.Event.TheVariants.{Admit, Look, Sweep, Forget, Do, Undo, Redo}
+use Rattle.history.specs.declared.event.Event.TheVariants.{Admit, Look, Sweep, Forget, Do, Undo, Redo, UndoOf, RedoOf}
+use Rattle.history.specs.declared.event.BuriedCommand.{BuriedCommand}
 use Rattle.history.specs.declared.event.Journalled.{Journalled}
 use Rattle.history.specs.declared.event.Seen.{Seen as SeenValue}
 use Rattle.history.specs.declared.event.Seen.TheVariants as seen
 use Rattle.history.specs.declared.event.Reason.{Reason}
 use Rattle.history.specs.declared.event.Reason.TheVariants.{BelowRedirect, DataBelow, CnameClash, TooMany}
 use Rattle.history.specs.declared.event.Reply.{Reply}
-use Rattle.history.specs.declared.event.Reply.TheVariants.{Taken, Outranked, Seen, Swept, Forgotten, Done, Refused, Undone, Redone, NothingToUndo, NothingToRedo}
-use Rattle.history.specs.Equal.{source_eq, servers_eq, ask_eq, command_eq, journalled_eq, event_eq, seen_eq, reason_eq, reply_eq}
+use Rattle.history.specs.declared.event.Reply.TheVariants.{Taken, Outranked, Seen, Swept, Forgotten, Done, Refused, Undone, Redone, NothingToUndo, NothingToRedo, NotKept, Buried}
+use Rattle.history.specs.Equal.{source_eq, servers_eq, ask_eq, command_eq, journalled_eq, buried_eq, event_eq, seen_eq, reason_eq, reply_eq}
 
 same : (n : ℕ) → eqb n n ≡ true
 same n = eq-eqb n n refl
@@ -53,6 +54,7 @@ ask_eq_exact ask.Zones ask.Zones e = refl
 ask_eq_exact ask.Records ask.Records e = refl
 ask_eq_exact ask.Stubs ask.Stubs e = refl
 ask_eq_exact ask.Commands ask.Commands e = refl
+ask_eq_exact ask.Buried ask.Buried e = refl
 ask_eq_exact (ask.Servers name) (ask.Servers other) e = ap ask.Servers (name_eq_exact name other e)
 ask_eq_exact ask.Oldest ask.Oldest e = refl
 ask_eq_exact _ _ e = absurd (false≢true e)
@@ -63,6 +65,7 @@ ask_eq_itself ask.Zones = refl
 ask_eq_itself ask.Records = refl
 ask_eq_itself ask.Stubs = refl
 ask_eq_itself ask.Commands = refl
+ask_eq_itself ask.Buried = refl
 ask_eq_itself (ask.Servers name) = name_eq_itself name
 ask_eq_itself ask.Oldest = refl
 
@@ -111,6 +114,16 @@ journalled_eq_exact a b e =
 journalled_eq_itself : (a : Journalled) → journalled_eq a a ≡ true
 journalled_eq_itself a = both_true (same a.ticket) (both_true ((booleans_Decides a.done a.done).1 refl) (command_eq_itself a.command))
 
+buried_eq_exact : (a b : BuriedCommand) → buried_eq a b ≡ true → a ≡ b
+buried_eq_exact a b e =
+    let parts = and_parts _ _ e in
+    let same_ticket : a.ticket ≡ b.ticket = eqb-true a.ticket b.ticket parts.0 in
+    let same_by : a.by ≡ b.by = eqb-true a.by b.by parts.1 in
+    λ i. record { ticket = same_ticket i; by = same_by i }
+
+buried_eq_itself : (a : BuriedCommand) → buried_eq a a ≡ true
+buried_eq_itself a = both_true (same a.ticket) (same a.by)
+
 -- ---- events
 
 admit_exact : (m : ℕ) (f : Find) (b : Event) → event_eq (Admit m f) b ≡ true → Admit m f ≡ b
@@ -145,6 +158,22 @@ do_exact m c (Do n d) e =
     λ i. Do (same_moment i) (same_command i)
 do_exact m c _ e = absurd (false≢true e)
 
+undo_of_exact : (m t : ℕ) (b : Event) → event_eq (UndoOf m t) b ≡ true → UndoOf m t ≡ b
+undo_of_exact m t (UndoOf n u) e =
+    let parts = and_parts _ _ e in
+    let same_moment : m ≡ n = eqb-true m n parts.0 in
+    let same_ticket : t ≡ u = eqb-true t u parts.1 in
+    λ i. UndoOf (same_moment i) (same_ticket i)
+undo_of_exact m t _ e = absurd (false≢true e)
+
+redo_of_exact : (m t : ℕ) (b : Event) → event_eq (RedoOf m t) b ≡ true → RedoOf m t ≡ b
+redo_of_exact m t (RedoOf n u) e =
+    let parts = and_parts _ _ e in
+    let same_moment : m ≡ n = eqb-true m n parts.0 in
+    let same_ticket : t ≡ u = eqb-true t u parts.1 in
+    λ i. RedoOf (same_moment i) (same_ticket i)
+redo_of_exact m t _ e = absurd (false≢true e)
+
 pub event_eq_exact : (a b : Event) → event_eq a b ≡ true → a ≡ b
 event_eq_exact (Admit m f) b e = admit_exact m f b e
 event_eq_exact (Look m a) b e = look_exact m a b e
@@ -153,6 +182,8 @@ event_eq_exact (Forget m name) b e = forget_exact m name b e
 event_eq_exact (Do m c) b e = do_exact m c b e
 event_eq_exact (Undo m) (Undo n) e = ap Undo (eqb-true m n e)
 event_eq_exact (Redo m) (Redo n) e = ap Redo (eqb-true m n e)
+event_eq_exact (UndoOf m t) b e = undo_of_exact m t b e
+event_eq_exact (RedoOf m t) b e = redo_of_exact m t b e
 event_eq_exact _ _ e = absurd (false≢true e)
 
 pub event_eq_itself : (a : Event) → event_eq a a ≡ true
@@ -163,6 +194,8 @@ event_eq_itself (Forget m name) = both_true (same m) (name_eq_itself name)
 event_eq_itself (Do m c) = both_true (same m) (command_eq_itself c)
 event_eq_itself (Undo m) = same m
 event_eq_itself (Redo m) = same m
+event_eq_itself (UndoOf m t) = both_true (same m) (same t)
+event_eq_itself (RedoOf m t) = both_true (same m) (same t)
 
 -- ---- what is seen
 
@@ -177,6 +210,9 @@ stub_eq-Decides a b = (stub_eq_exact a b, λ is. ap (stub_eq a) (sym is) ∙ stu
 
 journalled_eq-Decides : (a b : Journalled) → Decides (journalled_eq a b) (a ≡ b)
 journalled_eq-Decides a b = (journalled_eq_exact a b, λ is. ap (journalled_eq a) (sym is) ∙ journalled_eq_itself a)
+
+buried_eq-Decides : (a b : BuriedCommand) → Decides (buried_eq a b) (a ≡ b)
+buried_eq-Decides a b = (buried_eq_exact a b, λ is. ap (buried_eq a) (sym is) ∙ buried_eq_itself a)
 
 addr_eq-Decides : (a b : Addr) → Decides (addr_eq a b) (a ≡ b)
 addr_eq-Decides a b = (addr_eq_exact a b, λ is. ap (addr_eq a) (sym is) ∙ addr_eq_itself a)
@@ -257,6 +293,7 @@ seen_eq_exact (seen.Zones zones) (seen.Zones other) e = ap seen.Zones ((slice_eq
 seen_eq_exact (seen.Records records) (seen.Records other) e = ap seen.Records ((slice_eq-Decides record_eq-Decides records other _ refl).0 e)
 seen_eq_exact (seen.Stubs stubs) (seen.Stubs other) e = ap seen.Stubs ((slice_eq-Decides stub_eq-Decides stubs other _ refl).0 e)
 seen_eq_exact (seen.Commands commands) (seen.Commands other) e = ap seen.Commands ((slice_eq-Decides journalled_eq-Decides commands other _ refl).0 e)
+seen_eq_exact (seen.Buried buried) (seen.Buried other) e = ap seen.Buried ((slice_eq-Decides buried_eq-Decides buried other _ refl).0 e)
 seen_eq_exact (seen.Servers servers) (seen.Servers other) e = ap seen.Servers (servers_eq_exact servers other e)
 seen_eq_exact (seen.Oldest name) (seen.Oldest other) e = ap seen.Oldest (oldest_exact name other e)
 seen_eq_exact _ _ e = absurd (false≢true e)
@@ -288,6 +325,7 @@ seen_eq_itself (seen.Local a) = local_itself a
 seen_eq_itself (seen.Zones zones) = (slice_eq-Decides zone_eq-Decides zones zones _ refl).1 refl
 seen_eq_itself (seen.Records records) = (slice_eq-Decides record_eq-Decides records records _ refl).1 refl
 seen_eq_itself (seen.Stubs stubs) = (slice_eq-Decides stub_eq-Decides stubs stubs _ refl).1 refl
+seen_eq_itself (seen.Buried buried) = (slice_eq-Decides buried_eq-Decides buried buried _ refl).1 refl
 seen_eq_itself (seen.Servers servers) = servers_eq_itself servers
 seen_eq_itself (seen.Oldest name) = oldest_itself name
 seen_eq_itself (seen.Commands commands) = (slice_eq-Decides journalled_eq-Decides commands commands _ refl).1 refl
@@ -319,6 +357,8 @@ reply_eq_exact (Undone t) (Undone u) e = ap Undone (eqb-true t u e)
 reply_eq_exact (Redone t) (Redone u) e = ap Redone (eqb-true t u e)
 reply_eq_exact NothingToUndo NothingToUndo e = refl
 reply_eq_exact NothingToRedo NothingToRedo e = refl
+reply_eq_exact NotKept NotKept e = refl
+reply_eq_exact (Buried t) (Buried u) e = ap Buried (eqb-true t u e)
 reply_eq_exact _ _ e = absurd (false≢true e)
 
 pub reply_eq_itself : (a : Reply) → reply_eq a a ≡ true
@@ -333,3 +373,5 @@ reply_eq_itself (Undone t) = same t
 reply_eq_itself (Redone t) = same t
 reply_eq_itself NothingToUndo = refl
 reply_eq_itself NothingToRedo = refl
+reply_eq_itself NotKept = refl
+reply_eq_itself (Buried t) = same t

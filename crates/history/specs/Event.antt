@@ -7,7 +7,7 @@ use Rattle.ranked.specs.declared.flush.Flush.{Flush as CellFlush}
 use Rattle.ranked.specs.declared.flush.Reach.TheVariants as reach
 use Rattle.ranked.specs.Flush.{reaches}
 use Rattle.history.specs.declared.event.Event.{Event}
-use Rattle.history.specs.declared.event.Event.TheVariants.{Admit, Look, Sweep, Forget, Do, Undo, Redo}
+use Rattle.history.specs.declared.event.Event.TheVariants.{Admit, Look, Sweep, Forget, Do, Undo, Redo, UndoOf, RedoOf}
 use Rattle.history.specs.declared.event.Settings.{Settings}
 use Rattle.history.specs.declared.event.Command.{Command}
 use Rattle.history.specs.declared.event.Command.TheVariants.{FlushType, Flush, FlushZone}
@@ -22,6 +22,8 @@ moment_of (Forget moment owner) = moment
 moment_of (Do moment command) = moment
 moment_of (Undo moment) = moment
 moment_of (Redo moment) = moment
+moment_of (UndoOf moment ticket) = moment
+moment_of (RedoOf moment ticket) = moment
 
 -- whether an event admits a find
 abbrev pub is_admission : Event → Bool

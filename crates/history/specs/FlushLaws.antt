@@ -7,7 +7,7 @@ use Rattle.dns_text.specs.declared.record.Question.{Question}
 use Rattle.ranked.specs.declared.find.Find.{Find}
 use Rattle.ranked.specs.declared.cell.Admitted.{Admitted}
 use Rattle.history.specs.declared.event.Event.{Event}
-use Rattle.history.specs.declared.event.Event.TheVariants.{Admit, Look, Sweep, Forget, Do, Undo, Redo}
+use Rattle.history.specs.declared.event.Event.TheVariants.{Admit, Look, Sweep, Forget, Do, Undo, Redo, UndoOf, RedoOf}
 use Rattle.history.specs.declared.event.Entry.{Entry}
 use Rattle.history.specs.Event.{covers}
 use Rattle.history.specs.History.{stands_by, standing_with}
@@ -30,6 +30,8 @@ wider chosen other more (Do m c) None is = is
 wider chosen other more (Do m c) (Some t) is = more t is
 wider chosen other more (Undo m) ticket is = is
 wider chosen other more (Redo m) ticket is = is
+wider chosen other more (UndoOf m named) ticket is = is
+wider chosen other more (RedoOf m named) ticket is = is
 
 no_cover : (covered : Bool) (t : ℕ) (cell : Option (Admitted Find)) → cond covered (Some t) None ≡ None → cond covered None cell ≡ cell
 no_cover true t cell is = cc
@@ -46,6 +48,8 @@ leaves question chosen other cell moment (Do m c) None stays out none = absurd (
 leaves question chosen other cell moment (Do m c) (Some t) stays out none = no_cover (covers c question) t cell none
 leaves question chosen other cell moment (Undo m) ticket stays out none = refl
 leaves question chosen other cell moment (Redo m) ticket stays out none = refl
+leaves question chosen other cell moment (UndoOf m named) ticket stays out none = refl
+leaves question chosen other cell moment (RedoOf m named) ticket stays out none = refl
 
 -- an entry that is in force by a choice and whose command of this ticket covers the question
 record Empties (question : Question) (chosen : ℕ → Bool) (e : Event) (ticket : Option ℕ) (t : ℕ) : Type 0 where
@@ -75,6 +79,8 @@ empties question chosen (Do m c) (Some s) t stays is =
     record { is_chosen = it.0; stands = it.1; empty = λ cell moment. it.2 cell }
 empties question chosen (Undo m) ticket t stays is = absurd cc
 empties question chosen (Redo m) ticket t stays is = absurd cc
+empties question chosen (UndoOf m named) ticket t stays is = absurd cc
+empties question chosen (RedoOf m named) ticket t stays is = absurd cc
 
 -- ---- a log
 
@@ -197,6 +203,8 @@ stands_with question other (Do m c) (Some s) t has is = of_covers (covers c ques
     of_covers false same = absurd cc
 stands_with question other (Undo m) ticket t has is = absurd cc
 stands_with question other (Redo m) ticket t has is = absurd cc
+stands_with question other (UndoOf m named) ticket t has is = absurd cc
+stands_with question other (RedoOf m named) ticket t has is = absurd cc
 
 fewer_last : (question : Question) (chosen other : ℕ → Bool) → ((t : ℕ) → other t ≡ true → chosen t ≡ true) → (t : ℕ) → other t ≡ true → (log : List Entry)
     → last_covering question (standing_with chosen log) ≡ Some t → last_covering question (standing_with other log) ≡ Some t

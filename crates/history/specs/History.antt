@@ -1,7 +1,8 @@
 -- The replay of a list of events: its greatest moment, its marks, and the entries that are in force.
 use Rattle.std.specs.Prelude.{ℕ, ◌+◌, max, Bool, true, false, not, Option, Some, None, List, [], ◌∷◌, ◌++◌, fold, filter}
+use Rattle.std.specs.Option.{option_map_or}
 use Rattle.history.specs.declared.event.Event.{Event}
-use Rattle.history.specs.declared.event.Event.TheVariants.{Admit, Forget, Do, Undo, Redo}
+use Rattle.history.specs.declared.event.Event.TheVariants.{Admit, Forget, Do, Undo, Redo, UndoOf, RedoOf}
 use Rattle.history.specs.declared.event.Command.{Command}
 use Rattle.history.specs.declared.event.Reason.{Reason}
 use Rattle.history.specs.declared.event.Entry.{Entry}
@@ -9,17 +10,9 @@ use Rattle.stub_table.specs.Stubs.{Stubs}
 use Rattle.history.specs.declared.tables.Tables.{Tables}
 use Rattle.history.specs.Event.{moment_of}
 use Rattle.history.specs.Changes.{tables_by, reason_on}
-use Rattle.history.specs.Marks.{Marks, no_marks, is_struck, after_command, after_undo, after_redo}
-
--- the events so far
-pub record Past : Type 0 where
-  pub now : ℕ  -- the greatest moment given, by struck commands too
-  pub marks : Marks
-  pub log : List Entry  -- each event, with the moment at which it counts and the ticket that it took
-
--- before any event
-abbrev pub nothing : Past
-nothing = record { now = 0; marks = no_marks; log = [] }
+pub use Rattle.history.specs.Past.{Past, nothing}
+use Rattle.history.specs.Journal.{commands_of, is_among, over, under}
+use Rattle.history.specs.Marks.{Marks, is_struck, after_command, after_undo, after_redo, strike, restore}
 
 -- Admissions and forgets are in force, and so are the accepted commands that are chosen, by their tickets.
 abbrev pub stands_by : (ℕ → Bool) → Event → Option ℕ → Bool
@@ -66,12 +59,26 @@ abbrev pub ticket_for : Past → Event → Option ℕ
 ticket_for past (Do moment command) = ticket_unless past.marks (reason_of past command)
 ticket_for past event = None
 
--- the marks after an event, which may be a command that took this ticket
+-- a ticket that is there, unless another of its table must be moved first
+abbrev pub unless_buried : Bool → Option ℕ → ℕ → Option ℕ
+unless_buried true None ticket = Some ticket
+unless_buried true (Some other) ticket = None
+unless_buried false other ticket = None
+
+-- The ticket that an event takes, or that an undo or a redo of a ticket moves.
+abbrev pub ticket_moved : Past → Event → Option ℕ
+ticket_moved past (UndoOf moment ticket) = unless_buried (is_among past.marks.done ticket) (over (commands_of past) ticket) ticket
+ticket_moved past (RedoOf moment ticket) = unless_buried (is_among past.marks.undone ticket) (under (commands_of past) ticket) ticket
+ticket_moved past event = ticket_for past event
+
+-- the marks after an event that took or moved this ticket
 abbrev pub marks_after : ℕ → Marks → Event → Option ℕ → Marks
 marks_after bound marks (Do moment command) (Some ticket) = after_command bound marks
 marks_after bound marks (Do moment command) None = marks
 marks_after bound marks (Undo moment) ticket = after_undo marks
 marks_after bound marks (Redo moment) ticket = after_redo marks
+marks_after bound marks (UndoOf moment named) ticket = option_map_or (strike marks) ticket marks
+marks_after bound marks (RedoOf moment named) ticket = option_map_or (restore marks) ticket marks
 marks_after bound marks event ticket = marks
 
 -- one event more, if the newest `bound` commands can be undone
@@ -81,7 +88,7 @@ followed_by bound past event =
     let ticket = ticket_for past event in
     record {
       now = now;
-      marks = marks_after bound past.marks event ticket;
+      marks = marks_after bound past.marks event (ticket_moved past event);
       log = past.log ++ record { event = event; moment = now; ticket = ticket } ∷ [];
     }
 

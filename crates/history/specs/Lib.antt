@@ -1,12 +1,13 @@
 pub mod Event
 pub mod Marks
 pub mod Tickets
+pub mod Past
+pub mod Journal
 pub mod Changes
 pub mod History
 pub mod TicketLaws
 pub mod Cells
 pub mod Flushes
-pub mod Journal
 pub mod Oldest
 pub mod OldestFound
 pub mod FlushLaws

@@ -9,7 +9,7 @@ use Rattle.ranked.specs.declared.find.Find.{Find}
 use Rattle.ranked.specs.declared.find.Scope.{Scope}
 use Rattle.history.specs.declared.event.Entry.{Entry}
 use Rattle.history.specs.declared.event.Event.{Event}
-use Rattle.history.specs.declared.event.Event.TheVariants.{Admit, Look, Sweep, Forget, Do, Undo, Redo}
+use Rattle.history.specs.declared.event.Event.TheVariants.{Admit, Look, Sweep, Forget, Do, Undo, Redo, UndoOf, RedoOf}
 use Rattle.history.specs.History.{Past}
 use Rattle.history.specs.Journal.{commands_of, is_among, tickets_of}
 use Rattle.history.specs.Oldest.{IsOldest}
@@ -94,6 +94,8 @@ module _ (past : Past) (t : ℕ) where
   each_ended (Do m command) = tt
   each_ended (Undo m) = tt
   each_ended (Redo m) = tt
+  each_ended (UndoOf m named) = tt
+  each_ended (RedoOf m named) = tt
 
   all_ended : (log : List Entry) → AllByRecursion (λ p. Ended past t p.0 p.1) (flat_map (λ entry. ends_in past t entry.event) log)
   all_ended [] = tt

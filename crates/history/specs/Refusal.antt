@@ -2,7 +2,7 @@
 use Rattle.std.specs.Prelude.{◌≡◌, ℕ, max, Bool, true, false, List, [], ◌∷◌, ◌++◌}
 use Rattle.history.specs.declared.event.Event.{Event}
 use Rattle.history.specs.declared.event.Reply.{Reply}
-use Rattle.history.specs.declared.event.Reply.TheVariants.{Refused, NothingToUndo, NothingToRedo}
+use Rattle.history.specs.declared.event.Reply.TheVariants.{Refused, NothingToUndo, NothingToRedo, NotKept, Buried}
 use Rattle.history.specs.Event.{moment_of}
 use Rattle.history.specs.History.{Past, past_of, standing_of, stubs_of, tables_of}
 
@@ -11,6 +11,8 @@ abbrev pub is_refusal : Reply → Bool
 is_refusal (Refused reason) = true
 is_refusal NothingToUndo = true
 is_refusal NothingToRedo = true
+is_refusal NotKept = true
+is_refusal (Buried ticket) = true
 is_refusal _ = false
 
 -- The same is in force, the same can be undone and redone, the next ticket is the same, and so are local zones, records and stubs. The moment that the event gives counts.

@@ -12,21 +12,21 @@ use Rattle.local_zone.specs.declared.local_answer.Local.{Local}
 use Rattle.local_zone.specs.declared.local_answer.Local.TheVariants as local
 use Rattle.local_zone.specs.Answer.{local_of, local_now}
 use Rattle.history.specs.declared.event.Event.{Event}
-use Rattle.history.specs.declared.event.Event.TheVariants.{Admit, Look as LookEvent, Sweep, Forget, Do, Undo, Redo}
+use Rattle.history.specs.declared.event.Event.TheVariants.{Admit, Look as LookEvent, Sweep, Forget, Do, Undo, Redo, UndoOf, RedoOf}
 use Rattle.history.specs.declared.event.Reason.{Reason}
 use Rattle.history.specs.declared.event.Settings.{Settings}
 use Rattle.history.specs.declared.event.Ask.{Ask}
-use Rattle.history.specs.declared.event.Ask.TheVariants.{Answer, Zones as ZonesAsked, Records as RecordsAsked, Stubs as StubsAsked, Commands as CommandsAsked, Servers as ServersAsked, Oldest as OldestAsked}
+use Rattle.history.specs.declared.event.Ask.TheVariants.{Answer, Zones as ZonesAsked, Records as RecordsAsked, Stubs as StubsAsked, Commands as CommandsAsked, Buried as BuriedAsked, Servers as ServersAsked, Oldest as OldestAsked}
 use Rattle.history.specs.declared.event.Seen.{Seen as SeenValue}
-use Rattle.history.specs.declared.event.Seen.TheVariants.{Unknown, Held, Local as LocalSeen, Zones, Records, Stubs, Commands, Servers, Oldest}
+use Rattle.history.specs.declared.event.Seen.TheVariants.{Unknown, Held, Local as LocalSeen, Zones, Records, Stubs, Commands, Buried as BuriedSeen, Servers, Oldest}
 use Rattle.history.specs.declared.event.Look.{Look}
 use Rattle.history.specs.declared.event.Look.TheVariants.{Unknown as NothingLent, Held as HeldLent, Local as LocalLent}
 use Rattle.history.specs.declared.event.Reply.{Reply}
-use Rattle.history.specs.declared.event.Reply.TheVariants.{Taken, Outranked, Seen, Swept, Forgotten, Done, Refused, Undone, Redone, NothingToUndo, NothingToRedo}
+use Rattle.history.specs.declared.event.Reply.TheVariants.{Taken, Outranked, Seen, Swept, Forgotten, Done, Refused, Undone, Redone, NothingToUndo, NothingToRedo, NotKept, Buried}
 use Rattle.history.specs.Marks.{Marks, last_of}
 use Rattle.history.specs.History.{Past, past_of, tables_of, stubs_of, reason_of}
 use Rattle.history.specs.Cells.{cell_of, shows}
-use Rattle.history.specs.Journal.{commands_of}
+use Rattle.history.specs.Journal.{buried_in, commands_of, is_among, over, under}
 use Rattle.history.specs.OldestFound.{oldest_of}
 use Rattle.history.specs.Servers.{servers_of}
 
@@ -51,6 +51,7 @@ seen_of settings past ZonesAsked moment = Zones (tables_of past).local.zones
 seen_of settings past RecordsAsked moment = Records (tables_of past).local.records
 seen_of settings past StubsAsked moment = Stubs (stubs_of past)
 seen_of settings past CommandsAsked moment = Commands (commands_of past)
+seen_of settings past BuriedAsked moment = BuriedSeen (buried_in (commands_of past))
 seen_of settings past (ServersAsked name) moment = Servers (servers_of settings past name moment)
 seen_of settings past OldestAsked moment = Oldest (oldest_of past (max past.now moment))
 
@@ -81,6 +82,18 @@ abbrev pub reply_to_redo : Option ℕ → Reply
 reply_to_redo None = NothingToRedo
 reply_to_redo (Some ticket) = Redone ticket
 
+-- An undo of a ticket tells whether the command is done, and names the one that must be undone first, if there is one.
+abbrev pub reply_to_undo_of : Bool → Option ℕ → ℕ → Reply
+reply_to_undo_of false other ticket = NotKept
+reply_to_undo_of true (Some other) ticket = Buried other
+reply_to_undo_of true None ticket = Undone ticket
+
+-- A redo of a ticket tells whether the command is undone, and names the one that must be redone first, if there is one.
+abbrev pub reply_to_redo_of : Bool → Option ℕ → ℕ → Reply
+reply_to_redo_of false other ticket = NotKept
+reply_to_redo_of true (Some other) ticket = Buried other
+reply_to_redo_of true None ticket = Redone ticket
+
 -- the reply to an event
 abbrev pub reply_of : Settings → Past → Event → Reply
 reply_of settings past (Admit moment find) = reply_to_admission past find moment find.scope
@@ -90,6 +103,8 @@ reply_of settings past (Forget moment owner) = Forgotten
 reply_of settings past (Do moment command) = reply_to_command past.marks (reason_of past command)
 reply_of settings past (Undo moment) = reply_to_undo (last_of past.marks.done)
 reply_of settings past (Redo moment) = reply_to_redo (last_of past.marks.undone)
+reply_of settings past (UndoOf moment ticket) = reply_to_undo_of (is_among past.marks.done ticket) (over (commands_of past) ticket) ticket
+reply_of settings past (RedoOf moment ticket) = reply_to_redo_of (is_among past.marks.undone ticket) (under (commands_of past) ticket) ticket
 
 -- the ticket that a command took, by its reply
 abbrev pub ticket_taken : Reply → Option ℕ

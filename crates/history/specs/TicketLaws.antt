@@ -3,18 +3,19 @@ use Rattle.std.proofs.Common.{◌≡◌, ℕ, ◌+◌, ◌-◌, ◌<◌, ◌≤�
 use Rattle.std.specs.Prelude.{nat_lt, ◌==◌, ◌||◌}
 use Rattle.std.specs.List.{list_any}
 use Rattle.std.specs.Option.{option_map_or}
-use Rattle.std.proofs.lemmas.Bool.{cases_Bool, eq-eqb, eqb-true}
+use Rattle.std.proofs.lemmas.Bool.{cases_Bool, eq-eqb, eqb-true, false≢true}
 use Rattle.std.proofs.lemmas.Bool.Decides.{nat_tests}
 use Rattle.std.proofs.lemmas.List.{take_all, take_more, take-append-drop}
 use Rattle.std.proofs.lemmas.List.Folds.{list_any-append}
 use Rattle.std.proofs.lemmas.Option.{slice_get_within, get_or_from_slice_get}
 use Rattle.history.specs.declared.event.Event.{Event}
-use Rattle.history.specs.declared.event.Event.TheVariants.{Admit, Look, Sweep, Forget, Do, Undo, Redo}
+use Rattle.history.specs.declared.event.Event.TheVariants.{Admit, Look, Sweep, Forget, Do, Undo, Redo, UndoOf, RedoOf}
 use Rattle.history.specs.declared.event.Command.{Command}
 use Rattle.history.specs.declared.event.Reason.{Reason}
 use Rattle.history.specs.Marks.{Marks, last_of, newest, without, in_place, after_command, strike, restore}
 use Rattle.history.specs.Tickets.{InOne, tally, occurs}
-use Rattle.history.specs.History.{Past, followed_by, marks_after, ticket_unless, reason_of}
+use Rattle.history.specs.Journal.{commands_of, is_among, over, under}
+use Rattle.history.specs.History.{Past, followed_by, marks_after, ticket_moved, ticket_unless, reason_of, unless_buried}
 
 -- ---- how often a ticket is in a list
 
@@ -137,13 +138,47 @@ do_in_one : (bound : ℕ) (j : Marks) (m : ℕ) (c : Command) (o : Option Reason
 do_in_one bound j m c None h = λ t. one_more bound j t (h t)
 do_in_one bound j m c (Some reason) h = h
 
-undo_in_one : (j : Marks) (o : Option ℕ) → last_of j.done ≡ o → EachInOne j → EachInOne (option_map_or (strike j) o j)
-undo_in_one j None last h = h
-undo_in_one j (Some x) last h = λ t. struck_one j x t (last_occurs j.done x last) (h t)
+undo_in_one : (j : Marks) (o : Option ℕ) → ((x : ℕ) → o ≡ Some x → 1 ≤ occurs x j.done) → EachInOne j → EachInOne (option_map_or (strike j) o j)
+undo_in_one j None some h = h
+undo_in_one j (Some x) some h = λ t. struck_one j x t (some x refl) (h t)
 
-redo_in_one : (j : Marks) (o : Option ℕ) → last_of j.undone ≡ o → EachInOne j → EachInOne (option_map_or (restore j) o j)
-redo_in_one j None last h = h
-redo_in_one j (Some x) last h = λ t. restored_one j x t (last_occurs j.undone x last) (h t)
+redo_in_one : (j : Marks) (o : Option ℕ) → ((x : ℕ) → o ≡ Some x → 1 ≤ occurs x j.undone) → EachInOne j → EachInOne (option_map_or (restore j) o j)
+redo_in_one j None some h = h
+redo_in_one j (Some x) some h = λ t. restored_one j x t (some x refl) (h t)
+
+-- ---- what an undo or a redo of a ticket reaches
+
+-- a ticket is in a list where it occurs there
+pub among_occurs : (t : ℕ) (xs : List ℕ) → 1 ≤ occurs t xs → is_among xs t ≡ true
+among_occurs t [] some = absurd (omega arith)
+among_occurs t (x ∷ xs) some =
+    elim (cases_Bool (x == t)) [
+      | inl same ↦ rw same refl
+      | inr other ↦ let zero = tally_other x t other in rw other (among_occurs t xs (omega arith))
+    ]
+
+pub occurs_among : (t : ℕ) (xs : List ℕ) → is_among xs t ≡ true → 1 ≤ occurs t xs
+occurs_among t [] is = absurd (false≢true is)
+occurs_among t (x ∷ xs) is =
+    elim (cases_Bool (x == t)) [
+      | inl same ↦ let one = tally_same x t same in omega arith
+      | inr other ↦ let more = occurs_among t xs (sym (ap (λ b. b || is_among xs t) other) ∙ is) in omega arith
+    ]
+
+-- what is moved by its ticket is there
+unburied_there : (xs : List ℕ) (other : Option ℕ) (t x : ℕ) → unless_buried (is_among xs t) other t ≡ Some x → 1 ≤ occurs x xs
+unburied_there xs other t x is = by (is_among xs t) other refl is
+  where
+    by : (b : Bool) (o : Option ℕ) → is_among xs t ≡ b → unless_buried b o t ≡ Some x → 1 ≤ occurs x xs
+    by true None there moved = let same : t ≡ x = cc in subst (λ (n : ℕ). 1 ≤ occurs n xs) same (occurs_among t xs there)
+    by true (Some o) there moved = absurd cc
+    by false o there moved = absurd cc
+
+pub undo_of_there : (past : Past) (m t x : ℕ) → ticket_moved past (UndoOf m t) ≡ Some x → 1 ≤ occurs x past.marks.done
+undo_of_there past m t x is = unburied_there past.marks.done (over (commands_of past) t) t x is
+
+pub redo_of_there : (past : Past) (m t x : ℕ) → ticket_moved past (RedoOf m t) ≡ Some x → 1 ≤ occurs x past.marks.undone
+redo_of_there past m t x is = unburied_there past.marks.undone (under (commands_of past) t) t x is
 
 -- after one event more
 pub next_in_one : (bound : ℕ) (past : Past) (e : Event) → EachInOne past.marks → EachInOne (followed_by bound past e).marks
@@ -152,8 +187,10 @@ next_in_one bound past (Look m a) h = h
 next_in_one bound past (Sweep m) h = h
 next_in_one bound past (Forget m n) h = h
 next_in_one bound past (Do m c) h = do_in_one bound past.marks m c (reason_of past c) h
-next_in_one bound past (Undo m) h = undo_in_one past.marks (last_of past.marks.done) refl h
-next_in_one bound past (Redo m) h = redo_in_one past.marks (last_of past.marks.undone) refl h
+next_in_one bound past (Undo m) h = undo_in_one past.marks (last_of past.marks.done) (λ x last. last_occurs past.marks.done x last) h
+next_in_one bound past (Redo m) h = redo_in_one past.marks (last_of past.marks.undone) (λ x last. last_occurs past.marks.undone x last) h
+next_in_one bound past (UndoOf m t) h = undo_in_one past.marks (ticket_moved past (UndoOf m t)) (λ x is. undo_of_there past m t x is) h
+next_in_one bound past (RedoOf m t) h = redo_in_one past.marks (ticket_moved past (RedoOf m t)) (λ x is. redo_of_there past m t x is) h
 
 -- ---- what is struck
 

@@ -25,6 +25,8 @@ pub enum Ask {
     Stubs,
     /// The commands that can be undone or redone.
     Commands,
+    /// Those of these commands that need another undone, or redone, before them.
+    Buried,
     /// The servers to ask about a name.
     Servers(Name),
     /// The name to forget first when the cells are full.
@@ -56,6 +58,7 @@ pub enum Command {
 
 impl Command {
     ghost use Rattle.history.specs.Event.{covers, flush_of};
+    ghost use Rattle.history.specs.Journal.{table_of};
 
     /// Whether it empties the cell of the question of this name and type.
     pub fn covers(&self, owner: &Name, kind: u16) -> bool
@@ -68,6 +71,21 @@ impl Command {
             Command::Flush { name } => Reach::Name.covers(name, owner, kind),
             Command::FlushZone { name } => Reach::Zone.covers(name, owner, kind),
             _ => false,
+        }
+    }
+
+    /// The number of the table that it changes. A flush changes none.
+    pub fn table(&self) -> Option<u8>
+        ensures { result ≡ table_of self.now }
+    {
+        match self {
+            Command::SetZone { .. } => Some(1),
+            Command::DropZone { .. } => Some(1),
+            Command::AddRecord { .. } => Some(1),
+            Command::DropName { .. } => Some(1),
+            Command::SetStub { .. } => Some(2),
+            Command::DropStub { .. } => Some(2),
+            _ => None,
         }
     }
 
@@ -108,6 +126,12 @@ pub enum Event {
     Undo { moment: u64 },
     /// The operator redoes the command that was undone last. It is back at the place that it had.
     Redo { moment: u64 },
+    /// The operator undoes the command of a ticket. A flush can be undone in any order, a command of a table only if no later one of
+    /// its table is done.
+    UndoOf { moment: u64, ticket: u64 },
+    /// The operator redoes the command of a ticket. A flush can be redone in any order, a command of a table only if no earlier one of
+    /// its table is undone. It is back at the place that it had.
+    RedoOf { moment: u64, ticket: u64 },
 }
 
 impl Event {
@@ -125,6 +149,8 @@ impl Event {
             Event::Do { moment, .. } => *moment,
             Event::Undo { moment } => *moment,
             Event::Redo { moment } => *moment,
+            Event::UndoOf { moment, .. } => *moment,
+            Event::RedoOf { moment, .. } => *moment,
         }
     }
 
@@ -209,6 +235,8 @@ pub enum Seen {
     Stubs(Items<Shared<Stub>>),
     /// The commands that can be undone or redone, the oldest first.
     Commands(Items<Journalled>),
+    /// Those of these commands that need another undone, or redone, before them.
+    Buried(Items<BuriedCommand>),
     /// The servers that are closest to a name.
     Servers(Shared<Servers>),
     /// The name to forget first, if any name has a find that is alive.
@@ -222,6 +250,14 @@ pub struct Journalled {
     /// Whether it can be undone; else it can be redone.
     pub done: bool,
     pub command: Command,
+}
+
+/// A command that can be undone or redone only after another of its table.
+#[derive(Drop, PartialEq)]
+pub struct BuriedCommand {
+    pub ticket: u64,
+    /// The ticket of the other: of those in the way the farthest.
+    pub by: u64,
 }
 
 /// Why a command is refused.
@@ -262,6 +298,10 @@ pub enum Reply {
     NothingToUndo,
     /// No command can be redone.
     NothingToRedo,
+    /// The command of the ticket that was named cannot be undone, or redone: the journal does not hold it so.
+    NotKept,
+    /// The command that was named cannot be undone, or redone, before another of its table: the farthest of those in the way.
+    Buried { ticket: u64 },
 }
 
 impl Reply {

@@ -13,6 +13,8 @@ mod limits;
 mod tables;
 // The change that a command makes of the tables.
 mod changes;
+// The commands in the way of an undo or a redo of a ticket.
+mod reach;
 // The promise that every book keeps.
 mod book;
 // The desk: a book after whatever a caller can hand an event to.
@@ -33,7 +35,9 @@ mod lookup;
 pub use book::{Book, StepFault};
 pub use closest::servers as closest_servers;
 pub use desk::{Desk, DeskFault};
-pub use event::{Ask, Command, Entry, Event, Journalled, Look, Reason, Reply, Seen, Settings};
+pub use event::{
+    Ask, BuriedCommand, Command, Entry, Event, Journalled, Look, Reason, Reply, Seen, Settings,
+};
 pub use laws::{
     clock_is_greatest, done_is_in_order, equality_law, flush_forgets, journal_law, oldest_law,
     redo_puts_back, refusal_changes_only_the_clock, servers_law, sweep_changes_only_the_clock,
@@ -44,6 +48,7 @@ pub use limits::{
     limits_law,
 };
 pub use lookup::{share_records, share_stubs, share_zones, sight as question_sight};
+pub use reach::{buried, over, under};
 pub use runs::{RunFault, run};
 pub use servers::{Origin, Servers};
 pub use source::CellSource;

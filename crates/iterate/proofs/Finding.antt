@@ -15,7 +15,7 @@ use Rattle.history.specs.declared.event.Event.{Event}
 use Rattle.history.specs.declared.event.Event.TheVariants.{Look}
 use Rattle.history.specs.declared.event.Reply.TheVariants.{Seen}
 use Rattle.history.specs.declared.event.Seen.{Seen as SeenValue}
-use Rattle.history.specs.declared.event.Seen.TheVariants.{Unknown, Held, Local as LocalSeen, Zones, Records, Stubs, Commands, Servers as SeenServers, Oldest as SeenOldest}
+use Rattle.history.specs.declared.event.Seen.TheVariants.{Unknown, Held, Local as LocalSeen, Zones, Records, Stubs, Commands, Buried as BuriedSeen, Servers as SeenServers, Oldest as SeenOldest}
 use Rattle.history.specs.declared.servers.Servers.{Servers}
 use Rattle.iterate.specs.declared.answer.Answer.TheVariants.{Reply as Replies}
 use Rattle.iterate.specs.declared.answer.AnswerSet.{AnswerSet}
@@ -243,6 +243,7 @@ had_seen port m before log question (Zones zones) told a lawful is = absurd is
 had_seen port m before log question (Records records) told a lawful is = absurd is
 had_seen port m before log question (Stubs stubs) told a lawful is = absurd is
 had_seen port m before log question (Commands commands) told a lawful is = absurd is
+had_seen port m before log question (BuriedSeen buried) told a lawful is = absurd is
 had_seen port m before log question (SeenServers servers) told a lawful is = absurd is
 had_seen port m before log question (SeenOldest name) told a lawful is = absurd is
 

@@ -13,9 +13,9 @@ use Rattle.rand_core.specs.Stream.{Stream}
 use Rattle.history.specs.declared.event.Ask.{Ask}
 use Rattle.history.specs.declared.event.Ask.TheVariants.{Answer as Asked, Servers as ServersFor}
 use Rattle.history.specs.declared.event.Event.TheVariants.{Look}
-use Rattle.history.specs.declared.event.Reply.TheVariants.{Taken, Outranked, Seen, Swept, Forgotten, Done, Refused as RefusedCommand, Undone, Redone, NothingToUndo, NothingToRedo}
+use Rattle.history.specs.declared.event.Reply.TheVariants.{Taken, Outranked, Seen, Swept, Forgotten, Done, Refused as RefusedCommand, Undone, Redone, NothingToUndo, NothingToRedo, NotKept, Buried}
 use Rattle.history.specs.declared.event.Seen.{Seen as SeenValue}
-use Rattle.history.specs.declared.event.Seen.TheVariants.{Unknown, Held, Local as LocalSeen, Zones, Records, Stubs, Commands, Servers, Oldest}
+use Rattle.history.specs.declared.event.Seen.TheVariants.{Unknown, Held, Local as LocalSeen, Zones, Records, Stubs, Commands, Buried as BuriedSeen, Servers, Oldest}
 use Rattle.iterate.specs.declared.answer.Answer.{Answer}
 use Rattle.iterate.specs.declared.answer.Answer.TheVariants.{Reply as Replies}
 use Rattle.iterate.specs.declared.answer.Soa.{Soa}
@@ -209,6 +209,7 @@ set_known port m question input before log (Zones zones) told r set adds = absur
 set_known port m question input before log (Records records) told r set adds = absurd set
 set_known port m question input before log (Stubs stubs) told r set adds = absurd set
 set_known port m question input before log (Commands commands) told r set adds = absurd set
+set_known port m question input before log (BuriedSeen buried) told r set adds = absurd set
 set_known port m question input before log (Servers servers) told r set adds = absurd set
 set_known port m question input before log (Oldest name) told r set adds = absurd set
 
@@ -248,6 +249,7 @@ no_answer m question (Reply (Seen (Zones zones))) bad = tt
 no_answer m question (Reply (Seen (Records records))) bad = tt
 no_answer m question (Reply (Seen (Stubs stubs))) bad = tt
 no_answer m question (Reply (Seen (Commands commands))) bad = tt
+no_answer m question (Reply (Seen (BuriedSeen buried))) bad = tt
 no_answer m question (Reply (Seen (Servers servers))) bad = tt
 no_answer m question (Reply (Seen (Oldest name))) bad = tt
 no_answer m question (Reply Taken) bad = tt
@@ -260,6 +262,8 @@ no_answer m question (Reply (Undone ticket)) bad = tt
 no_answer m question (Reply (Redone ticket)) bad = tt
 no_answer m question (Reply NothingToUndo) bad = tt
 no_answer m question (Reply NothingToRedo) bad = tt
+no_answer m question (Reply NotKept) bad = tt
+no_answer m question (Reply (Buried ticket)) bad = tt
 no_answer m question (Refused fault) bad = tt
 no_answer m question Begin bad = tt
 no_answer m question (Came octets) bad = tt

@@ -6,6 +6,7 @@ use command_text::push_command;
 use dns_name::{Name, NoMemory};
 use dns_text::{Question, Shared};
 use history::{Ask, Book, Command, Event, Look, Reply, Seen, Servers, Settings, StepFault};
+use itoa::Buffer;
 use local_zone::ZoneTable;
 use sha2::{Digest, Sha256};
 use std::alloc::Global;
@@ -145,12 +146,20 @@ fn digest_with(digest: u64, text: &[u8]) -> u64 {
     u64::from_be_bytes(front)
 }
 
+fn push_move(word: &[u8], ticket: u64, out: &mut Vec<u8>) -> Result<(), NoMemory> {
+    let mut digits = Buffer::new();
+    out.extend_from_slice(word)?;
+    out.extend_from_slice(digits.format(ticket).as_bytes())
+}
+
 /// Writes the text of the change that an event is, if it is one. If memory runs out, a part of it may have been written.
 fn write_change(event: &Event, out: &mut Vec<u8>) {
     let _ = match event {
         Event::Do { command, .. } => push_command(command, out),
         Event::Undo { .. } => out.extend_from_slice(b"undo"),
         Event::Redo { .. } => out.extend_from_slice(b"redo"),
+        Event::UndoOf { ticket, .. } => push_move(b"undo ", *ticket, out),
+        Event::RedoOf { ticket, .. } => push_move(b"redo ", *ticket, out),
         _ => Ok(()),
     };
 }
@@ -162,6 +171,7 @@ fn may_change_stubs(event: &Event) -> bool {
             matches!(command, Command::SetStub { .. } | Command::DropStub { .. })
         }
         Event::Undo { .. } | Event::Redo { .. } => true,
+        Event::UndoOf { .. } | Event::RedoOf { .. } => true,
         _ => false,
     }
 }

@@ -63,5 +63,7 @@ fn told_alike(reply: &Reply) -> Reply
         Reply::Redone { ticket } => Reply::Redone { ticket: *ticket },
         Reply::NothingToUndo => Reply::NothingToUndo,
         Reply::NothingToRedo => Reply::NothingToRedo,
+        Reply::NotKept => Reply::NotKept,
+        Reply::Buried { ticket } => Reply::Buried { ticket: *ticket },
     }
 }

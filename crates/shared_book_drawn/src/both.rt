@@ -4,7 +4,7 @@ use crate::callers::Stop;
 use crate::draws::event_or_denial;
 use crate::replayed::replies;
 use dns_text::Items;
-use history::{Book, Event, Settings};
+use history::{Book, Event, Reply, Settings};
 use rand_core::SeedableRng;
 use rand_pcg::Pcg32;
 use std::alloc::Global;
@@ -19,28 +19,43 @@ fn settings(alloc: Global, journal: usize) -> Settings {
     }
 }
 
-/// Whether both books reply the same to an event, of which the second gets a copy.
-fn is_alike<A: Book, B: Book>(one: &mut A, other: &mut B, event: Event, copy: Event) -> bool {
+/// The ticket that a command took, if it took one, or else the newest so far.
+fn newest_after(newest: u64, reply: &Reply) -> u64 {
+    match reply {
+        Reply::Done { ticket } => *ticket,
+        _ => newest,
+    }
+}
+
+/// Whether both books reply the same to an event, of which the second gets a copy, and the newest ticket after it.
+fn is_alike<A: Book, B: Book>(
+    one: &mut A,
+    other: &mut B,
+    newest: u64,
+    event: Event,
+    copy: Event,
+) -> (bool, u64) {
     match one.step(event) {
         Ok(reply) => {
             let is_alike = replies(other, copy, &reply);
+            let newest = newest_after(newest, &reply);
             drop(reply);
-            is_alike
+            (is_alike, newest)
         }
         Err(_) => {
             drop(copy);
-            false
+            (false, newest)
         }
     }
 }
 
-/// Gives both books an event, and says whether they reply the same.
-fn give<A: Book, B: Book>(one: &mut A, other: &mut B, event: Event) -> bool {
+/// Gives both books an event, and says whether they reply the same, and which ticket is the newest after it.
+fn give<A: Book, B: Book>(one: &mut A, other: &mut B, newest: u64, event: Event) -> (bool, u64) {
     match event.copy() {
-        Ok(copy) => is_alike(one, other, event, copy),
+        Ok(copy) => is_alike(one, other, newest, event, copy),
         Err(_) => {
             drop(event);
-            false
+            (false, newest)
         }
     }
 }
@@ -55,12 +70,15 @@ fn alike<A: Book, B: Book>(
 ) -> Result<u64, Stop> {
     let mut rng = Pcg32::seed_from_u64(seed);
     let mut same = 0u64;
+    let mut newest = 0u64;
     for number in 0..events {
         // The clock goes on, by a second in 20 events.
-        let Ok(event) = event_or_denial(&mut rng, alloc, number / 20) else {
+        let Ok(event) = event_or_denial(&mut rng, alloc, number / 20, newest) else {
             return Err(Stop);
         };
-        if give(&mut one, &mut other, event) {
+        let (is_alike, ticket) = give(&mut one, &mut other, newest, event);
+        newest = ticket;
+        if is_alike {
             same = same.wrapping_add(1);
         }
     }

@@ -105,12 +105,13 @@ fn denial(rng: &mut Pcg32, alloc: Global) -> Result<SharedFind, AllocError> {
 }
 
 fn ask(rng: &mut Pcg32, alloc: Global) -> Result<Ask, AllocError> {
-    match below(rng, 8) {
+    match below(rng, 9) {
         0 => Ok(Ask::Zones),
         1 => Ok(Ask::Records),
         2 => Ok(Ask::Stubs),
         3 => Ok(Ask::Commands),
         4 => Ok(Ask::Servers(name(rng, alloc)?)),
+        5 => Ok(Ask::Buried),
         _ => Ok(Ask::Answer(question(rng, alloc)?)),
     }
 }
@@ -186,14 +187,26 @@ fn given(rng: &mut Pcg32, alloc: Global, moment: u64) -> Result<Event, AllocErro
     Ok(Event::Do { moment, command })
 }
 
-/// An event of any kind, within 100 seconds from a moment on.
-pub fn event(rng: &mut Pcg32, alloc: Global, from: u64) -> Result<Event, AllocError> {
+/// An undo or a redo of one of the eight tickets up to the newest, or of the next.
+fn by_ticket(rng: &mut Pcg32, moment: u64, newest: u64) -> Event {
+    let ticket = newest
+        .saturating_add(1)
+        .saturating_sub(u64::from(below(rng, 9)));
+    match below(rng, 2) {
+        0 => Event::UndoOf { moment, ticket },
+        _ => Event::RedoOf { moment, ticket },
+    }
+}
+
+/// An event of any kind, within 100 seconds from a moment on. The undos and redos of a ticket are near the newest one.
+pub fn event(rng: &mut Pcg32, alloc: Global, from: u64, newest: u64) -> Result<Event, AllocError> {
     let moment = from.saturating_add(u64::from(below(rng, 100)));
-    match below(rng, 9) {
+    match below(rng, 11) {
         0 => Ok(Event::Undo { moment }),
         1 => Ok(Event::Redo { moment }),
         2 => Ok(Event::Sweep { moment }),
         3 | 4 => given(rng, alloc, moment),
+        6 | 7 => Ok(by_ticket(rng, moment, newest)),
         5 => Ok(Event::Admit {
             moment,
             find: find(rng, alloc)?,
@@ -205,19 +218,25 @@ pub fn event(rng: &mut Pcg32, alloc: Global, from: u64) -> Result<Event, AllocEr
     }
 }
 
-/// Such an event, which can have many owners.
+/// Such an event, which can have many owners. Who draws it does not know the newest ticket.
 pub fn shared_event(
     rng: &mut Pcg32,
     alloc: Global,
     from: u64,
 ) -> Result<Shared<Event>, AllocError> {
-    let event = event(rng, alloc, from)?;
+    let newest = u64::from(below(rng, 40));
+    let event = event(rng, alloc, from, newest)?;
     Ok(Shared::new(alloc, event)?)
 }
 
 /// An event of any kind, within 100 seconds from a moment on. It is more often an admission, at times that of a denial, and at times a
 /// forget. Of the looks about one in 40 asks for the name to forget first, since the book that replays takes long for that.
-pub fn event_or_denial(rng: &mut Pcg32, alloc: Global, from: u64) -> Result<Event, AllocError> {
+pub fn event_or_denial(
+    rng: &mut Pcg32,
+    alloc: Global,
+    from: u64,
+    newest: u64,
+) -> Result<Event, AllocError> {
     let moment = from.saturating_add(u64::from(below(rng, 100)));
     match below(rng, 12) {
         0 => Ok(Event::Admit {
@@ -233,11 +252,11 @@ pub fn event_or_denial(rng: &mut Pcg32, alloc: Global, from: u64) -> Result<Even
             find: find(rng, alloc)?,
         }),
         _ => {
-            if below(rng, 120) == 0 {
+            if below(rng, 150) == 0 {
                 let ask = Ask::Oldest;
                 return Ok(Event::Look { moment, ask });
             }
-            event(rng, alloc, from)
+            event(rng, alloc, from, newest)
         }
     }
 }

@@ -58,8 +58,18 @@ fn push_ask(ask: &Ask, out: &mut Vec<u8>) -> Result<(), NoMemory> {
         Ask::Records => out.extend_from_slice(b"list_local_data"),
         Ask::Stubs => out.extend_from_slice(b"list_stubs"),
         Ask::Commands => out.extend_from_slice(b"list_commands"),
+        Ask::Buried => out.extend_from_slice(b"list_buried"),
         Ask::Oldest => out.extend_from_slice(b"oldest"),
     }
+}
+
+fn push_numbered(
+    alloc: Global,
+    word: &str,
+    ticket: u64,
+    out: &mut Vec<u8>,
+) -> Result<(), NoMemory> {
+    out.extend_from_slice(format!(in alloc; "{word} {ticket}")?.as_bytes())
 }
 
 /// Writes an event in the words of its line, after its moment.
@@ -77,6 +87,8 @@ fn push_event(alloc: Global, event: &Event, out: &mut Vec<u8>) -> Result<(), NoM
         Event::Do { command, .. } => push_command(command, out),
         Event::Undo { .. } => out.extend_from_slice(b"undo"),
         Event::Redo { .. } => out.extend_from_slice(b"redo"),
+        Event::UndoOf { ticket, .. } => push_numbered(alloc, "undo", *ticket, out),
+        Event::RedoOf { ticket, .. } => push_numbered(alloc, "redo", *ticket, out),
     }
 }
 

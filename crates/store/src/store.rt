@@ -98,6 +98,13 @@ impl World for Store {
 
     ghost shows = { λ world kept chosen h p. shows_store world kept chosen h p };
 
+    fn table(saved: &SavedChange) -> Option<u8> {
+        match &saved.way {
+            WayBack::Table(saved) => <TableWorld as World>::table(saved),
+            WayBack::Flush(_) => None,
+        }
+    }
+
     fn admit(&mut self, find: SharedFind, moment: u64) -> Result<Fate, WorldFault> {
         match self.cells.admit(find, moment) {
             Ok(fate) => return Ok(fate),
@@ -143,6 +150,13 @@ impl Change for StoreChange {
     ghost table = { λ change. table_of_made change.made };
 
     ghost told = { λ change. change.command };
+
+    fn table(&self) -> Option<u8> {
+        match &self.made {
+            Made::Table(change) => change.table(),
+            Made::Flush(_) => None,
+        }
+    }
 
     fn apply(self, world: &mut Store, ticket: u64) -> Result<SavedChange, ChangeFault> {
         let StoreChange { command, made } = self;

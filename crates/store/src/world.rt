@@ -168,6 +168,10 @@ impl World for ShelfWorld {
 
     ghost clears = { λ world kept h. clears_by_word world kept h };
 
+    fn table(_saved: &SavedFlush) -> Option<u8> {
+        None
+    }
+
     fn admit(&mut self, find: SharedFind, moment: u64) -> Result<Fate, WorldFault> {
         // The name is hashed once for both.
         let place = self.shelf.place_of(&find.find().owner);
@@ -213,6 +217,10 @@ impl Change for FlushChange {
     ghost table = { λ change. None };
 
     ghost told = { λ change. tt };
+
+    fn table(&self) -> Option<u8> {
+        None
+    }
 
     fn apply(self, world: &mut ShelfWorld, ticket: u64) -> Result<SavedFlush, ChangeFault> {
         world.shelf.open_flush(self.flush, ticket)?;

@@ -124,6 +124,13 @@ impl World for TableWorld {
 
     ghost shows = { λ world kept chosen h p. shows_both world kept chosen p };
 
+    fn table(saved: &SavedTable) -> Option<u8> {
+        match saved {
+            SavedTable::Zones(_) => Some(1),
+            SavedTable::Stubs(_) => Some(2),
+        }
+    }
+
     fn admit(&mut self, _find: SharedFind, _moment: u64) -> Result<Fate, WorldFault> {
         Ok(Fate::Taken)
     }
@@ -160,6 +167,13 @@ impl Change for TableChange {
     ghost table = { change_table };
 
     ghost told = { λ change. tt };
+
+    fn table(&self) -> Option<u8> {
+        match self {
+            TableChange::Zones(_) => Some(1),
+            TableChange::Stubs(_) => Some(2),
+        }
+    }
 
     fn apply(self, world: &mut TableWorld, _ticket: u64) -> Result<SavedTable, ChangeFault> {
         match self {

@@ -14,7 +14,7 @@ use Rattle.ranked.specs.declared.find.Scope.TheVariants.{One, Whole}
 use Rattle.ranked.specs.Equal.{scope_eq}
 use Rattle.history.specs.declared.event.Entry.{Entry}
 use Rattle.history.specs.declared.event.Event.{Event}
-use Rattle.history.specs.declared.event.Event.TheVariants.{Admit, Look, Sweep, Forget, Do, Undo, Redo}
+use Rattle.history.specs.declared.event.Event.TheVariants.{Admit, Look, Sweep, Forget, Do, Undo, Redo, UndoOf, RedoOf}
 use Rattle.history.specs.declared.event.Journalled.{Journalled}
 use Rattle.history.specs.EndingLaws.{IsAmong, found}
 use Rattle.history.specs.History.{Past, stands_by, standing_with}
@@ -41,6 +41,8 @@ choice_tells past None (Do m c) (Some ticket) flag is = ap (λ b. not b && not (
 choice_tells past (Some own) (Do m c) (Some ticket) flag is = ap (λ b. own == ticket || (not b && not (is_among (tickets_of (commands_of past)) ticket))) is
 choice_tells past own (Undo m) ticket flag is = refl
 choice_tells past own (Redo m) ticket flag is = refl
+choice_tells past own (UndoOf m named) ticket flag is = refl
+choice_tells past own (RedoOf m named) ticket flag is = refl
 
 pub scope_by_flags : (past : Past) (owner : Labels) (scope : Scope) (own : Option ℕ) (log : List Logged) (cell : Option (Admitted Find)) → AreFlagged past.marks.struck log
     → fold (scope_after_logged owner scope (tickets_of (commands_of past)) own) cell log ≡ fold (scope_after owner scope) cell (standing_with (choice_of past own) (entries_in log))
@@ -129,6 +131,8 @@ module _ (past : Past) (t : ℕ) where
   knows ends moment (Do m command) = passes_by ends moment (Do m command) (λ given find is. cc)
   knows ends moment (Undo m) = passes_by ends moment (Undo m) (λ given find is. cc)
   knows ends moment (Redo m) = passes_by ends moment (Redo m) (λ given find is. cc)
+  knows ends moment (UndoOf m named) = passes_by ends moment (UndoOf m named) (λ given find is. cc)
+  knows ends moment (RedoOf m named) = passes_by ends moment (RedoOf m named) (λ given find is. cc)
 
   -- what is known after a log, if it is so
   record KnowsAll (ends next : List End) (log : List Logged) : Type 0 where

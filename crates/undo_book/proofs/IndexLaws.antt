@@ -17,7 +17,7 @@ use Rattle.ranked.specs.declared.find.Scope.TheVariants.{One, Whole}
 use Rattle.ranked.specs.declared.cell.Admitted.{Admitted}
 use Rattle.ranked.specs.Find.{touches}
 use Rattle.history.specs.declared.event.Event.{Event}
-use Rattle.history.specs.declared.event.Event.TheVariants.{Admit, Look, Sweep, Forget, Do, Undo, Redo}
+use Rattle.history.specs.declared.event.Event.TheVariants.{Admit, Look, Sweep, Forget, Do, Undo, Redo, UndoOf, RedoOf}
 use Rattle.history.specs.declared.event.Reply.{Reply}
 use Rattle.history.specs.declared.event.Reply.TheVariants.{Undone, Redone}
 use Rattle.undo_book.specs.declared.index.Indexed.{Indexed}
@@ -73,6 +73,8 @@ module _ (tag : ℕ) (step : Option (Admitted Find) → Logged → Option (Admit
       ]
   by_event log at (Undo m) moment ticket struck rest cell found = ap (λ (c : Option (Admitted Find)). fold (indexed_step log) c rest) (sym (passes cell (Undo m) moment ticket struck refl))
   by_event log at (Redo m) moment ticket struck rest cell found = ap (λ (c : Option (Admitted Find)). fold (indexed_step log) c rest) (sym (passes cell (Redo m) moment ticket struck refl))
+  by_event log at (UndoOf m named) moment ticket struck rest cell found = ap (λ (c : Option (Admitted Find)). fold (indexed_step log) c rest) (sym (passes cell (UndoOf m named) moment ticket struck refl))
+  by_event log at (RedoOf m named) moment ticket struck rest cell found = ap (λ (c : Option (Admitted Find)). fold (indexed_step log) c rest) (sym (passes cell (RedoOf m named) moment ticket struck refl))
 
   pub by_steps : (before log : List Logged) (cell : Option (Admitted Find)) → fold (indexed_step (before ++ log)) cell (index_from (length before) log) ≡ fold step cell log
   by_steps before [] cell = refl
@@ -99,6 +101,8 @@ question_passes question cell (Forget m owner) moment ticket struck apart = rw (
 question_passes question cell (Do m command) moment ticket struck apart = absurd (false≢true (sym apart))
 question_passes question cell (Undo m) moment ticket struck apart = refl
 question_passes question cell (Redo m) moment ticket struck apart = refl
+question_passes question cell (UndoOf m named) moment ticket struck apart = refl
+question_passes question cell (RedoOf m named) moment ticket struck apart = refl
 
 pub by_index : (question : Question) (before log : List Logged) (cell : Option (Admitted Find))
     → fold (cell_after_indexed question (before ++ log)) cell (index_from (length before) log) ≡ fold (cell_after_logged question) cell log
@@ -123,6 +127,8 @@ scope_passes owner scope journal own cell (Forget m name) moment ticket struck a
 scope_passes owner scope journal own cell (Do m command) moment ticket struck apart = absurd (false≢true (sym apart))
 scope_passes owner scope journal own cell (Undo m) moment ticket struck apart = refl
 scope_passes owner scope journal own cell (Redo m) moment ticket struck apart = refl
+scope_passes owner scope journal own cell (UndoOf m named) moment ticket struck apart = refl
+scope_passes owner scope journal own cell (RedoOf m named) moment ticket struck apart = refl
 
 pub scope_by_index : (owner : Labels) (scope : Scope) (journal : List ℕ) (own : Option ℕ) (before log : List Logged) (cell : Option (Admitted Find))
     → fold (scope_after_indexed owner scope journal own (before ++ log)) cell (index_from (length before) log) ≡ fold (scope_after_logged owner scope journal own) cell log

@@ -15,7 +15,7 @@ use Rattle.ranked.specs.Cell.{turns_away}
 use Rattle.ranked.specs.Find.{admission_of}
 use Rattle.dns_name.specs.ListLaws.{all_push}
 use Rattle.history.specs.declared.event.Event.{Event}
-use Rattle.history.specs.declared.event.Event.TheVariants.{Admit, Look, Sweep, Forget, Do, Undo, Redo}
+use Rattle.history.specs.declared.event.Event.TheVariants.{Admit, Look, Sweep, Forget, Do, Undo, Redo, UndoOf, RedoOf}
 use Rattle.history.specs.declared.event.Command.{Command}
 use Rattle.history.specs.declared.event.Entry.{Entry}
 use Rattle.history.specs.declared.event.Reason.{Reason}
@@ -25,9 +25,10 @@ use Rattle.history.specs.declared.event.Reply.TheVariants.{Taken, Outranked, Und
 use Rattle.undo_book.specs.declared.log.Logged.{Logged}
 use Rattle.history.specs.Marks.{Marks, last_of, without, strike, restore}
 use Rattle.history.specs.Tickets.{InOne}
-use Rattle.history.specs.History.{Past, marks_after, ticket_for, ticket_unless, reason_of, standing_with, stands_by, is_unstruck, stands}
+use Rattle.history.specs.Journal.{commands_of, is_among, over, under}
+use Rattle.history.specs.History.{Past, marks_after, ticket_for, ticket_moved, ticket_unless, reason_of, standing_with, stands_by, is_unstruck, stands, unless_buried}
 use Rattle.history.specs.Cells.{cell_of, cell_after}
-use Rattle.history.specs.Reply.{reply_of, reply_to_admission, reply_to_command, reply_to_undo, reply_to_redo, ticket_taken}
+use Rattle.history.specs.Reply.{reply_of, reply_to_admission, reply_to_command, reply_to_redo, reply_to_redo_of, reply_to_undo, reply_to_undo_of, ticket_taken}
 use Rattle.undo_book.specs.Plain.{marks_by, entries_in, has_taken, with_flag, flags_by, has_struck, IsFlagged, AreFlagged, cell_after_logged}
 use Rattle.history.specs.TicketLaws.{struck_now, struck_other, not_struck}
 
@@ -42,6 +43,8 @@ flag_tells marks (Do m c) None flag is = refl
 flag_tells marks (Do m c) (Some ticket) flag is = ap not is
 flag_tells marks (Undo m) ticket flag is = refl
 flag_tells marks (Redo m) ticket flag is = refl
+flag_tells marks (UndoOf m named) ticket flag is = refl
+flag_tells marks (RedoOf m named) ticket flag is = refl
 
 pub cell_by_flags : (question : Question) (marks : Marks) (log : List Logged) (cell : Option (Admitted Find)) → AreFlagged marks.struck log
     → fold (cell_after_logged question) cell log ≡ fold (cell_after question) cell (standing_with (is_unstruck marks) (entries_in log))
@@ -76,7 +79,17 @@ by_redo : (bound : ℕ) (marks : Marks) (o : Option ℕ) → option_map_or (rest
 by_redo bound marks None = refl
 by_redo bound marks (Some ticket) = refl
 
-pub marks_by_reply : (settings : Settings) (past : Past) (event : Event) → marks_by settings.journal past.marks (reply_of settings past event) ≡ marks_after settings.journal past.marks event (ticket_for past event)
+by_undo_of : (bound : ℕ) (marks : Marks) (there : Bool) (other : Option ℕ) (t : ℕ) → option_map_or (strike marks) (unless_buried there other t) marks ≡ marks_by bound marks (reply_to_undo_of there other t)
+by_undo_of bound marks true None t = refl
+by_undo_of bound marks true (Some other) t = refl
+by_undo_of bound marks false other t = refl
+
+by_redo_of : (bound : ℕ) (marks : Marks) (there : Bool) (other : Option ℕ) (t : ℕ) → option_map_or (restore marks) (unless_buried there other t) marks ≡ marks_by bound marks (reply_to_redo_of there other t)
+by_redo_of bound marks true None t = refl
+by_redo_of bound marks true (Some other) t = refl
+by_redo_of bound marks false other t = refl
+
+pub marks_by_reply : (settings : Settings) (past : Past) (event : Event) → marks_by settings.journal past.marks (reply_of settings past event) ≡ marks_after settings.journal past.marks event (ticket_moved past event)
 marks_by_reply settings past (Admit m f) = by_admission settings.journal past f m f.scope
 marks_by_reply settings past (Look m a) = refl
 marks_by_reply settings past (Sweep m) = refl
@@ -84,6 +97,8 @@ marks_by_reply settings past (Forget m n) = refl
 marks_by_reply settings past (Do m c) = sym (by_command settings.journal past.marks m c (reason_of past c))
 marks_by_reply settings past (Undo m) = sym (by_undo settings.journal past.marks (last_of past.marks.done))
 marks_by_reply settings past (Redo m) = sym (by_redo settings.journal past.marks (last_of past.marks.undone))
+marks_by_reply settings past (UndoOf m t) = sym (by_undo_of settings.journal past.marks (is_among past.marks.done t) (over (commands_of past) t) t)
+marks_by_reply settings past (RedoOf m t) = sym (by_redo_of settings.journal past.marks (is_among past.marks.undone t) (under (commands_of past) t) t)
 
 -- ---- what a reply tells of the ticket
 
@@ -108,6 +123,16 @@ ticket_by_redo : (o : Option ℕ) → ticket_taken (reply_to_redo o) ≡ None
 ticket_by_redo None = refl
 ticket_by_redo (Some ticket) = refl
 
+ticket_by_undo_of : (there : Bool) (other : Option ℕ) (t : ℕ) → ticket_taken (reply_to_undo_of there other t) ≡ None
+ticket_by_undo_of true None t = refl
+ticket_by_undo_of true (Some other) t = refl
+ticket_by_undo_of false other t = refl
+
+ticket_by_redo_of : (there : Bool) (other : Option ℕ) (t : ℕ) → ticket_taken (reply_to_redo_of there other t) ≡ None
+ticket_by_redo_of true None t = refl
+ticket_by_redo_of true (Some other) t = refl
+ticket_by_redo_of false other t = refl
+
 pub ticket_by_reply : (settings : Settings) (past : Past) (event : Event) → ticket_taken (reply_of settings past event) ≡ ticket_for past event
 ticket_by_reply settings past (Admit m f) = ticket_by_admission past f m f.scope
 ticket_by_reply settings past (Look m a) = refl
@@ -116,6 +141,8 @@ ticket_by_reply settings past (Forget m n) = refl
 ticket_by_reply settings past (Do m c) = ticket_by_command past.marks (reason_of past c)
 ticket_by_reply settings past (Undo m) = ticket_by_undo (last_of past.marks.done)
 ticket_by_reply settings past (Redo m) = ticket_by_redo (last_of past.marks.undone)
+ticket_by_reply settings past (UndoOf m t) = ticket_by_undo_of (is_among past.marks.done t) (over (commands_of past) t) t
+ticket_by_reply settings past (RedoOf m t) = ticket_by_redo_of (is_among past.marks.undone t) (under (commands_of past) t) t
 
 -- ---- the entries stay, whatever their flags
 
@@ -201,6 +228,8 @@ new_ticket past (Forget m n) h = refl
 new_ticket past (Do m c) h = new_by_reason past.marks (reason_of past c) h
 new_ticket past (Undo m) h = refl
 new_ticket past (Redo m) h = refl
+new_ticket past (UndoOf m named) h = refl
+new_ticket past (RedoOf m named) h = refl
 
 pub flags_after : (settings : Settings) (past : Past) (event : Event) (log : List Logged) (l : Logged) → ((t : ℕ) → InOne past.marks t) → AreFlagged past.marks.struck log → l.struck ≡ false → l.entry.ticket ≡ ticket_for past event
     → AreFlagged (marks_by settings.journal past.marks (reply_of settings past event)).struck (flags_by (reply_of settings past event) (log ++ l ∷ []))

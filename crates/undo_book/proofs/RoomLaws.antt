@@ -12,7 +12,7 @@ use Rattle.ranked.specs.Cell.{after_admission}
 use Rattle.ranked.specs.Find.{admission_of, has_kind}
 use Rattle.history.specs.declared.event.Entry.{Entry}
 use Rattle.history.specs.declared.event.Event.{Event}
-use Rattle.history.specs.declared.event.Event.TheVariants.{Admit, Look, Sweep, Forget, Do, Undo, Redo}
+use Rattle.history.specs.declared.event.Event.TheVariants.{Admit, Look, Sweep, Forget, Do, Undo, Redo, UndoOf, RedoOf}
 use Rattle.history.specs.Cells.{cell_after}
 use Rattle.history.specs.Counts.{counted_in, counted_of, events_in}
 use Rattle.history.specs.Event.{covers, forgets, moment_of}
@@ -78,6 +78,8 @@ module _ (name : Labels) (kind : ℕ) (chosen : ℕ → Bool) where
       by (Sweep m) moment ticket more is = passed cell (Sweep m) (events_in log) refl (more cell is)
       by (Undo m) moment ticket more is = passed cell (Undo m) (events_in log) refl (more cell is)
       by (Redo m) moment ticket more is = passed cell (Redo m) (events_in log) refl (more cell is)
+      by (UndoOf m named) moment ticket more is = passed cell (UndoOf m named) (events_in log) refl (more cell is)
+      by (RedoOf m named) moment ticket more is = passed cell (RedoOf m named) (events_in log) refl (more cell is)
 
 -- Of a name that has a find alive by some choice, an admission is counted.
 ending_counted : (past : Past) (t : ℕ) (name : Labels) (end : ℕ) → IsEnding past t name end → 1 ≤ counted_at name (events_in past.log)
@@ -106,3 +108,5 @@ room_made bound past next (Sweep m) is first = absurd first
 room_made bound past next (Do m c) is first = absurd first
 room_made bound past next (Undo m) is first = absurd first
 room_made bound past next (Redo m) is first = absurd first
+room_made bound past next (UndoOf m named) is first = absurd first
+room_made bound past next (RedoOf m named) is first = absurd first

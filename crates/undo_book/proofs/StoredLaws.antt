@@ -9,7 +9,7 @@ use Rattle.dns_name.specs.Labels.{Labels}
 use Rattle.dns_name.specs.Order.{name_eq, name_eq_exact}
 use Rattle.ranked.specs.declared.find.Find.{Find}
 use Rattle.history.specs.declared.event.Event.{Event}
-use Rattle.history.specs.declared.event.Event.TheVariants.{Admit, Look, Sweep, Forget, Do, Undo, Redo}
+use Rattle.history.specs.declared.event.Event.TheVariants.{Admit, Look, Sweep, Forget, Do, Undo, Redo, UndoOf, RedoOf}
 use Rattle.history.specs.declared.event.Entry.{Entry}
 use Rattle.history.specs.declared.event.Reply.{Reply}
 use Rattle.history.specs.declared.event.Settings.{Settings}
@@ -33,6 +33,8 @@ no_admission name (Forget m owner) is = refl
 no_admission name (Do m c) is = refl
 no_admission name (Undo m) is = refl
 no_admission name (Redo m) is = refl
+no_admission name (UndoOf m named) is = refl
+no_admission name (RedoOf m named) is = refl
 
 abbrev one_if : Bool → ℕ
 one_if b = cond b 1 0
@@ -93,6 +95,8 @@ once_before (Forget m owner) events e none = refl
 once_before (Do m c) events e none = refl
 once_before (Undo m) events e none = refl
 once_before (Redo m) events e none = refl
+once_before (UndoOf m named) events e none = refl
+once_before (RedoOf m named) events e none = refl
 
 pub counted_push : (events : List Event) (e : Event) → ((name : Labels) → forgets name e ≡ false) → counted_of (events ++ e ∷ []) ≡ counted_of events + counted_once e []
 counted_push [] e none = omega arith
@@ -107,6 +111,8 @@ other_event events (Forget m owner) no_find no_forget = absurd (no_forget m owne
 other_event events (Do m c) no_find no_forget = omega (arith, counted_push events (Do m c) (λ name. refl))
 other_event events (Undo m) no_find no_forget = omega (arith, counted_push events (Undo m) (λ name. refl))
 other_event events (Redo m) no_find no_forget = omega (arith, counted_push events (Redo m) (λ name. refl))
+other_event events (UndoOf m named) no_find no_forget = omega (arith, counted_push events (UndoOf m named) (λ name. refl))
+other_event events (RedoOf m named) no_find no_forget = omega (arith, counted_push events (RedoOf m named) (λ name. refl))
 
 -- A forget takes off what is counted of its name.
 gone : (later : Bool) → cond (later || true) 0 1 + cond (true && not later) 1 0 ≡ cond later 0 1
@@ -140,6 +146,8 @@ one_forgotten m name (Forget n owner) events = refl
 one_forgotten m name (Do n c) events = refl
 one_forgotten m name (Undo n) events = refl
 one_forgotten m name (Redo n) events = refl
+one_forgotten m name (UndoOf n named) events = refl
+one_forgotten m name (RedoOf n named) events = refl
 
 pub counted_forget : (m : ℕ) (name : Labels) (events : List Event) → counted_of (events ++ Forget m name ∷ []) + counted_at name events ≡ counted_of events
 counted_forget m name [] = refl
@@ -159,6 +167,8 @@ once_few (Forget m owner) events = omega arith
 once_few (Do m c) events = omega arith
 once_few (Undo m) events = omega arith
 once_few (Redo m) events = omega arith
+once_few (UndoOf m named) events = omega arith
+once_few (RedoOf m named) events = omega arith
 
 pub counted_within : (log : List Logged) → counted_of (events_of log) ≤ length log
 counted_within [] = omega arith

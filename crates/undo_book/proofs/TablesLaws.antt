@@ -7,7 +7,7 @@ use Rattle.std.proofs.lemmas.List.{append-nil}
 use Rattle.std.proofs.lemmas.List.Elements.{filter-append}
 use Rattle.std.proofs.lemmas.List.Sums.{fold-append}
 use Rattle.history.specs.declared.tables.Tables.{Tables}
-use Rattle.history.specs.declared.event.Event.TheVariants.{Admit, Look, Do, Undo, Redo}
+use Rattle.history.specs.declared.event.Event.TheVariants.{Admit, Look, Do, Undo, Redo, UndoOf, RedoOf}
 use Rattle.history.specs.declared.event.Ask.{Ask}
 use Rattle.history.specs.declared.event.Command.{Command}
 use Rattle.history.specs.declared.event.Entry.{Entry}
@@ -16,9 +16,10 @@ use Rattle.undo_book.specs.declared.log.Logged.{Logged}
 use Rattle.ranked.specs.declared.find.Find.{Find}
 use Rattle.history.specs.Marks.{Marks, last_of, strike, restore, after_command}
 use Rattle.history.specs.Tickets.{InOne}
-use Rattle.history.specs.History.{Past, followed_by, marks_after, ticket_unless, reason_of, standing_with, stands_by, is_unstruck, stands, tables_of}
+use Rattle.history.specs.History.{Past, followed_by, marks_after, ticket_unless, reason_of, standing_with, stands_by, is_unstruck, stands, tables_of, unless_buried}
 use Rattle.history.specs.Changes.{no_tables, tables_after, tables_by, unless_refused}
-use Rattle.history.specs.Reply.{reply_to_undo, reply_to_redo}
+use Rattle.history.specs.Journal.{commands_of, is_among, over, under}
+use Rattle.history.specs.Reply.{reply_to_redo, reply_to_redo_of, reply_to_undo, reply_to_undo_of}
 use Rattle.undo_book.specs.Plain.{entries_in, with_flag, AreFlagged}
 use Rattle.undo_book.specs.Replayed.{tables_after_logged, tables_after_flagged, tables_by_reply}
 use Rattle.undo_book.proofs.PlainLaws.{flag_tells, new_by_reason, struck_flags, stands_flags, entries_flagged}
@@ -97,3 +98,29 @@ pub tables_redone : (bound now m : ℕ) (marks : Marks) (log : List Logged) → 
     → tables_of (followed_by bound (record { now = now; marks = marks; log = entries_in log }) (Redo m))
     ≡ tables_by_reply (reply_to_redo (last_of marks.undone)) log (tables_of (record { now = now; marks = marks; log = entries_in log }))
 tables_redone bound now m marks log h = redone marks log _ (last_of marks.undone) h (λ k. refl)
+
+-- ---- by a ticket
+
+undone_of : (marks : Marks) (log : List Logged) (e : Entry) (there : Bool) (other : Option ℕ) (t : ℕ) → AreFlagged marks.struck log → ((k : Marks) → stands k e ≡ false)
+    → tables_by (filter (stands (option_map_or (strike marks) (unless_buried there other t) marks)) (entries_in log ++ e ∷ []))
+    ≡ tables_by_reply (reply_to_undo_of there other t) log (tables_by (filter (stands marks) (entries_in log)))
+undone_of marks log e true None t h gone = undone marks log e (Some t) h gone
+undone_of marks log e true (Some other) t h gone = left_out marks (entries_in log) e (gone marks)
+undone_of marks log e false other t h gone = left_out marks (entries_in log) e (gone marks)
+
+pub tables_undone_of : (bound now m t : ℕ) (marks : Marks) (log : List Logged) → AreFlagged marks.struck log
+    → let past : Past = record { now = now; marks = marks; log = entries_in log } in
+    tables_of (followed_by bound past (UndoOf m t)) ≡ tables_by_reply (reply_to_undo_of (is_among marks.done t) (over (commands_of past) t) t) log (tables_of past)
+tables_undone_of bound now m t marks log h = undone_of marks log _ (is_among marks.done t) (over (commands_of (record { now = now; marks = marks; log = entries_in log })) t) t h (λ k. refl)
+
+redone_of : (marks : Marks) (log : List Logged) (e : Entry) (there : Bool) (other : Option ℕ) (t : ℕ) → AreFlagged marks.struck log → ((k : Marks) → stands k e ≡ false)
+    → tables_by (filter (stands (option_map_or (restore marks) (unless_buried there other t) marks)) (entries_in log ++ e ∷ []))
+    ≡ tables_by_reply (reply_to_redo_of there other t) log (tables_by (filter (stands marks) (entries_in log)))
+redone_of marks log e true None t h gone = redone marks log e (Some t) h gone
+redone_of marks log e true (Some other) t h gone = left_out marks (entries_in log) e (gone marks)
+redone_of marks log e false other t h gone = left_out marks (entries_in log) e (gone marks)
+
+pub tables_redone_of : (bound now m t : ℕ) (marks : Marks) (log : List Logged) → AreFlagged marks.struck log
+    → let past : Past = record { now = now; marks = marks; log = entries_in log } in
+    tables_of (followed_by bound past (RedoOf m t)) ≡ tables_by_reply (reply_to_redo_of (is_among marks.undone t) (under (commands_of past) t) t) log (tables_of past)
+tables_redone_of bound now m t marks log h = redone_of marks log _ (is_among marks.undone t) (under (commands_of (record { now = now; marks = marks; log = entries_in log })) t) t h (λ k. refl)

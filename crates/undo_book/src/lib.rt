@@ -31,11 +31,11 @@ mod plain;
 mod shelf_book;
 
 pub use history::{
-    Ask, Book, Command, Desk, DeskFault, Entry, Event, Journalled, Look, MOMENT_END, MOST_CELLS,
-    MOST_COMMANDS, MOST_EVENTS, MOST_HINTS, MakeFault, Origin, Reason, Reply, RunFault, Seen,
-    Servers, Settings, StepFault, clock_is_greatest, done_is_in_order, equality_law, flush_forgets,
-    journal_law, oldest_law, redo_puts_back, refusal_changes_only_the_clock, run, servers_law,
-    sweep_changes_only_the_clock, undo_takes_back,
+    Ask, Book, BuriedCommand, Command, Desk, DeskFault, Entry, Event, Journalled, Look, MOMENT_END,
+    MOST_CELLS, MOST_COMMANDS, MOST_EVENTS, MOST_HINTS, MakeFault, Origin, Reason, Reply, RunFault,
+    Seen, Servers, Settings, StepFault, clock_is_greatest, done_is_in_order, equality_law,
+    flush_forgets, journal_law, oldest_law, redo_puts_back, refusal_changes_only_the_clock, run,
+    servers_law, sweep_changes_only_the_clock, undo_takes_back,
 };
 pub use plain::PlainBook;
 pub use shelf_book::ShelfBook;

@@ -2,14 +2,14 @@
 
 ghost use Rattle.std.specs.Prelude.{◌≡◌, ◌++◌, [], IfOk, OnOk};
 ghost use Rattle.std.specs.List.{cons_option};
-ghost use Rattle.history.specs.Journal.{commands_of, held_as, held_with};
+ghost use Rattle.history.specs.Journal.{buried_in, commands_of, held_as, held_with};
 ghost use Rattle.undo_book.specs.Plain.{marks_in, held_of};
 ghost use Rattle.undo_book.specs.PlainPast.{past_in};
 
 use crate::marks::PlainMarks;
 use crate::plain_history::PlainPast;
 use dns_name::NoMemory;
-use history::{Command, Entry, Event, Journalled};
+use history::{BuriedCommand, Command, Entry, Event, Journalled, buried};
 use std::alloc::Global;
 
 /// A copy of each command that can be undone or redone.
@@ -21,6 +21,17 @@ pub(crate) fn commands(alloc: Global, past: &PlainPast) -> Result<Vec<Journalled
         add_command(&past.marks, &logged.entry, &mut commands)?;
     }
     Ok(commands)
+}
+
+/// Those of them that another must be undone, or redone, before.
+pub(crate) fn buried_commands(
+    alloc: Global,
+    past: &PlainPast,
+) -> Result<Vec<BuriedCommand>, NoMemory>
+    ensures { IfOk result (λ v. v.items ≡ buried_in (commands_of (past_in past.now))) }
+{
+    let commands = commands(alloc, past)?;
+    buried(alloc, commands.as_slice())
 }
 
 /// Adds what the journal holds of an entry.

@@ -6,7 +6,7 @@ ghost use Rattle.history.specs.Reply.{seen_of};
 ghost use Rattle.history.specs.Servers.{servers_of};
 ghost use Rattle.undo_book.specs.PlainPast.{past_in};
 
-use crate::listing::commands;
+use crate::listing::{buried_commands, commands};
 use crate::oldest::oldest;
 use crate::plain_history::PlainPast;
 use dns_name::{Name, NoMemory};
@@ -39,6 +39,7 @@ pub(crate) fn seen(
         )?))),
         Ask::Stubs => Ok(Seen::Stubs(Items::new(share_stubs(alloc, tables.stubs.stubs())?))),
         Ask::Commands => Ok(Seen::Commands(Items::new(commands(alloc, past)?))),
+        Ask::Buried => Ok(Seen::Buried(Items::new(buried_commands(alloc, past)?))),
         Ask::Servers(name) => seen_servers(alloc, past, &tables.stubs, name, moment),
         Ask::Oldest => Ok(Seen::Oldest(oldest(alloc, past, past.moment.max(moment))?)),
     }

@@ -7,13 +7,15 @@ ghost use Rattle.history.specs.Marks.{last_of};
 ghost use Rattle.undo_book.specs.Plain.{marks_in};
 ghost use Rattle.undo_book.specs.PlainPast.{past_in};
 ghost use Rattle.undo_book.specs.Replayed.{tables_by_reply};
-ghost use Rattle.history.specs.Reply.{reply_of, reply_to_command, reply_to_redo, reply_to_undo};
+ghost use Rattle.history.specs.Journal.{commands_of, is_among, over, under};
+ghost use Rattle.history.specs.Reply.{reply_of, reply_to_command, reply_to_redo, reply_to_redo_of, reply_to_undo, reply_to_undo_of};
 
+use crate::listing::commands;
 use crate::lookup_result::seen;
 use crate::plain_history::PlainPast;
 use crate::tables::replay_tables;
 use dns_name::NoMemory;
-use history::{Command, Event, Reply, Tables};
+use history::{Command, Event, Reply, Tables, over, under};
 use std::alloc::Global;
 
 /// What is replied to an event. The tables are as they are after the event then, and as they were where memory is refused.
@@ -40,6 +42,8 @@ pub(crate) fn reply(
         Event::Do { command, .. } => reply_to_command(past, tables, command),
         Event::Undo { .. } => reply_to_undo(alloc, past, tables),
         Event::Redo { .. } => reply_to_redo(alloc, past, tables),
+        Event::UndoOf { ticket, .. } => reply_to_undo_of(alloc, past, tables, *ticket),
+        Event::RedoOf { ticket, .. } => reply_to_redo_of(alloc, past, tables, *ticket),
     }
 }
 
@@ -86,5 +90,53 @@ fn reply_to_redo(alloc: Global, past: &PlainPast, tables: &mut Tables) -> Result
             Ok(Reply::Redone { ticket })
         }
         None => Ok(Reply::NothingToRedo),
+    }
+}
+
+fn reply_to_undo_of(
+    alloc: Global,
+    past: &PlainPast,
+    tables: &mut Tables,
+    ticket: u64,
+) -> Result<Reply, NoMemory>
+    ensures told { IfOk result (λ r. r ≡ reply_to_undo_of (is_among past.now.marks.done.items ticket)
+        (over (commands_of (past_in past.now)) ticket) ticket) }
+    ensures changed { IfOk result (λ r. tables.new ≡ tables_by_reply r past.now.log.items tables.old) }
+    ensures same { OnErr result (tables.new ≡ tables.old) }
+{
+    if !past.marks.done.contains(&ticket) {
+        return Ok(Reply::NotKept);
+    }
+    let commands = commands(alloc, past)?;
+    match over(&commands, ticket) {
+        Some(other) => Ok(Reply::Buried { ticket: other }),
+        None => {
+            *tables = replay_tables(alloc, &past.log, ticket, true)?;
+            Ok(Reply::Undone { ticket })
+        }
+    }
+}
+
+fn reply_to_redo_of(
+    alloc: Global,
+    past: &PlainPast,
+    tables: &mut Tables,
+    ticket: u64,
+) -> Result<Reply, NoMemory>
+    ensures told { IfOk result (λ r. r ≡ reply_to_redo_of (is_among past.now.marks.undone.items ticket)
+        (under (commands_of (past_in past.now)) ticket) ticket) }
+    ensures changed { IfOk result (λ r. tables.new ≡ tables_by_reply r past.now.log.items tables.old) }
+    ensures same { OnErr result (tables.new ≡ tables.old) }
+{
+    if !past.marks.undone.contains(&ticket) {
+        return Ok(Reply::NotKept);
+    }
+    let commands = commands(alloc, past)?;
+    match under(&commands, ticket) {
+        Some(other) => Ok(Reply::Buried { ticket: other }),
+        None => {
+            *tables = replay_tables(alloc, &past.log, ticket, false)?;
+            Ok(Reply::Redone { ticket })
+        }
     }
 }

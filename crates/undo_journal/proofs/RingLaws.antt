@@ -1,16 +1,18 @@
--- The ring at one place: what is before it, it, and what is after it.
-use Rattle.std.proofs.Common.{◌≡◌, ◌≢◌, ℕ, zero, suc, ◌+◌, ◌-◌, ◌<◌, ◌≤◌, Bool, true, false, Option, Some, None, List, [], ◌∷◌, ◌++◌, length, take, drop, map, set, refl, sym, ap, subst, ◌∙◌, arith, rules, length-append}
-use Rattle.std.specs.Prelude.{slice_get, slice_set, Result, Ok, Err, OnErr}
-use Rattle.std.proofs.lemmas.Bool.{false≢true}
-use Rattle.std.specs.List.{AllByRecursion}
+-- The ring at one place: what is before it, it, and what is after it. And lists of tickets.
+use Rattle.std.proofs.Common.{◌≡◌, ◌≢◌, ◌⊎◌, inl, inr, ℕ, zero, suc, ◌+◌, ◌-◌, ◌<◌, ◌≤◌, Bool, true, false, cond, Option, Some, None, List, [], ◌∷◌, ◌++◌, length, take, drop, map, set, refl, sym, ap, subst, ◌∙◌, arith, rules, length-append}
+use Rattle.std.specs.Prelude.{slice_get, slice_set, Result, Ok, Err, OnErr, filter, not, ◌==◌, ◌&&◌, ◌||◌, if◌then◌else◌}
+use Rattle.std.specs.List.{AllByRecursion, list_any}
+use Rattle.std.proofs.lemmas.Bool.{cases_Bool, eq-eqb, eqb-true, false≢true}
+use Rattle.std.proofs.lemmas.Bool.Decides.{nat_tests}
+use Rattle.std.proofs.lemmas.List.Folds.{list_any-append}
 use Rattle.dns_name.specs.ListLaws.{all-append, all_split, all_weaker}
 use Rattle.change_law.specs.declared.kept.KeptChange.{KeptChange}
 use Rattle.change_law.specs.declared.kept.Standing.{Standing}
 use Rattle.change_law.specs.declared.kept.Standing.TheVariants.{Done, Undone, Cleared}
-use Rattle.change_law.specs.Choice.{IsOneTable, IsUncovered, IsFounded}
+use Rattle.change_law.specs.ChoiceLaws.{same_number, other_number}
 use Rattle.change_law.specs.Face.{Face}
-use Rattle.change_law.specs.Row.{kept_as, IsLast, IsFirst, IsRowAfter}
-use Rattle.undo_journal.specs.Journal.{Changes, AreChanges, IsUndo, IsRedo, done_of, undone_of, tickets_of}
+use Rattle.change_law.specs.Row.{kept_as, IsRowAfter}
+use Rattle.undo_journal.specs.Journal.{AreAscending, AreDifferent, is_among, is_before, without}
 
 -- ---- lists
 
@@ -63,6 +65,178 @@ never_past [] n within e = absurd (omega arith)
 never_past (x ∷ xs) zero within e = absurd (search rules)
 never_past (x ∷ xs) (suc n) within e = never_past xs n (omega arith) e
 
+-- Two properties of all items give a third.
+pub all_both : {X : Type 0} (P Q R : X → Type 0) → ((x : X) → P x → Q x → R x) → (xs : List X) → AllByRecursion P xs → AllByRecursion Q xs → AllByRecursion R xs
+all_both P Q R f [] p q = tt
+all_both P Q R f (x ∷ xs) p q = (f x p.0 q.0, all_both P Q R f xs p.1 q.1)
+
+-- If all images have a property, all items have it of their image.
+pub all_back : {X Y : Type 0} (f : X → Y) (P : Y → Type 0) (xs : List X) → AllByRecursion P (map f xs) → AllByRecursion (λ x. P (f x)) xs
+all_back f P [] h = tt
+all_back f P (x ∷ xs) h = (h.0, all_back f P xs h.1)
+
+pub all_images : {X Y : Type 0} (f : X → Y) (P : Y → Type 0) (xs : List X) → AllByRecursion (λ x. P (f x)) xs → AllByRecursion P (map f xs)
+all_images f P [] h = tt
+all_images f P (x ∷ xs) h = (h.0, all_images f P xs h.1)
+
+pub all_filter : {X : Type 0} (P : X → Type 0) (p : X → Bool) (xs : List X) → AllByRecursion P xs → AllByRecursion P (filter p xs)
+all_filter P p [] h = tt
+all_filter P p (x ∷ xs) h = elim (cases_Bool (p x)) [ inl yes' ↦ rw yes' (h.0, all_filter P p xs h.1) | inr no' ↦ rw no' (all_filter P p xs h.1) ]
+
+-- what a filter leaves passes it
+pub all_pass : {X : Type 0} (p : X → Bool) (xs : List X) → AllByRecursion (λ x. p x ≡ true) (filter p xs)
+all_pass p [] = tt
+all_pass p (x ∷ xs) = elim (cases_Bool (p x)) [ inl yes' ↦ rw yes' (yes', all_pass p xs) | inr no' ↦ rw no' (all_pass p xs) ]
+
+pub length_filter : {X : Type 0} (p : X → Bool) (xs : List X) → length (filter p xs) ≤ length xs
+length_filter p [] = omega arith
+length_filter p (x ∷ xs) = elim (cases_Bool (p x)) [ inl yes' ↦ rw yes' (omega (arith, length_filter p xs)) | inr no' ↦ rw no' (omega (arith, length_filter p xs)) ]
+
+-- ---- tests
+
+pub or_cases : (x y : Bool) → (x || y) ≡ true → (x ≡ true) ⊎ (y ≡ true)
+or_cases true y e = inl refl
+or_cases false y e = inr e
+
+pub or_left : (x y : Bool) → x ≡ true → (x || y) ≡ true
+or_left true y e = refl
+or_left false y e = absurd (false≢true e)
+
+pub or_right : (x y : Bool) → y ≡ true → (x || y) ≡ true
+or_right true y e = refl
+or_right false y e = e
+
+pub or_none : (x y : Bool) → (x || y) ≡ false → (x ≡ false) × (y ≡ false)
+or_none true y e = absurd (false≢true (sym e))
+or_none false y e = (refl, e)
+
+pub and_both : (x y : Bool) → (x && y) ≡ true → (x ≡ true) × (y ≡ true)
+and_both true y e = (refl, e)
+and_both false y e = absurd (false≢true e)
+
+pub and_true : (x y : Bool) → x ≡ true → y ≡ true → (x && y) ≡ true
+and_true true y e f = f
+and_true false y e f = absurd (false≢true e)
+
+and_none : (x : Bool) → (x && false) ≡ false
+and_none true = refl
+and_none false = refl
+
+or_false : (b : Bool) → (b || false) ≡ b
+or_false true = refl
+or_false false = refl
+
+-- ---- tickets
+
+pub among_push_other : (xs : List ℕ) (t u : ℕ) → (t == u) ≡ false → is_among (xs ++ t ∷ []) u ≡ is_among xs u
+among_push_other xs t u other = list_any-append (λ s. s == u) xs (t ∷ []) ∙ rw other (or_false (is_among xs u))
+
+pub among_push_here : (xs : List ℕ) (t : ℕ) → is_among (xs ++ t ∷ []) t ≡ true
+among_push_here [] t = or_left (t == t) false (same_number t)
+among_push_here (x ∷ xs) t = or_right (x == t) (is_among (xs ++ t ∷ []) t) (among_push_here xs t)
+
+pub among_more : (xs : List ℕ) (t u : ℕ) → is_among xs u ≡ true → is_among (xs ++ t ∷ []) u ≡ true
+among_more xs t u e = list_any-append (λ s. s == u) xs (t ∷ []) ∙ or_left (is_among xs u) (is_among (t ∷ []) u) e
+
+-- what is among these, when one is left out
+pub among_without : (xs : List ℕ) (t u : ℕ) → is_among (without t xs) u ≡ (if u == t then false else is_among xs u)
+among_without [] t u = elim (cases_Bool (u == t)) [ inl same ↦ rw same refl | inr apart ↦ rw apart refl ]
+among_without (x ∷ xs) t u =
+    elim (cases_Bool (x == t)) [
+      | inl here ↦
+          rw here (among_without xs t u ∙
+          elim (cases_Bool (u == t)) [
+            | inl same ↦ rw same refl
+            | inr apart ↦ let other : (x == u) ≡ false = grind (arith, nat_tests) in rw (apart, other) refl
+          ])
+      | inr there ↦
+          rw there (ap (λ (b : Bool). (x == u) || b) (among_without xs t u) ∙
+          elim (cases_Bool (u == t)) [
+            | inl same ↦ let other : (x == u) ≡ false = grind (arith, nat_tests) in rw (same, other) refl
+            | inr apart ↦ rw apart refl
+          ])
+    ]
+
+pub among_without_other : (xs : List ℕ) (t u : ℕ) → (u == t) ≡ false → is_among (without t xs) u ≡ is_among xs u
+among_without_other xs t u apart = among_without xs t u ∙ ap (λ (b : Bool). if b then false else is_among xs u) apart
+
+pub among_without_here : (xs : List ℕ) (t : ℕ) → is_among (without t xs) t ≡ false
+among_without_here xs t = among_without xs t t ∙ ap (λ (b : Bool). if b then false else is_among xs t) (same_number t)
+
+-- what all have, one of them has
+pub all_among : (P : ℕ → Type 0) (xs : List ℕ) (t : ℕ) → AllByRecursion P xs → is_among xs t ≡ true → P t
+all_among P [] t h e = absurd (false≢true e)
+all_among P (x ∷ xs) t h e = elim (or_cases (x == t) (is_among xs t) e) [ inl same ↦ subst P (eqb-true x t same) h.0 | inr more ↦ all_among P xs t h.1 more ]
+
+pub different_push : (xs : List ℕ) (t : ℕ) → AreDifferent xs → is_among xs t ≡ false → AreDifferent (xs ++ t ∷ [])
+different_push [] t h none = (refl, tt)
+different_push (x ∷ xs) t h none =
+    let parts = or_none (x == t) (is_among xs t) none in
+    let other : (t == x) ≡ false = other_number t x (λ same. false≢true (sym parts.0 ∙ (ap (λ n. x == n) same ∙ same_number x))) in
+    (among_push_other xs t x other ∙ h.0, different_push xs t h.1 parts.1)
+
+pub different_without : (xs : List ℕ) (t : ℕ) → AreDifferent xs → AreDifferent (without t xs)
+different_without [] t h = tt
+different_without (x ∷ xs) t h =
+    elim (cases_Bool (x == t)) [
+      | inl here ↦ rw here (different_without xs t h.1)
+      | inr there ↦ rw there (among_without_other xs t x there ∙ h.0, different_without xs t h.1)
+    ]
+
+pub length_without : (xs : List ℕ) (t : ℕ) → is_among xs t ≡ true → length (without t xs) + 1 ≤ length xs
+length_without [] t e = absurd (false≢true e)
+length_without (x ∷ xs) t e =
+    elim (cases_Bool (x == t)) [
+      | inl here ↦ rw here (omega (arith, length_filter (λ s. not (s == t)) xs))
+      | inr there ↦ rw there (let more : is_among xs t ≡ true = sym (ap (λ (b : Bool). b || is_among xs t) there) ∙ e in omega (arith, length_without xs t more))
+    ]
+
+-- ---- one before another
+
+pub before_push : (xs : List ℕ) (t a b : ℕ) → is_before xs a b ≡ true → is_before (xs ++ t ∷ []) a b ≡ true
+before_push [] t a b e = absurd (false≢true e)
+before_push (x ∷ xs) t a b e =
+    elim (or_cases (x == a && is_among xs b) (is_before xs a b) e) [
+      | inl here ↦
+          let both = and_both (x == a) (is_among xs b) here in
+          or_left (x == a && is_among (xs ++ t ∷ []) b) (is_before (xs ++ t ∷ []) a b) (and_true (x == a) (is_among (xs ++ t ∷ []) b) both.0 (among_more xs t b both.1))
+      | inr more ↦ or_right (x == a && is_among (xs ++ t ∷ []) b) (is_before (xs ++ t ∷ []) a b) (before_push xs t a b more)
+    ]
+
+pub before_last : (xs : List ℕ) (a t : ℕ) → is_among xs a ≡ true → is_before (xs ++ t ∷ []) a t ≡ true
+before_last [] a t e = absurd (false≢true e)
+before_last (x ∷ xs) a t e =
+    elim (or_cases (x == a) (is_among xs a) e) [
+      | inl here ↦ or_left (x == a && is_among (xs ++ t ∷ []) t) (is_before (xs ++ t ∷ []) a t) (and_true (x == a) (is_among (xs ++ t ∷ []) t) here (among_push_here xs t))
+      | inr more ↦ or_right (x == a && is_among (xs ++ t ∷ []) t) (is_before (xs ++ t ∷ []) a t) (before_last xs a t more)
+    ]
+
+pub last_before_none : (xs : List ℕ) (t b : ℕ) → is_among xs t ≡ false → is_before (xs ++ t ∷ []) t b ≡ false
+last_before_none [] t b none = or_false (t == t && false) ∙ and_none (t == t)
+last_before_none (x ∷ xs) t b none =
+    let parts = or_none (x == t) (is_among xs t) none in
+    ap (λ (y : Bool). (y && is_among (xs ++ t ∷ []) b) || is_before (xs ++ t ∷ []) t b) parts.0 ∙ last_before_none xs t b parts.1
+
+pub before_without : (xs : List ℕ) (t a b : ℕ) → (a == t) ≡ false → (b == t) ≡ false → is_before xs a b ≡ true → is_before (without t xs) a b ≡ true
+before_without [] t a b na nb e = e
+before_without (x ∷ xs) t a b na nb e =
+    elim (cases_Bool (x == t)) [
+      | inl here ↦
+          rw here (elim (or_cases (x == a && is_among xs b) (is_before xs a b) e) [
+            | inl first ↦
+                let own : x ≡ a = eqb-true x a (and_both (x == a) (is_among xs b) first).0 in
+                absurd (false≢true (sym na ∙ (ap (λ n. n == t) (sym own) ∙ here)))
+            | inr more ↦ before_without xs t a b na nb more
+          ])
+      | inr there ↦
+          rw there (elim (or_cases (x == a && is_among xs b) (is_before xs a b) e) [
+            | inl first ↦
+                let both = and_both (x == a) (is_among xs b) first in
+                or_left (x == a && is_among (without t xs) b) (is_before (without t xs) a b) (and_true (x == a) (is_among (without t xs) b) both.0 (among_without_other xs t b nb ∙ both.1))
+            | inr more ↦ or_right (x == a && is_among (without t xs) b) (is_before (without t xs) a b) (before_without xs t a b na nb more)
+          ])
+    ]
+
 -- ---- standings
 
 abbrev is_undone : Standing → Bool
@@ -92,12 +266,6 @@ Done≢Cleared e = false≢true (ap is_cleared e)
 pub kept_is : {S : Type 0} (k : KeptChange S) (s : Standing) → k.standing ≡ s → kept_as s k.ticket k.saved ≡ k
 kept_is k s e = λ i. record { ticket = k.ticket; standing = sym e i; saved = k.saved }
 
-pub uncovered : {S : Type 0} (table : S → Option ℕ) (saved : S) (later : List (KeptChange S)) → AllByRecursion (λ k. k.standing ≡ Undone) later → IsUncovered table saved later
-uncovered table saved later h = all_weaker _ _ (λ k e same done. Done≢Undone (sym done ∙ e)) later h
-
-pub founded : {S : Type 0} (table : S → Option ℕ) (saved : S) (earlier : List (KeptChange S)) → AllByRecursion (λ k. k.standing ≡ Done) earlier → IsFounded table saved earlier
-founded table saved earlier h = all_weaker _ _ (λ k e same undone. Undone≢Done (sym undone ∙ e)) earlier h
-
 -- ---- a row by equal lists
 
 pub row_of : {W S T : Type 0} (table : S → Option ℕ) (keeps : W → List (KeptChange S) → Type 0) (face : W → List (KeptChange S) → (ℕ → Bool) → Face T)
@@ -107,217 +275,7 @@ row_of table keeps face made P before kept other after left rest e f row =
     subst (λ (x : List (KeptChange _)). IsRowAfter table keeps face made P before other after x) f
     (subst (λ (x : List (KeptChange _)). IsRowAfter table keeps face made P before x after left) e row)
 
--- ---- an undo and a redo at one place
-
--- the ring with this one at its place, of which so many are done
-abbrev pub with_at : {S : Type 0} → List (KeptChange S) → KeptChange S → List (KeptChange S) → ℕ → ℕ → ℕ → Changes S
-with_at earlier x later tickets limit done = record { kept = earlier ++ x ∷ later; done = done; tickets = tickets; limit = limit }
-
-pub before_is : {S : Type 0} (kept : List (KeptChange S)) (done tickets limit : ℕ) (k : KeptChange S) (at : IsAt kept (done - 1) k) → 0 < done →
-    record { kept = kept; done = done; tickets = tickets; limit = limit } ≡ with_at at.earlier k at.later tickets limit (suc (length at.earlier))
-before_is kept done tickets limit k at some =
-    let n : done ≡ suc (length at.earlier) = omega (arith, at.place, some) in
-    λ i. record { kept = at.all i; done = n i; tickets = tickets; limit = limit }
-
-pub after_is : {S : Type 0} (kept : List (KeptChange S)) (n tickets limit : ℕ) (k k' : KeptChange S) (at : IsAt kept n k) →
-    record { kept = slice_set kept n k'; done = n; tickets = tickets; limit = limit } ≡ with_at at.earlier k' at.later tickets limit (length at.earlier)
-after_is kept n tickets limit k k' at =
-    λ i. record { kept = at.written k' i; done = sym at.place i; tickets = tickets; limit = limit }
-
-module _ {S : Type 0} (earlier : List (KeptChange S)) (k k' : KeptChange S) (later : List (KeptChange S)) (tickets limit : ℕ) where
-  pub standing_last : AreChanges (with_at earlier k later tickets limit (suc (length earlier))) → k.standing ≡ Done
-  standing_last are =
-      let first = subst (λ (l : List (KeptChange S)). AllByRecursion (λ x. x.standing ≡ Done) l) (take_past earlier k later) are.first in
-      (all_split _ earlier (k ∷ []) first).1.0
-
-  pub others_behind : AreChanges (with_at earlier k later tickets limit (suc (length earlier))) → AllByRecursion (λ x. x.standing ≡ Undone) later
-  others_behind are = subst (λ (l : List (KeptChange S)). AllByRecursion (λ x. x.standing ≡ Undone) l) (drop_past earlier k later) are.others
-
-  pub undone_there : k'.ticket ≡ k.ticket → k'.standing ≡ Undone → AreChanges (with_at earlier k later tickets limit (suc (length earlier))) → AreChanges (with_at earlier k' later tickets limit (length earlier))
-  undone_there t s are =
-      let first = subst (λ (l : List (KeptChange S)). AllByRecursion (λ x. x.standing ≡ Done) l) (take_past earlier k later) are.first in
-      let given = all_split _ earlier (k ∷ later) are.given in
-      record {
-        within = omega (arith, length-append earlier (k' ∷ later));
-        first = rw (take_there earlier (k' ∷ later)) ((all_split _ earlier (k ∷ []) first).0);
-        others = rw (drop_there earlier (k' ∷ later)) ((s, others_behind are));
-        given = all-append _ earlier (k' ∷ later) given.0 (rw t given.1.0, given.1.1);
-        few = omega (arith, are.few, length-append earlier (k' ∷ later), length-append earlier (k ∷ later));
-        room = are.room;
-      }
-
-  pub undo_there : k'.ticket ≡ k.ticket → IsUndo (with_at earlier k later tickets limit (suc (length earlier))) (Some k.ticket) (with_at earlier k' later tickets limit (length earlier))
-  undo_there t =
-      let spread = map_append (λ (x : KeptChange S). x.ticket) earlier (k ∷ later) in
-      let spread' = map_append (λ (x : KeptChange S). x.ticket) earlier (k' ∷ later) in
-      let long : length (tickets_of earlier) ≡ length earlier = map_length (λ (x : KeptChange S). x.ticket) earlier in
-      let done_before : take (suc (length earlier)) (tickets_of (earlier ++ k ∷ later)) ≡ tickets_of earlier ++ k.ticket ∷ []
-      = rw (spread, ← long) (take_past (tickets_of earlier) k.ticket (tickets_of later)) in
-      let done_after : take (length earlier) (tickets_of (earlier ++ k' ∷ later)) ≡ tickets_of earlier
-      = rw (spread', ← long) (take_there (tickets_of earlier) (tickets_of (k' ∷ later))) in
-      let undone_before : drop (suc (length earlier)) (tickets_of (earlier ++ k ∷ later)) ≡ tickets_of later
-      = rw (spread, ← long) (drop_past (tickets_of earlier) k.ticket (tickets_of later)) in
-      let undone_after : drop (length earlier) (tickets_of (earlier ++ k' ∷ later)) ≡ k'.ticket ∷ tickets_of later
-      = rw (spread', ← long) (drop_there (tickets_of earlier) (tickets_of (k' ∷ later))) in
-      (rw (done_before, done_after), rw (undone_before, undone_after, t), refl, refl)
-
--- ---- the same by what the code has
-
-module _ {S : Type 0} (kept : List (KeptChange S)) (done tickets limit : ℕ) (k : KeptChange S) (some : 0 < done) (at : IsAt kept (done - 1) k)
-    (are : AreChanges (record { kept = kept; done = done; tickets = tickets; limit = limit })) where
-  are_before : AreChanges (with_at at.earlier k at.later tickets limit (suc (length at.earlier)))
-  are_before = subst AreChanges (before_is kept done tickets limit k at some) are
-
-  pub was_done : k.standing ≢ Cleared
-  unfolding are_before
-  was_done e = Done≢Cleared (sym (standing_last at.earlier k k at.later tickets limit are_before) ∙ e)
-
-  whole : (standing : Standing) (saved : S) (k' : KeptChange S) → kept_as standing k.ticket saved ≡ k' → at.earlier ++ kept_as standing k.ticket saved ∷ at.later ≡ slice_set kept (done - 1) k'
-  whole standing saved k' e = ap (λ (x : KeptChange S). at.earlier ++ x ∷ at.later) e ∙ sym (at.written k')
-
-  whole_before : at.earlier ++ kept_as Done k.ticket k.saved ∷ at.later ≡ kept
-  unfolding are_before
-  whole_before = ap (λ (x : KeptChange S). at.earlier ++ x ∷ at.later) (kept_is k Done (standing_last at.earlier k k at.later tickets limit are_before)) ∙ sym at.all
-
-  pub undo_last : {W : Type 0} (table : S → Option ℕ) (keeps : W → List (KeptChange S) → Type 0) (world : W) → keeps world kept →
-      IsLast table keeps world at.earlier k.ticket k.saved at.later
-  unfolding are_before whole_before
-  undo_last table keeps world h = record {
-    kept = subst (keeps world) (sym whole_before) h;
-    uncovered = uncovered table k.saved at.later (others_behind at.earlier k k at.later tickets limit are_before);
-  }
-
-  pub undo_row : {W T : Type 0} (table : S → Option ℕ) (keeps : W → List (KeptChange S) → Type 0) (face : W → List (KeptChange S) → (ℕ → Bool) → Face T)
-      (made : (ℕ → Bool) → Face T → Face T) (P : (ℕ → Bool) → Type 0) (before after : W) (saved : S) →
-      IsRowAfter table keeps face made P before (at.earlier ++ kept_as Done k.ticket k.saved ∷ at.later) after (at.earlier ++ kept_as Undone k.ticket saved ∷ at.later) →
-      IsRowAfter table keeps face made P before kept after (slice_set kept (done - 1) (kept_as Undone k.ticket saved))
-  unfolding are_before whole_before whole
-  undo_row table keeps face made P before after saved row =
-      row_of table keeps face made P before _ kept after _ (slice_set kept (done - 1) (kept_as Undone k.ticket saved)) whole_before (whole Undone saved (kept_as Undone k.ticket saved) refl) row
-
-  pub undo_are : (saved : S) → AreChanges (record { kept = slice_set kept (done - 1) (kept_as Undone k.ticket saved); done = done - 1; tickets = tickets; limit = limit })
-  unfolding are_before
-  undo_are saved =
-      subst AreChanges (sym (after_is kept (done - 1) tickets limit k (kept_as Undone k.ticket saved) at))
-      (undone_there at.earlier k (kept_as Undone k.ticket saved) at.later tickets limit refl refl are_before)
-
-  pub undo_is : (saved : S) → IsUndo (record { kept = kept; done = done; tickets = tickets; limit = limit }) (Some k.ticket)
-      (record { kept = slice_set kept (done - 1) (kept_as Undone k.ticket saved); done = done - 1; tickets = tickets; limit = limit })
-  undo_is saved =
-      let k' = kept_as Undone k.ticket saved in
-      let after : Changes S = record { kept = slice_set kept (done - 1) k'; done = done - 1; tickets = tickets; limit = limit } in
-      subst (λ (x : Changes S). IsUndo x (Some k.ticket) after) (sym (before_is kept done tickets limit k at some))
-      (subst (λ (x : Changes S). IsUndo (with_at at.earlier k at.later tickets limit (suc (length at.earlier))) (Some k.ticket) x)
-      (sym (after_is kept (done - 1) tickets limit k k' at))
-      (undo_there at.earlier k k' at.later tickets limit refl))
-
-  -- what was not changed is written over with itself
-  pub same_there : (saved : S) → saved ≡ k.saved →
-      ◌≡◌ {A = Changes S} (record { kept = slice_set kept (done - 1) (record { ticket = k.ticket; standing = k.standing; saved = saved }); done = done; tickets = tickets; limit = limit })
-      (record { kept = kept; done = done; tickets = tickets; limit = limit })
-  same_there saved e =
-      let written : (x : KeptChange S) → x ≡ k → slice_set kept (done - 1) x ≡ kept = λ x f. at.written x ∙ ap (λ (y : KeptChange S). at.earlier ++ y ∷ at.later) f ∙ sym at.all in
-      let same = written (record { ticket = k.ticket; standing = k.standing; saved = saved }) (λ i. record { ticket = k.ticket; standing = k.standing; saved = e i }) in
-      λ i. record { kept = same i; done = done; tickets = tickets; limit = limit }
-
--- ---- a redo
-
-pub before_redo_is : {S : Type 0} (kept : List (KeptChange S)) (done tickets limit : ℕ) (k : KeptChange S) (at : IsAt kept done k) →
-    record { kept = kept; done = done; tickets = tickets; limit = limit } ≡ with_at at.earlier k at.later tickets limit (length at.earlier)
-before_redo_is kept done tickets limit k at = λ i. record { kept = at.all i; done = sym at.place i; tickets = tickets; limit = limit }
-
-pub after_redo_is : {S : Type 0} (kept : List (KeptChange S)) (done tickets limit : ℕ) (k k' : KeptChange S) (at : IsAt kept done k) →
-    record { kept = slice_set kept done k'; done = done + 1; tickets = tickets; limit = limit } ≡ with_at at.earlier k' at.later tickets limit (suc (length at.earlier))
-after_redo_is kept done tickets limit k k' at =
-    let n : done + 1 ≡ suc (length at.earlier) = omega (arith, at.place) in
-    λ i. record { kept = at.written k' i; done = n i; tickets = tickets; limit = limit }
-
-module _ {S : Type 0} (earlier : List (KeptChange S)) (k k' : KeptChange S) (later : List (KeptChange S)) (tickets limit : ℕ) where
-  pub earlier_done : AreChanges (with_at earlier k later tickets limit (length earlier)) → AllByRecursion (λ x. x.standing ≡ Done) earlier
-  earlier_done are = subst (λ (l : List (KeptChange S)). AllByRecursion (λ x. x.standing ≡ Done) l) (take_there earlier (k ∷ later)) are.first
-
-  pub undone_from : AreChanges (with_at earlier k later tickets limit (length earlier)) → AllByRecursion (λ x. x.standing ≡ Undone) (k ∷ later)
-  undone_from are = subst (λ (l : List (KeptChange S)). AllByRecursion (λ x. x.standing ≡ Undone) l) (drop_there earlier (k ∷ later)) are.others
-
-  pub redone_there : k'.ticket ≡ k.ticket → k'.standing ≡ Done → AreChanges (with_at earlier k later tickets limit (length earlier)) → AreChanges (with_at earlier k' later tickets limit (suc (length earlier)))
-  redone_there t s are =
-      let given = all_split _ earlier (k ∷ later) are.given in
-      record {
-        within = omega (arith, length-append earlier (k' ∷ later));
-        first = rw (take_past earlier k' later) (all-append _ earlier (k' ∷ []) (earlier_done are) (s, tt));
-        others = rw (drop_past earlier k' later) (undone_from are).1;
-        given = all-append _ earlier (k' ∷ later) given.0 (rw t given.1.0, given.1.1);
-        few = omega (arith, are.few, length-append earlier (k' ∷ later), length-append earlier (k ∷ later));
-        room = are.room;
-      }
-
-  pub redo_there : k'.ticket ≡ k.ticket → IsRedo (with_at earlier k later tickets limit (length earlier)) (Some k.ticket) (with_at earlier k' later tickets limit (suc (length earlier)))
-  redo_there t =
-      let spread = map_append (λ (x : KeptChange S). x.ticket) earlier (k ∷ later) in
-      let spread' = map_append (λ (x : KeptChange S). x.ticket) earlier (k' ∷ later) in
-      let long : length (tickets_of earlier) ≡ length earlier = map_length (λ (x : KeptChange S). x.ticket) earlier in
-      let done_after : take (suc (length earlier)) (tickets_of (earlier ++ k' ∷ later)) ≡ tickets_of earlier ++ k'.ticket ∷ []
-      = rw (spread', ← long) (take_past (tickets_of earlier) k'.ticket (tickets_of later)) in
-      let done_before : take (length earlier) (tickets_of (earlier ++ k ∷ later)) ≡ tickets_of earlier
-      = rw (spread, ← long) (take_there (tickets_of earlier) (tickets_of (k ∷ later))) in
-      let undone_after : drop (suc (length earlier)) (tickets_of (earlier ++ k' ∷ later)) ≡ tickets_of later
-      = rw (spread', ← long) (drop_past (tickets_of earlier) k'.ticket (tickets_of later)) in
-      let undone_before : drop (length earlier) (tickets_of (earlier ++ k ∷ later)) ≡ k.ticket ∷ tickets_of later
-      = rw (spread, ← long) (drop_there (tickets_of earlier) (tickets_of (k ∷ later))) in
-      (rw (done_after, done_before, t), rw (undone_before, undone_after), refl, refl)
-
-module _ {S : Type 0} (kept : List (KeptChange S)) (done tickets limit : ℕ) (k : KeptChange S) (at : IsAt kept done k)
-    (are : AreChanges (record { kept = kept; done = done; tickets = tickets; limit = limit })) where
-  are_before_redo : AreChanges (with_at at.earlier k at.later tickets limit (length at.earlier))
-  are_before_redo = subst AreChanges (before_redo_is kept done tickets limit k at) are
-
-  pub was_undone : k.standing ≢ Cleared
-  unfolding are_before_redo
-  was_undone e = Undone≢Cleared (sym (undone_from at.earlier k k at.later tickets limit are_before_redo).0 ∙ e)
-
-  redo_before : at.earlier ++ kept_as Undone k.ticket k.saved ∷ at.later ≡ kept
-  unfolding are_before_redo
-  redo_before = ap (λ (x : KeptChange S). at.earlier ++ x ∷ at.later) (kept_is k Undone (undone_from at.earlier k k at.later tickets limit are_before_redo).0) ∙ sym at.all
-
-  pub redo_first : {W : Type 0} (table : S → Option ℕ) (keeps : W → List (KeptChange S) → Type 0) (world : W) → keeps world kept →
-      IsFirst table keeps world at.earlier k.ticket k.saved at.later
-  unfolding are_before_redo redo_before
-  redo_first table keeps world h = record {
-    kept = subst (keeps world) (sym redo_before) h;
-    founded = founded table k.saved at.earlier (earlier_done at.earlier k k at.later tickets limit are_before_redo);
-  }
-
-  pub redo_row : {W T : Type 0} (table : S → Option ℕ) (keeps : W → List (KeptChange S) → Type 0) (face : W → List (KeptChange S) → (ℕ → Bool) → Face T)
-      (made : (ℕ → Bool) → Face T → Face T) (P : (ℕ → Bool) → Type 0) (before after : W) (saved : S) →
-      IsRowAfter table keeps face made P before (at.earlier ++ kept_as Undone k.ticket k.saved ∷ at.later) after (at.earlier ++ kept_as Done k.ticket saved ∷ at.later) →
-      IsRowAfter table keeps face made P before kept after (slice_set kept done (kept_as Done k.ticket saved))
-  unfolding are_before_redo redo_before
-  redo_row table keeps face made P before after saved row =
-      row_of table keeps face made P before _ kept after _ (slice_set kept done (kept_as Done k.ticket saved)) redo_before (sym (at.written (kept_as Done k.ticket saved))) row
-
-  pub redo_are : (saved : S) → AreChanges (record { kept = slice_set kept done (kept_as Done k.ticket saved); done = done + 1; tickets = tickets; limit = limit })
-  unfolding are_before_redo
-  redo_are saved =
-      subst AreChanges (sym (after_redo_is kept done tickets limit k (kept_as Done k.ticket saved) at))
-      (redone_there at.earlier k (kept_as Done k.ticket saved) at.later tickets limit refl refl are_before_redo)
-
-  pub redo_is : (saved : S) → IsRedo (record { kept = kept; done = done; tickets = tickets; limit = limit }) (Some k.ticket)
-      (record { kept = slice_set kept done (kept_as Done k.ticket saved); done = done + 1; tickets = tickets; limit = limit })
-  redo_is saved =
-      let k' = kept_as Done k.ticket saved in
-      let after : Changes S = record { kept = slice_set kept done k'; done = done + 1; tickets = tickets; limit = limit } in
-      subst (λ (x : Changes S). IsRedo x (Some k.ticket) after) (sym (before_redo_is kept done tickets limit k at))
-      (subst (λ (x : Changes S). IsRedo (with_at at.earlier k at.later tickets limit (length at.earlier)) (Some k.ticket) x)
-      (sym (after_redo_is kept done tickets limit k k' at))
-      (redo_there at.earlier k k' at.later tickets limit refl))
-
-  pub same_redo : (saved : S) → saved ≡ k.saved →
-      ◌≡◌ {A = Changes S} (record { kept = slice_set kept done (record { ticket = k.ticket; standing = k.standing; saved = saved }); done = done; tickets = tickets; limit = limit })
-      (record { kept = kept; done = done; tickets = tickets; limit = limit })
-  same_redo saved e =
-      let written : (x : KeptChange S) → x ≡ k → slice_set kept done x ≡ kept = λ x f. at.written x ∙ ap (λ (y : KeptChange S). at.earlier ++ y ∷ at.later) f ∙ sym at.all in
-      let same = written (record { ticket = k.ticket; standing = k.standing; saved = saved }) (λ i. record { ticket = k.ticket; standing = k.standing; saved = e i }) in
-      λ i. record { kept = same i; done = done; tickets = tickets; limit = limit }
+-- ---- results
 
 pub on_err : {A E P : Type 0} (r : Result A E) → P → OnErr r P
 on_err (Ok a) p = tt

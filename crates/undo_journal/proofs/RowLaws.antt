@@ -1,17 +1,23 @@
 -- Rows one after another, and the ring at its ends.
-use Rattle.std.proofs.Common.{◌≡◌, ◌≢◌, ℕ, zero, suc, ◌+◌, ◌-◌, ◌<◌, ◌≤◌, Bool, true, false, Option, Some, None, List, [], ◌∷◌, ◌++◌, length, take, drop, map, refl, sym, ap, subst, ◌∙◌, arith, rules, length-append, append_assoc}
+use Rattle.std.proofs.Common.{◌≡◌, ◌≢◌, ℕ, zero, suc, ◌+◌, ◌-◌, ◌<◌, ◌≤◌, Bool, true, false, cond, Option, Some, None, ◌⊎◌, inl, inr, List, [], ◌∷◌, ◌++◌, length, take, drop, map, refl, sym, ap, subst, ◌∙◌, arith, rules, length-append, length-drop, append_assoc}
+use Rattle.std.proofs.lemmas.Bool.{cases_Bool, false≢true}
 use Rattle.std.proofs.lemmas.List.{append-nil, take-append-drop}
-use Rattle.std.specs.Prelude.{slice_get, slice_set}
+use Rattle.std.proofs.lemmas.List.Elements.{filter-append}
+use Rattle.std.specs.Prelude.{filter, not, slice_get, slice_set, if◌then◌else◌}
 use Rattle.std.specs.List.{AllByRecursion}
-use Rattle.dns_name.specs.ListLaws.{all-append, all-take, all_split, all_weaker}
+use Rattle.dns_name.specs.ListLaws.{all-append, all-drop, all-take, all_split, all_weaker}
+use Rattle.circular_buffer.specs.Buffer.{Buffer, buffer, keep_last}
 use Rattle.change_law.specs.declared.kept.KeptChange.{KeptChange}
 use Rattle.change_law.specs.declared.kept.Standing.{Standing}
 use Rattle.change_law.specs.declared.kept.Standing.TheVariants.{Done, Undone, Cleared}
-use Rattle.change_law.specs.Choice.{IsOneTable, AreLeftOut, AllowsAt, IsChoice, IsPresent, is_done, clear, cleared, cleared_one}
+use Rattle.change_law.specs.Choice.{IsOneTable, AreLeftOut, AllowsAt, IsChoice, IsPresent, IsUncovered, is_done, clear, cleared, cleared_one}
 use Rattle.change_law.specs.Face.{Face, IsSame}
 use Rattle.change_law.specs.Row.{kept_as, IsNext, IsRowAfter, any, same_face}
-use Rattle.undo_journal.specs.Journal.{Changes, AreChanges, IsClearedOf, IsChange, IsForgotten, newest, settled_by, told_of}
-use Rattle.undo_journal.proofs.RingLaws.{IsAt, Undone≢Cleared, Done≢Cleared, map_append, map_length, take_there, drop_there, kept_is}
+use Rattle.undo_journal.specs.Journal.{AreAscending, AreChanges, AreInTurn, Changes, IsChange, IsClosed, IsForgotten, in_effect, is_among, newest, out_of_effect, settled_by, standing_in, tickets_of, told_of}
+use Rattle.undo_journal.specs.Settling.{IsTurned, TurnsFirst}
+use Rattle.undo_journal.proofs.RingLaws.{IsAt, Undone≢Cleared, Done≢Cleared, Done≢Undone, Undone≢Done, all_back, all_both, all_filter, all_images, all_pass, kept_is, length_filter, map_append, map_length}
+use Rattle.undo_journal.proofs.MoveLaws.{done_standing, standing_done}
+use Rattle.undo_journal.proofs.ReachLaws.{drop_at}
 
 pub same_then : {T : Type 0} {a b c : Face T} → IsSame a b → IsSame b c → IsSame a c
 same_then f g = record { tables = f.tables ∙ g.tables; cell = λ q. f.cell q ∙ g.cell q }
@@ -104,160 +110,372 @@ module _ {S : Type 0} (table : S → Option ℕ) (chosen : ℕ → Bool) where
   choice_front (x ∷ xs) ys h =
       (allows_more table chosen x.standing x (xs ++ ys) xs (λ all. (all_split (λ k. IsOneTable (table x.saved) (table k.saved) → chosen k.ticket ≡ false) xs ys all).0) h.0, choice_front xs ys h.1)
 
-  -- with those that are undone and not chosen
-  choice_with_left : (xs gone : List (KeptChange S)) → AllByRecursion (λ k. k.standing ≡ Undone) gone → AllByRecursion (λ k. chosen k.ticket ≡ false) gone → IsChoice table xs chosen → IsChoice table (xs ++ gone) chosen
-  choice_with_left [] [] u out h = tt
-  choice_with_left [] (g ∷ gone) u out h =
-      (free g.standing g gone (λ o. all_weaker _ _ (λ k e same. e) gone out.1) (λ c. Undone≢Cleared (sym u.0 ∙ c)), choice_with_left [] gone u.1 out.1 tt)
-  choice_with_left (x ∷ xs) gone u out h =
-      (allows_more table chosen x.standing x xs (xs ++ gone) (λ all. all-append _ xs gone all (all_weaker _ _ (λ k e same. e) gone out)) h.0, choice_with_left xs gone u out h.1)
+-- ---- choices, with the changes that were not in effect
 
--- ---- the ring at its end
+module _ {S : Type 0} (table : S → Option ℕ) (chosen : ℕ → Bool) where
+  -- None of these is chosen.
+  abbrev pub AreOut : List (KeptChange S) → Type 0
+  AreOut gone = AllByRecursion (λ k. chosen k.ticket ≡ false) gone
 
-pub last_of_all : {X : Type 0} (xs : List X) (x : X) → slice_get xs (length xs - 1) ≡ Some x → xs ≡ take (length xs - 1) xs ++ x ∷ []
-last_of_all [] x e = absurd (search rules)
-last_of_all (a ∷ []) x e = cc
-last_of_all (a ∷ b ∷ xs) x e =
-    let n : length (a ∷ b ∷ xs) - 1 ≡ suc (length (b ∷ xs) - 1) = omega arith in
-    let e' : slice_get (b ∷ xs) (length (b ∷ xs) - 1) ≡ Some x = rw n at e in
-    rw n (ap (λ l. a ∷ l) (last_of_all (b ∷ xs) x e'))
+  pub present_out : (kept : List (KeptChange S)) → IsPresent (out_of_effect kept) chosen → AreOut (out_of_effect kept)
+  present_out kept p =
+      all_both (λ (k : KeptChange S). not (is_done k.standing) ≡ true) (λ k. chosen k.ticket ≡ is_done k.standing) (λ k. chosen k.ticket ≡ false) (λ k n e. e ∙ not_true (is_done k.standing) n) (out_of_effect kept)
+      (all_pass (λ k. not (is_done k.standing)) kept) p
+    where
+      not_true : (b : Bool) → not b ≡ true → b ≡ false
+      not_true true e = absurd (false≢true e)
+      not_true false e = refl
 
-pub last_holds : {X : Type 0} (P : X → Type 0) (init : List X) (x : X) (n : ℕ) → n ≤ length init → AllByRecursion P (drop n (init ++ x ∷ [])) → P x
-last_holds P [] x zero within h = h.0
-last_holds P [] x (suc n) within h = absurd (omega arith)
-last_holds P (a ∷ init) x zero within h = (all_split P (a ∷ init) (x ∷ []) h).1.0
-last_holds P (a ∷ init) x (suc n) within h = last_holds P init x n (omega arith) h
+  -- what is left out among those in effect is left out among all, if the others are
+  left_out_all : (saved : S) (kept tail : List (KeptChange S)) → AreOut (out_of_effect kept) → AreLeftOut table chosen saved (in_effect kept ++ tail) → AreLeftOut table chosen saved (cleared kept ++ tail)
+  left_out_all saved [] tail out h = h
+  left_out_all saved (k ∷ kept) tail out h = by (is_done k.standing) (left_out_all saved kept tail) out h
+    where
+      by : (b : Bool) → (AreOut (out_of_effect kept) → AreLeftOut table chosen saved (in_effect kept ++ tail) → AreLeftOut table chosen saved (cleared kept ++ tail)) →
+          AreOut (cond (not b) (k ∷ out_of_effect kept) (out_of_effect kept)) → AreLeftOut table chosen saved (cond b (k ∷ in_effect kept) (in_effect kept) ++ tail) →
+          AreLeftOut table chosen saved (cleared (k ∷ kept) ++ tail)
+      by true more out h = (h.0, more out h.1)
+      by false more out h = (λ same. out.0, more out.1 h)
 
-pub cleared_last : {S : Type 0} (kept : List (KeptChange S)) (done tickets limit : ℕ) (last : KeptChange S) → AreChanges (record { kept = kept; done = done; tickets = tickets; limit = limit }) →
-    done < length kept → slice_get kept (length kept - 1) ≡ Some last →
-    IsClearedOf (record { kept = kept; done = done; tickets = tickets; limit = limit }) last (record { kept = take (length kept - 1) kept; done = done; tickets = tickets; limit = limit })
-cleared_last kept done tickets limit last are within e =
-    let split = last_of_all kept last e in
-    let long : length kept ≡ length (take (length kept - 1) kept) + 1 = ap length split ∙ length-append (take (length kept - 1) kept) (last ∷ []) in
-    record {
-      kept = split;
-      undone = last_holds (λ (k : KeptChange _). k.standing ≡ Undone) (take (length kept - 1) kept) last done (omega (arith, long, within))
-          (subst (λ (l : List (KeptChange _)). AllByRecursion (λ k. k.standing ≡ Undone) (drop done l)) split are.others);
-      done = refl;
-      tickets = refl;
-      limit = refl;
-    }
+  left_out_kept : (saved : S) (kept : List (KeptChange S)) → AreOut (out_of_effect kept) → AreLeftOut table chosen saved (in_effect kept) → AreLeftOut table chosen saved kept
+  left_out_kept saved [] out h = h
+  left_out_kept saved (k ∷ kept) out h = by (is_done k.standing) (left_out_kept saved kept) out h
+    where
+      by : (b : Bool) → (AreOut (out_of_effect kept) → AreLeftOut table chosen saved (in_effect kept) → AreLeftOut table chosen saved kept) →
+          AreOut (cond (not b) (k ∷ out_of_effect kept) (out_of_effect kept)) → AreLeftOut table chosen saved (cond b (k ∷ in_effect kept) (in_effect kept)) →
+          AreLeftOut table chosen saved (k ∷ kept)
+      by true more out h = (h.0, more out h.1)
+      by false more out h = (λ same. out.0, more out.1 h)
 
--- ---- what is cleared one by one
+  left_out_closed : (saved : S) (kept : List (KeptChange S)) → AreOut (out_of_effect kept) → IsUncovered table saved kept → AreLeftOut table chosen saved kept
+  left_out_closed saved [] out u = tt
+  left_out_closed saved (k ∷ kept) out u = by k.standing (λ o. left_out_closed saved kept o u.1) out u.0
+    where
+      by : (s : Standing) → (AreOut (out_of_effect kept) → AreLeftOut table chosen saved kept) →
+          AreOut (cond (not (is_done s)) (k ∷ out_of_effect kept) (out_of_effect kept)) → (IsOneTable (table saved) (table k.saved) → s ≢ Done) → AreLeftOut table chosen saved (k ∷ kept)
+      by Done more out h = (λ same. absurd (h same refl), more out)
+      by Undone more out h = (λ same. out.0, more out.1)
+      by Cleared more out h = (λ same. out.0, more out.1)
 
--- So many were cleared, from the end.
+  -- those that are cleared may be anywhere
+  pub choice_with_gone : (kept tail : List (KeptChange S)) → AreOut (out_of_effect kept) → IsChoice table (in_effect kept ++ tail) chosen → IsChoice table (cleared kept ++ tail) chosen
+  choice_with_gone [] tail out h = h
+  choice_with_gone (k ∷ kept) tail out h = by k.standing refl (choice_with_gone kept tail) out h
+    where
+      by : (s : Standing) → k.standing ≡ s → (AreOut (out_of_effect kept) → IsChoice table (in_effect kept ++ tail) chosen → IsChoice table (cleared kept ++ tail) chosen) →
+          AreOut (cond (not (is_done s)) (k ∷ out_of_effect kept) (out_of_effect kept)) →
+          IsChoice table (cond (is_done s) (k ∷ in_effect kept) (in_effect kept) ++ tail) chosen →
+          AllowsAt table chosen (clear s) (cleared_one k) (cleared kept ++ tail) × IsChoice table (cleared kept ++ tail) chosen
+      by Done e more out h =
+          let own : AllowsAt table chosen Done k (in_effect kept ++ tail) = subst (λ (s : Standing). AllowsAt table chosen s k (in_effect kept ++ tail)) e h.0 in
+          (λ f. left_out_all k.saved kept tail out (own f), more out h.1)
+      by Undone e more out h = (out.0, more out.1 h)
+      by Cleared e more out h = (out.0, more out.1 h)
+
+  -- and so may those that are undone, since no later one of their table is in effect
+  pub choice_with_undone : (kept : List (KeptChange S)) → IsClosed table kept → AreOut (out_of_effect kept) → IsChoice table (in_effect kept) chosen → IsChoice table kept chosen
+  choice_with_undone [] closed out h = tt
+  choice_with_undone (k ∷ kept) closed out h = by k.standing refl (choice_with_undone kept closed.1) out h
+    where
+      by : (s : Standing) → k.standing ≡ s → (AreOut (out_of_effect kept) → IsChoice table (in_effect kept) chosen → IsChoice table kept chosen) →
+          AreOut (cond (not (is_done s)) (k ∷ out_of_effect kept) (out_of_effect kept)) →
+          IsChoice table (cond (is_done s) (k ∷ in_effect kept) (in_effect kept)) chosen → AllowsAt table chosen k.standing k kept × IsChoice table kept chosen
+      by Done e more out h =
+          let own : AllowsAt table chosen Done k (in_effect kept) = subst (λ (s : Standing). AllowsAt table chosen s k (in_effect kept)) e h.0 in
+          let here : AllowsAt table chosen Done k kept = λ f. left_out_kept k.saved kept out (own f) in
+          (subst (λ (s : Standing). AllowsAt table chosen s k kept) (sym e) here, more out h.1)
+      by Undone e more out h =
+          let here : AllowsAt table chosen Undone k kept = λ f. left_out_closed k.saved kept out.1 (closed.0 e) in
+          (subst (λ (s : Standing). AllowsAt table chosen s k kept) (sym e) here, more out.1 h)
+      by Cleared e more out h = (subst (λ (s : Standing). AllowsAt table chosen s k kept) (sym e) out.0, more out.1 h)
+
+  -- with the oldest, which are in effect and chosen
+  pub choice_with_old : (old rest : List (KeptChange S)) → AllByRecursion (λ k. k.standing ≡ Done) old → IsPresent old chosen → IsChoice table rest chosen → IsChoice table (old ++ rest) chosen
+  choice_with_old [] rest done p h = h
+  choice_with_old (k ∷ old) rest done p h =
+      let here : AllowsAt table chosen Done k (old ++ rest) = λ out. absurd (false≢true (sym out ∙ (p.0 ∙ ap is_done done.0))) in
+      (subst (λ (s : Standing). AllowsAt table chosen s k (old ++ rest)) (sym done.0) here, choice_with_old old rest done.1 p.1 h)
+
+-- ---- what is settled one by one
+
+pub present_append : {S : Type 0} (chosen : ℕ → Bool) (xs ys : List (KeptChange S)) → IsPresent (xs ++ ys) chosen → IsPresent xs chosen × IsPresent ys chosen
+present_append chosen xs ys p = all_split (λ k. chosen k.ticket ≡ is_done k.standing) xs ys p
+
+-- So many were looked at, from the front. Those in effect are at the end of the ring now, and the world keeps no other of them.
 pub record IsClearing {W S T : Type 0} (table : S → Option ℕ) (keeps : W → List (KeptChange S) → Type 0) (face : W → List (KeptChange S) → (ℕ → Bool) → Face T)
-    (before : W) (all : List (KeptChange S)) (after : W) (kept : List (KeptChange S)) (count : ℕ) : Type 0 where
-  pub gone : List (KeptChange S)
-  pub parts : all ≡ kept ++ gone
-  pub counted : length gone ≡ count
-  pub row : (tail : List (KeptChange S)) → keeps before (cleared all ++ tail) → IsRowAfter table keeps face same_face (IsPresent gone) before (cleared all ++ tail) after (cleared kept ++ tail)
-
-cleared_with : {S : Type 0} (kept : List (KeptChange S)) (last : KeptChange S) (tail : List (KeptChange S)) → last.standing ≡ Undone →
-    cleared (kept ++ last ∷ []) ++ tail ≡ cleared kept ++ kept_as Cleared last.ticket last.saved ∷ tail
-cleared_with {S} kept last tail undone =
-    let one : cleared_one last ≡ kept_as Cleared last.ticket last.saved = λ i. record { ticket = last.ticket; standing = clear (undone i); saved = last.saved } in
-    ap (λ (l : List (KeptChange S)). l ++ tail) (map_append cleared_one kept (last ∷ [])) ∙ append_assoc (cleared kept) (cleared_one last ∷ []) tail ∙ ap (λ (x : KeptChange S). cleared kept ++ x ∷ tail) one
+    (before : W) (all : List (KeptChange S)) (after : W) (items : List (KeptChange S)) (count : ℕ) : Type 0 where
+  pub past : List (KeptChange S)
+  pub ahead : List (KeptChange S)
+  pub parts : all ≡ past ++ ahead
+  pub counted : length past ≡ count
+  pub ring : items ≡ ahead ++ in_effect past
+  pub row : (tail : List (KeptChange S)) → keeps before (cleared all ++ tail) →
+      IsRowAfter table keeps face same_face (IsPresent (out_of_effect past)) before (cleared all ++ tail) after (in_effect past ++ (cleared ahead ++ tail))
 
 module _ {W S T : Type 0} (table : S → Option ℕ) (keeps : W → List (KeptChange S) → Type 0) (face : W → List (KeptChange S) → (ℕ → Bool) → Face T) where
   pub clearing_none : (world : W) (all : List (KeptChange S)) → IsClearing table keeps face world all world all 0
   clearing_none world all = record {
-    gone = [];
-    parts = sym (append-nil all);
+    past = [];
+    ahead = all;
+    parts = refl;
     counted = refl;
+    ring = sym (append-nil all);
     row = λ tail h. row_same table keeps face world (cleared all ++ tail) (IsPresent {S = S} []) h;
   }
 
-  pub clearing_more : (before : W) (all : List (KeptChange S)) (world : W) (kept : List (KeptChange S)) (count : ℕ) (world' : W) (kept' : List (KeptChange S)) (last : KeptChange S) →
-      IsClearing table keeps face before all world kept count → kept ≡ kept' ++ last ∷ [] → last.standing ≡ Undone →
-      ((tail : List (KeptChange S)) → keeps world (cleared kept' ++ kept_as Cleared last.ticket last.saved ∷ tail) →
-      IsRowAfter table keeps face same_face (λ chosen. chosen last.ticket ≡ false) world (cleared kept' ++ kept_as Cleared last.ticket last.saved ∷ tail) world' (cleared kept' ++ tail)) →
-      IsClearing table keeps face before all world' kept' (count + 1)
-  clearing_more before all world kept count world' kept' last so split undone settle = record {
-    gone = last ∷ so.gone;
-    parts = so.parts ∙ ap (λ (l : List (KeptChange S)). l ++ so.gone) split ∙ append_assoc kept' (last ∷ []) so.gone;
-    counted = omega (arith, so.counted);
-    row = λ tail h.
-        let same : cleared kept ++ tail ≡ cleared kept' ++ kept_as Cleared last.ticket last.saved ∷ tail
-        = ap (λ (l : List (KeptChange S)). cleared l ++ tail) split ∙ cleared_with kept' last tail undone in
-        let first = subst (λ (l : List (KeptChange S)). IsRowAfter table keeps face same_face (IsPresent so.gone) before (cleared all ++ tail) world l) same (so.row tail h) in
-        let out : (chosen : ℕ → Bool) → IsPresent (last ∷ so.gone) chosen → chosen last.ticket ≡ false = λ chosen p. p.0 ∙ ap is_done undone in
-        row_then table keeps face same_face (IsPresent so.gone) (λ chosen. chosen last.ticket ≡ false) (IsPresent (last ∷ so.gone)) before world world'
-        (cleared all ++ tail) (cleared kept' ++ kept_as Cleared last.ticket last.saved ∷ tail) (cleared kept' ++ tail) first (settle tail first.keeps_left)
-        (λ chosen p. p.1) out
-        (λ chosen p choice. choice_with_cleared table chosen (cleared kept') last.ticket last.saved tail (out chosen p) choice);
-  }
+  -- one that is in effect
+  clearing_kept : (before : W) (all : List (KeptChange S)) (world : W) (past ahead : List (KeptChange S)) (a : KeptChange S) (items : List (KeptChange S)) (count : ℕ) → is_done a.standing ≡ true →
+      all ≡ past ++ a ∷ ahead → length past ≡ count → items ≡ (ahead ++ in_effect past) ++ a ∷ [] →
+      ((tail : List (KeptChange S)) → keeps before (cleared all ++ tail) →
+      IsRowAfter table keeps face same_face (IsPresent (out_of_effect past)) before (cleared all ++ tail) world (in_effect past ++ (cleared (a ∷ ahead) ++ tail))) →
+      IsClearing table keeps face before all world items (count + 1)
+  clearing_kept before all world past ahead a items count done parts counted ring row =
+      let here : in_effect (past ++ a ∷ []) ≡ in_effect past ++ a ∷ [] = filter-append (λ k. is_done k.standing) past (a ∷ []) ∙ ap (λ (b : Bool). in_effect past ++ cond b (a ∷ []) []) done in
+      let gone : out_of_effect (past ++ a ∷ []) ≡ out_of_effect past
+      = filter-append (λ k. not (is_done k.standing)) past (a ∷ []) ∙ ap (λ (b : Bool). out_of_effect past ++ cond (not b) (a ∷ []) []) done ∙ append-nil (out_of_effect past) in
+      let own : cleared_one a ≡ a = λ i. record { ticket = a.ticket; standing = clear_done a.standing done i; saved = a.saved } in
+      record {
+        past = past ++ a ∷ [];
+        ahead = ahead;
+        parts = parts ∙ sym (append_assoc past (a ∷ []) ahead);
+        counted = omega (arith, length-append past (a ∷ []), counted);
+        ring = ring ∙ append_assoc ahead (in_effect past) (a ∷ []) ∙ ap (λ (l : List (KeptChange S)). ahead ++ l) (sym here);
+        row = λ tail h.
+            let moved : in_effect past ++ (cleared (a ∷ ahead) ++ tail) ≡ in_effect (past ++ a ∷ []) ++ (cleared ahead ++ tail)
+            = ap (λ (x : KeptChange S). in_effect past ++ (x ∷ (cleared ahead ++ tail))) own ∙ sym (append_assoc (in_effect past) (a ∷ []) (cleared ahead ++ tail)) ∙ ap (λ (l : List (KeptChange S)). l ++ (cleared ahead ++ tail)) (sym here) in
+            let next = subst (λ (l : List (KeptChange S)). IsRowAfter table keeps face same_face (IsPresent (out_of_effect past)) before (cleared all ++ tail) world l) moved (row tail h) in
+            subst (λ (l : List (KeptChange S)). IsRowAfter table keeps face same_face (IsPresent l) before (cleared all ++ tail) world (in_effect (past ++ a ∷ []) ++ (cleared ahead ++ tail))) (sym gone) next;
+      }
+    where
+      clear_done : (s : Standing) → is_done s ≡ true → clear s ≡ s
+      clear_done Done e = refl
+      clear_done Undone e = absurd (false≢true e)
+      clear_done Cleared e = absurd (false≢true e)
 
-pub cleared_done : {S : Type 0} (kept : List (KeptChange S)) → AllByRecursion (λ k. k.standing ≡ Done) kept → cleared kept ≡ kept
-cleared_done [] h = refl
-cleared_done {S} (k ∷ kept) h =
-    let one : cleared_one k ≡ k = λ i. record { ticket = k.ticket; standing = (ap clear h.0 ∙ sym h.0) i; saved = k.saved } in
-    (ap (λ (x : KeptChange S). x ∷ cleared kept) one) ∙ ap (λ (l : List (KeptChange S)). k ∷ l) (cleared_done kept h.1)
+  -- one that is not
+  clearing_gone : (before : W) (all : List (KeptChange S)) (world : W) (past ahead : List (KeptChange S)) (a : KeptChange S) (world' : W) (items : List (KeptChange S)) (count : ℕ) → is_done a.standing ≡ false →
+      all ≡ past ++ a ∷ ahead → length past ≡ count → items ≡ ahead ++ in_effect past →
+      ((tail : List (KeptChange S)) → keeps before (cleared all ++ tail) →
+      IsRowAfter table keeps face same_face (IsPresent (out_of_effect past)) before (cleared all ++ tail) world (in_effect past ++ (cleared (a ∷ ahead) ++ tail))) →
+      ((earlier later : List (KeptChange S)) → keeps world (earlier ++ kept_as Cleared a.ticket a.saved ∷ later) →
+      IsRowAfter table keeps face same_face (λ chosen. chosen a.ticket ≡ false) world (earlier ++ kept_as Cleared a.ticket a.saved ∷ later) world' (earlier ++ later)) →
+      IsClearing table keeps face before all world' items (count + 1)
+  clearing_gone before all world past ahead a world' items count out parts counted ring row settle =
+      let here : in_effect (past ++ a ∷ []) ≡ in_effect past
+      = filter-append (λ k. is_done k.standing) past (a ∷ []) ∙ ap (λ (b : Bool). in_effect past ++ cond b (a ∷ []) []) out ∙ append-nil (in_effect past) in
+      let gone : out_of_effect (past ++ a ∷ []) ≡ out_of_effect past ++ a ∷ []
+      = filter-append (λ k. not (is_done k.standing)) past (a ∷ []) ∙ ap (λ (b : Bool). out_of_effect past ++ cond (not b) (a ∷ []) []) out in
+      let own : cleared_one a ≡ kept_as Cleared a.ticket a.saved = λ i. record { ticket = a.ticket; standing = clear_out a.standing out i; saved = a.saved } in
+      record {
+        past = past ++ a ∷ [];
+        ahead = ahead;
+        parts = parts ∙ sym (append_assoc past (a ∷ []) ahead);
+        counted = omega (arith, length-append past (a ∷ []), counted);
+        ring = ring ∙ ap (λ (l : List (KeptChange S)). ahead ++ l) (sym here);
+        row = λ tail h.
+            let rest = cleared ahead ++ tail in
+            let first = subst (λ (x : KeptChange S). IsRowAfter table keeps face same_face (IsPresent (out_of_effect past)) before (cleared all ++ tail) world (in_effect past ++ (x ∷ rest))) own (row tail h) in
+            let both = row_then table keeps face same_face (IsPresent (out_of_effect past)) (λ chosen. chosen a.ticket ≡ false) (IsPresent (out_of_effect past ++ a ∷ [])) before world world'
+            (cleared all ++ tail) (in_effect past ++ kept_as Cleared a.ticket a.saved ∷ rest) (in_effect past ++ rest) first (settle (in_effect past) rest first.keeps_left)
+            (λ chosen p. (present_append chosen (out_of_effect past) (a ∷ []) p).0)
+            (λ chosen p. (present_append chosen (out_of_effect past) (a ∷ []) p).1.0 ∙ out)
+            (λ chosen p choice. choice_with_cleared table chosen (in_effect past) a.ticket a.saved rest ((present_append chosen (out_of_effect past) (a ∷ []) p).1.0 ∙ out) choice) in
+            subst (λ (l : List (KeptChange S)). IsRowAfter table keeps face same_face (IsPresent l) before (cleared all ++ tail) world' (in_effect (past ++ a ∷ []) ++ rest)) (sym gone)
+            (subst (λ (l : List (KeptChange S)). IsRowAfter table keeps face same_face (IsPresent (out_of_effect past ++ a ∷ [])) before (cleared all ++ tail) world' (l ++ rest)) (sym here) both);
+      }
+    where
+      clear_out : (s : Standing) → is_done s ≡ false → clear s ≡ Cleared
+      clear_out Done e = absurd (false≢true (sym e))
+      clear_out Undone e = refl
+      clear_out Cleared e = refl
 
--- what is left after all that was undone is cleared
-pub clearing_all : {W S T : Type 0} (table : S → Option ℕ) (keeps : W → List (KeptChange S) → Type 0) (face : W → List (KeptChange S) → (ℕ → Bool) → Face T)
-    (before : W) (all : List (KeptChange S)) (after : W) (kept : List (KeptChange S)) (count done : ℕ) →
-    IsClearing table keeps face before all after kept count → done + count ≡ length all → AllByRecursion (λ k. k.standing ≡ Done) (take done all) →
-    (tail : List (KeptChange S)) → keeps before (cleared all ++ tail) → IsRowAfter table keeps face same_face (IsPresent (drop done all)) before (cleared all ++ tail) after (kept ++ tail)
-clearing_all {W} {S} {T} table keeps face before all after kept count done so counted first tail h =
-    let long : length kept ≡ done = omega (arith, ap length so.parts, length-append kept so.gone, so.counted, counted) in
-    let taken : take done all ≡ kept = rw (so.parts, ← long) (take_there kept so.gone) in
-    let dropped : drop done all ≡ so.gone = rw (so.parts, ← long) (drop_there kept so.gone) in
-    let same : cleared kept ≡ kept = cleared_done kept (subst (λ (l : List (KeptChange S)). AllByRecursion (λ k. k.standing ≡ Done) l) taken first) in
-    subst (λ (l : List (KeptChange S)). IsRowAfter table keeps face same_face (IsPresent l) before (cleared all ++ tail) after (kept ++ tail)) (sym dropped)
-    (subst (λ (l : List (KeptChange S)). IsRowAfter table keeps face same_face (IsPresent so.gone) before (cleared all ++ tail) after (l ++ tail)) same (so.row tail h))
+  pub clearing_more : (before : W) (all : List (KeptChange S)) (world : W) (ring : Buffer (KeptChange S)) (count : ℕ) (world' : W) (ring' : Buffer (KeptChange S)) →
+      IsClearing table keeps face before all world ring.items count → count < length all → TurnsFirst table keeps face world ring world' ring' → IsClearing table keeps face before all world' ring'.items (count + 1)
+  clearing_more before all world ring count world' ring' so within is = ahead_of so.ahead refl
+    where
+      turned_by : (a : KeptChange S) (ahead : List (KeptChange S)) → all ≡ so.past ++ a ∷ ahead → ring.items ≡ a ∷ (ahead ++ in_effect so.past) →
+          ((tail : List (KeptChange S)) → keeps before (cleared all ++ tail) →
+          IsRowAfter table keeps face same_face (IsPresent (out_of_effect so.past)) before (cleared all ++ tail) world (in_effect so.past ++ (cleared (a ∷ ahead) ++ tail))) →
+          (b : Bool) → is_done a.standing ≡ b → IsTurned table keeps face b a world (ahead ++ in_effect so.past) world' ring'.items → IsClearing table keeps face before all world' ring'.items (count + 1)
+      turned_by a ahead parts items row true e turned =
+          subst (λ (w : W). IsClearing table keeps face before all w ring'.items (count + 1)) (sym turned.1)
+          (clearing_kept before all world so.past ahead a ring'.items count e parts so.counted turned.0 row)
+      turned_by a ahead parts items row false e turned = clearing_gone before all world so.past ahead a world' ring'.items count e parts so.counted turned.0 row turned.1
 
--- ---- one more
+      ahead_of : (ahead : List (KeptChange S)) → so.ahead ≡ ahead → IsClearing table keeps face before all world' ring'.items (count + 1)
+      ahead_of [] e =
+          let whole : length all ≡ length so.past = ap (λ (l : List (KeptChange S)). length l) (so.parts ∙ ap (λ (l : List (KeptChange S)). so.past ++ l) e ∙ append-nil so.past) in
+          absurd (omega (arith, whole, so.counted, within))
+      ahead_of (a ∷ ahead) e =
+          let items : ring.items ≡ a ∷ (ahead ++ in_effect so.past) = so.ring ∙ ap (λ (l : List (KeptChange S)). l ++ in_effect so.past) e in
+          let same : is.first ∷ is.rest ≡ a ∷ (ahead ++ in_effect so.past) = sym is.split ∙ items in
+          let first : is.first ≡ a = cc in
+          let rest : is.rest ≡ ahead ++ in_effect so.past = cc in
+          turned_by a ahead (so.parts ∙ ap (λ (l : List (KeptChange S)). so.past ++ l) e) items
+          (λ tail h. subst (λ (l : List (KeptChange S)). IsRowAfter table keeps face same_face (IsPresent (out_of_effect so.past)) before (cleared all ++ tail) world (in_effect so.past ++ (cleared l ++ tail))) e (so.row tail h))
+          (is_done a.standing) refl
+          (subst (λ (x : KeptChange S). IsTurned table keeps face (is_done x.standing) x world (ahead ++ in_effect so.past) world' ring'.items) first
+          (subst (λ (l : List (KeptChange S)). IsTurned table keeps face (is_done is.first.standing) is.first world l world' ring'.items) rest is.turned))
 
-pub take_all : {X : Type 0} (xs : List X) → take (length xs) xs ≡ xs
-take_all [] = refl
-take_all (x ∷ xs) = ap (λ l. x ∷ l) (take_all xs)
+  -- after all were looked at
+  pub clearing_all : (before : W) (all : List (KeptChange S)) (after : W) (items : List (KeptChange S)) (count : ℕ) → IsClearing table keeps face before all after items count → length all ≤ count →
+      (items ≡ in_effect all) × ((tail : List (KeptChange S)) → keeps before (cleared all ++ tail) →
+      IsRowAfter table keeps face same_face (IsPresent (out_of_effect all)) before (cleared all ++ tail) after (in_effect all ++ tail))
+  clearing_all before all after items count so done = by so.ahead refl
+    where
+      by : (ahead : List (KeptChange S)) → so.ahead ≡ ahead → (items ≡ in_effect all) × ((tail : List (KeptChange S)) → keeps before (cleared all ++ tail) →
+          IsRowAfter table keeps face same_face (IsPresent (out_of_effect all)) before (cleared all ++ tail) after (in_effect all ++ tail))
+      by [] e =
+          let whole : so.past ≡ all = sym (so.parts ∙ ap (λ (l : List (KeptChange S)). so.past ++ l) e ∙ append-nil so.past) in (
+            so.ring ∙ ap (λ (l : List (KeptChange S)). l ++ in_effect so.past) e ∙ ap in_effect whole,
+            λ tail h.
+                subst (λ (l : List (KeptChange S)). IsRowAfter table keeps face same_face (IsPresent (out_of_effect l)) before (cleared all ++ tail) after (in_effect l ++ tail)) whole
+                (subst (λ (l : List (KeptChange S)). IsRowAfter table keeps face same_face (IsPresent (out_of_effect so.past)) before (cleared all ++ tail) after (in_effect so.past ++ (cleared l ++ tail))) e (so.row tail h)),
+          )
+      by (a ∷ ahead) e =
+          let whole : length all ≡ length so.past + suc (length ahead) = ap (λ (l : List (KeptChange S)). length l) (so.parts ∙ ap (λ (l : List (KeptChange S)). so.past ++ l) e) ∙ length-append so.past (a ∷ ahead) in
+          absurd (omega (arith, whole, so.counted, done))
 
-pub drop_all : {X : Type 0} (xs : List X) → drop (length xs) xs ≡ []
-drop_all [] = refl
-drop_all (x ∷ xs) = drop_all xs
+-- ---- the first change of the ring
 
 pub kept_all : {X : Type 0} (xs : List X) (x : X) (limit : ℕ) → length xs < limit → drop (length (xs ++ x ∷ []) - limit) (xs ++ x ∷ []) ≡ xs ++ x ∷ []
 kept_all xs x limit room =
     let none : length (xs ++ x ∷ []) - limit ≡ 0 = omega (arith, length-append xs (x ∷ [])) in
     rw none refl
 
-pub are_with : {S : Type 0} (kept : List (KeptChange S)) (done tickets limit ticket : ℕ) (saved : S) → AreChanges (record { kept = kept; done = done; tickets = tickets; limit = limit }) →
-    length kept < limit → done ≡ length kept → tickets < ticket →
-    AreChanges (record { kept = kept ++ kept_as Done ticket saved ∷ []; done = length (kept ++ kept_as Done ticket saved ∷ []); tickets = ticket; limit = limit })
-are_with {S} kept done tickets limit ticket saved are room all next =
-    let new = kept_as Done ticket saved in
-    let long = length-append kept (new ∷ []) in
-    let taken : take done kept ≡ kept = rw all (take_all kept) in
-    let first : AllByRecursion (λ k. k.standing ≡ Done) kept = subst (λ (l : List (KeptChange S)). AllByRecursion (λ k. k.standing ≡ Done) l) taken are.first in
-    record {
-      within = omega arith;
-      first = rw (take_all (kept ++ new ∷ [])) (all-append _ kept (new ∷ []) first (refl, tt));
-      others = rw (drop_all (kept ++ new ∷ [])) tt;
-      given = all-append _ kept (new ∷ []) (all_weaker _ _ (λ k h. omega (arith, h, next)) kept are.given) (omega arith, tt);
-      few = omega (arith, long, room);
-      room = are.room;
-    }
+module _ {W S T : Type 0} (table : S → Option ℕ) (keeps : W → List (KeptChange S) → Type 0) (face : W → List (KeptChange S) → (ℕ → Bool) → Face T)
+    (world : W) (ring : Buffer (KeptChange S)) (first : KeptChange S) (there : slice_get ring.items 0 ≡ Some first) (mid : Buffer (KeptChange S)) (popped : mid ≡ buffer (drop 1 ring.items) ring.capacity) where
+  abbrev rest : List (KeptChange S)
+  rest = drop 1 ring.items
 
--- ---- an accepted change
+  -- it is in effect, and comes back at the end
+  pub turns_done : (left : Buffer (KeptChange S)) → left ≡ buffer (keep_last mid.capacity (mid.items ++ first ∷ [])) mid.capacity → length ring.items ≤ ring.capacity → is_done first.standing ≡ true →
+      TurnsFirst table keeps face world ring world left
+  turns_done left pushed within done =
+      let split : ring.items ≡ first ∷ rest = drop_at ring.items 0 first there in
+      let long : length ring.items ≡ suc (length rest) = ap (λ (l : List (KeptChange S)). length l) split in
+      let room : length rest < ring.capacity = omega (arith, long, within) in
+      let all : left ≡ buffer (rest ++ first ∷ []) ring.capacity
+      = pushed ∙ ap (λ (b : Buffer (KeptChange S)). buffer (keep_last b.capacity (b.items ++ first ∷ [])) b.capacity) popped ∙ ap (λ (l : List (KeptChange S)). buffer l ring.capacity) (kept_all rest first ring.capacity room) in
+      record {
+        first = first;
+        rest = rest;
+        split = split;
+        turned = subst (λ (b : Bool). IsTurned table keeps face b first world rest world left.items) (sym done) (ap (λ (b : Buffer (KeptChange S)). b.items) all, refl);
+        capacity = ap (λ (b : Buffer (KeptChange S)). b.capacity) all;
+      }
 
-module _ {S : Type 0} (table : S → Option ℕ) (chosen : ℕ → Bool) where
-  choice_with_gone : (earlier gone tail : List (KeptChange S)) → AllByRecursion (λ k. k.standing ≡ Undone) gone → IsPresent gone chosen →
-      IsChoice table (earlier ++ tail) chosen → IsChoice table (earlier ++ (cleared gone ++ tail)) chosen
-  choice_with_gone earlier [] tail undone p h = h
-  choice_with_gone earlier (g ∷ gone) tail undone p h =
-      let one : kept_as Cleared g.ticket g.saved ≡ cleared_one g = λ i. record { ticket = g.ticket; standing = clear (sym undone.0 i); saved = g.saved } in
-      subst (λ (x : KeptChange S). IsChoice table (earlier ++ x ∷ (cleared gone ++ tail)) chosen) one
-      (choice_with_cleared table chosen earlier g.ticket g.saved (cleared gone ++ tail) (p.0 ∙ ap is_done undone.0)
-      (choice_with_gone earlier gone tail undone.1 p.1 h))
+  -- it is not, and is settled
+  pub turns_gone : (after : W) → is_done first.standing ≡ false →
+      ((earlier : List (KeptChange S)) (ticket : ℕ) (later : List (KeptChange S)) → keeps world (earlier ++ kept_as Cleared ticket first.saved ∷ later) →
+      IsRowAfter table keeps face same_face (λ chosen. chosen ticket ≡ false) world (earlier ++ kept_as Cleared ticket first.saved ∷ later) after (earlier ++ later)) →
+      TurnsFirst table keeps face world ring after mid
+  turns_gone after out settle = record {
+    first = first;
+    rest = rest;
+    split = drop_at ring.items 0 first there;
+    turned = subst (λ (b : Bool). IsTurned table keeps face b first world rest after mid.items) (sym out)
+        (ap (λ (b : Buffer (KeptChange S)). b.items) popped, λ earlier later h. settle earlier first.ticket later h);
+    capacity = ap (λ (b : Buffer (KeptChange S)). b.capacity) popped;
+  }
 
-  choice_with_old : (old rest : List (KeptChange S)) → AllByRecursion (λ k. k.standing ≡ Done) old → IsPresent old chosen →
-      IsChoice table rest chosen → IsChoice table (old ++ rest) chosen
-  choice_with_old [] rest done p h = h
-  choice_with_old (k ∷ old) rest done p h =
-      let is : kept_as Done k.ticket k.saved ≡ k = kept_is k Done done.0 in
-      subst (λ (x : KeptChange S). IsChoice table (x ∷ (old ++ rest)) chosen) is
-      (choice_with_oldest table chosen k.ticket k.saved (old ++ rest) (p.0 ∙ ap is_done done.0) (choice_with_old old rest done.1 p.1 h))
+-- ---- all in effect
+
+module _ {S : Type 0} where
+  pub in_effect_done : (kept : List (KeptChange S)) → AllByRecursion (λ k. k.standing ≡ Done) (in_effect kept)
+  in_effect_done kept = all_weaker (λ k. is_done k.standing ≡ true) (λ k. k.standing ≡ Done) (λ k e. done_standing k.standing e) (in_effect kept) (all_pass (λ k. is_done k.standing) kept)
+
+  pub all_in_effect : (kept : List (KeptChange S)) → AllByRecursion (λ k. k.standing ≡ Done) kept → in_effect kept ≡ kept
+  all_in_effect [] h = refl
+  all_in_effect (k ∷ kept) h = ap (λ (s : Standing). cond (is_done s) (k ∷ in_effect kept) (in_effect kept)) h.0 ∙ ap (λ (l : List (KeptChange S)). k ∷ l) (all_in_effect kept h.1)
+
+  pub none_undone_done : (kept : List (KeptChange S)) (undone : List ℕ) → undone ≡ [] → AllByRecursion (λ k. k.standing ≡ standing_in undone k.ticket) kept → AllByRecursion (λ k. k.standing ≡ Done) kept
+  none_undone_done kept undone e h = all_weaker _ _ (λ k own. own ∙ ap (λ (l : List ℕ). standing_in l k.ticket) e) kept h
+
+  pub asc_filter : (p : KeptChange S → Bool) (kept : List (KeptChange S)) → AreAscending (tickets_of kept) → AreAscending (tickets_of (filter p kept))
+  asc_filter p [] h = tt
+  asc_filter p (k ∷ kept) h =
+      let above : AllByRecursion (λ t. k.ticket < t) (tickets_of (filter p kept))
+      = all_images (λ (x : KeptChange S). x.ticket) (λ t. k.ticket < t) (filter p kept) (all_filter (λ x. k.ticket < x.ticket) p kept (all_back (λ (x : KeptChange S). x.ticket) (λ t. k.ticket < t) kept h.0)) in
+      elim (cases_Bool (p k)) [ inl yes' ↦ rw yes' (above, asc_filter p kept h.1) | inr no' ↦ rw no' (asc_filter p kept h.1) ]
+
+  pub asc_drop : (n : ℕ) (kept : List (KeptChange S)) → AreAscending (tickets_of kept) → AreAscending (tickets_of (drop n kept))
+  asc_drop zero kept h = h
+  asc_drop (suc n) [] h = tt
+  asc_drop (suc n) (k ∷ kept) h = asc_drop n kept h.1
+
+  pub asc_push : (kept : List (KeptChange S)) (k : KeptChange S) → AreAscending (tickets_of kept) → AllByRecursion (λ x. x.ticket < k.ticket) kept → AreAscending (tickets_of (kept ++ k ∷ []))
+  asc_push [] k h less = (tt, tt)
+  asc_push (x ∷ kept) k h less = (
+    all_images (λ (y : KeptChange S). y.ticket) (λ t. x.ticket < t) (kept ++ k ∷ []) (all-append (λ y. x.ticket < y.ticket) kept (k ∷ []) (all_back (λ (y : KeptChange S). y.ticket) (λ t. x.ticket < t) kept h.0) (less.0, tt)),
+    asc_push kept k h.1 less.1,
+  )
+
+cleared_done : {S : Type 0} (kept : List (KeptChange S)) → AllByRecursion (λ k. k.standing ≡ Done) kept → cleared kept ≡ kept
+cleared_done [] h = refl
+cleared_done {S} (k ∷ kept) h =
+    let one : cleared_one k ≡ k = λ i. record { ticket = k.ticket; standing = (ap clear h.0 ∙ sym h.0) i; saved = k.saved } in
+    (ap (λ (x : KeptChange S). x ∷ cleared kept) one) ∙ ap (λ (l : List (KeptChange S)). k ∷ l) (cleared_done kept h.1)
+
+-- If nothing is undone, nothing is cleared.
+pub nothing_cleared : {W S T : Type 0} (table : S → Option ℕ) (keeps : W → List (KeptChange S) → Type 0) (face : W → List (KeptChange S) → (ℕ → Bool) → Face T) (world : W) (kept tail : List (KeptChange S)) →
+    AllByRecursion (λ k. k.standing ≡ Done) kept → keeps world (cleared kept ++ tail) →
+    IsRowAfter table keeps face same_face (IsPresent (out_of_effect kept)) world (cleared kept ++ tail) world (kept ++ tail)
+nothing_cleared {W} {S} {T} table keeps face world kept tail h there =
+    subst (λ (l : List (KeptChange S)). IsRowAfter table keeps face same_face (IsPresent (out_of_effect kept)) world (cleared kept ++ tail) world (l ++ tail)) (cleared_done kept h)
+    (row_same table keeps face world (cleared kept ++ tail) (IsPresent (out_of_effect kept)) there)
+
+module _ {S : Type 0} (table : S → Option ℕ) where
+  closed_done : (kept : List (KeptChange S)) → AllByRecursion (λ k. k.standing ≡ Done) kept → IsClosed table kept
+  closed_done [] h = tt
+  closed_done (k ∷ kept) h = (λ undone. absurd (Done≢Undone (sym h.0 ∙ undone)), closed_done kept h.1)
+
+  turn_done : (kept : List (KeptChange S)) → AllByRecursion (λ k. k.standing ≡ Done) kept → AreInTurn table [] kept
+  turn_done [] h = tt
+  turn_done (k ∷ kept) h = (all_weaker _ _ (λ j d same uk uj. absurd (Done≢Undone (sym h.0 ∙ uk))) kept h.1, turn_done kept h.1)
+
+  pub done_are : (kept : List (KeptChange S)) (tickets limit : ℕ) → AreAscending (tickets_of kept) → AllByRecursion (λ k. k.ticket ≤ tickets) kept → AllByRecursion (λ k. k.standing ≡ Done) kept →
+      length kept ≤ limit → 1 ≤ limit → AreChanges table (record { kept = kept; undone = []; tickets = tickets; limit = limit })
+  done_are kept tickets limit up given done few room = record {
+    ascending = up;
+    given = given;
+    standings = done;
+    known = tt;
+    once = tt;
+    closed = closed_done kept done;
+    in_turn = turn_done kept done;
+    few = few;
+    fits = omega arith;
+    room = room;
+  }
+
+  -- what is left when the undone are settled
+  pub cleared_are : (changes : Changes S) → AreChanges table changes → AreChanges table (record { kept = in_effect changes.kept; undone = []; tickets = changes.tickets; limit = changes.limit })
+  cleared_are changes are =
+      done_are (in_effect changes.kept) changes.tickets changes.limit (asc_filter (λ k. is_done k.standing) changes.kept are.ascending)
+      (all_filter (λ k. k.ticket ≤ changes.tickets) (λ k. is_done k.standing) changes.kept are.given) (in_effect_done changes.kept)
+      (omega (arith, length_filter (λ (k : KeptChange S). is_done k.standing) changes.kept, are.few)) are.room
+
+  -- and when the oldest are
+  pub forgotten_are : (changes : Changes S) (n : ℕ) → AreChanges table changes → changes.undone ≡ [] →
+      AreChanges table (record { kept = drop n changes.kept; undone = []; tickets = changes.tickets; limit = changes.limit })
+  forgotten_are changes n are none =
+      done_are (drop n changes.kept) changes.tickets changes.limit (asc_drop n changes.kept are.ascending)
+      (all-drop (λ k. k.ticket ≤ changes.tickets) n changes.kept are.given) (all-drop (λ k. k.standing ≡ Done) n changes.kept (none_undone_done changes.kept changes.undone none are.standings))
+      (omega (arith, length-drop n changes.kept, are.few)) are.room
+
+  -- and with one more
+  pub kept_are : (changes : Changes S) (ticket : ℕ) (saved : S) → AreChanges table changes → changes.undone ≡ [] → length changes.kept < changes.limit → changes.tickets < ticket →
+      AreChanges table (record { kept = changes.kept ++ kept_as Done ticket saved ∷ []; undone = []; tickets = ticket; limit = changes.limit })
+  kept_are changes ticket saved are none room next =
+      let new = kept_as Done ticket saved in
+      done_are (changes.kept ++ new ∷ []) ticket changes.limit
+      (asc_push changes.kept new are.ascending (all_weaker _ _ (λ k h. omega (arith, h, next)) changes.kept are.given))
+      (all-append (λ k. k.ticket ≤ ticket) changes.kept (new ∷ []) (all_weaker _ _ (λ k h. omega (arith, h, next)) changes.kept are.given) (omega arith, tt))
+      (all-append (λ k. k.standing ≡ Done) changes.kept (new ∷ []) (none_undone_done changes.kept changes.undone none are.standings) (refl, tt))
+      (omega (arith, length-append changes.kept (new ∷ []), room)) are.room
+
+-- ---- a new change
 
 drop_push : {X : Type 0} (n : ℕ) (xs : List X) (x : X) → n ≤ length xs → drop n (xs ++ x ∷ []) ≡ drop n xs ++ x ∷ []
 drop_push zero xs x within = refl
@@ -269,25 +487,9 @@ drop_map f zero xs = refl
 drop_map f (suc n) [] = refl
 drop_map f (suc n) (x ∷ xs) = drop_map f n xs
 
-take_map : {X Y : Type 0} (f : X → Y) (n : ℕ) (xs : List X) → take n (map f xs) ≡ map f (take n xs)
-take_map f zero xs = refl
-take_map f (suc n) [] = refl
-take_map f (suc n) (x ∷ xs) = ap (λ l. f x ∷ l) (take_map f n xs)
-
-take_less : {X : Type 0} (m n : ℕ) (xs : List X) → m ≤ n → take m (take n xs) ≡ take m xs
-take_less zero n xs less = refl
-take_less (suc m) zero xs less = absurd (omega arith)
-take_less (suc m) (suc n) [] less = refl
-take_less (suc m) (suc n) (x ∷ xs) less = ap (λ l. x ∷ l) (take_less m n xs (omega arith))
-
-length_taken : {X : Type 0} (n : ℕ) (xs : List X) → n ≤ length xs → length (take n xs) ≡ n
-length_taken zero xs within = refl
-length_taken (suc n) [] within = absurd (omega arith)
-length_taken (suc n) (x ∷ xs) within = ap suc (length_taken n xs (omega arith))
-
-module _ {S : Type 0} (before : Changes S) (are : AreChanges before) (saved : S) where
+module _ {S : Type 0} (table : S → Option ℕ) (before : Changes S) (are : AreChanges table before) (saved : S) where
   abbrev left : List (KeptChange S)
-  left = take before.done before.kept
+  left = in_effect before.kept
 
   abbrev excess : ℕ
   excess = length left + 1 - before.limit
@@ -295,134 +497,99 @@ module _ {S : Type 0} (before : Changes S) (are : AreChanges before) (saved : S)
   abbrev new : KeptChange S
   new = kept_as Done (before.tickets + 1) saved
 
-  excess_is : excess ≡ before.done + 1 - before.limit
-  excess_is = omega (arith, length_taken before.done before.kept are.within)
+  -- the newest of these, with the image of the new one
+  newest_image : {Y : Type 0} (f : KeptChange S → Y) → map f (drop excess left ++ new ∷ []) ≡ newest before.limit (map f left ++ f new ∷ [])
+  newest_image {Y} f =
+      let long : length (map f left ++ f new ∷ []) ≡ length left + 1 = omega (arith, length-append (map f left) (f new ∷ []), map_length f left) in
+      let few : excess ≤ length (map f left) = omega (arith, are.room, map_length f left) in
+      let same : excess ≡ length (map f left ++ f new ∷ []) - before.limit = omega (arith, long) in
+      map_append f (drop excess left) (new ∷ [])
+      ∙ ap (λ (l : List Y). l ++ f new ∷ []) (sym (drop_map f excess left))
+      ∙ sym (drop_push excess (map f left) (f new) few)
+      ∙ ap (λ (n : ℕ). drop n (map f left ++ f new ∷ [])) same
 
-  pub applied_change : (after : Changes S) → after ≡ record { kept = drop excess left ++ new ∷ []; done = length (drop excess left) + 1; tickets = before.tickets + 1; limit = before.limit } →
-      IsChange before (before.tickets + 1) after
+  pub applied_change : (after : Changes S) → after ≡ record { kept = drop excess left ++ new ∷ []; undone = []; tickets = before.tickets + 1; limit = before.limit } → IsChange before (before.tickets + 1) after
+  unfolding newest_image
   applied_change after is =
-      let ticket : KeptChange S → ℕ = λ k. k.ticket in
-      let long : length left ≡ before.done = length_taken before.done before.kept are.within in
-      let less : excess ≤ length (map ticket left) = omega (arith, are.room, map_length ticket left) in
-      let spread : map ticket (drop excess left ++ new ∷ []) ≡ map ticket (drop excess left) ++ (before.tickets + 1) ∷ [] = map_append ticket (drop excess left) (new ∷ []) in
-      let count : length (drop excess left) + 1 ≡ length (map ticket (drop excess left ++ new ∷ []))
-      = omega (arith, map_length ticket (drop excess left ++ new ∷ []), length-append (drop excess left) (new ∷ [])) in
-      let done : take (length (drop excess left) + 1) (map ticket (drop excess left ++ new ∷ [])) ≡ drop excess (map ticket left) ++ (before.tickets + 1) ∷ []
-      = rw count (take_all (map ticket (drop excess left ++ new ∷ []))) ∙ spread ∙ ap (λ (l : List ℕ). l ++ (before.tickets + 1) ∷ []) (sym (drop_map ticket excess left)) in
-      let undone : drop (length (drop excess left) + 1) (map ticket (drop excess left ++ new ∷ [])) ≡ [] = rw count (drop_all (map ticket (drop excess left ++ new ∷ []))) in
-      let many : length (map ticket left ++ (before.tickets + 1) ∷ []) - before.limit ≡ excess = omega (arith, length-append (map ticket left) ((before.tickets + 1) ∷ []), map_length ticket left) in
-      let latest : newest before.limit (take before.done (map ticket before.kept) ++ (before.tickets + 1) ∷ []) ≡ drop excess (map ticket left) ++ (before.tickets + 1) ∷ []
-      = rw (take_map ticket before.done before.kept, many) (drop_push excess (map ticket left) (before.tickets + 1) less) in
+      let present = all-append (λ k. k.standing ≡ Done) (drop excess left) (new ∷ []) (all-drop (λ k. k.standing ≡ Done) excess left (in_effect_done before.kept)) (refl, tt) in
       rw is (record {
         next = refl;
         tickets = refl;
         limit = refl;
-        done = done ∙ sym latest;
-        undone = undone;
+        done = ap (λ (l : List (KeptChange S)). tickets_of l) (all_in_effect (drop excess left ++ new ∷ []) present) ∙ newest_image (λ k. k.ticket);
+        present = present;
+        undone = refl;
       })
 
-  pub applied_row : {W T : Type 0} (table : S → Option ℕ) (keeps : W → List (KeptChange S) → Type 0) (face : W → List (KeptChange S) → (ℕ → Bool) → Face T)
+  pub applied_row : {W T : Type 0} (keeps : W → List (KeptChange S) → Type 0) (face : W → List (KeptChange S) → (ℕ → Bool) → Face T)
       (made : (ℕ → Bool) → Face T → Face T) (w0 w1 w2 w3 : W) →
       IsRowAfter table keeps face made any w0 before.kept w1 (cleared before.kept ++ new ∷ []) →
-      IsRowAfter table keeps face same_face (IsPresent (drop before.done before.kept)) w1 (cleared before.kept ++ new ∷ []) w2 (left ++ new ∷ []) →
+      IsRowAfter table keeps face same_face (IsPresent (out_of_effect before.kept)) w1 (cleared before.kept ++ new ∷ []) w2 (left ++ new ∷ []) →
       IsRowAfter table keeps face same_face (IsPresent (take excess left)) w2 (left ++ new ∷ []) w3 (drop excess left ++ new ∷ []) →
       IsRowAfter table keeps face made (IsPresent (settled_by before)) w0 before.kept w3 (drop excess left ++ new ∷ [])
-  unfolding excess_is
-  applied_row {W} {T} table keeps face made w0 w1 w2 w3 row0 row1 row2 =
-      let long : length left ≡ before.done = length_taken before.done before.kept are.within in
-      let gone = drop before.done before.kept in
+  applied_row {W} {T} keeps face made w0 w1 w2 w3 row0 row1 row2 =
+      let gone = out_of_effect before.kept in
       let old = take excess left in
-      let old_is : take (before.done + 1 - before.limit) before.kept ≡ old
-      = rw (← excess_is) (sym (take_less excess before.done before.kept (omega (arith, long, are.room)))) in
-      let parts : (chosen : ℕ → Bool) → IsPresent (settled_by before) chosen → IsPresent old chosen × IsPresent gone chosen
-      = λ chosen p.
-      let both = all_split (λ (k : KeptChange S). chosen k.ticket ≡ is_done k.standing) (take (before.done + 1 - before.limit) before.kept) gone p in
-      (subst (λ (l : List (KeptChange S)). IsPresent l chosen) old_is both.0, both.1) in
-      let kept_is' : cleared before.kept ++ new ∷ [] ≡ left ++ (cleared gone ++ new ∷ [])
-      = ap (λ (l : List (KeptChange S)). cleared l ++ new ∷ []) (sym (take-append-drop before.done before.kept))
-      ∙ ap (λ (l : List (KeptChange S)). l ++ new ∷ []) (map_append cleared_one left gone)
-      ∙ append_assoc (cleared left) (cleared gone) (new ∷ [])
-      ∙ ap (λ (l : List (KeptChange S)). l ++ (cleared gone ++ new ∷ [])) (cleared_done left are.first) in
       let first = row_then table keeps face made any (IsPresent gone) (IsPresent gone) w0 w1 w2 before.kept (cleared before.kept ++ new ∷ []) (left ++ new ∷ []) row0 row1
       (λ chosen p. tt) (λ chosen p. p)
-      (λ chosen p choice. subst (λ (l : List (KeptChange S)). IsChoice table l chosen) (sym kept_is') (choice_with_gone table chosen left gone (new ∷ []) are.others p choice)) in
+      (λ chosen p choice. choice_with_gone table chosen before.kept (new ∷ []) (present_out table chosen before.kept p) choice) in
       let again : old ++ (drop excess left ++ new ∷ []) ≡ left ++ new ∷ []
       = sym (append_assoc old (drop excess left) (new ∷ [])) ∙ ap (λ (l : List (KeptChange S)). l ++ new ∷ []) (take-append-drop excess left) in
       row_then table keeps face made (IsPresent gone) (IsPresent old) (IsPresent (settled_by before)) w0 w2 w3 before.kept (left ++ new ∷ []) (drop excess left ++ new ∷ []) first row2
-      (λ chosen p. (parts chosen p).1) (λ chosen p. (parts chosen p).0)
+      (λ chosen p. (present_append chosen old gone p).1) (λ chosen p. (present_append chosen old gone p).0)
       (λ chosen p choice. subst (λ (l : List (KeptChange S)). IsChoice table l chosen) again
-      (choice_with_old table chosen old (drop excess left ++ new ∷ []) (all-take _ excess left are.first) (parts chosen p).0 choice))
+      (choice_with_old table chosen old (drop excess left ++ new ∷ []) (all-take _ excess left (in_effect_done before.kept)) (present_append chosen old gone p).0 choice))
 
   abbrev shrunk : Changes S
-  shrunk = record { kept = left; done = before.done; tickets = before.tickets; limit = before.limit }
+  shrunk = record { kept = left; undone = []; tickets = before.tickets; limit = before.limit }
 
   pub forgotten_kept : (c f : Changes S) → c ≡ shrunk → IsForgotten c f → f.kept ≡ drop excess left
   forgotten_kept c f e is = is.kept ∙ ap (λ (x : Changes S). drop (length x.kept + 1 - x.limit) x.kept) e
 
   pub applied_changes : (c f k : Changes S) → c ≡ shrunk → IsForgotten c f →
-      k ≡ record { kept = f.kept ++ new ∷ []; done = f.done + 1; tickets = before.tickets + 1; limit = f.limit } → IsChange before (before.tickets + 1) k
+      k ≡ record { kept = f.kept ++ new ∷ []; undone = []; tickets = before.tickets + 1; limit = f.limit } → IsChange before (before.tickets + 1) k
   applied_changes c f k e is g =
       let rest = forgotten_kept c f e is in
-      let done = is.done ∙ ap (λ (l : List (KeptChange S)). length l) rest in
       let limit : f.limit ≡ before.limit = is.limit ∙ ap (λ (x : Changes S). x.limit) e in
-      applied_change k (g ∙ (λ i. record { kept = rest i ++ new ∷ []; done = done i + 1; tickets = before.tickets + 1; limit = limit i }))
+      applied_change k (g ∙ (λ i. record { kept = rest i ++ new ∷ []; undone = []; tickets = before.tickets + 1; limit = limit i }))
 
-  pub applied_whole : {W T : Type 0} (table : S → Option ℕ) (keeps : W → List (KeptChange S) → Type 0) (face : W → List (KeptChange S) → (ℕ → Bool) → Face T)
+  pub applied_whole : {W T : Type 0} (keeps : W → List (KeptChange S) → Type 0) (face : W → List (KeptChange S) → (ℕ → Bool) → Face T)
       (made : (ℕ → Bool) → Face T → Face T) (w0 w1 w2 w3 : W) (c f : Changes S) → c ≡ shrunk → IsForgotten c f →
       IsRowAfter table keeps face made any w0 before.kept w1 (cleared before.kept ++ new ∷ []) →
-      ((tail : List (KeptChange S)) → keeps w1 (cleared before.kept ++ tail) → IsRowAfter table keeps face same_face (IsPresent (drop before.done before.kept)) w1 (cleared before.kept ++ tail) w2 (c.kept ++ tail)) →
+      ((tail : List (KeptChange S)) → keeps w1 (cleared before.kept ++ tail) → IsRowAfter table keeps face same_face (IsPresent (out_of_effect before.kept)) w1 (cleared before.kept ++ tail) w2 (c.kept ++ tail)) →
       ((tail : List (KeptChange S)) → keeps w2 (c.kept ++ tail) → IsRowAfter table keeps face same_face (IsPresent (take (length c.kept + 1 - c.limit) c.kept)) w2 (c.kept ++ tail) w3 (f.kept ++ tail)) →
       IsRowAfter table keeps face made (IsPresent (settled_by before)) w0 before.kept w3 (f.kept ++ new ∷ [])
-  applied_whole {W} {T} table keeps face made w0 w1 w2 w3 c f e is row0 clear forget =
+  applied_whole {W} {T} keeps face made w0 w1 w2 w3 c f e is row0 clear forget =
       let rest = forgotten_kept c f e is in
       let row1 = clear (new ∷ []) row0.keeps_left in
       let row2 = forget (new ∷ []) row1.keeps_left in
-      let row1' = subst (λ (x : Changes S). IsRowAfter table keeps face same_face (IsPresent (drop before.done before.kept)) w1 (cleared before.kept ++ new ∷ []) w2 (x.kept ++ new ∷ [])) e row1 in
+      let row1' = subst (λ (x : Changes S). IsRowAfter table keeps face same_face (IsPresent (out_of_effect before.kept)) w1 (cleared before.kept ++ new ∷ []) w2 (x.kept ++ new ∷ [])) e row1 in
       let row2' = subst (λ (x : Changes S). IsRowAfter table keeps face same_face (IsPresent (take (length x.kept + 1 - x.limit) x.kept)) w2 (x.kept ++ new ∷ []) w3 (f.kept ++ new ∷ [])) e row2 in
       let row2'' = subst (λ (l : List (KeptChange S)). IsRowAfter table keeps face same_face (IsPresent (take excess left)) w2 (left ++ new ∷ []) w3 (l ++ new ∷ [])) rest row2' in
       subst (λ (l : List (KeptChange S)). IsRowAfter table keeps face made (IsPresent (settled_by before)) w0 before.kept w3 (l ++ new ∷ [])) (sym rest)
-      (applied_row table keeps face made w0 w1 w2 w3 row0 row1' row2'')
+      (applied_row keeps face made w0 w1 w2 w3 row0 row1' row2'')
 
   pub applied_told : {D : Type 0} (told : S → D) (d : D) → told saved ≡ d → (c f k : Changes S) → c ≡ shrunk → IsForgotten c f → k.kept ≡ f.kept ++ new ∷ [] →
-      told_of told k.kept ≡ newest before.limit (take before.done (told_of told before.kept) ++ (before.tickets + 1, d) ∷ [])
+      told_of told k.kept ≡ newest before.limit (told_of told left ++ (before.tickets + 1, d) ∷ [])
   applied_told {D} told d same c f k e is g =
-      let one : KeptChange S → ℕ × D = λ k. (k.ticket, told k.saved) in
-      let T = take before.done (told_of told before.kept) in
-      let y : ℕ × D = (before.tickets + 1, d) in
-      let long : length T ≡ length left = ap (λ (l : List (ℕ × D)). length l) (take_map one before.done before.kept) ∙ map_length one left in
-      let within : excess ≤ length T = omega (arith, long, are.room) in
-      let index : excess ≡ length (T ++ y ∷ []) - before.limit = omega (arith, long, length-append T (y ∷ [])) in
       ap (told_of told) (g ∙ ap (λ (l : List (KeptChange S)). l ++ new ∷ []) (forgotten_kept c f e is))
-      ∙ map_append one (drop excess left) (new ∷ [])
-      ∙ ap (λ (l : List (ℕ × D)). l ++ one new ∷ []) (sym (drop_map one excess left) ∙ ap (λ (l : List (ℕ × D)). drop excess l) (sym (take_map one before.done before.kept)))
-      ∙ ap (λ (x : D). drop excess T ++ (before.tickets + 1, x) ∷ []) same
-      ∙ sym (drop_push excess T y within)
-      ∙ ap (λ (n : ℕ). drop n (T ++ y ∷ [])) index
+      ∙ newest_image (λ x. (x.ticket, told x.saved))
+      ∙ ap (λ (x : D). newest before.limit (told_of told left ++ (before.tickets + 1, x) ∷ [])) same
 
   pub is_next : IsNext (before.tickets + 1) before.kept
   is_next = all_weaker _ _ (λ k h. omega (arith, h)) before.kept are.given
 
   -- a choice of what is left is one of what was kept
-  pub applied_choices : (table : S → Option ℕ) (c f k : Changes S) → c ≡ shrunk → IsForgotten c f → k.kept ≡ f.kept ++ new ∷ [] →
+  pub applied_choices : (c f k : Changes S) → c ≡ shrunk → IsForgotten c f → k.kept ≡ f.kept ++ new ∷ [] →
       (chosen : ℕ → Bool) → IsPresent (settled_by before) chosen → IsChoice table k.kept chosen → IsChoice table before.kept chosen
-  unfolding excess_is
-  applied_choices table c f k e is g chosen p choice =
-      let long : length left ≡ before.done = length_taken before.done before.kept are.within in
-      let gone = drop before.done before.kept in
+  applied_choices c f k e is g chosen p choice =
       let old = take excess left in
-      let old_is : take (before.done + 1 - before.limit) before.kept ≡ old
-      = rw (← excess_is) (sym (take_less excess before.done before.kept (omega (arith, long, are.room)))) in
-      let both = all_split (λ (x : KeptChange S). chosen x.ticket ≡ is_done x.standing) (take (before.done + 1 - before.limit) before.kept) gone p in
+      let both = present_append chosen old (out_of_effect before.kept) p in
       let there : k.kept ≡ drop excess left ++ new ∷ [] = g ∙ ap (λ (l : List (KeptChange S)). l ++ new ∷ []) (forgotten_kept c f e is) in
       let rest = choice_front table chosen (drop excess left) (new ∷ []) (subst (λ (l : List (KeptChange S)). IsChoice table l chosen) there choice) in
-      let all_done = choice_with_old table chosen old (drop excess left) (all-take _ excess left are.first) (subst (λ (l : List (KeptChange S)). IsPresent l chosen) old_is both.0) rest in
+      let all_done = choice_with_old table chosen old (drop excess left) (all-take _ excess left (in_effect_done before.kept)) both.0 rest in
       let done = subst (λ (l : List (KeptChange S)). IsChoice table l chosen) (take-append-drop excess left) all_done in
-      let out : AllByRecursion (λ x. chosen x.ticket ≡ false) gone = none_chosen gone are.others both.1 in
-      subst (λ (l : List (KeptChange S)). IsChoice table l chosen) (take-append-drop before.done before.kept) (choice_with_left table chosen left gone are.others out done)
-    where
-      none_chosen : (gone : List (KeptChange S)) → AllByRecursion (λ x. x.standing ≡ Undone) gone → IsPresent gone chosen → AllByRecursion (λ x. chosen x.ticket ≡ false) gone
-      none_chosen [] u h = tt
-      none_chosen (x ∷ gone) u h = (h.0 ∙ ap is_done u.0, none_chosen gone u.1 h.1)
+      choice_with_undone table chosen before.kept are.closed (present_out table chosen before.kept both.1) done
 
 -- ---- one place
 

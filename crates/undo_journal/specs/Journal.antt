@@ -1,61 +1,190 @@
 -- The journal: its changes, and how an undo, a redo and a new change alter them.
-use Rattle.std.specs.Prelude.{◌≡◌, ℕ, ◌+◌, ◌-◌, ◌<◌, ◌≤◌, Bool, true, false, Option, Some, None, List, [], ◌∷◌, ◌++◌, length, map, take, drop, refl}
-use Rattle.std.specs.List.{AllByRecursion}
+use Rattle.std.specs.Prelude.{◌≡◌, ℕ, ◌+◌, ◌-◌, ◌<◌, ◌≤◌, ◌==◌, ◌&&◌, ◌||◌, nat_lt, Bool, true, false, not, Option, Some, None, List, [], ◌∷◌, ◌++◌, length, map, filter, take, drop, slice_get, refl, if◌then◌else◌}
+use Rattle.std.specs.List.{AllByRecursion, list_any}
 use Rattle.std.specs.Coded.{Coded, code_by, coded×, coded_list, coded_ℕ}
 use Rattle.change_law.specs.declared.kept.KeptChange.{KeptChange}
 use Rattle.change_law.specs.declared.kept.Standing.{Standing}
 use Rattle.change_law.specs.declared.kept.Standing.TheVariants.{Done, Undone, Cleared}
-use Rattle.change_law.specs.Choice.{IsChoice, IsPresent, cleared}
-use Rattle.change_law.specs.Face.{Face}
-use Rattle.change_law.specs.Row.{IsRowAfter, kept_as, same_face}
+use Rattle.change_law.specs.Choice.{IsChoice, IsFounded, IsOneTable, IsUncovered, is_done}
+use Rattle.undo_journal.specs.declared.outcome.Outcome.{Outcome}
+use Rattle.undo_journal.specs.declared.outcome.Outcome.TheVariants.{Moved, NotKept, Buried}
 
--- the kept changes, the oldest first, how many of them are done, the greatest ticket so far, and the most changes that are kept
+-- the kept changes, the oldest first, the tickets of the undone ones, the one that was undone last at the end, the greatest ticket so far, and the most changes that are kept
 pub record Changes (S : Type 0) : Type 0 where
   pub kept : List (KeptChange S)
-  pub done : ℕ
+  pub undone : List ℕ
   pub tickets : ℕ
   pub limit : ℕ
 
--- the tickets of some changes
-abbrev pub tickets_of : {S : Type 0} → List (KeptChange S) → List ℕ
-tickets_of kept = map (λ k. k.ticket) kept
+-- ---- tickets
 
--- the tickets of the changes that can be undone, in order
-abbrev pub done_of : {S : Type 0} → Changes S → List ℕ
-done_of changes = take changes.done (tickets_of changes.kept)
+-- whether a ticket is one of these
+abbrev pub is_among : List ℕ → ℕ → Bool
+is_among tickets ticket = list_any (λ t. t == ticket) tickets
 
--- the tickets of the changes that can be redone, the one that was undone last first
-abbrev pub undone_of : {S : Type 0} → Changes S → List ℕ
-undone_of changes = drop changes.done (tickets_of changes.kept)
+-- these tickets, with one left out
+abbrev pub without : ℕ → List ℕ → List ℕ
+without ticket tickets = filter (λ t. not (t == ticket)) tickets
 
--- the descriptions of the kept changes, or their tables, each with its ticket
-abbrev pub told_of : {S D : Type 0} → (S → D) → List (KeptChange S) → List (ℕ × D)
-told_of told kept = map (λ k. (k.ticket, told k.saved)) kept
+-- the first ticket
+abbrev pub first_of : List ℕ → Option ℕ
+first_of tickets = slice_get tickets 0
+
+-- the last ticket
+abbrev pub last_of : List ℕ → Option ℕ
+last_of tickets = slice_get tickets (length tickets - 1)
+
+-- whether a ticket comes before another in a list
+abbrev pub is_before : List ℕ → ℕ → ℕ → Bool
+is_before [] a b = false
+is_before (t ∷ tickets) a b = (t == a && is_among tickets b) || is_before tickets a b
+
+-- Each ticket is less than the later ones.
+abbrev pub AreAscending : List ℕ → Type 0
+AreAscending [] = Unit {0}
+AreAscending (ticket ∷ tickets) = AllByRecursion (λ t. ticket < t) tickets × AreAscending tickets
+
+-- No ticket is there twice.
+abbrev pub AreDifferent : List ℕ → Type 0
+AreDifferent [] = Unit {0}
+AreDifferent (ticket ∷ tickets) = (is_among tickets ticket ≡ false) × AreDifferent tickets
 
 -- the last items of a list, at most `n`
 abbrev pub newest : {X : Type 0} → ℕ → List X → List X
 newest n xs = drop (length xs - n) xs
 
--- The first changes are in effect, the others are undone. No ticket is greater than the greatest so far.
-pub record AreChanges {S : Type 0} (changes : Changes S) : Type 0 where
-  pub within : changes.done ≤ length changes.kept
-  pub first : AllByRecursion (λ k. k.standing ≡ Done) (take changes.done changes.kept)
-  pub others : AllByRecursion (λ k. k.standing ≡ Undone) (drop changes.done changes.kept)
+-- ---- kept changes
+
+-- the tickets of some changes
+abbrev pub tickets_of : {S : Type 0} → List (KeptChange S) → List ℕ
+tickets_of kept = map (λ k. k.ticket) kept
+
+-- whether some changes are in effect, each with its ticket
+abbrev pub standings_of : {S : Type 0} → List (KeptChange S) → List (ℕ × Standing)
+standings_of kept = map (λ k. (k.ticket, k.standing)) kept
+
+-- the same, when that of one ticket has changed
+abbrev pub standings_with : ℕ → Standing → List (ℕ × Standing) → List (ℕ × Standing)
+standings_with ticket standing standings = map (λ one. (one.0, if one.0 == ticket then standing else one.1)) standings
+
+-- the descriptions of the kept changes, or their tables, each with its ticket
+abbrev pub told_of : {S D : Type 0} → (S → D) → List (KeptChange S) → List (ℕ × D)
+told_of told kept = map (λ k. (k.ticket, told k.saved)) kept
+
+-- the changes in effect
+abbrev pub in_effect : {S : Type 0} → List (KeptChange S) → List (KeptChange S)
+in_effect kept = filter (λ k. is_done k.standing) kept
+
+-- the changes that are not in effect
+abbrev pub out_of_effect : {S : Type 0} → List (KeptChange S) → List (KeptChange S)
+out_of_effect kept = filter (λ k. not (is_done k.standing)) kept
+
+-- the tickets of the changes that can be undone, in order
+abbrev pub done_of : {S : Type 0} → Changes S → List ℕ
+done_of changes = tickets_of (in_effect changes.kept)
+
+-- the standing of a kept change, by the tickets of the undone ones
+abbrev pub standing_in : List ℕ → ℕ → Standing
+standing_in undone ticket = if is_among undone ticket then Undone else Done
+
+-- ---- tables
+
+-- whether two changes have the same table
+abbrev pub is_one_table : Option ℕ → Option ℕ → Bool
+is_one_table (Some a) (Some b) = a == b
+is_one_table _ _ = false
+
+-- the table of the kept change of a ticket
+abbrev pub table_at : {S : Type 0} → (S → Option ℕ) → List (KeptChange S) → ℕ → Option ℕ
+table_at table [] ticket = None
+table_at table (k ∷ kept) ticket = if k.ticket == ticket then table k.saved else table_at table kept ticket
+
+-- whether a change of this table is in effect and has a later ticket
+abbrev pub lies_on : {S : Type 0} → (S → Option ℕ) → ℕ → Option ℕ → KeptChange S → Bool
+lies_on table ticket own k = is_done k.standing && (nat_lt ticket k.ticket && is_one_table own (table k.saved))
+
+-- whether a change of this table is not in effect and has an earlier ticket
+abbrev pub lies_under : {S : Type 0} → (S → Option ℕ) → ℕ → Option ℕ → KeptChange S → Bool
+lies_under table ticket own k = not (is_done k.standing) && (nat_lt k.ticket ticket && is_one_table own (table k.saved))
+
+-- the greatest later ticket of its table in effect: that change must be undone first
+abbrev pub over : {S : Type 0} → (S → Option ℕ) → List (KeptChange S) → ℕ → Option ℕ
+over table kept ticket = last_of (tickets_of (filter (lies_on table ticket (table_at table kept ticket)) kept))
+
+-- the least earlier ticket of its table that is undone: that change must be redone first
+abbrev pub under : {S : Type 0} → (S → Option ℕ) → List (KeptChange S) → ℕ → Option ℕ
+under table kept ticket = first_of (tickets_of (filter (lies_under table ticket (table_at table kept ticket)) kept))
+
+-- ---- the journal
+
+-- If a change is undone, no later one of its table is in effect.
+abbrev pub IsClosed : {S : Type 0} → (S → Option ℕ) → List (KeptChange S) → Type 0
+IsClosed table [] = Unit {0}
+IsClosed table (k ∷ later) = (k.standing ≡ Undone → IsUncovered table k.saved later) × IsClosed table later
+
+-- Of two undone changes of one table, the later one was undone first.
+abbrev pub AreInTurn : {S : Type 0} → (S → Option ℕ) → List ℕ → List (KeptChange S) → Type 0
+AreInTurn table undone [] = Unit {0}
+AreInTurn table undone (k ∷ later) =
+    AllByRecursion (λ other. IsOneTable (table k.saved) (table other.saved) → k.standing ≡ Undone → other.standing ≡ Undone → is_before undone other.ticket k.ticket ≡ true) later
+    × AreInTurn table undone later
+
+-- The kept changes are in the order of tickets, and no ticket is greater than the greatest so far. Each is in effect, or is undone and is once among the undone.
+pub record AreChanges {S : Type 0} (table : S → Option ℕ) (changes : Changes S) : Type 0 where
+  pub ascending : AreAscending (tickets_of changes.kept)
   pub given : AllByRecursion (λ k. k.ticket ≤ changes.tickets) changes.kept
+  pub standings : AllByRecursion (λ k. k.standing ≡ standing_in changes.undone k.ticket) changes.kept
+  pub known : AllByRecursion (λ t. is_among (tickets_of changes.kept) t ≡ true) changes.undone
+  pub once : AreDifferent changes.undone
+  pub closed : IsClosed table changes.kept
+  pub in_turn : AreInTurn table changes.undone changes.kept
   pub few : length changes.kept ≤ changes.limit
+  pub fits : length changes.undone ≤ length (out_of_effect changes.kept)
   pub room : 1 ≤ changes.limit
+
+-- The change of a ticket, which was in effect, is undone. It is the one that was undone last.
+pub record IsTakenBack {S : Type 0} (before : Changes S) (ticket : ℕ) (after : Changes S) : Type 0 where
+  pub reached : is_among (done_of before) ticket ≡ true
+  pub standings : standings_of after.kept ≡ standings_with ticket Undone (standings_of before.kept)
+  pub undone : after.undone ≡ before.undone ++ ticket ∷ []
+  pub tickets : after.tickets ≡ before.tickets
+  pub limit : after.limit ≡ before.limit
+
+-- The change of a ticket, which was undone, is in effect again, at its place.
+pub record IsPutBack {S : Type 0} (before : Changes S) (ticket : ℕ) (after : Changes S) : Type 0 where
+  pub reached : is_among before.undone ticket ≡ true
+  pub standings : standings_of after.kept ≡ standings_with ticket Done (standings_of before.kept)
+  pub undone : after.undone ≡ without ticket before.undone
+  pub tickets : after.tickets ≡ before.tickets
+  pub limit : after.limit ≡ before.limit
 
 -- The last change in effect is undone. If there was none, nothing changes.
 abbrev pub IsUndo : {S : Type 0} → Changes S → Option ℕ → Changes S → Type 0
 IsUndo before None after = (done_of before ≡ []) × (after ≡ before)
-IsUndo before (Some ticket) after =
-    (done_of before ≡ done_of after ++ ticket ∷ []) × (undone_of after ≡ ticket ∷ undone_of before) × (after.tickets ≡ before.tickets) × (after.limit ≡ before.limit)
+IsUndo before (Some ticket) after = (last_of (done_of before) ≡ Some ticket) × IsTakenBack before ticket after
 
 -- The change that was undone last is in effect again. If there was none, nothing changes.
 abbrev pub IsRedo : {S : Type 0} → Changes S → Option ℕ → Changes S → Type 0
-IsRedo before None after = (undone_of before ≡ []) × (after ≡ before)
-IsRedo before (Some ticket) after =
-    (done_of after ≡ done_of before ++ ticket ∷ []) × (undone_of before ≡ ticket ∷ undone_of after) × (after.tickets ≡ before.tickets) × (after.limit ≡ before.limit)
+IsRedo before None after = (before.undone ≡ []) × (after ≡ before)
+IsRedo before (Some ticket) after = (last_of before.undone ≡ Some ticket) × IsPutBack before ticket after
+
+-- The change of a ticket is undone. If it is not in effect, or a later one of its table is, nothing changes.
+abbrev pub IsUndoOf : {S : Type 0} → (S → Option ℕ) → Changes S → ℕ → Outcome → Changes S → Type 0
+IsUndoOf table before ticket Moved after = (over table before.kept ticket ≡ None) × IsTakenBack before ticket after
+IsUndoOf table before ticket NotKept after = (is_among (done_of before) ticket ≡ false) × (after ≡ before)
+IsUndoOf table before ticket (Buried other) after =
+    (is_among (done_of before) ticket ≡ true) × (over table before.kept ticket ≡ Some other) × (after ≡ before)
+
+-- The change of a ticket is in effect again. If it is not undone, or an earlier one of its table is undone, nothing changes.
+abbrev pub IsRedoOf : {S : Type 0} → (S → Option ℕ) → Changes S → ℕ → Outcome → Changes S → Type 0
+IsRedoOf table before ticket Moved after = (under table before.kept ticket ≡ None) × IsPutBack before ticket after
+IsRedoOf table before ticket NotKept after = (is_among before.undone ticket ≡ false) × (after ≡ before)
+IsRedoOf table before ticket (Buried other) after =
+    (is_among before.undone ticket ≡ true) × (under table before.kept ticket ≡ Some other) × (after ≡ before)
+
+-- To undo or redo the change of a ticket needs no memory.
+abbrev pub NeedsNone : {S : Type 0} → (S → Bool) → List (KeptChange S) → ℕ → Type 0
+NeedsNone needs_memory kept ticket = AllByRecursion (λ k. k.ticket ≡ ticket → needs_memory k.saved ≡ false) kept
 
 -- An accepted change takes the next ticket and is the last in effect. The journal keeps the newest that fit, and nothing can be redone.
 pub record IsChange {S : Type 0} (before : Changes S) (ticket : ℕ) (after : Changes S) : Type 0 where
@@ -63,12 +192,13 @@ pub record IsChange {S : Type 0} (before : Changes S) (ticket : ℕ) (after : Ch
   pub tickets : after.tickets ≡ ticket
   pub limit : after.limit ≡ before.limit
   pub done : done_of after ≡ newest before.limit (done_of before ++ ticket ∷ [])
-  pub undone : undone_of after ≡ []
+  pub present : AllByRecursion (λ k. k.standing ≡ Done) after.kept
+  pub undone : after.undone ≡ []
 
 -- The new change has this description or table, and the others have theirs.
 abbrev pub IsToldAfter : {S D : Type 0} → (S → D) → Changes S → ℕ → D → Changes S → Type 0
 IsToldAfter told before ticket said after =
-    told_of told after.kept ≡ newest before.limit (take before.done (told_of told before.kept) ++ (ticket, said) ∷ [])
+    told_of told after.kept ≡ newest before.limit (told_of told (in_effect before.kept) ++ (ticket, said) ∷ [])
 
 -- Each choice of the changes kept now was a choice of those kept before.
 abbrev pub AreChoicesBefore : {S : Type 0} → (S → Option ℕ) → ((ℕ → Bool) → Type 0) → Changes S → Changes S → Type 0
@@ -76,37 +206,50 @@ AreChoicesBefore table P before after = (chosen : ℕ → Bool) → P chosen →
 
 -- the changes that an accepted one settles: the undone ones, and the oldest if the journal is full
 abbrev pub settled_by : {S : Type 0} → Changes S → List (KeptChange S)
-settled_by before = take (before.done + 1 - before.limit) before.kept ++ drop before.done before.kept
-
--- The last change, which was undone, is not kept any more.
-pub record IsClearedOf {S : Type 0} (before : Changes S) (last : KeptChange S) (after : Changes S) : Type 0 where
-  pub kept : before.kept ≡ after.kept ++ last ∷ []
-  pub undone : last.standing ≡ Undone
-  pub done : after.done ≡ before.done
-  pub tickets : after.tickets ≡ before.tickets
-  pub limit : after.limit ≡ before.limit
-
--- The last change, which was undone, is not kept any more. In a world that has cleared it, each choice without it has the face that it had.
-abbrev pub ClearsLast : {W S T : Type 0} → (S → Option ℕ) → (W → List (KeptChange S) → Type 0) → (W → List (KeptChange S) → (ℕ → Bool) → Face T) →
-    W → Changes S → W → Changes S → Type 0
-ClearsLast {S = S} table keeps face world before after left =
-    (last : KeptChange S) × IsClearedOf before last left × ((tail : List (KeptChange S)) →
-    keeps world (cleared left.kept ++ kept_as Cleared last.ticket last.saved ∷ tail) →
-    IsRowAfter table keeps face same_face (λ chosen. chosen last.ticket ≡ false)
-    world (cleared left.kept ++ kept_as Cleared last.ticket last.saved ∷ tail) after (cleared left.kept ++ tail))
+settled_by before = take (length (in_effect before.kept) + 1 - before.limit) (in_effect before.kept) ++ out_of_effect before.kept
 
 -- All changes are in effect. If the journal was full, the oldest is not kept any more.
 pub record IsForgotten {S : Type 0} (before after : Changes S) : Type 0 where
   pub kept : after.kept ≡ drop (length before.kept + 1 - before.limit) before.kept
-  pub done : after.done ≡ length after.kept
+  pub undone : after.undone ≡ []
   pub room : length after.kept < after.limit
   pub tickets : after.tickets ≡ before.tickets
   pub limit : after.limit ≡ before.limit
 
+-- ---- places
+
+-- The newest change in effect is at this place.
+pub record IsLastDone {S : Type 0} (kept : List (KeptChange S)) (place : ℕ) : Type 0 where
+  pub here : KeptChange S
+  pub there : slice_get kept place ≡ Some here
+  pub done : here.standing ≡ Done
+  pub none : AllByRecursion (λ k. is_done k.standing ≡ false) (drop (place + 1) kept)
+
+-- The kept change of a ticket is at this place.
+pub record IsPlaceOf {S : Type 0} (table : S → Option ℕ) (kept : List (KeptChange S)) (ticket place : ℕ) : Type 0 where
+  pub here : KeptChange S
+  pub there : slice_get kept place ≡ Some here
+  pub own : here.ticket ≡ ticket
+  pub looked : table_at table kept ticket ≡ table here.saved
+
+-- The change at this place is in effect, and no later one of its table is.
+pub record CanBeUndone {S : Type 0} (table : S → Option ℕ) (kept : List (KeptChange S)) (place : ℕ) : Type 0 where
+  pub here : KeptChange S
+  pub there : slice_get kept place ≡ Some here
+  pub done : here.standing ≡ Done
+  pub uncovered : IsUncovered table here.saved (drop (place + 1) kept)
+
+-- The change at this place is undone, and no earlier one of its table is.
+pub record CanBeRedone {S : Type 0} (table : S → Option ℕ) (kept : List (KeptChange S)) (place : ℕ) : Type 0 where
+  pub here : KeptChange S
+  pub there : slice_get kept place ≡ Some here
+  pub undone : here.standing ≡ Undone
+  pub founded : IsFounded table here.saved (take place kept)
+
 -- the code of a journal's changes, as that of a tuple
 abbrev pub changes_code : {S : Type 0} → Coded (KeptChange S) → Coded (Changes S)
 changes_code {S} k =
-    code_by (List (KeptChange S) × (ℕ × (ℕ × ℕ))) (coded× (coded_list k) (coded× coded_ℕ (coded× coded_ℕ coded_ℕ)))
-    (λ c. (c.kept, (c.done, (c.tickets, c.limit))))
-    (λ p. record { kept = p.0; done = p.1.0; tickets = p.1.1.0; limit = p.1.1.1 })
+    code_by (List (KeptChange S) × (List ℕ × (ℕ × ℕ))) (coded× (coded_list k) (coded× (coded_list coded_ℕ) (coded× coded_ℕ coded_ℕ)))
+    (λ c. (c.kept, (c.undone, (c.tickets, c.limit))))
+    (λ p. record { kept = p.0; undone = p.1.0; tickets = p.1.1.0; limit = p.1.1.1 })
     (λ _. refl)

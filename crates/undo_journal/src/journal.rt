@@ -1,14 +1,16 @@
 //! The journal: a bounded ring of changes, for undo and redo.
 
-ghost use Rattle.std.specs.Prelude.{◌≡◌, ◌≤◌, ◌<◌, ◌^◌, ◌+◌, ◌-◌, ℕ, Bool, false, List, [], ◌∷◌, ◌++◌, length, take, drop, slice_get, IfOk, IfErr, IfSome, IsOk, OnErr, OnOk, None};
-ghost use Rattle.std.specs.Option.{option_map};
+ghost use Rattle.std.specs.Prelude.{◌≡◌, ◌≤◌, ◌<◌, ◌^◌, ◌+◌, ◌-◌, ◌++◌, ◌∷◌, [], ℕ, false, List, length, take, filter, slice_get, vec_capacity, option_map, None, Some, IfOk, IfErr, IfSome, IfNone, IsOk, OnErr, OnOk};
 ghost use Rattle.change_law.specs.declared.kept.KeptChange.{KeptChange};
 ghost use Rattle.change_law.specs.declared.kept.Standing.TheVariants.{Done};
-ghost use Rattle.change_law.specs.Choice.{IsChoice, IsPresent, cleared};
+ghost use Rattle.change_law.specs.Choice.{IsPresent, cleared, is_done};
 ghost use Rattle.change_law.specs.Effect.{effect, IsFaultFor};
 ghost use Rattle.change_law.specs.Pairs.{AddsPairs};
 ghost use Rattle.change_law.specs.Row.{IsRowAfter, any, same_face, where_chosen, kept_as, IsNoMore, IsRefused};
 
+use crate::outcome::Outcome;
+use crate::reach::{is_done, leave_out, lies_on, lies_under};
+use crate::settling::settle_undone;
 use change_law::{Change, ChangeFault, KeptChange, Standing, World};
 use circular_buffer::HeapCircularBuffer;
 use dns_name::NoMemory;
@@ -17,37 +19,43 @@ use std::marker::Model;
 
 type Saved<C> = <<C as Change>::World as World>::Saved;
 
-/// The newest changes of a world, the oldest first. Changes in effect come before undone ones.
+/// The newest changes of a world, the oldest first, in effect or undone.
 ///
-/// An undo takes the last change in effect, a redo the one after it. The ring takes all its memory when it is made.
+/// An undo takes the last change in effect, a redo the one that was undone last, and either may name another by its ticket.
+/// The ring and the list of the undone take all their memory when the journal is made.
 #[derive(Drop)]
 pub struct Journal<C: Change> {
     ring: HeapCircularBuffer<KeptChange<Saved<C>>>,
-    done: usize,
+    // The tickets of the undone changes, the one that was undone last at the end.
+    undone: Vec<u64>,
     tickets: u64,
 }
 
 impl<C: Change> Model for Journal<C> {
+    ghost use Rattle.std.specs.Prelude.{◌≤◌, vec_capacity};
     ghost use Rattle.undo_journal.specs.Journal.{Changes, AreChanges};
 
     ghost Value = { Changes C.World.Saved };
 
-    ghost view = { λ j. record { kept = j.ring.items; done = j.done; tickets = j.tickets; limit = j.ring.capacity } };
+    ghost view = { λ j. record { kept = j.ring.items; undone = j.undone.items; tickets = j.tickets; limit = j.ring.capacity } };
 
-    ghost invariant = { λ j. AreChanges (record { kept = j.ring.items; done = j.done; tickets = j.tickets; limit = j.ring.capacity }) };
+    ghost invariant = { λ j. AreChanges C.World.table
+        (record { kept = j.ring.items; undone = j.undone.items; tickets = j.tickets; limit = j.ring.capacity })
+        × (j.ring.capacity ≤ vec_capacity j.undone) };
 }
 
 impl<C: Change> Journal<C> {
-    ghost use Rattle.undo_journal.specs.Journal.{IsUndo, IsRedo, IsChange, IsForgotten, AreChanges, ClearsLast, IsToldAfter, AreChoicesBefore, settled_by, told_of};
+    ghost use Rattle.undo_journal.specs.Journal.{AreChanges, AreChoicesBefore, CanBeRedone, CanBeUndone, IsChange, IsForgotten, IsLastDone, IsPlaceOf, IsPutBack, IsRedo, IsRedoOf, IsTakenBack, IsToldAfter, IsUndo, IsUndoOf, NeedsNone};
+    ghost use Rattle.undo_journal.specs.Journal.{done_of, first_of, in_effect, is_among, last_of, lies_on, lies_under, out_of_effect, settled_by, tickets_of, told_of};
 
     /// An empty journal, which keeps at most `limit` changes. It takes all its memory here.
     pub fn new(alloc: Global, limit: usize) -> Result<Journal<C>, NoMemory>
         requires { 1 ≤ limit }
-        ensures { IfOk result (λ j. j ≡ record { kept = []; done = 0; tickets = 0; limit = limit }) }
+        ensures { IfOk result (λ j. j ≡ record { kept = []; undone = []; tickets = 0; limit = limit }) }
     {
         Ok(Journal {
             ring: HeapCircularBuffer::with_capacity(alloc, limit)?,
-            done: 0,
+            undone: Vec::with_capacity(alloc, limit)?,
             tickets: 0,
         })
     }
@@ -56,8 +64,8 @@ impl<C: Change> Journal<C> {
     pub fn undo(&mut self, world: &mut C::World) -> Result<Option<u64>, NoMemory>
         requires { C.World.keeps world.old self.old.kept }
         ensures ticket { IfOk result (λ ticket. IsUndo self.old ticket self.new) }
-        ensures free { IfSome (slice_get self.old.kept (self.old.done - 1)) (λ last. C.World.needs_memory last.saved ≡ false) →
-            IsOk result }
+        ensures free { (ticket : ℕ) → last_of (done_of self.old) ≡ Some ticket →
+            NeedsNone C.World.needs_memory self.old.kept ticket → IsOk result }
         ensures row { OnOk result (IsRowAfter C.World.table C.World.keeps C.World.face same_face any
             world.old self.old.kept world.new self.new.kept) }
         ensures choices { OnOk result (AreChoicesBefore C.World.table any self.old self.new) }
@@ -67,16 +75,10 @@ impl<C: Change> Journal<C> {
             world.old world.new × (self.new ≡ self.old)) }
         ensures counts { IsNoMore C.World.newest C.World.stored C.World.limit C.World.counts world.old world.new }
     {
-        if self.done == 0 {
-            return Ok(None);
-        }
-        let place = self.done - 1;
-        match self.ring.get_mut(place) {
-            Some(kept) => {
-                C::back(world, &mut kept.saved)?;
-                kept.standing = Standing::Undone;
-                self.done = place;
-                Ok(Some(kept.ticket))
+        match self.last_done() {
+            Some(place) => {
+                let ticket = self.take_back(world, place)?;
+                Ok(Some(ticket))
             }
             None => Ok(None),
         }
@@ -86,7 +88,8 @@ impl<C: Change> Journal<C> {
     pub fn redo(&mut self, world: &mut C::World) -> Result<Option<u64>, NoMemory>
         requires { C.World.keeps world.old self.old.kept }
         ensures ticket { IfOk result (λ ticket. IsRedo self.old ticket self.new) }
-        ensures free { IfSome (slice_get self.old.kept self.old.done) (λ next. C.World.needs_memory next.saved ≡ false) → IsOk result }
+        ensures free { (ticket : ℕ) → last_of self.old.undone ≡ Some ticket →
+            NeedsNone C.World.needs_memory self.old.kept ticket → IsOk result }
         ensures row { OnOk result (IsRowAfter C.World.table C.World.keeps C.World.face same_face any
             world.old self.old.kept world.new self.new.kept) }
         ensures choices { OnOk result (AreChoicesBefore C.World.table any self.old self.new) }
@@ -96,18 +99,74 @@ impl<C: Change> Journal<C> {
             world.old world.new × (self.new ≡ self.old)) }
         ensures counts { IsNoMore C.World.newest C.World.stored C.World.limit C.World.counts world.old world.new }
     {
-        let place = self.done;
-        if place >= self.ring.len() {
-            return Ok(None);
-        }
-        match self.ring.get_mut(place) {
-            Some(kept) => {
-                C::again(world, &mut kept.saved)?;
-                kept.standing = Standing::Done;
-                self.done = place + 1;
-                Ok(Some(kept.ticket))
+        match self.last_undone() {
+            Some(place) => {
+                let ticket = self.put_back(world, place)?;
+                Ok(Some(ticket))
             }
             None => Ok(None),
+        }
+    }
+
+    /// Undoes the change of a ticket, if it is in effect and no later one of its table is. On an error nothing changes.
+    pub fn undo_of(&mut self, world: &mut C::World, ticket: u64) -> Result<Outcome, NoMemory>
+        requires { C.World.keeps world.old self.old.kept }
+        ensures outcome { IfOk result (λ outcome. IsUndoOf C.World.table self.old ticket outcome self.new) }
+        ensures free { NeedsNone C.World.needs_memory self.old.kept ticket → IsOk result }
+        ensures row { OnOk result (IsRowAfter C.World.table C.World.keeps C.World.face same_face any
+            world.old self.old.kept world.new self.new.kept) }
+        ensures choices { OnOk result (AreChoicesBefore C.World.table any self.old self.new) }
+        ensures told { OnOk result (told_of C.World.told self.new.kept ≡ told_of C.World.told self.old.kept) }
+        ensures tables { OnOk result (told_of C.World.table self.new.kept ≡ told_of C.World.table self.old.kept) }
+        ensures err { OnErr result (IsRefused C.World.table C.World.keeps C.World.face C.World.newest C.World.stored C.World.counts
+            world.old world.new × (self.new ≡ self.old)) }
+        ensures counts { IsNoMore C.World.newest C.World.stored C.World.limit C.World.counts world.old world.new }
+    {
+        match self.place_of(ticket) {
+            Some(place) => {
+                if self.undone.contains(&ticket) {
+                    return Ok(Outcome::NotKept);
+                }
+                match self.over(ticket, self.table_at(place)) {
+                    Some(other) => Ok(Outcome::Buried { ticket: other }),
+                    None => {
+                        self.take_back(world, place)?;
+                        Ok(Outcome::Moved)
+                    }
+                }
+            }
+            None => Ok(Outcome::NotKept),
+        }
+    }
+
+    /// Redoes the change of a ticket, if it is undone and no earlier one of its table is. On an error nothing changes.
+    pub fn redo_of(&mut self, world: &mut C::World, ticket: u64) -> Result<Outcome, NoMemory>
+        requires { C.World.keeps world.old self.old.kept }
+        ensures outcome { IfOk result (λ outcome. IsRedoOf C.World.table self.old ticket outcome self.new) }
+        ensures free { NeedsNone C.World.needs_memory self.old.kept ticket → IsOk result }
+        ensures row { OnOk result (IsRowAfter C.World.table C.World.keeps C.World.face same_face any
+            world.old self.old.kept world.new self.new.kept) }
+        ensures choices { OnOk result (AreChoicesBefore C.World.table any self.old self.new) }
+        ensures told { OnOk result (told_of C.World.told self.new.kept ≡ told_of C.World.told self.old.kept) }
+        ensures tables { OnOk result (told_of C.World.table self.new.kept ≡ told_of C.World.table self.old.kept) }
+        ensures err { OnErr result (IsRefused C.World.table C.World.keeps C.World.face C.World.newest C.World.stored C.World.counts
+            world.old world.new × (self.new ≡ self.old)) }
+        ensures counts { IsNoMore C.World.newest C.World.stored C.World.limit C.World.counts world.old world.new }
+    {
+        match self.place_of(ticket) {
+            Some(place) => {
+                if !self.undone.contains(&ticket) {
+                    return Ok(Outcome::NotKept);
+                }
+                match self.under(ticket, self.table_at(place)) {
+                    Some(other) => Ok(Outcome::Buried { ticket: other }),
+                    None => {
+                        self.put_back(world, place)?;
+                        Ok(Outcome::Moved)
+                    }
+                }
+            }
+            None => Ok(Outcome::NotKept),
         }
     }
 
@@ -140,26 +199,12 @@ impl<C: Change> Journal<C> {
         Ok(ticket)
     }
 
-    // Settles the undone changes.
-    fn clear(&mut self, world: &mut C::World)
-        ensures kept { self.new ≡ record self.old { kept = take self.old.done self.old.kept } }
-        ensures row { (tail : List (KeptChange C.World.Saved)) → C.World.keeps world.old (cleared self.old.kept ++ tail) →
-            IsRowAfter C.World.table C.World.keeps C.World.face same_face (IsPresent (drop self.old.done self.old.kept))
-            world.old (cleared self.old.kept ++ tail) world.new (self.new.kept ++ tail) }
-        ensures counts { IsNoMore C.World.newest C.World.stored C.World.limit C.World.counts world.old world.new }
-    {
-        let undone = self.undone();
-        for _round in 0..undone {
-            self.clear_last(world);
-        }
-    }
-
     /// The number of undone changes.
     pub fn undone(&self) -> usize
-        ensures count { self.now.done + result ≡ length self.now.kept }
-        ensures sound { AreChanges self.now }
+        ensures count { result ≡ length self.now.undone }
+        ensures sound { AreChanges C.World.table self.now }
     {
-        self.ring.len() - self.done
+        self.undone.len()
     }
 
     /// The number of kept changes.
@@ -176,24 +221,173 @@ impl<C: Change> Journal<C> {
         self.ring.get(place)
     }
 
-    // Settles the last undone change.
-    fn clear_last(&mut self, world: &mut C::World)
-        requires { self.old.done < length self.old.kept }
-        ensures cleared { ClearsLast C.World.table C.World.keeps C.World.face world.old self.old world.new self.new }
+    // Undoes the change at a place, and returns its ticket.
+    fn take_back(&mut self, world: &mut C::World, place: usize) -> Result<u64, NoMemory>
+        requires keeps { C.World.keeps world.old self.old.kept }
+        requires last { CanBeUndone C.World.table self.old.kept place }
+        ensures ticket { IfOk result (λ ticket. IsTakenBack self.old ticket self.new
+            × (option_map (λ k. k.ticket) (slice_get self.old.kept place) ≡ Some ticket)) }
+        ensures free { IfSome (slice_get self.old.kept place) (λ k. C.World.needs_memory k.saved ≡ false) → IsOk result }
+        ensures row { OnOk result (IsRowAfter C.World.table C.World.keeps C.World.face same_face any
+            world.old self.old.kept world.new self.new.kept × AreChoicesBefore C.World.table any self.old self.new) }
+        ensures told { OnOk result ((told_of C.World.told self.new.kept ≡ told_of C.World.told self.old.kept)
+            × (told_of C.World.table self.new.kept ≡ told_of C.World.table self.old.kept)) }
+        ensures err { OnErr result (IsRefused C.World.table C.World.keeps C.World.face C.World.newest C.World.stored C.World.counts
+            world.old world.new × (self.new ≡ self.old)) }
         ensures counts { IsNoMore C.World.newest C.World.stored C.World.limit C.World.counts world.old world.new }
     {
-        match self.ring.pop_back() {
-            Some(last) => {
-                C::settle(world, last.saved);
-                return;
+        match self.ring.get_mut(place) {
+            Some(kept) => {
+                C::back(world, &mut kept.saved)?;
+                kept.standing = Standing::Undone;
+                let ticket = kept.ticket;
+                self.undone.push_reserved(ticket);
+                Ok(ticket)
             }
-            None => return,
+            None => unreachable!(),
         }
+    }
+
+    // Redoes the change at a place, and returns its ticket.
+    fn put_back(&mut self, world: &mut C::World, place: usize) -> Result<u64, NoMemory>
+        requires keeps { C.World.keeps world.old self.old.kept }
+        requires first { CanBeRedone C.World.table self.old.kept place }
+        ensures ticket { IfOk result (λ ticket. IsPutBack self.old ticket self.new
+            × (option_map (λ k. k.ticket) (slice_get self.old.kept place) ≡ Some ticket)) }
+        ensures free { IfSome (slice_get self.old.kept place) (λ k. C.World.needs_memory k.saved ≡ false) → IsOk result }
+        ensures row { OnOk result (IsRowAfter C.World.table C.World.keeps C.World.face same_face any
+            world.old self.old.kept world.new self.new.kept × AreChoicesBefore C.World.table any self.old self.new) }
+        ensures told { OnOk result ((told_of C.World.told self.new.kept ≡ told_of C.World.told self.old.kept)
+            × (told_of C.World.table self.new.kept ≡ told_of C.World.table self.old.kept)) }
+        ensures err { OnErr result (IsRefused C.World.table C.World.keeps C.World.face C.World.newest C.World.stored C.World.counts
+            world.old world.new × (self.new ≡ self.old)) }
+        ensures counts { IsNoMore C.World.newest C.World.stored C.World.limit C.World.counts world.old world.new }
+    {
+        match self.ring.get_mut(place) {
+            Some(kept) => {
+                C::again(world, &mut kept.saved)?;
+                kept.standing = Standing::Done;
+                let ticket = kept.ticket;
+                leave_out(&mut self.undone, ticket);
+                Ok(ticket)
+            }
+            None => unreachable!(),
+        }
+    }
+
+    // The place of the newest change in effect.
+    fn last_done(&self) -> Option<usize>
+        ensures none { IfNone result (done_of self.now ≡ []) }
+        ensures some { IfSome result (λ place. IsLastDone self.now.kept place) }
+    {
+        let len = self.ring.len();
+        for back in 0..len {
+            let place = len - 1 - back;
+            if self.is_done_at(place) {
+                return Some(place);
+            }
+        }
+        None
+    }
+
+    // The place of the change that was undone last.
+    fn last_undone(&self) -> Option<usize>
+        ensures none { IfNone result (self.now.undone ≡ []) }
+        ensures some { IfSome result (λ place. CanBeRedone C.World.table self.now.kept place
+            × (option_map (λ k. k.ticket) (slice_get self.now.kept place) ≡ last_of self.now.undone)) }
+    {
+        match self.undone.last() {
+            Some(ticket) => match self.place_of(*ticket) {
+                Some(place) => Some(place),
+                None => None,
+            },
+            None => None,
+        }
+    }
+
+    // Whether the change at a place is in effect.
+    fn is_done_at(&self, place: usize) -> bool
+        ensures { IfSome (slice_get self.now.kept place) (λ k. result ≡ is_done k.standing) }
+    {
+        match self.ring.get(place) {
+            Some(kept) => is_done(kept.standing),
+            None => false,
+        }
+    }
+
+    // The table of the change at a place.
+    fn table_at(&self, place: usize) -> Option<u8>
+        ensures { IfSome (slice_get self.now.kept place) (λ k. result ≡ C.World.table k.saved) }
+    {
+        match self.ring.get(place) {
+            Some(kept) => <C::World as World>::table(&kept.saved),
+            None => None,
+        }
+    }
+
+    // The place of the kept change of a ticket.
+    fn place_of(&self, ticket: u64) -> Option<usize>
+        ensures none { IfNone result (is_among (tickets_of self.now.kept) ticket ≡ false) }
+        ensures some { IfSome result (λ place. IsPlaceOf C.World.table self.now.kept ticket place) }
+    {
+        for place in 0..self.ring.len() {
+            if let Some(kept) = self.ring.get(place) {
+                if kept.ticket == ticket {
+                    return Some(place);
+                }
+            }
+        }
+        None
+    }
+
+    // The greatest later ticket of this table in effect.
+    fn over(&self, ticket: u64, table: Option<u8>) -> Option<u64>
+        ensures { result ≡ last_of (tickets_of (filter (lies_on C.World.table ticket table) self.now.kept)) }
+    {
+        let mut last = None;
+        for place in 0..self.ring.len() {
+            if let Some(kept) = self.ring.get(place) {
+                if lies_on::<C>(kept, ticket, table) {
+                    last = Some(kept.ticket);
+                }
+            }
+        }
+        last
+    }
+
+    // The least earlier ticket of this table that is undone.
+    fn under(&self, ticket: u64, table: Option<u8>) -> Option<u64>
+        ensures { result ≡ first_of (tickets_of (filter (lies_under C.World.table ticket table) self.now.kept)) }
+    {
+        for place in 0..self.ring.len() {
+            if let Some(kept) = self.ring.get(place) {
+                if lies_under::<C>(kept, ticket, table) {
+                    return Some(kept.ticket);
+                }
+            }
+        }
+        None
+    }
+
+    // Settles the undone changes.
+    fn clear(&mut self, world: &mut C::World)
+        ensures kept { self.new ≡ record self.old { kept = in_effect self.old.kept; undone = [] } }
+        ensures row { (tail : List (KeptChange C.World.Saved)) → C.World.keeps world.old (cleared self.old.kept ++ tail) →
+            IsRowAfter C.World.table C.World.keeps C.World.face same_face (IsPresent (out_of_effect self.old.kept))
+            world.old (cleared self.old.kept ++ tail) world.new (self.new.kept ++ tail) }
+        ensures counts { IsNoMore C.World.newest C.World.stored C.World.limit C.World.counts world.old world.new }
+        ensures sound { AreChanges C.World.table self.old }
+    {
+        if self.undone.is_empty() {
+            return;
+        }
+        settle_undone::<C>(&mut self.ring, world);
+        self.undone.clear();
     }
 
     // Settles the oldest change, if the ring is full.
     fn forget(&mut self, world: &mut C::World)
-        requires { self.old.done ≡ length self.old.kept }
+        requires { self.old.undone ≡ [] }
         ensures kept { IsForgotten self.old self.new }
         ensures row { (tail : List (KeptChange C.World.Saved)) → C.World.keeps world.old (self.old.kept ++ tail) →
             IsRowAfter C.World.table C.World.keeps C.World.face same_face
@@ -203,7 +397,6 @@ impl<C: Change> Journal<C> {
     {
         if self.ring.is_full() {
             if let Some(oldest) = self.ring.pop_front() {
-                self.done -= 1;
                 C::settle(world, oldest.saved);
             }
         }
@@ -212,11 +405,11 @@ impl<C: Change> Journal<C> {
     // Keeps one more change.
     fn keep(&mut self, ticket: u64, saved: Saved<C>)
         requires room { length self.old.kept < self.old.limit }
-        requires done { self.old.done ≡ length self.old.kept }
+        requires undone { self.old.undone ≡ [] }
         requires next { self.old.tickets < ticket }
         ensures { self.new ≡ record {
           kept = self.old.kept ++ kept_as Done ticket saved ∷ [];
-          done = self.old.done + 1;
+          undone = [];
           tickets = ticket;
           limit = self.old.limit;
         } }
@@ -226,7 +419,6 @@ impl<C: Change> Journal<C> {
             standing: Standing::Done,
             saved,
         });
-        self.done = self.ring.len();
         self.tickets = ticket;
     }
 }

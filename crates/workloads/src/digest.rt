@@ -196,6 +196,8 @@ fn number_of(reply: &Reply) -> u64 {
         Reply::Refused(Reason::DataBelow) => 16,
         Reply::Refused(Reason::CnameClash) => 20,
         Reply::Refused(Reason::TooMany) => 24,
+        Reply::NotKept => 28,
+        Reply::Buried { ticket } => ticket.wrapping_mul(4).wrapping_add(32),
         Reply::Done { ticket } => ticket.wrapping_mul(4).wrapping_add(9),
         Reply::Undone { ticket } => ticket.wrapping_mul(4).wrapping_add(10),
         Reply::Redone { ticket } => ticket.wrapping_mul(4).wrapping_add(11),

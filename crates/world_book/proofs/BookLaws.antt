@@ -19,7 +19,7 @@ use Rattle.history.specs.declared.book.StepFault.{StepFault}
 use Rattle.history.specs.declared.book.StepFault.TheVariants.{BadMoment, CountEnded, Full, NoMemory}
 use Rattle.history.specs.declared.event.Command.{Command}
 use Rattle.history.specs.declared.event.Event.{Event}
-use Rattle.history.specs.declared.event.Event.TheVariants.{Admit, Look, Sweep, Forget, Do, Undo, Redo}
+use Rattle.history.specs.declared.event.Event.TheVariants.{Admit, Look, Sweep, Forget, Do, Undo, Redo, UndoOf, RedoOf}
 use Rattle.history.specs.declared.event.Reply.{Reply}
 use Rattle.history.specs.declared.event.Settings.{Settings}
 use Rattle.history.specs.declared.limits.TheConstants.{MOMENT_END, MOST_EVENTS}
@@ -108,6 +108,8 @@ module _ {W S : Type 0} (by : Ghosts W Tables S Command) where
   among_after finds (Do m command) w w' among adds gone = λ pair has. among pair (adds pair has)
   among_after finds (Undo m) w w' among adds gone = λ pair has. among pair (adds pair has)
   among_after finds (Redo m) w w' among adds gone = λ pair has. among pair (adds pair has)
+  among_after finds (UndoOf m named) w w' among adds gone = λ pair has. among pair (adds pair has)
+  among_after finds (RedoOf m named) w w' among adds gone = λ pair has. among pair (adds pair has)
 
   -- with the event
   pub goes_on : (book : BookState W S) (w' : W) (changes' : Changes S) (clock : ℕ) (event : Event) → clock ≡ max book.moment (moment_of event) →
@@ -137,6 +139,8 @@ module _ {W S : Type 0} (by : Ghosts W Tables S Command) where
   forgot_oldest w w' changes bound past (Do m c) makes tied first = absurd first
   forgot_oldest w w' changes bound past (Undo m) makes tied first = absurd first
   forgot_oldest w w' changes bound past (Redo m) makes tied first = absurd first
+  forgot_oldest w w' changes bound past (UndoOf m named) makes tied first = absurd first
+  forgot_oldest w w' changes bound past (RedoOf m named) makes tied first = absurd first
 
   pub room_made : (book : BookState W S) (w' : W) (event : Event) → MakesRoom by event book.world book.changes w' →
       (h : List Event) → BookOf book h → ForgetsOldest (past_of book.settings.journal h) event → by.stored w' < by.stored book.world
@@ -185,7 +189,7 @@ module _ {W S : Type 0} (by : Ghosts W Tables S Command) where
 
   -- a book to which nothing has happened
   pub begins : (world : W) (settings : Settings) → by.has_cells ≡ true → IsUntouched by empty_face settings.cells world → 1 ≤ settings.journal →
-      BookOf (record { world = world; changes = record { kept = []; done = 0; tickets = 0; limit = settings.journal }; settings = settings; moment = 0; count = 0 }) []
+      BookOf (record { world = world; changes = record { kept = []; undone = []; tickets = 0; limit = settings.journal }; settings = settings; moment = 0; count = 0 }) []
   begins world settings cells untouched some = record {
     tied = record {
       cells = cells;
@@ -193,8 +197,7 @@ module _ {W S : Type 0} (by : Ghosts W Tables S Command) where
         kept = untouched.keeps;
         ascending = tt;
         given = tt;
-        done = tt;
-        undone = tt;
+        marked = tt;
         later = λ t h. refl;
         faces = λ chosen choice fair. same_at 0 (by.face world [] chosen) empty_face (untouched.faces chosen);
       };

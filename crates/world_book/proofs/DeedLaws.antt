@@ -6,7 +6,7 @@ use Rattle.change_law.specs.Effect.{effect}
 use Rattle.change_law.specs.Face.{Face, IsSame, face_with, face_without}
 use Rattle.course.specs.Course.{face_by}
 use Rattle.history.specs.declared.event.Event.{Event}
-use Rattle.history.specs.declared.event.Event.TheVariants.{Admit, Look, Sweep, Forget, Do, Undo, Redo}
+use Rattle.history.specs.declared.event.Event.TheVariants.{Admit, Look, Sweep, Forget, Do, Undo, Redo, UndoOf, RedoOf}
 use Rattle.history.specs.declared.event.Entry.{Entry}
 use Rattle.history.specs.declared.tables.Tables.{Tables}
 use Rattle.history.specs.Event.{covers}
@@ -37,6 +37,8 @@ one_more chosen (Look m a) moment ticket log more = more
 one_more chosen (Sweep m) moment ticket log more = more
 one_more chosen (Undo m) moment ticket log more = more
 one_more chosen (Redo m) moment ticket log more = more
+one_more chosen (UndoOf m named) moment ticket log more = more
+one_more chosen (RedoOf m named) moment ticket log more = more
 
 all_shown : (chosen : ℕ → Bool) (log : List Entry) → AreShown chosen log
 all_shown chosen [] = λ f. record { tables = refl; cell = λ q. refl }

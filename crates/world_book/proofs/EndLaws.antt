@@ -22,7 +22,7 @@ use Rattle.history.specs.declared.event.Command.{Command}
 use Rattle.history.specs.declared.event.Command.TheVariants.{FlushType, Flush, FlushZone, SetZone, DropZone, AddRecord, DropName, SetStub, DropStub}
 use Rattle.history.specs.declared.event.Entry.{Entry}
 use Rattle.history.specs.declared.event.Event.{Event}
-use Rattle.history.specs.declared.event.Event.TheVariants.{Admit, Look, Sweep, Forget, Do, Undo, Redo}
+use Rattle.history.specs.declared.event.Event.TheVariants.{Admit, Look, Sweep, Forget, Do, Undo, Redo, UndoOf, RedoOf}
 use Rattle.history.specs.declared.event.Journalled.{Journalled}
 use Rattle.history.specs.declared.tables.Tables.{Tables}
 use Rattle.history.specs.Cells.{cell_after, cell_by}
@@ -149,6 +149,8 @@ module _ (chosen other : ℕ → Bool) (q : Question) where
       by (Sweep m) moment ticket idle more = more idle cell
       by (Undo m) moment ticket idle more = more idle cell
       by (Redo m) moment ticket idle more = more idle cell
+      by (UndoOf m named) moment ticket idle more = more idle cell
+      by (RedoOf m named) moment ticket idle more = more idle cell
 
 -- ---- a ticket is of one command
 
@@ -208,9 +210,9 @@ alive_whole t cell held is alive = ap (alive_at t) is ∙ ap (λ (b : Bool). con
 
 -- ---- a world and a past
 
-module _ {W S : Type 0} (by : Ghosts W Tables S Command) (w : W) (changes : Changes S) (bound : ℕ) (past : Past) (are : AreChanges changes) (tied : IsTied by w changes bound past) where
+module _ {W S : Type 0} (by : Ghosts W Tables S Command) (w : W) (changes : Changes S) (bound : ℕ) (past : Past) (are : AreChanges by.table changes) (tied : IsTied by w changes bound past) where
   pub current : AreCurrent changes.kept
-  current = are_current changes.kept (none_cleared changes are) tied.stands.ascending
+  current = are_current changes.kept (none_cleared by.table changes are) tied.stands.ascending
 
   -- what is alive in a past is alive in a face
   pub ends_in_face : (t : ℕ) → past.now ≤ t → (name : Labels) (end : ℕ) → of_past.IsEnding past t name end → IsEnding by.table by.face w changes.kept t name end

@@ -1,24 +1,23 @@
 -- The commands that a journal keeps are those that can be undone or redone.
 use Rattle.std.proofs.Common.{◌≡◌, ℕ, ◌<◌, Bool, true, false, Option, Some, None, ◌⊎◌, inl, inr, List, [], ◌∷◌, ◌++◌, zero, suc, length, get_or, take, drop, map, refl, sym, ap, subst, ◌∙◌, arith}
-use Rattle.std.specs.Prelude.{filter_map, ◌==◌, ◌||◌, ◌+◌, reverse, slice_get, if◌then◌else◌}
+use Rattle.std.specs.Prelude.{filter_map, not, ◌==◌, ◌&&◌, ◌||◌, ◌+◌, slice_get, if◌then◌else◌}
 use Rattle.std.specs.List.{AllByRecursion, Contains, cons_option}
 use Rattle.std.specs.Option.{option_map}
 use Rattle.std.proofs.Math.Path.{fun_ext}
 use Rattle.std.proofs.lemmas.Bool.{cases_Bool, eq-eqb, eqb-true, false≢true}
 use Rattle.std.proofs.lemmas.Bool.Decides.{nat_tests}
-use Rattle.std.proofs.lemmas.List.{reverse-append, take-append-drop, map-append}
-use Rattle.std.proofs.lemmas.List.Folds.{list_any-append}
+use Rattle.std.proofs.lemmas.List.{map-append}
 use Rattle.dns_name.specs.ListLaws.{all_weaker}
 use Rattle.change_law.specs.declared.kept.KeptChange.{KeptChange}
 use Rattle.change_law.specs.declared.kept.Standing.TheVariants.{Done, Undone}
 use Rattle.change_law.specs.Choice.{is_done}
-use Rattle.undo_journal.specs.Journal.{Changes, AreChanges, tickets_of, done_of, undone_of, told_of}
+use Rattle.undo_journal.specs.Journal.{Changes, AreChanges, done_of, in_effect, standing_in, tickets_of, told_of}
 use Rattle.course.specs.Course.{AreAscending}
-use Rattle.course.specs.CourseLaws.{take_map, drop_map}
+use Rattle.course.specs.CourseLaws.{all_among}
 use Rattle.history.specs.declared.event.Command.{Command}
 use Rattle.history.specs.declared.event.Entry.{Entry}
 use Rattle.history.specs.declared.event.Event.{Event}
-use Rattle.history.specs.declared.event.Event.TheVariants.{Admit, Look, Sweep, Forget, Do, Undo, Redo}
+use Rattle.history.specs.declared.event.Event.TheVariants.{Admit, Look, Sweep, Forget, Do, Undo, Redo, UndoOf, RedoOf}
 use Rattle.history.specs.declared.event.Journalled.{Journalled}
 use Rattle.history.specs.Journal.{is_among, held_as, held_with, journalled_of, commands_of}
 use Rattle.history.specs.Marks.{Marks}
@@ -43,6 +42,8 @@ one_entry marks (Sweep m) ticket js log is = is
 one_entry marks (Forget m owner) ticket js log is = is
 one_entry marks (Undo m) ticket js log is = is
 one_entry marks (Redo m) ticket js log is = is
+one_entry marks (UndoOf m named) ticket js log is = is
+one_entry marks (RedoOf m named) ticket js log is = is
 
 of_given : (marks : Marks) (log : List Entry) →
     filter_map (λ (e : Entry). journalled_of marks e.event e.ticket) log ≡ filter_map (λ (g : ℕ × Command). held_with marks g.0 g.1) (given_in log)
@@ -55,44 +56,63 @@ abbrev look : {S : Type 0} → List (KeptChange S) → ℕ → Option Bool
 look [] t = None
 look (k ∷ ks) t = if k.ticket == t then Some (is_done k.standing) else look ks t
 
-look_undone : {S : Type 0} (ys : List (KeptChange S)) (t : ℕ) → AllByRecursion (λ k. k.standing ≡ Undone) ys → look ys t ≡ (if is_among (tickets_of ys) t then Some false else None)
-look_undone [] t h = refl
-look_undone (y ∷ ys) t h =
-    elim (cases_Bool (y.ticket == t)) [
-      | inl here ↦ rw here (ap (λ s. Some (is_done s)) h.0)
-      | inr there ↦ rw there (look_undone ys t h.1)
+-- the standing of the change of a ticket, by what is undone
+look_by : {S : Type 0} (undone : List ℕ) (ks : List (KeptChange S)) (t : ℕ) → AllByRecursion (λ k. k.standing ≡ standing_in undone k.ticket) ks →
+    look ks t ≡ (if is_among (tickets_of ks) t then Some (not (is_among undone t)) else None)
+look_by undone [] t h = refl
+look_by undone (k ∷ ks) t h =
+    elim (cases_Bool (k.ticket == t)) [
+      | inl here ↦ rw here (ap (λ s. Some (is_done s)) h.0 ∙ ap (λ (n : ℕ). Some (is_done (standing_in undone n))) (eqb-true k.ticket t here) ∙ ap Some (done_unless (is_among undone t)))
+      | inr there ↦ rw there (look_by undone ks t h.1)
     ]
-
-look_all : {S : Type 0} (xs ys : List (KeptChange S)) (t : ℕ) → AllByRecursion (λ k. k.standing ≡ Done) xs → AllByRecursion (λ k. k.standing ≡ Undone) ys →
-    look (xs ++ ys) t ≡ (if is_among (tickets_of xs) t then Some true else if is_among (tickets_of ys) t then Some false else None)
-look_all [] ys t d u = look_undone ys t u
-look_all (x ∷ xs) ys t d u =
-    elim (cases_Bool (x.ticket == t)) [
-      | inl here ↦ rw here (ap (λ s. Some (is_done s)) d.0)
-      | inr there ↦ rw there (look_all xs ys t d.1 u)
-    ]
-
-among_turned : (xs : List ℕ) (t : ℕ) → is_among (reverse xs) t ≡ is_among xs t
-among_turned [] t = refl
-among_turned (x ∷ xs) t =
-    ap (λ (l : List ℕ). is_among l t) (reverse-append (x ∷ []) xs) ∙ list_any-append (λ s. s == t) (reverse xs) (x ∷ []) ∙ ap (λ (b : Bool). b || ((x == t) || false)) (among_turned xs t) ∙ around (is_among xs t) (x == t)
   where
-    around : (a b : Bool) → (a || (b || false)) ≡ (b || a)
-    around true true = refl
-    around true false = refl
-    around false true = refl
-    around false false = refl
+    done_unless : (b : Bool) → is_done (if b then Undone else Done) ≡ not b
+    done_unless true = refl
+    done_unless false = refl
 
-held_is_look : {S : Type 0} (changes : Changes S) (marks : Marks) (t : ℕ) → AreChanges changes → done_of changes ≡ marks.done → undone_of changes ≡ reverse marks.undone →
+-- what is done is kept and is not undone
+among_done : {S : Type 0} (undone : List ℕ) (ks : List (KeptChange S)) (t : ℕ) → AllByRecursion (λ k. k.standing ≡ standing_in undone k.ticket) ks →
+    is_among (tickets_of (in_effect ks)) t ≡ (is_among (tickets_of ks) t && not (is_among undone t))
+among_done undone [] t h = refl
+among_done {S} undone (k ∷ ks) t h = by (is_among undone k.ticket) refl (among_done undone ks t h.1)
+  where
+    either : (same u a : Bool) → (same ≡ true → u ≡ false) → (same || (a && not u)) ≡ ((same || a) && not u)
+    either true u a f = sym (ap not (f refl))
+    either false u a f = refl
+
+    neither : (same u a : Bool) → (same ≡ true → u ≡ true) → (a && not u) ≡ ((same || a) && not u)
+    neither true true true f = refl
+    neither true true false f = refl
+    neither true false a f = absurd (false≢true (f refl))
+    neither false u a f = refl
+
+    same_test : (b : Bool) → is_among undone k.ticket ≡ b → (k.ticket == t) ≡ true → is_among undone t ≡ b
+    same_test b e same = ap (is_among undone) (sym (eqb-true k.ticket t same)) ∙ e
+
+    by : (b : Bool) → is_among undone k.ticket ≡ b → is_among (tickets_of (in_effect ks)) t ≡ (is_among (tickets_of ks) t && not (is_among undone t)) →
+        is_among (tickets_of (in_effect (k ∷ ks))) t ≡ (is_among (tickets_of (k ∷ ks)) t && not (is_among undone t))
+    by true e more =
+        let out : is_done k.standing ≡ false = ap is_done h.0 ∙ ap (λ (b : Bool). is_done (if b then Undone else Done)) e in
+        ap (λ (b : Bool). is_among (tickets_of (if b then k ∷ in_effect ks else in_effect ks)) t) out ∙ more
+        ∙ neither (k.ticket == t) (is_among undone t) (is_among (tickets_of ks) t) (same_test true e)
+    by false e more =
+        let done : is_done k.standing ≡ true = ap is_done h.0 ∙ ap (λ (b : Bool). is_done (if b then Undone else Done)) e in
+        ap (λ (b : Bool). is_among (tickets_of (if b then k ∷ in_effect ks else in_effect ks)) t) done ∙ ap (λ (b : Bool). (k.ticket == t) || b) more
+        ∙ either (k.ticket == t) (is_among undone t) (is_among (tickets_of ks) t) (same_test false e)
+
+held_is_look : {S : Type 0} (table : S → Option ℕ) (changes : Changes S) (marks : Marks) (t : ℕ) → AreChanges table changes → done_of changes ≡ marks.done → changes.undone ≡ marks.undone →
     held_as marks t ≡ look changes.kept t
-held_is_look {S} changes marks t are done undone =
-    let ticket : KeptChange S → ℕ = λ k. k.ticket in
-    let front : tickets_of (take changes.done changes.kept) ≡ marks.done = take_map ticket changes.done changes.kept ∙ done in
-    let behind : tickets_of (drop changes.done changes.kept) ≡ reverse marks.undone = drop_map ticket changes.done changes.kept ∙ undone in
-    let all = look_all (take changes.done changes.kept) (drop changes.done changes.kept) t are.first are.others in
-    sym (ap (λ (l : List (KeptChange S)). look l t) (sym (take-append-drop changes.done changes.kept)) ∙ all
-    ∙ (λ i. if is_among (front i) t then Some true else if is_among (behind i) t then Some false else None)
-    ∙ ap (λ (b : Bool). if is_among marks.done t then Some true else if b then Some false else None) (among_turned marks.undone t))
+held_is_look table changes marks t are done undone =
+    (λ i. if is_among (sym done i) t then Some true else if is_among (sym undone i) t then Some false else None)
+    ∙ ap (λ (b : Bool). if b then Some true else if is_among changes.undone t then Some false else None) (among_done changes.undone changes.kept t are.standings)
+    ∙ by (is_among (tickets_of changes.kept) t) (is_among changes.undone t) (all_among (λ u. is_among (tickets_of changes.kept) u ≡ true) changes.undone t are.known)
+    ∙ sym (look_by changes.undone changes.kept t are.standings)
+  where
+    by : (a u : Bool) → (u ≡ true → a ≡ true) → (if a && not u then Some true else if u then Some false else None) ≡ (if a then Some (not u) else None)
+    by true true f = refl
+    by true false f = refl
+    by false true f = absurd (false≢true (f refl))
+    by false false f = refl
 
 -- ---- the commands that are picked
 
@@ -168,15 +188,15 @@ picked {S} told (g ∷ gs) (k ∷ ks) up down has =
           rw (other, absent ks g.0 later) (picked told gs (k ∷ ks) up.1 down (inside, behind told g gs ks later has.1))
     ]
 
-pub held_commands : {S : Type 0} (told : S → Command) (changes : Changes S) (past : Past) → AreChanges changes → AreAscending (tickets_of changes.kept) →
-    done_of changes ≡ past.marks.done → undone_of changes ≡ reverse past.marks.undone → AreGiven told changes past → held_in told changes.kept ≡ commands_of past
-held_commands told changes past are ascending done undone given =
+pub held_commands : {S : Type 0} (table : S → Option ℕ) (told : S → Command) (changes : Changes S) (past : Past) → AreChanges table changes →
+    done_of changes ≡ past.marks.done → changes.undone ≡ past.marks.undone → AreGiven told changes past → held_in told changes.kept ≡ commands_of past
+held_commands table told changes past are done undone given =
     let marks = past.marks in
     let one : (g : ℕ × Command) → held_with marks g.0 g.1 ≡ option_map (made_of g) (look changes.kept g.0)
-    = λ g. ap (option_map (made_of g)) (held_is_look changes marks g.0 are done undone) in
+    = λ g. ap (option_map (made_of g)) (held_is_look table changes marks g.0 are done undone) in
     sym (of_given marks past.log
     ∙ ap (λ (f : ℕ × Command → Option Journalled). filter_map f (given_in past.log)) (fun_ext one)
-    ∙ picked told (given_in past.log) changes.kept given.ascending ascending given.kept)
+    ∙ picked told (given_in past.log) changes.kept given.ascending are.ascending given.kept)
 
 -- ---- one place after another
 

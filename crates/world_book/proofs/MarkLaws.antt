@@ -1,50 +1,19 @@
 -- Lists of tickets: what is struck, what comes back at its place, what is last.
-use Rattle.std.proofs.Common.{◌≡◌, ℕ, ◌-◌, ◌<◌, Bool, true, false, cond, Some, List, [], ◌∷◌, ◌++◌, length, refl, sym, ap, ◌∙◌, inl, inr, arith, length-append}
-use Rattle.std.specs.Prelude.{not, ◌==◌, ◌||◌, nat_lt, slice_get, reverse, if◌then◌else◌}
+use Rattle.std.proofs.Common.{◌≡◌, ℕ, ◌<◌, Bool, true, false, Option, Some, List, [], ◌∷◌, ◌++◌, map, refl, sym, ap, subst, ◌∙◌, inl, inr, arith}
+use Rattle.std.specs.Prelude.{filter, ◌==◌, ◌||◌, nat_lt, if◌then◌else◌}
 use Rattle.std.specs.List.{AllByRecursion, list_any}
 use Rattle.std.proofs.Math.Path.{fun_ext}
-use Rattle.std.proofs.lemmas.Bool.{cases_Bool, eq-eqb, eqb-true}
+use Rattle.std.proofs.lemmas.Bool.{cases_Bool, eq-eqb, eqb-true, false≢true}
 use Rattle.std.proofs.lemmas.Bool.Decides.{nat_tests}
-use Rattle.std.proofs.lemmas.List.{append-nil, reverse-append, reverse-reverse}
-use Rattle.std.proofs.lemmas.List.Elements.{filter-append}
 use Rattle.std.proofs.lemmas.List.Folds.{list_any-append}
-use Rattle.dns_name.specs.ListLaws.{all_weaker, all-reverse}
+use Rattle.change_law.specs.declared.kept.KeptChange.{KeptChange}
+use Rattle.change_law.specs.declared.kept.Standing.{Standing}
+use Rattle.change_law.specs.declared.kept.Standing.TheVariants.{Done, Undone}
+use Rattle.change_law.specs.Choice.{is_done}
+use Rattle.undo_journal.specs.Journal.{AreAscending, AreChanges, Changes, IsPutBack, IsTakenBack, done_of, in_effect, is_among, standing_in, standings_of, standings_with, tickets_of}
 use Rattle.course.specs.Course.{struck_with, struck_without}
-use Rattle.history.specs.Marks.{Marks, is_struck, last_of, without, in_place, strike, restore}
-
-last_at : (xs : List ℕ) (x : ℕ) → slice_get (xs ++ x ∷ []) (length xs) ≡ Some x
-last_at [] x = refl
-last_at (y ∷ xs) x = last_at xs x
-
-pub last_push : (xs : List ℕ) (x : ℕ) → last_of (xs ++ x ∷ []) ≡ Some x
-last_push xs x =
-    let size : length (xs ++ x ∷ []) - 1 ≡ length xs = omega (arith, length-append xs (x ∷ [])) in
-    ap (λ i. slice_get (xs ++ x ∷ []) i) size ∙ last_at xs x
-
-without_other : (t : ℕ) (xs : List ℕ) → AllByRecursion (λ u. (u == t) ≡ false) xs → without t xs ≡ xs
-without_other t [] h = refl
-without_other t (x ∷ xs) h = rw h.0 (ap (λ (l : List ℕ). x ∷ l) (without_other t xs h.1))
-
-without_push : (t : ℕ) (xs : List ℕ) → AllByRecursion (λ u. (u == t) ≡ false) xs → without t (xs ++ t ∷ []) ≡ xs
-without_push t xs h =
-    let itself : without t (t ∷ []) ≡ [] = ap (λ (b : Bool). cond (not b) (t ∷ []) []) (eq-eqb t t refl) in
-    filter-append (λ u. not (u == t)) xs (t ∷ []) ∙ ap (λ (l : List ℕ). without t xs ++ l) itself ∙ append-nil (without t xs) ∙ without_other t xs h
-
--- the last of those before it
-pub without_last : (t : ℕ) (xs : List ℕ) → AllByRecursion (λ u. u < t) xs → without t (xs ++ t ∷ []) ≡ xs
-without_last t xs h = without_push t xs (all_weaker (λ u. u < t) (λ u. (u == t) ≡ false) (λ u less. grind (arith, nat_tests, less)) xs h)
-
--- the last of a list whose others are greater
-pub without_least : (t : ℕ) (xs : List ℕ) → AllByRecursion (λ u. t < u) xs → without t (reverse xs ++ t ∷ []) ≡ reverse xs
-without_least t xs h =
-    without_push t (reverse xs) (all-reverse (λ u. (u == t) ≡ false) xs (all_weaker (λ u. t < u) (λ u. (u == t) ≡ false) (λ u less. grind (arith, nat_tests, less)) xs h))
-
-pub in_place_last : (t : ℕ) (xs : List ℕ) → AllByRecursion (λ u. u < t) xs → in_place t xs ≡ xs ++ t ∷ []
-in_place_last t [] h = refl
-in_place_last t (x ∷ xs) h =
-    let less : x < t = h.0 in
-    let behind : nat_lt t x ≡ false = grind (arith, nat_tests) in
-    rw behind (ap (λ (l : List ℕ). x ∷ l) (in_place_last t xs h.1))
+use Rattle.course.specs.CourseLaws.{all_among, firsts}
+use Rattle.history.specs.Marks.{Marks, in_place, is_struck, restore, strike, without}
 
 struck_more : (xs : List ℕ) (t u : ℕ) → list_any (λ s. s == u) (xs ++ t ∷ []) ≡ (if u == t then true else list_any (λ s. s == u) xs)
 struck_more xs t u =
@@ -86,12 +55,86 @@ struck_after_strike marks t = fun_ext (struck_more marks.struck t)
 pub struck_after_restore : (marks : Marks) (t : ℕ) → is_struck (restore marks t) ≡ struck_without (is_struck marks) (Some t)
 struck_after_restore marks t = fun_ext (struck_less marks.struck t)
 
--- a list that begins, turned round, with this ends with it
-pub turned : (xs : List ℕ) (t : ℕ) (ys : List ℕ) → reverse xs ≡ t ∷ ys → xs ≡ reverse ys ++ t ∷ []
-turned xs t ys e = sym (reverse-reverse xs) ∙ ap reverse e ∙ reverse-append (t ∷ []) ys
+-- ---- what is done, when the standing of one change has changed
 
-pub turned_push : (xs : List ℕ) (t : ℕ) → reverse (xs ++ t ∷ []) ≡ t ∷ reverse xs
-turned_push xs t = reverse-append xs (t ∷ [])
+abbrev done_in : List (ℕ × Standing) → List ℕ
+done_in standings = map (λ (one : ℕ × Standing). one.0) (filter (λ (one : ℕ × Standing). is_done one.1) standings)
 
-pub turned_none : (xs : List ℕ) → reverse xs ≡ [] → xs ≡ []
-turned_none xs e = sym (reverse-reverse xs) ∙ ap reverse e
+done_by : {S : Type 0} (kept : List (KeptChange S)) → tickets_of (in_effect kept) ≡ done_in (standings_of kept)
+done_by [] = refl
+done_by {S} (k ∷ kept) = by (is_done k.standing) (done_by kept)
+  where
+    by : (b : Bool) → tickets_of (in_effect kept) ≡ done_in (standings_of kept) → tickets_of (if b then k ∷ in_effect kept else in_effect kept) ≡ map (λ (one : ℕ × Standing). one.0) (if b then (k.ticket, k.standing) ∷ filter (λ (one : ℕ × Standing). is_done one.1) (standings_of kept) else filter (λ (one : ℕ × Standing). is_done one.1) (standings_of kept))
+    by true more = ap (λ (l : List ℕ). k.ticket ∷ l) more
+    by false more = more
+
+done_struck : (t : ℕ) (standings : List (ℕ × Standing)) → done_in (standings_with t Undone standings) ≡ without t (done_in standings)
+done_struck t [] = refl
+done_struck t (one ∷ standings) =
+    elim (cases_Bool (one.0 == t)) [
+      | inl same ↦
+          elim (cases_Bool (is_done one.1)) [
+            | inl done ↦ rw same (rw done (rw same (done_struck t standings)))
+            | inr out ↦ rw same (rw out (done_struck t standings))
+          ]
+      | inr other ↦
+          elim (cases_Bool (is_done one.1)) [
+            | inl done ↦ rw other (rw done (rw other (ap (λ (l : List ℕ). one.0 ∷ l) (done_struck t standings))))
+            | inr out ↦ rw other (rw out (done_struck t standings))
+          ]
+    ]
+
+pub done_taken_back : {S : Type 0} (before after : Changes S) (t : ℕ) → IsTakenBack before t after → done_of after ≡ without t (done_of before)
+done_taken_back before after t is =
+    done_by after.kept ∙ ap done_in is.standings ∙ done_struck t (standings_of before.kept) ∙ ap (λ (l : List ℕ). without t l) (sym (done_by before.kept))
+
+-- those of later tickets keep their standings
+with_above : (t : ℕ) (s : Standing) (standings : List (ℕ × Standing)) → AllByRecursion (λ u. t < u) (map (λ (one : ℕ × Standing). one.0) standings) → standings_with t s standings ≡ standings
+with_above t s [] h = refl
+with_above t s (one ∷ standings) h =
+    let less : t < one.0 = h.0 in
+    let other : (one.0 == t) ≡ false = grind (arith, nat_tests) in
+    rw other (ap (λ (l : List (ℕ × Standing)). one ∷ l) (with_above t s standings h.1))
+
+all_done_above : (t : ℕ) (standings : List (ℕ × Standing)) → AllByRecursion (λ u. t < u) (map (λ (one : ℕ × Standing). one.0) standings) → AllByRecursion (λ u. t < u) (done_in standings)
+all_done_above t [] h = tt
+all_done_above t (one ∷ standings) h =
+    elim (cases_Bool (is_done one.1)) [ inl done ↦ rw done (h.0, all_done_above t standings h.1) | inr out ↦ rw out (all_done_above t standings h.1) ]
+
+first_in_place : (t : ℕ) (xs : List ℕ) → AllByRecursion (λ u. t < u) xs → in_place t xs ≡ t ∷ xs
+first_in_place t [] above = refl
+first_in_place t (x ∷ xs) above =
+    let less : t < x = above.0 in
+    let before : nat_lt t x ≡ true = grind (arith, nat_tests) in
+    rw before refl
+
+done_restored : (t : ℕ) (standings : List (ℕ × Standing)) → AreAscending (map (λ (one : ℕ × Standing). one.0) standings) → is_among (map (λ (one : ℕ × Standing). one.0) standings) t ≡ true →
+    AllByRecursion (λ (one : ℕ × Standing). (one.0 == t) ≡ true → is_done one.1 ≡ false) standings → done_in (standings_with t Done standings) ≡ in_place t (done_in standings)
+done_restored t [] up there out = absurd (false≢true there)
+done_restored t (one ∷ standings) up there out =
+    elim (cases_Bool (one.0 == t)) [
+      | inl same ↦
+          let is : one.0 ≡ t = eqb-true one.0 t same in
+          let above : AllByRecursion (λ u. t < u) (map (λ (one : ℕ × Standing). one.0) standings) = subst (λ (n : ℕ). AllByRecursion (λ u. n < u) (map (λ (one : ℕ × Standing). one.0) standings)) is up.0 in
+          rw (same, out.0 same) (ap (λ (l : List (ℕ × Standing)). one.0 ∷ done_in l) (with_above t Done standings above) ∙ ap (λ (n : ℕ). n ∷ done_in standings) is ∙ sym (first_in_place t (done_in standings) (all_done_above t standings above)))
+      | inr other ↦
+          let rest : is_among (map (λ (one : ℕ × Standing). one.0) standings) t ≡ true = sym (ap (λ (b : Bool). b || is_among (map (λ (one : ℕ × Standing). one.0) standings) t) other) ∙ there in
+          let less : one.0 < t = all_among (λ u. one.0 < u) (map (λ (one : ℕ × Standing). one.0) standings) t up.0 rest in
+          let not_yet : nat_lt t one.0 ≡ false = grind (arith, nat_tests) in
+          elim (cases_Bool (is_done one.1)) [
+            | inl done ↦ rw other (rw done (rw not_yet (ap (λ (l : List ℕ). one.0 ∷ l) (done_restored t standings up.1 rest out.1))))
+            | inr no' ↦ rw other (rw no' (done_restored t standings up.1 rest out.1))
+          ]
+    ]
+
+pub done_put_back : {S : Type 0} (table : S → Option ℕ) (before after : Changes S) (t : ℕ) → AreChanges table before → IsPutBack before t after → done_of after ≡ in_place t (done_of before)
+done_put_back {S} table before after t are is =
+    let there : is_among (tickets_of before.kept) t ≡ true = all_among (λ u. is_among (tickets_of before.kept) u ≡ true) before.undone t are.known is.reached in
+    done_by after.kept ∙ ap done_in is.standings
+    ∙ done_restored t (standings_of before.kept) (subst AreAscending (sym (firsts before.kept)) are.ascending) (ap (λ (l : List ℕ). is_among l t) (firsts before.kept) ∙ there) (out before.kept are.standings)
+    ∙ ap (λ (l : List ℕ). in_place t l) (sym (done_by before.kept))
+  where
+    out : (kept : List (KeptChange S)) → AllByRecursion (λ k. k.standing ≡ standing_in before.undone k.ticket) kept → AllByRecursion (λ (one : ℕ × Standing). (one.0 == t) ≡ true → is_done one.1 ≡ false) (standings_of kept)
+    out [] h = tt
+    out (k ∷ kept) h =
+        (λ same. ap is_done h.0 ∙ ap (λ (b : Bool). is_done (if b then Undone else Done)) (ap (is_among before.undone) (eqb-true k.ticket t same) ∙ is.reached), out kept h.1)

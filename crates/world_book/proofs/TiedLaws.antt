@@ -1,10 +1,9 @@
 -- The tie of a world under its journal to a past goes on with each event.
 use Rattle.std.proofs.Common.{◌≡◌, ℕ, ◌+◌, ◌-◌, ◌<◌, ◌≤◌, Bool, Option, Some, None, List, [], ◌∷◌, ◌++◌, length, take, drop, map, max, refl, sym, ap, subst, ◌∙◌, arith, rules}
-use Rattle.std.specs.Prelude.{reverse}
 use Rattle.std.specs.List.{AllByRecursion, Contains, cons_option}
 use Rattle.std.specs.Option.{option_map_or}
 use Rattle.std.proofs.Math.Path.{fun_ext}
-use Rattle.std.proofs.lemmas.List.{append-nil, map-append, reverse-reverse, take-append-drop}
+use Rattle.std.proofs.lemmas.List.{append-nil, map-append}
 use Rattle.std.proofs.lemmas.List.Elements.{filter_map-append, Contains-append_left, Contains-append_right}
 use Rattle.dns_name.specs.ListLaws.{all-append, all-take, all-drop, all_weaker}
 use Rattle.dns_name.specs.Labels.{Labels}
@@ -12,16 +11,18 @@ use Rattle.dns_text.specs.declared.record.Question.{Question}
 use Rattle.ranked.specs.declared.find.Find.{Find}
 use Rattle.change_law.specs.declared.kept.KeptChange.{KeptChange}
 use Rattle.change_law.specs.declared.world.World.{Ghosts}
-use Rattle.change_law.specs.Choice.{IsChoice, IsPresent}
+use Rattle.change_law.specs.Choice.{IsChoice, IsPresent, is_done}
 use Rattle.change_law.specs.Effect.{effect}
 use Rattle.change_law.specs.Face.{IsSame, IsSameAt, face_with, face_without}
 use Rattle.change_law.specs.Row.{IsRowAfter, IsRowFrom, IsSameRow, any, same_face, where_chosen}
-use Rattle.undo_journal.specs.Journal.{Changes, AreChanges, IsChange, IsUndo, IsRedo, tickets_of, done_of, undone_of, told_of, newest, settled_by}
-use Rattle.course.specs.Course.{Deed, Came, Forgot, Made, AreAscending, Stands, face_by}
-use Rattle.course.specs.CourseLaws.{drop_map, map_length, take_map, asc_front, asc_push, asc_cross, same_at, same_at_later, same_at_then, stands_admitted, stands_swept, stands_forgot, stands_made, stands_undo, stands_redo, stands_still, stands_shown}
+use Rattle.undo_journal.specs.declared.outcome.Outcome.{Outcome}
+use Rattle.undo_journal.specs.declared.outcome.Outcome.TheVariants.{Moved, NotKept, Buried}
+use Rattle.undo_journal.specs.Journal.{Changes, AreChanges, IsChange, IsPutBack, IsRedo, IsRedoOf, IsTakenBack, IsUndo, IsUndoOf, done_of, in_effect, told_of, newest, settled_by}
+use Rattle.course.specs.Course.{Deed, Came, Forgot, Made, AreAscending, Stands, face_by, moved_by}
+use Rattle.course.specs.CourseLaws.{all_back, all_filter, all_images, asc_push, drop_map, map_length, same_at, same_at_later, same_at_then, stands_admitted, stands_swept, stands_forgot, stands_made, stands_put_back, stands_shown, stands_still, stands_taken_back}
 use Rattle.history.specs.declared.event.Ask.{Ask}
 use Rattle.history.specs.declared.event.Command.{Command}
-use Rattle.history.specs.declared.event.Event.TheVariants.{Admit, Look, Sweep, Forget, Do, Undo, Redo}
+use Rattle.history.specs.declared.event.Event.TheVariants.{Admit, Look, Sweep, Forget, Do, Undo, Redo, UndoOf, RedoOf}
 use Rattle.history.specs.declared.event.Entry.{Entry}
 use Rattle.history.specs.declared.event.Reason.{Reason}
 use Rattle.history.specs.declared.tables.Tables.{Tables}
@@ -33,7 +34,8 @@ use Rattle.world_book.specs.Deeds.{deed_of, deeds_of, given_of, given_in, given_
 use Rattle.world_book.specs.Tied.{AreGiven, IsTied, tables_told}
 use Rattle.world_book.specs.Versions.{table_of}
 use Rattle.world_book.proofs.DeedLaws.{deeds_show}
-use Rattle.world_book.proofs.MarkLaws.{last_push, without_last, without_least, in_place_last, struck_after_strike, struck_after_restore, turned, turned_push, turned_none}
+use Rattle.world_book.proofs.MarkLaws.{done_put_back, done_taken_back, struck_after_restore, struck_after_strike}
+use Rattle.world_book.proofs.WayLaws.{have_tables, redo_of_moves, undo_of_moves}
 
 -- ---- one entry more
 
@@ -66,19 +68,21 @@ still_given told before after past now marks e none tickets same g =
 -- one command more, which takes the next ticket
 now_given : {S : Type 0} (told : S → Command) (before after : Changes S) (past : Past) (now : ℕ) (marks : Marks) (e : Entry) (c : Command) →
     given_of e.event e.ticket ≡ Some (past.marks.tickets + 1, c) → marks.tickets ≡ past.marks.tickets + 1 →
-    told_of told after.kept ≡ newest before.limit (take before.done (told_of told before.kept) ++ (past.marks.tickets + 1, c) ∷ []) → AreGiven told before past →
+    told_of told after.kept ≡ newest before.limit (told_of told (in_effect before.kept) ++ (past.marks.tickets + 1, c) ∷ []) → AreGiven told before past →
     AreGiven told after (record { now = now; marks = marks; log = past.log ++ e ∷ [] })
-now_given told before after past now marks e c one tickets kept g =
+now_given {S} told before after past now marks e c one tickets kept g =
     let n = past.marks.tickets + 1 in
     let new : ℕ × Command = (n, c) in
     let log : given_in (past.log ++ e ∷ []) ≡ given_in past.log ++ new ∷ [] = given_more past.log e (Some new) one in
     let first : ℕ × Command → ℕ = λ given. given.0 in
     let all : given_tickets (past.log ++ e ∷ []) ≡ given_tickets past.log ++ n ∷ [] = ap (map first) log ∙ map-append first (given_in past.log) (new ∷ []) in
     let below : AllByRecursion (λ t. t < n) (given_tickets past.log) = all_weaker (λ t. t ≤ past.marks.tickets) (λ t. t < n) (λ t less. omega (arith, less)) (given_tickets past.log) g.known in
-    let wider : AllByRecursion (λ given. Contains (given_in past.log ++ new ∷ []) given) (told_of told before.kept)
-    = all_weaker (λ given. Contains (given_in past.log) given) (λ given. Contains (given_in past.log ++ new ∷ []) given) (λ given has. Contains-append_left (given_in past.log) (new ∷ []) given has) (told_of told before.kept) g.kept in
+    let one_told : KeptChange S → ℕ × Command = λ k. (k.ticket, told k.saved) in
+    let wider : AllByRecursion (λ given. Contains (given_in past.log ++ new ∷ []) given) (told_of told (in_effect before.kept))
+    = all_weaker (λ given. Contains (given_in past.log) given) (λ given. Contains (given_in past.log ++ new ∷ []) given) (λ given has. Contains-append_left (given_in past.log) (new ∷ []) given has) (told_of told (in_effect before.kept))
+    (all_images one_told (λ given. Contains (given_in past.log) given) (in_effect before.kept) (all_filter (λ k. Contains (given_in past.log) (one_told k)) (λ k. is_done k.standing) before.kept (all_back one_told (λ given. Contains (given_in past.log) given) before.kept g.kept))) in
     let itself : Contains (given_in past.log ++ new ∷ []) new = Contains-append_right (given_in past.log) (new ∷ []) new (search rules) in
-    let T = take before.done (told_of told before.kept) ++ new ∷ [] in
+    let T = told_of told (in_effect before.kept) ++ new ∷ [] in
     record {
       ascending = subst AreAscending (sym all) (asc_push (given_tickets past.log) n g.ascending below);
       known = subst (λ (m : ℕ). AllByRecursion (λ t. t ≤ m) (given_tickets (past.log ++ e ∷ []))) (sym tickets)
@@ -87,8 +91,7 @@ now_given told before after past now marks e c one tickets kept g =
       kept = subst (λ (l : List (ℕ × Command)). AllByRecursion (λ given. Contains l given) (told_of told after.kept)) (sym log)
           (subst (λ (l : List (ℕ × Command)). AllByRecursion (λ given. Contains (given_in past.log ++ new ∷ []) given) l) (sym kept)
           (all-drop (λ given. Contains (given_in past.log ++ new ∷ []) given) (length T - before.limit) T
-          (all-append (λ given. Contains (given_in past.log ++ new ∷ []) given) (take before.done (told_of told before.kept)) (new ∷ [])
-          (all-take (λ given. Contains (given_in past.log ++ new ∷ []) given) before.done (told_of told before.kept) wider) (itself, tt))));
+          (all-append (λ given. Contains (given_in past.log ++ new ∷ []) given) (told_of told (in_effect before.kept)) (new ∷ []) wider (itself, tt))));
     }
 
 -- ---- the tables of the commands
@@ -96,12 +99,21 @@ now_given told before after past now marks e c one tickets kept g =
 abbrev one_table : ℕ × Command → ℕ × Option ℕ
 one_table one = (one.0, table_of one.1)
 
-newest_map : {X Y : Type 0} (f : X → Y) (n d : ℕ) (xs : List X) (x : X) → map f (newest n (take d xs ++ x ∷ [])) ≡ newest n (take d (map f xs) ++ f x ∷ [])
-newest_map {X} {Y} f n d xs x =
-    let all = take d xs ++ x ∷ [] in
-    let same : map f all ≡ take d (map f xs) ++ f x ∷ [] = map-append f (take d xs) (x ∷ []) ∙ ap (λ (l : List Y). l ++ f x ∷ []) (take_map f d xs) in
-    let long : length all ≡ length (take d (map f xs) ++ f x ∷ []) = sym (map_length f all) ∙ ap (λ (l : List Y). length l) same in
+newest_map : {X Y : Type 0} (f : X → Y) (n : ℕ) (xs : List X) (x : X) → map f (newest n (xs ++ x ∷ [])) ≡ newest n (map f xs ++ f x ∷ [])
+newest_map {X} {Y} f n xs x =
+    let all = xs ++ x ∷ [] in
+    let same : map f all ≡ map f xs ++ f x ∷ [] = map-append f xs (x ∷ []) in
+    let long : length all ≡ length (map f xs ++ f x ∷ []) = sym (map_length f all) ∙ ap (λ (l : List Y). length l) same in
     drop_map f (length all - n) all ∙ (λ i. drop (long i - n) (same i))
+
+module _ {S : Type 0} (table : S → Option ℕ) (told : S → Command) where
+  pub tables_from : (kept : List (KeptChange S)) → AllByRecursion (λ k. table k.saved ≡ table_of (told k.saved)) kept → told_of table kept ≡ tables_told (told_of told kept)
+  tables_from [] h = refl
+  tables_from (k ∷ kept) h = (λ i. (k.ticket, h.0 i) ∷ tables_from kept h.1 i)
+
+  -- the tables of those in effect
+  tables_in_effect : (kept : List (KeptChange S)) → told_of table kept ≡ tables_told (told_of told kept) → told_of table (in_effect kept) ≡ tables_told (told_of told (in_effect kept))
+  tables_in_effect kept e = tables_from (in_effect kept) (all_filter (λ k. table k.saved ≡ table_of (told k.saved)) (λ k. is_done k.standing) kept (have_tables table told kept e))
 
 -- ---- what an undo and a redo reach
 
@@ -114,12 +126,11 @@ module _ {W S : Type 0} (by : Ghosts W Tables S Command) where
 
   pub undo_reaches : (w : W) (before after : Changes S) (bound : ℕ) (past : Past) (ticket : Option ℕ) → Tied w before bound past → IsUndo before ticket after → last_of past.marks.done ≡ ticket
   undo_reaches w before after bound past None tied is = ap last_of (sym tied.done ∙ is.0)
-  undo_reaches w before after bound past (Some t) tied is = ap last_of (sym tied.done ∙ is.0) ∙ last_push (done_of after) t
+  undo_reaches w before after bound past (Some t) tied is = ap last_of (sym tied.done) ∙ is.0
 
   pub redo_reaches : (w : W) (before after : Changes S) (bound : ℕ) (past : Past) (ticket : Option ℕ) → Tied w before bound past → IsRedo before ticket after → last_of past.marks.undone ≡ ticket
-  redo_reaches w before after bound past None tied is = ap last_of (turned_none past.marks.undone (sym tied.undone ∙ is.0))
-  redo_reaches w before after bound past (Some t) tied is =
-      ap last_of (turned past.marks.undone t (undone_of after) (sym tied.undone ∙ is.1)) ∙ last_push (reverse (undone_of after)) t
+  redo_reaches w before after bound past None tied is = ap last_of (sym tied.undone ∙ is.0)
+  redo_reaches w before after bound past (Some t) tied is = ap last_of (sym tied.undone) ∙ is.0
 
   -- ---- at a later moment
 
@@ -128,8 +139,7 @@ module _ {W S : Type 0} (by : Ghosts W Tables S Command) where
     kept = st.kept;
     ascending = st.ascending;
     given = st.given;
-    done = st.done;
-    undone = st.undone;
+    marked = st.marked;
     later = st.later;
     faces = λ chosen choice fair. same_at_later now moment (by.face w changes.kept chosen) (face_by by.has_cells chosen empty_face deeds) less (st.faces chosen choice fair);
   }
@@ -137,7 +147,7 @@ module _ {W S : Type 0} (by : Ghosts W Tables S Command) where
   -- an entry that does nothing, and marks that may have moved
   moved : (w w' : W) (before after : Changes S) (bound now : ℕ) (past : Past) (marks : Marks) (e : Entry) →
       deed_of e.event e.moment e.ticket ≡ None → given_of e.event e.ticket ≡ None →
-      StandsAt w' after now (deeds_of past.log) (is_struck marks) → done_of after ≡ marks.done → undone_of after ≡ reverse marks.undone →
+      StandsAt w' after now (deeds_of past.log) (is_struck marks) → done_of after ≡ marks.done → after.undone ≡ marks.undone →
       after.tickets ≡ before.tickets → after.limit ≡ before.limit → marks.tickets ≡ past.marks.tickets → told_of by.told after.kept ≡ told_of by.told before.kept → told_of by.table after.kept ≡ told_of by.table before.kept →
       Tied w before bound past → Tied w' after bound (record { now = now; marks = marks; log = past.log ++ e ∷ [] })
   moved w w' before after bound now past marks e no_deed no_command st done undone tickets limit same_tickets same tabs tied = record {
@@ -151,31 +161,39 @@ module _ {W S : Type 0} (by : Ghosts W Tables S Command) where
     tables = tabs ∙ tied.tables ∙ sym (ap tables_told same);
   }
 
+  -- an entry that does nothing, and nothing moved
+  unmoved : (w w' : W) (before after : Changes S) (bound now : ℕ) (past : Past) (e : Entry) → past.now ≤ now → deed_of e.event e.moment e.ticket ≡ None → given_of e.event e.ticket ≡ None →
+      after ≡ before → IsRowAfter by.table by.keeps by.face same_face any w before.kept w' after.kept → told_of by.told after.kept ≡ told_of by.told before.kept → told_of by.table after.kept ≡ told_of by.table before.kept →
+      Tied w before bound past → Tied w' after bound (record { now = now; marks = past.marks; log = past.log ++ e ∷ [] })
+  unmoved w w' before after bound now past e less no_deed no_command is row same tabs tied =
+      moved w w' before after bound now past past.marks e no_deed no_command
+      (later w' after past.now now (deeds_of past.log) (is_struck past.marks) less (stands_still by.has_cells by.table by.keeps by.face empty_face w w' before after past.now (deeds_of past.log) (is_struck past.marks) is row tied.stands))
+      (ap done_of is ∙ tied.done) (ap (λ (x : Changes S). x.undone) is ∙ tied.undone) (ap (λ (x : Changes S). x.tickets) is) (ap (λ (x : Changes S). x.limit) is) refl same tabs tied
+
   -- ---- undo
+
+  taken_back_now : (w w' : W) (before after : Changes S) (bound now : ℕ) (past : Past) (e : Entry) (t : ℕ) → past.now ≤ now →
+      deed_of e.event e.moment e.ticket ≡ None → given_of e.event e.ticket ≡ None →
+      IsTakenBack before t after → IsRowAfter by.table by.keeps by.face same_face any w before.kept w' after.kept →
+      ((chosen : ℕ → Bool) → IsChoice by.table after.kept chosen → IsChoice by.table before.kept chosen) → told_of by.told after.kept ≡ told_of by.told before.kept → told_of by.table after.kept ≡ told_of by.table before.kept →
+      Tied w before bound past → Tied w' after bound (record { now = now; marks = strike past.marks t; log = past.log ++ e ∷ [] })
+  taken_back_now w w' before after bound now past e t less no_deed no_command is row choices same tabs tied =
+      moved w w' before after bound now past (strike past.marks t) e no_deed no_command
+      (later w' after past.now now (deeds_of past.log) (is_struck (strike past.marks t)) less
+      (subst (λ (struck : ℕ → Bool). StandsAt w' after past.now (deeds_of past.log) struck) (sym (struck_after_strike past.marks t))
+      (stands_taken_back by.has_cells by.table by.keeps by.face empty_face w w' before after past.now (deeds_of past.log) (is_struck past.marks) t is row choices tied.stands)))
+      (done_taken_back before after t is ∙ ap (λ (l : List ℕ). without t l) tied.done)
+      (is.undone ∙ ap (λ (l : List ℕ). l ++ t ∷ []) tied.undone)
+      is.tickets is.limit refl same tabs tied
 
   undone_now : (w w' : W) (before after : Changes S) (bound now : ℕ) (past : Past) (e : Entry) (ticket : Option ℕ) → past.now ≤ now →
       deed_of e.event e.moment e.ticket ≡ None → given_of e.event e.ticket ≡ None →
       IsUndo before ticket after → IsRowAfter by.table by.keeps by.face same_face any w before.kept w' after.kept →
       ((chosen : ℕ → Bool) → IsChoice by.table after.kept chosen → IsChoice by.table before.kept chosen) → told_of by.told after.kept ≡ told_of by.told before.kept → told_of by.table after.kept ≡ told_of by.table before.kept →
       Tied w before bound past → Tied w' after bound (record { now = now; marks = option_map_or (strike past.marks) ticket past.marks; log = past.log ++ e ∷ [] })
-  undone_now w w' before after bound now past e None less no_deed no_command is row choices same tabs tied =
-      moved w w' before after bound now past past.marks e no_deed no_command
-      (later w' after past.now now (deeds_of past.log) (is_struck past.marks) less (stands_undo by.has_cells by.table by.keeps by.face empty_face w w' before after past.now (deeds_of past.log) (is_struck past.marks) None is row choices tied.stands))
-      (ap done_of is.1 ∙ tied.done) (ap undone_of is.1 ∙ tied.undone) (ap (λ (x : Changes S). x.tickets) is.1) (ap (λ (x : Changes S). x.limit) is.1) refl same tabs tied
+  undone_now w w' before after bound now past e None less no_deed no_command is row choices same tabs tied = unmoved w w' before after bound now past e less no_deed no_command is.1 row same tabs tied
   undone_now w w' before after bound now past e (Some t) less no_deed no_command is row choices same tabs tied =
-      let D = done_of after in
-      let U = undone_of before in
-      let all : tickets_of before.kept ≡ (D ++ t ∷ []) ++ U = sym (take-append-drop before.done (tickets_of before.kept)) ∙ ap (λ (l : List ℕ). l ++ U) is.0 in
-      let asc : AreAscending (D ++ t ∷ []) = asc_front (D ++ t ∷ []) U (subst AreAscending all tied.stands.ascending) in
-      let below : AllByRecursion (λ u. u < t) D = (asc_cross D (t ∷ []) asc).0 in
-      let done : past.marks.done ≡ D ++ t ∷ [] = sym tied.done ∙ is.0 in
-      moved w w' before after bound now past (strike past.marks t) e no_deed no_command
-      (later w' after past.now now (deeds_of past.log) (is_struck (strike past.marks t)) less
-      (subst (λ (struck : ℕ → Bool). StandsAt w' after past.now (deeds_of past.log) struck) (sym (struck_after_strike past.marks t))
-      (stands_undo by.has_cells by.table by.keeps by.face empty_face w w' before after past.now (deeds_of past.log) (is_struck past.marks) (Some t) is row choices tied.stands)))
-      (sym (ap (λ (l : List ℕ). without t l) done ∙ without_last t D below))
-      (is.1 ∙ ap (λ (l : List ℕ). t ∷ l) tied.undone ∙ sym (turned_push past.marks.undone t))
-      is.2 is.3 refl same tabs tied
+      taken_back_now w w' before after bound now past e t less no_deed no_command is.1 row choices same tabs tied
 
   pub tied_undo : (w w' : W) (before after : Changes S) (bound moment : ℕ) (past : Past) (ticket : Option ℕ) →
       IsUndo before ticket after → IsRowAfter by.table by.keeps by.face same_face any w before.kept w' after.kept →
@@ -188,47 +206,87 @@ module _ {W S : Type 0} (by : Ghosts W Tables S Command) where
       (sym (undo_reaches w before after bound past ticket tied is))
       (undone_now w w' before after bound now past e ticket (omega arith) refl refl is row choices same tabs tied)
 
+  undone_of_now : (w w' : W) (before after : Changes S) (bound now : ℕ) (past : Past) (e : Entry) (t : ℕ) (outcome : Outcome) → past.now ≤ now →
+      deed_of e.event e.moment e.ticket ≡ None → given_of e.event e.ticket ≡ None →
+      IsUndoOf by.table before t outcome after → IsRowAfter by.table by.keeps by.face same_face any w before.kept w' after.kept →
+      ((chosen : ℕ → Bool) → IsChoice by.table after.kept chosen → IsChoice by.table before.kept chosen) → told_of by.told after.kept ≡ told_of by.told before.kept → told_of by.table after.kept ≡ told_of by.table before.kept →
+      Tied w before bound past → Tied w' after bound (record { now = now; marks = option_map_or (strike past.marks) (moved_by outcome t) past.marks; log = past.log ++ e ∷ [] })
+  undone_of_now w w' before after bound now past e t Moved less no_deed no_command is row choices same tabs tied =
+      taken_back_now w w' before after bound now past e t less no_deed no_command is.1 row choices same tabs tied
+  undone_of_now w w' before after bound now past e t NotKept less no_deed no_command is row choices same tabs tied =
+      unmoved w w' before after bound now past e less no_deed no_command is.1 row same tabs tied
+  undone_of_now w w' before after bound now past e t (Buried other) less no_deed no_command is row choices same tabs tied =
+      unmoved w w' before after bound now past e less no_deed no_command is.2 row same tabs tied
+
+  pub tied_undo_of : (w w' : W) (before after : Changes S) (bound moment : ℕ) (past : Past) (t : ℕ) (outcome : Outcome) → AreChanges by.table before →
+      IsUndoOf by.table before t outcome after → IsRowAfter by.table by.keeps by.face same_face any w before.kept w' after.kept →
+      ((chosen : ℕ → Bool) → IsChoice by.table after.kept chosen → IsChoice by.table before.kept chosen) → told_of by.told after.kept ≡ told_of by.told before.kept → told_of by.table after.kept ≡ told_of by.table before.kept →
+      Tied w before bound past → Tied w' after bound (followed_by bound past (UndoOf moment t))
+  tied_undo_of w w' before after bound moment past t outcome are is row choices same tabs tied =
+      let now = max past.now moment in
+      let e : Entry = record { event = UndoOf moment t; moment = now; ticket = None } in
+      subst (λ (o : Option ℕ). Tied w' after bound (record { now = now; marks = option_map_or (strike past.marks) o past.marks; log = past.log ++ e ∷ [] }))
+      (undo_of_moves by.table by.told before after past t outcome are tied.done tied.undone tied.given tied.tables is)
+      (undone_of_now w w' before after bound now past e t outcome (omega arith) refl refl is row choices same tabs tied)
+
   -- ---- redo
 
-  redone_now : (w w' : W) (before after : Changes S) (bound now : ℕ) (past : Past) (e : Entry) (ticket : Option ℕ) → past.now ≤ now →
-      deed_of e.event e.moment e.ticket ≡ None → given_of e.event e.ticket ≡ None →
-      IsRedo before ticket after → IsRowAfter by.table by.keeps by.face same_face any w before.kept w' after.kept →
+  put_back_now : (w w' : W) (before after : Changes S) (bound now : ℕ) (past : Past) (e : Entry) (t : ℕ) → past.now ≤ now →
+      deed_of e.event e.moment e.ticket ≡ None → given_of e.event e.ticket ≡ None → AreChanges by.table before →
+      IsPutBack before t after → IsRowAfter by.table by.keeps by.face same_face any w before.kept w' after.kept →
       ((chosen : ℕ → Bool) → IsChoice by.table after.kept chosen → IsChoice by.table before.kept chosen) → told_of by.told after.kept ≡ told_of by.told before.kept → told_of by.table after.kept ≡ told_of by.table before.kept →
-      Tied w before bound past → Tied w' after bound (record { now = now; marks = option_map_or (restore past.marks) ticket past.marks; log = past.log ++ e ∷ [] })
-  redone_now w w' before after bound now past e None less no_deed no_command is row choices same tabs tied =
-      moved w w' before after bound now past past.marks e no_deed no_command
-      (later w' after past.now now (deeds_of past.log) (is_struck past.marks) less (stands_redo by.has_cells by.table by.keeps by.face empty_face w w' before after past.now (deeds_of past.log) (is_struck past.marks) None is row choices tied.stands))
-      (ap done_of is.1 ∙ tied.done) (ap undone_of is.1 ∙ tied.undone) (ap (λ (x : Changes S). x.tickets) is.1) (ap (λ (x : Changes S). x.limit) is.1) refl same tabs tied
-  redone_now w w' before after bound now past e (Some t) less no_deed no_command is row choices same tabs tied =
-      let D = done_of before in
-      let U = undone_of after in
-      let all : tickets_of before.kept ≡ D ++ t ∷ U = sym (take-append-drop before.done (tickets_of before.kept)) ∙ ap (λ (l : List ℕ). D ++ l) is.1 in
-      let asc : AreAscending (D ++ t ∷ U) = subst AreAscending all tied.stands.ascending in
-      let below : AllByRecursion (λ u. u < t) D = (asc_cross D (t ∷ U) asc).0 in
-      let above : AllByRecursion (λ u. t < u) U = behind D t U asc in
-      let undone : past.marks.undone ≡ reverse U ++ t ∷ [] = turned past.marks.undone t U (sym tied.undone ∙ is.1) in
+      Tied w before bound past → Tied w' after bound (record { now = now; marks = restore past.marks t; log = past.log ++ e ∷ [] })
+  put_back_now w w' before after bound now past e t less no_deed no_command are is row choices same tabs tied =
       moved w w' before after bound now past (restore past.marks t) e no_deed no_command
       (later w' after past.now now (deeds_of past.log) (is_struck (restore past.marks t)) less
       (subst (λ (struck : ℕ → Bool). StandsAt w' after past.now (deeds_of past.log) struck) (sym (struck_after_restore past.marks t))
-      (stands_redo by.has_cells by.table by.keeps by.face empty_face w w' before after past.now (deeds_of past.log) (is_struck past.marks) (Some t) is row choices tied.stands)))
-      (is.0 ∙ sym (in_place_last t D below) ∙ ap (λ (l : List ℕ). in_place t l) tied.done)
-      (sym (ap (λ (l : List ℕ). reverse (without t l)) undone ∙ ap reverse (without_least t U above) ∙ reverse-reverse U))
-      is.2 is.3 refl same tabs tied
-    where
-      behind : (D : List ℕ) (t : ℕ) (U : List ℕ) → AreAscending (D ++ t ∷ U) → AllByRecursion (λ u. t < u) U
-      behind [] t U h = h.0
-      behind (d ∷ D) t U h = behind D t U h.1
+      (stands_put_back by.has_cells by.table by.keeps by.face empty_face w w' before after past.now (deeds_of past.log) (is_struck past.marks) t are is row choices tied.stands)))
+      (done_put_back by.table before after t are is ∙ ap (λ (l : List ℕ). in_place t l) tied.done)
+      (is.undone ∙ ap (λ (l : List ℕ). without t l) tied.undone)
+      is.tickets is.limit refl same tabs tied
 
-  pub tied_redo : (w w' : W) (before after : Changes S) (bound moment : ℕ) (past : Past) (ticket : Option ℕ) →
+  redone_now : (w w' : W) (before after : Changes S) (bound now : ℕ) (past : Past) (e : Entry) (ticket : Option ℕ) → past.now ≤ now →
+      deed_of e.event e.moment e.ticket ≡ None → given_of e.event e.ticket ≡ None → AreChanges by.table before →
+      IsRedo before ticket after → IsRowAfter by.table by.keeps by.face same_face any w before.kept w' after.kept →
+      ((chosen : ℕ → Bool) → IsChoice by.table after.kept chosen → IsChoice by.table before.kept chosen) → told_of by.told after.kept ≡ told_of by.told before.kept → told_of by.table after.kept ≡ told_of by.table before.kept →
+      Tied w before bound past → Tied w' after bound (record { now = now; marks = option_map_or (restore past.marks) ticket past.marks; log = past.log ++ e ∷ [] })
+  redone_now w w' before after bound now past e None less no_deed no_command are is row choices same tabs tied = unmoved w w' before after bound now past e less no_deed no_command is.1 row same tabs tied
+  redone_now w w' before after bound now past e (Some t) less no_deed no_command are is row choices same tabs tied =
+      put_back_now w w' before after bound now past e t less no_deed no_command are is.1 row choices same tabs tied
+
+  pub tied_redo : (w w' : W) (before after : Changes S) (bound moment : ℕ) (past : Past) (ticket : Option ℕ) → AreChanges by.table before →
       IsRedo before ticket after → IsRowAfter by.table by.keeps by.face same_face any w before.kept w' after.kept →
       ((chosen : ℕ → Bool) → IsChoice by.table after.kept chosen → IsChoice by.table before.kept chosen) → told_of by.told after.kept ≡ told_of by.told before.kept → told_of by.table after.kept ≡ told_of by.table before.kept →
       Tied w before bound past → Tied w' after bound (followed_by bound past (Redo moment))
-  tied_redo w w' before after bound moment past ticket is row choices same tabs tied =
+  tied_redo w w' before after bound moment past ticket are is row choices same tabs tied =
       let now = max past.now moment in
       let e : Entry = record { event = Redo moment; moment = now; ticket = None } in
       subst (λ (o : Option ℕ). Tied w' after bound (record { now = now; marks = option_map_or (restore past.marks) o past.marks; log = past.log ++ e ∷ [] }))
       (sym (redo_reaches w before after bound past ticket tied is))
-      (redone_now w w' before after bound now past e ticket (omega arith) refl refl is row choices same tabs tied)
+      (redone_now w w' before after bound now past e ticket (omega arith) refl refl are is row choices same tabs tied)
+
+  redone_of_now : (w w' : W) (before after : Changes S) (bound now : ℕ) (past : Past) (e : Entry) (t : ℕ) (outcome : Outcome) → past.now ≤ now →
+      deed_of e.event e.moment e.ticket ≡ None → given_of e.event e.ticket ≡ None → AreChanges by.table before →
+      IsRedoOf by.table before t outcome after → IsRowAfter by.table by.keeps by.face same_face any w before.kept w' after.kept →
+      ((chosen : ℕ → Bool) → IsChoice by.table after.kept chosen → IsChoice by.table before.kept chosen) → told_of by.told after.kept ≡ told_of by.told before.kept → told_of by.table after.kept ≡ told_of by.table before.kept →
+      Tied w before bound past → Tied w' after bound (record { now = now; marks = option_map_or (restore past.marks) (moved_by outcome t) past.marks; log = past.log ++ e ∷ [] })
+  redone_of_now w w' before after bound now past e t Moved less no_deed no_command are is row choices same tabs tied =
+      put_back_now w w' before after bound now past e t less no_deed no_command are is.1 row choices same tabs tied
+  redone_of_now w w' before after bound now past e t NotKept less no_deed no_command are is row choices same tabs tied =
+      unmoved w w' before after bound now past e less no_deed no_command is.1 row same tabs tied
+  redone_of_now w w' before after bound now past e t (Buried other) less no_deed no_command are is row choices same tabs tied =
+      unmoved w w' before after bound now past e less no_deed no_command is.2 row same tabs tied
+
+  pub tied_redo_of : (w w' : W) (before after : Changes S) (bound moment : ℕ) (past : Past) (t : ℕ) (outcome : Outcome) → AreChanges by.table before →
+      IsRedoOf by.table before t outcome after → IsRowAfter by.table by.keeps by.face same_face any w before.kept w' after.kept →
+      ((chosen : ℕ → Bool) → IsChoice by.table after.kept chosen → IsChoice by.table before.kept chosen) → told_of by.told after.kept ≡ told_of by.told before.kept → told_of by.table after.kept ≡ told_of by.table before.kept →
+      Tied w before bound past → Tied w' after bound (followed_by bound past (RedoOf moment t))
+  tied_redo_of w w' before after bound moment past t outcome are is row choices same tabs tied =
+      let now = max past.now moment in
+      let e : Entry = record { event = RedoOf moment t; moment = now; ticket = None } in
+      subst (λ (o : Option ℕ). Tied w' after bound (record { now = now; marks = option_map_or (restore past.marks) o past.marks; log = past.log ++ e ∷ [] }))
+      (redo_of_moves by.table by.told before after past t outcome are tied.done tied.undone tied.given tied.tables is)
+      (redone_of_now w w' before after bound now past e t outcome (omega arith) refl refl are is row choices same tabs tied)
 
   -- ---- what changes no command
 
@@ -241,7 +299,7 @@ module _ {W S : Type 0} (by : Ghosts W Tables S Command) where
         cells = tied.cells;
         stands = stands;
         done = ap done_of same ∙ tied.done;
-        undone = ap undone_of same ∙ tied.undone;
+        undone = ap (λ (x : Changes S). x.undone) same ∙ tied.undone;
         tickets = ap (λ (x : Changes S). x.tickets) same ∙ tied.tickets;
         limit = ap (λ (x : Changes S). x.limit) same ∙ tied.limit;
         given = subst (λ (x : Changes S). AreGiven by.told x past) (sym same) tied.given;
@@ -345,11 +403,11 @@ module _ {W S : Type 0} (by : Ghosts W Tables S Command) where
 
   made_now : (w w' : W) (before after : Changes S) (bound now moment : ℕ) (command : Command) (past : Past) (ticket : ℕ) (tables : Tables → Tables) (empties : Question → Bool) (said : Command) (tab : Option ℕ) →
       past.now ≤ now → ((t : Tables) → tables t ≡ after_command_on command t) → ((q : Question) → empties q ≡ covers command q) → said ≡ command → tab ≡ table_of command →
-      AreChanges before → IsChange before ticket after →
+      AreChanges by.table before → IsChange before ticket after →
       IsRowAfter by.table by.keeps by.face (where_chosen ticket (effect tables empties)) (IsPresent (settled_by before)) w before.kept w' after.kept →
       ((chosen : ℕ → Bool) → IsPresent (settled_by before) chosen → IsChoice by.table after.kept chosen → IsChoice by.table before.kept chosen) →
-      told_of by.told after.kept ≡ newest before.limit (take before.done (told_of by.told before.kept) ++ (ticket, said) ∷ []) →
-      told_of by.table after.kept ≡ newest before.limit (take before.done (told_of by.table before.kept) ++ (ticket, tab) ∷ []) →
+      told_of by.told after.kept ≡ newest before.limit (told_of by.told (in_effect before.kept) ++ (ticket, said) ∷ []) →
+      told_of by.table after.kept ≡ newest before.limit (told_of by.table (in_effect before.kept) ++ (ticket, tab) ∷ []) →
       Tied w before bound past → Tied w' after bound (record {
         now = now;
         marks = after_command bound past.marks;
@@ -372,19 +430,19 @@ module _ {W S : Type 0} (by : Ghosts W Tables S Command) where
         tickets = is.tickets ∙ tick;
         limit = is.limit ∙ tied.limit;
         given = now_given by.told before after past now (after_command bound past.marks) e command refl refl
-            (kept ∙ (λ i. newest before.limit (take before.done (told_of by.told before.kept) ++ (tick i, same_said i) ∷ []))) tied.given;
+            (kept ∙ (λ i. newest before.limit (told_of by.told (in_effect before.kept) ++ (tick i, same_said i) ∷ []))) tied.given;
         tables = tabs
-            ∙ (λ i. newest before.limit (take before.done (tied.tables i) ++ (ticket, (same_tab ∙ sym (ap table_of same_said)) i) ∷ []))
-            ∙ sym (newest_map one_table before.limit before.done (told_of by.told before.kept) (ticket, said)) ∙ sym (ap tables_told kept);
+            ∙ (λ i. newest before.limit (tables_in_effect by.table by.told before.kept tied.tables i ++ (ticket, (same_tab ∙ sym (ap table_of same_said)) i) ∷ []))
+            ∙ sym (newest_map one_table before.limit (told_of by.told (in_effect before.kept)) (ticket, said)) ∙ sym (ap tables_told kept);
       }
 
   pub tied_made : (w w' : W) (before after : Changes S) (bound moment : ℕ) (command : Command) (past : Past) (ticket : ℕ) (tables : Tables → Tables) (empties : Question → Bool) (said : Command) (tab : Option ℕ) →
       ((t : Tables) → tables t ≡ after_command_on command t) → ((q : Question) → empties q ≡ covers command q) → said ≡ command → tab ≡ table_of command → reason_of past command ≡ None →
-      AreChanges before → IsChange before ticket after →
+      AreChanges by.table before → IsChange before ticket after →
       IsRowAfter by.table by.keeps by.face (where_chosen ticket (effect tables empties)) (IsPresent (settled_by before)) w before.kept w' after.kept →
       ((chosen : ℕ → Bool) → IsPresent (settled_by before) chosen → IsChoice by.table after.kept chosen → IsChoice by.table before.kept chosen) →
-      told_of by.told after.kept ≡ newest before.limit (take before.done (told_of by.told before.kept) ++ (ticket, said) ∷ []) →
-      told_of by.table after.kept ≡ newest before.limit (take before.done (told_of by.table before.kept) ++ (ticket, tab) ∷ []) →
+      told_of by.told after.kept ≡ newest before.limit (told_of by.told (in_effect before.kept) ++ (ticket, said) ∷ []) →
+      told_of by.table after.kept ≡ newest before.limit (told_of by.table (in_effect before.kept) ++ (ticket, tab) ∷ []) →
       Tied w before bound past → Tied w' after bound (followed_by bound past (Do moment command))
   tied_made w w' before after bound moment command past ticket tables empties said tab same_tables same_cells same_said same_tab accepted are is row choices kept tabs tied =
       let now = max past.now moment in
@@ -398,7 +456,7 @@ module _ {W S : Type 0} (by : Ghosts W Tables S Command) where
   -- ---- what is shown
 
   pub tied_shows : ((w : W) (kept : List (KeptChange S)) (chosen : ℕ → Bool) → by.keeps w kept → IsPresent kept chosen → IsSame (by.face w kept chosen) (by.shown w)) →
-      (w : W) (changes : Changes S) (bound : ℕ) (past : Past) → AreChanges changes → Tied w changes bound past → IsSameAt past.now (by.shown w) (face_of (is_unstruck past.marks) past.log)
+      (w : W) (changes : Changes S) (bound : ℕ) (past : Past) → AreChanges by.table changes → Tied w changes bound past → IsSameAt past.now (by.shown w) (face_of (is_unstruck past.marks) past.log)
   tied_shows shows w changes bound past are tied =
       same_at_then (stands_shown by.has_cells by.table by.keeps by.face empty_face by.shown shows w changes past.now (deeds_of past.log) (is_struck past.marks) are tied.stands)
       (same_at past.now (face_by by.has_cells (is_unstruck past.marks) empty_face (deeds_of past.log)) (face_of (is_unstruck past.marks) past.log)

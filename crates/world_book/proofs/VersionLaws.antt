@@ -1,6 +1,6 @@
 -- The versions of a past are faces of the world that it comes to; and an event that needs no memory there needs none here.
-use Rattle.std.proofs.Common.{◌≡◌, ◌≢◌, ℕ, ◌-◌, ◌≤◌, Bool, false, Option, Some, None, List, [], ◌∷◌, zero, suc, length, take, drop, map, refl, sym, ap, subst, ◌∙◌, arith}
-use Rattle.std.specs.Prelude.{reverse, slice_get, IfSome}
+use Rattle.std.proofs.Common.{◌≡◌, ◌≢◌, ℕ, ◌-◌, ◌≤◌, Bool, true, false, Option, Some, None, List, [], ◌∷◌, zero, suc, length, take, drop, map, refl, sym, ap, subst, ◌∙◌, arith}
+use Rattle.std.specs.Prelude.{if◌then◌else◌}
 use Rattle.std.specs.List.{AllByRecursion}
 use Rattle.dns_name.specs.Labels.{Labels}
 use Rattle.dns_text.specs.declared.record.Question.{Question}
@@ -12,11 +12,10 @@ use Rattle.change_law.specs.declared.world.World.{Ghosts}
 use Rattle.change_law.specs.Choice.{AllowsAt, AreLeftOut, IsChoice, IsOneTable}
 use Rattle.change_law.specs.Face.{IsSame, IsSameAt, alive_at}
 use Rattle.change_law.specs.Pairs.{IsAliveIn}
-use Rattle.undo_journal.specs.Journal.{Changes, AreChanges, tickets_of, told_of}
+use Rattle.undo_journal.specs.Journal.{Changes, AreChanges, NeedsNone, done_of, is_among, tickets_of, told_of}
 use Rattle.course.specs.Course.{IsFair, face_by}
-use Rattle.course.specs.CourseLaws.{length_taken, map_length, same_at, same_at_later, same_at_then}
-use Rattle.dns_name.specs.ListLaws.{all-append, all_weaker}
-use Rattle.std.proofs.lemmas.List.{take-append-drop}
+use Rattle.course.specs.CourseLaws.{same_at, same_at_later, same_at_then}
+use Rattle.dns_name.specs.ListLaws.{all_weaker}
 use Rattle.history.specs.declared.event.Command.{Command}
 use Rattle.history.specs.declared.event.Journalled.{Journalled}
 use Rattle.history.specs.declared.tables.Tables.{Tables}
@@ -29,54 +28,13 @@ use Rattle.world_book.specs.Tied.{IsTied, tables_told}
 use Rattle.world_book.specs.Versions.{table_of, IsChoiceOf, IsAliveInVersion, IsFlush}
 use Rattle.world_book.proofs.DeedLaws.{deeds_show}
 use Rattle.world_book.proofs.HeldLaws.{held_commands}
-use Rattle.world_book.proofs.MarkLaws.{last_push, turned}
-
--- ---- places of a list
-
-all_at : {X : Type 0} (P : X → Type 0) (xs : List X) (i : ℕ) (x : X) → AllByRecursion P xs → slice_get xs i ≡ Some x → P x
-all_at P [] i x all is = absurd cc
-all_at P (y ∷ xs) zero x all is = let same : y ≡ x = cc in subst P same all.0
-all_at P (y ∷ xs) (suc i) x all is = all_at P xs i x all.1 is
-
-map_at : {X Y : Type 0} (f : X → Y) (xs : List X) (i : ℕ) (x : X) → slice_get xs i ≡ Some x → slice_get (map f xs) i ≡ Some (f x)
-map_at f [] i x is = absurd cc
-map_at f (y ∷ xs) zero x is = let same : y ≡ x = cc in ap (λ z. Some (f z)) same
-map_at f (y ∷ xs) (suc i) x is = map_at f xs i x is
-
-taken_at : {X : Type 0} (n : ℕ) (xs : List X) (i : ℕ) (x : X) → slice_get (take n xs) i ≡ Some x → slice_get xs i ≡ Some x
-taken_at zero xs i x is = absurd cc
-taken_at (suc n) [] i x is = absurd cc
-taken_at (suc n) (y ∷ xs) zero x is = is
-taken_at (suc n) (y ∷ xs) (suc i) x is = taken_at n xs i x is
-
-dropped_at : {X : Type 0} (xs : List X) (n : ℕ) (x : X) → slice_get xs n ≡ Some x → (rest : List X) × (drop n xs ≡ x ∷ rest)
-dropped_at [] n x is = absurd cc
-dropped_at (y ∷ xs) zero x is = let same : y ≡ x = cc in (xs, ap (λ z. z ∷ xs) same)
-dropped_at (y ∷ xs) (suc n) x is = dropped_at xs n x is
-
-if_some : {X : Type 0} (P : X → Type 0) (o : Option X) → ((x : X) → o ≡ Some x → P x) → IfSome o P
-if_some P None h = tt
-if_some P (Some x) h = h x refl
+pub use Rattle.world_book.proofs.WayLaws.{HasTable}
+use Rattle.world_book.proofs.WayLaws.{have_tables}
 
 -- ---- the tables of the kept changes
 
-abbrev first_table : List (ℕ × Option ℕ) → Option ℕ
-first_table [] = None
-first_table (one ∷ ones) = one.1
-
-abbrev other_tables : List (ℕ × Option ℕ) → List (ℕ × Option ℕ)
-other_tables [] = []
-other_tables (one ∷ ones) = ones
-
 module _ {S : Type 0} (table : S → Option ℕ) (told : S → Command) where
-  abbrev pub HasTable : KeptChange S → Type 0
-  HasTable k = table k.saved ≡ table_of (told k.saved)
-
-  have_tables : (kept : List (KeptChange S)) → told_of table kept ≡ tables_told (told_of told kept) → AllByRecursion HasTable kept
-  have_tables [] e = tt
-  have_tables (k ∷ kept) e = (ap first_table e, have_tables kept (ap other_tables e))
-
-  left_out : (chosen : ℕ → Bool) (k : KeptChange S) (later : List (KeptChange S)) → HasTable k → AllByRecursion HasTable later →
+  left_out : (chosen : ℕ → Bool) (k : KeptChange S) (later : List (KeptChange S)) → HasTable table told k → AllByRecursion (HasTable table told) later →
       AllByRecursion (λ other. IsOneTable (table_of (told k.saved)) (table_of other.command) → chosen other.ticket ≡ false) (held_in told later) → AreLeftOut table chosen k.saved later
   left_out chosen k [] e tables out = tt
   left_out chosen k (j ∷ later) e tables out =
@@ -89,7 +47,7 @@ module _ {S : Type 0} (table : S → Option ℕ) (told : S → Command) where
   allowed chosen k later Undone not_cleared h = h
   allowed chosen k later Cleared not_cleared h = absurd (not_cleared refl)
 
-  choice_of : (chosen : ℕ → Bool) (kept : List (KeptChange S)) → AllByRecursion (λ k. k.standing ≢ Cleared) kept → AllByRecursion HasTable kept →
+  choice_of : (chosen : ℕ → Bool) (kept : List (KeptChange S)) → AllByRecursion (λ k. k.standing ≢ Cleared) kept → AllByRecursion (HasTable table told) kept →
       IsChoiceOf (held_in told kept) chosen → IsChoice table kept chosen
   choice_of chosen [] standing tables h = tt
   choice_of chosen (k ∷ kept) standing tables h =
@@ -100,29 +58,23 @@ module _ {S : Type 0} (table : S → Option ℕ) (told : S → Command) where
   absent_held t (k ∷ kept) h = (h.0, absent_held t kept h.1)
 
   -- a flush among the kept changes needs no memory
-  flush_needs : (needs : S → Bool) → ((saved : S) → table saved ≡ None → needs saved ≡ false) → (t : ℕ) (kept : List (KeptChange S)) → AllByRecursion HasTable kept →
+  flush_needs : (needs : S → Bool) → ((saved : S) → table saved ≡ None → needs saved ≡ false) → (t : ℕ) (kept : List (KeptChange S)) → AllByRecursion (HasTable table told) kept →
       AllByRecursion (λ held. held.ticket ≡ t → table_of held.command ≡ None) (held_in told kept) → AllByRecursion (λ k. k.ticket ≡ t → needs k.saved ≡ false) kept
   flush_needs needs law t [] tables h = tt
   flush_needs needs law t (k ∷ kept) tables h =
       let here : table k.saved ≡ table_of (told k.saved) = tables.0 in
       (λ e. law k.saved (here ∙ h.0 e), flush_needs needs law t kept tables.1 h.1)
 
-done_not_cleared : (s : Standing) → s ≡ Done → s ≢ Cleared
-done_not_cleared s e f = let both : Done ≡ Cleared = sym e ∙ f in absurd cc
+not_cleared : (s : Standing) (b : Bool) → s ≡ (if b then Undone else Done) → s ≢ Cleared
+not_cleared s true e f = let both : Undone ≡ Cleared = sym e ∙ f in absurd cc
+not_cleared s false e f = let both : Done ≡ Cleared = sym e ∙ f in absurd cc
 
-undone_not_cleared : (s : Standing) → s ≡ Undone → s ≢ Cleared
-undone_not_cleared s e f = let both : Undone ≡ Cleared = sym e ∙ f in absurd cc
+pub none_cleared : {S : Type 0} (table : S → Option ℕ) (changes : Changes S) → AreChanges table changes → AllByRecursion (λ k. k.standing ≢ Cleared) changes.kept
+none_cleared table changes are = all_weaker _ _ (λ k e. not_cleared k.standing (is_among changes.undone k.ticket) e) changes.kept are.standings
 
-pub none_cleared : {S : Type 0} (changes : Changes S) → AreChanges changes → AllByRecursion (λ k. k.standing ≢ Cleared) changes.kept
-none_cleared {S} changes are =
-    subst (λ (l : List (KeptChange S)). AllByRecursion (λ k. k.standing ≢ Cleared) l) (take-append-drop changes.done changes.kept)
-    (all-append (λ k. k.standing ≢ Cleared) (take changes.done changes.kept) (drop changes.done changes.kept)
-    (all_weaker (λ k. k.standing ≡ Done) (λ k. k.standing ≢ Cleared) (λ k e. done_not_cleared k.standing e) (take changes.done changes.kept) are.first)
-    (all_weaker (λ k. k.standing ≡ Undone) (λ k. k.standing ≢ Cleared) (λ k e. undone_not_cleared k.standing e) (drop changes.done changes.kept) are.others))
-
-module _ {W S : Type 0} (by : Ghosts W Tables S Command) (w : W) (changes : Changes S) (bound : ℕ) (past : Past) (are : AreChanges changes) (tied : IsTied by w changes bound past) where
+module _ {W S : Type 0} (by : Ghosts W Tables S Command) (w : W) (changes : Changes S) (bound : ℕ) (past : Past) (are : AreChanges by.table changes) (tied : IsTied by w changes bound past) where
   pub held_commands_of : held_in by.told changes.kept ≡ commands_of past
-  held_commands_of = held_commands by.told changes past are tied.stands.ascending tied.done tied.undone tied.given
+  held_commands_of = held_commands by.table by.told changes past are tied.done tied.undone tied.given
 
   pub tables_kept : AllByRecursion (HasTable by.table by.told) changes.kept
   tables_kept = have_tables by.table by.told changes.kept tied.tables
@@ -144,7 +96,7 @@ module _ {W S : Type 0} (by : Ghosts W Tables S Command) (w : W) (changes : Chan
   alive_in_face t pair less alive =
       let chosen = alive.chosen in
       let choice : IsChoice by.table changes.kept chosen
-      = choice_of by.table by.told chosen changes.kept (none_cleared changes are) tables_kept
+      = choice_of by.table by.told chosen changes.kept (none_cleared by.table changes are) tables_kept
       (subst (λ (l : List Journalled). IsChoiceOf l chosen) (sym held_commands_of) alive.version.journal) in
       let fair : IsFair changes (is_struck past.marks) chosen
       = λ ticket given absent. alive.version.others ticket
@@ -163,37 +115,15 @@ module _ {W S : Type 0} (by : Ghosts W Tables S Command) (w : W) (changes : Chan
 
   -- ---- an undo or a redo of a flush
 
-  no_memory : ((saved : S) → by.table saved ≡ None → by.needs_memory saved ≡ false) → (t : ℕ) → IsFlush past t → AllByRecursion (λ k. k.ticket ≡ t → by.needs_memory k.saved ≡ false) changes.kept
+  pub no_memory : ((saved : S) → by.table saved ≡ None → by.needs_memory saved ≡ false) → (t : ℕ) → IsFlush past t → AllByRecursion (λ k. k.ticket ≡ t → by.needs_memory k.saved ≡ false) changes.kept
   no_memory law t flush =
       flush_needs by.table by.told by.needs_memory law t changes.kept tables_kept
       (subst (λ (l : List Journalled). AllByRecursion (λ held. held.ticket ≡ t → table_of held.command ≡ None) l) (sym held_commands_of) flush)
 
   pub undo_free : ((saved : S) → by.table saved ≡ None → by.needs_memory saved ≡ false) → (t : ℕ) → last_of past.marks.done ≡ Some t → IsFlush past t →
-      IfSome (slice_get changes.kept (changes.done - 1)) (λ last. by.needs_memory last.saved ≡ false)
-  undo_free law t last flush =
-      if_some (λ k. by.needs_memory k.saved ≡ false) (slice_get changes.kept (changes.done - 1))
-      (λ k is. all_at (λ k. k.ticket ≡ t → by.needs_memory k.saved ≡ false) changes.kept (changes.done - 1) k (no_memory law t flush) is (reached k is))
-    where
-      all : List ℕ
-      all = tickets_of changes.kept
-
-      long : length (take changes.done all) ≡ changes.done
-      long = length_taken changes.done all (omega (arith, are.within, map_length (λ (k : KeptChange S). k.ticket) changes.kept))
-
-      at : slice_get all (changes.done - 1) ≡ Some t
-      at = taken_at changes.done all (changes.done - 1) t (ap (λ (n : ℕ). slice_get (take changes.done all) (n - 1)) (sym long) ∙ ap last_of tied.done ∙ last)
-
-      reached : (k : KeptChange S) → slice_get changes.kept (changes.done - 1) ≡ Some k → k.ticket ≡ t
-      reached k is = let both : Some k.ticket ≡ Some t = sym (map_at (λ (k : KeptChange S). k.ticket) changes.kept (changes.done - 1) k is) ∙ at in cc
+      (ticket : ℕ) × (last_of (done_of changes) ≡ Some ticket) × NeedsNone by.needs_memory changes.kept ticket
+  undo_free law t last flush = (t, ap last_of tied.done ∙ last, no_memory law t flush)
 
   pub redo_free : ((saved : S) → by.table saved ≡ None → by.needs_memory saved ≡ false) → (t : ℕ) → last_of past.marks.undone ≡ Some t → IsFlush past t →
-      IfSome (slice_get changes.kept changes.done) (λ next. by.needs_memory next.saved ≡ false)
-  redo_free law t last flush =
-      if_some (λ k. by.needs_memory k.saved ≡ false) (slice_get changes.kept changes.done)
-      (λ k is. all_at (λ k. k.ticket ≡ t → by.needs_memory k.saved ≡ false) changes.kept changes.done k (no_memory law t flush) is (reached k is))
-    where
-      reached : (k : KeptChange S) → slice_get changes.kept changes.done ≡ Some k → k.ticket ≡ t
-      reached k is =
-          let rest = dropped_at (tickets_of changes.kept) changes.done k.ticket (map_at (λ (k : KeptChange S). k.ticket) changes.kept changes.done k is) in
-          let both : Some t ≡ Some k.ticket = sym last ∙ ap last_of (turned past.marks.undone k.ticket rest.0 (sym tied.undone ∙ rest.1)) ∙ last_push (reverse rest.0) k.ticket in
-          cc
+      (ticket : ℕ) × (last_of changes.undone ≡ Some ticket) × NeedsNone by.needs_memory changes.kept ticket
+  redo_free law t last flush = (t, ap last_of tied.undone ∙ last, no_memory law t flush)

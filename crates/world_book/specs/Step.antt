@@ -1,20 +1,22 @@
 -- What a step does to a world under its journal.
-use Rattle.std.specs.Prelude.{◌≡◌, ◌≤◌, ◌+◌, ◌-◌, ℕ, Bool, false, List, IfSome, IsTrue, slice_get}
+use Rattle.std.specs.Prelude.{◌≡◌, ◌≤◌, ◌+◌, ℕ, Bool, List, Some, IsTrue}
 use Rattle.dns_name.specs.Labels.{Labels}
 use Rattle.change_law.specs.declared.world.World.{Ghosts}
 use Rattle.change_law.specs.Pairs.{AddsPairs, CountsNoneOf}
 use Rattle.ranked.specs.declared.cell.Fate.{Fate}
 use Rattle.ranked.specs.declared.cell.Fate.TheVariants as fate
 use Rattle.ranked.specs.declared.find.Scope.{Scope}
-use Rattle.undo_journal.specs.Journal.{Changes}
+use Rattle.undo_journal.specs.declared.outcome.Outcome.{Outcome}
+use Rattle.undo_journal.specs.declared.outcome.Outcome.TheVariants as outcome
+use Rattle.undo_journal.specs.Journal.{Changes, NeedsNone, done_of, last_of}
 use Rattle.history.specs.declared.book.StepFault.{StepFault}
 use Rattle.history.specs.declared.book.StepFault.TheVariants.{Full, NoMemory}
 use Rattle.history.specs.declared.event.Event.{Event}
-use Rattle.history.specs.declared.event.Event.TheVariants.{Sweep, Forget, Undo, Redo}
+use Rattle.history.specs.declared.event.Event.TheVariants.{Sweep, Forget, Undo, Redo, UndoOf, RedoOf}
 use Rattle.history.specs.declared.event.Reason.{Reason}
 use Rattle.history.specs.declared.event.Reason.TheVariants.{BelowRedirect, DataBelow, CnameClash, TooMany}
 use Rattle.history.specs.declared.event.Reply.{Reply}
-use Rattle.history.specs.declared.event.Reply.TheVariants.{Taken, Outranked}
+use Rattle.history.specs.declared.event.Reply.TheVariants.{Taken, Outranked, Undone, Redone, NotKept, Buried}
 use Rattle.history.specs.Event.{is_admission}
 
 -- The world keeps what the journal has, and knows of no later ticket.
@@ -53,10 +55,24 @@ IsFaultOf by world event NoMemory = Unit {0}
 IsFaultOf by world event (Full n) = IsTrue (is_admission event) × (by.stored world ≡ n) × (by.limit world ≡ n)
 IsFaultOf by world event _ = ⊥
 
+-- the reply to an undo of a ticket, by what it did
+abbrev pub undo_told : Outcome → ℕ → Reply
+undo_told outcome.Moved ticket = Undone ticket
+undo_told outcome.NotKept ticket = NotKept
+undo_told (outcome.Buried other) ticket = Buried other
+
+-- the reply to a redo of a ticket, by what it did
+abbrev pub redo_told : Outcome → ℕ → Reply
+redo_told outcome.Moved ticket = Redone ticket
+redo_told outcome.NotKept ticket = NotKept
+redo_told (outcome.Buried other) ticket = Buried other
+
 -- An event that wants no memory: a sweep, a forget, and an undo or a redo whose change wants none.
 abbrev pub IsFree : {S : Type 0} → (S → Bool) → Changes S → Event → Type 0
 IsFree needs changes (Sweep moment) = Unit {0}
 IsFree needs changes (Forget moment owner) = Unit {0}
-IsFree needs changes (Undo moment) = IfSome (slice_get changes.kept (changes.done - 1)) (λ last. needs last.saved ≡ false)
-IsFree needs changes (Redo moment) = IfSome (slice_get changes.kept changes.done) (λ next. needs next.saved ≡ false)
+IsFree needs changes (Undo moment) = (ticket : ℕ) × (last_of (done_of changes) ≡ Some ticket) × NeedsNone needs changes.kept ticket
+IsFree needs changes (Redo moment) = (ticket : ℕ) × (last_of changes.undone ≡ Some ticket) × NeedsNone needs changes.kept ticket
+IsFree needs changes (UndoOf moment ticket) = NeedsNone needs changes.kept ticket
+IsFree needs changes (RedoOf moment ticket) = NeedsNone needs changes.kept ticket
 IsFree needs changes event = ⊥

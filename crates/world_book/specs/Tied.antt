@@ -1,9 +1,9 @@
 -- What ties a world under its journal to a past.
-use Rattle.std.specs.Prelude.{◌≡◌, ℕ, ◌<◌, ◌≤◌, max, true, Option, Some, List, [], map, reverse, Result, IsOk}
+use Rattle.std.specs.Prelude.{◌≡◌, ℕ, ◌<◌, ◌≤◌, max, true, Option, Some, List, [], map, Result, IsOk}
 use Rattle.std.specs.List.{AllByRecursion, Contains}
 use Rattle.change_law.specs.declared.world.World.{Ghosts}
 use Rattle.change_law.specs.Pairs.{AddsPairs}
-use Rattle.undo_journal.specs.Journal.{Changes, done_of, undone_of, told_of}
+use Rattle.undo_journal.specs.Journal.{Changes, done_of, told_of}
 use Rattle.course.specs.Course.{AreAscending, Stands}
 use Rattle.history.specs.declared.event.Command.{Command}
 use Rattle.history.specs.declared.event.Event.{Event}
@@ -34,7 +34,7 @@ pub record IsTied {W S : Type 0} (by : Ghosts W Tables S Command) (world : W) (c
   pub cells : by.has_cells ≡ true
   pub stands : Stands by.has_cells by.table by.keeps by.face empty_face world changes past.now (deeds_of past.log) (is_struck past.marks)
   pub done : done_of changes ≡ past.marks.done
-  pub undone : undone_of changes ≡ reverse past.marks.undone  -- what was undone last is the first that a redo reaches
+  pub undone : changes.undone ≡ past.marks.undone
   pub tickets : changes.tickets ≡ past.marks.tickets
   pub limit : changes.limit ≡ bound
   pub given : AreGiven by.told changes past

@@ -11,12 +11,11 @@ use Rattle.change_law.specs.Choice.{IsOneTable}
 use Rattle.change_law.specs.Face.{alive_at}
 pub use Rattle.change_law.specs.Pairs.{count_pairs}
 use Rattle.change_law.specs.Pairs.{pair_of}
-use Rattle.history.specs.declared.event.Command.{Command}
-use Rattle.history.specs.declared.event.Command.TheVariants.{SetZone, DropZone, AddRecord, DropName, SetStub, DropStub}
 use Rattle.history.specs.declared.event.Event.{Event}
-use Rattle.history.specs.declared.event.Event.TheVariants.{Admit, Sweep, Forget, Undo, Redo}
+use Rattle.history.specs.declared.event.Event.TheVariants.{Admit, Sweep, Forget, Undo, Redo, UndoOf, RedoOf}
 use Rattle.history.specs.declared.event.Journalled.{Journalled}
 use Rattle.history.specs.History.{Past, is_unstruck, past_of}
+pub use Rattle.history.specs.Journal.{table_of}
 use Rattle.history.specs.Journal.{commands_of}
 use Rattle.history.specs.Marks.{last_of}
 use Rattle.history.specs.Oldest.{IsOldest}
@@ -35,16 +34,6 @@ finds_left history = fold finds_after [] history
 -- the pairs of these finds: of each its owner and its scope
 abbrev pub pairs_left : List Event → List (Labels × Scope)
 pairs_left history = map pair_of (finds_left history)
-
--- the number of the table that a command changes: 1 is that of local zones and records, 2 that of stubs; a flush changes none
-abbrev pub table_of : Command → Option ℕ
-table_of (SetZone name kind) = Some 1
-table_of (DropZone name) = Some 1
-table_of (AddRecord new) = Some 1
-table_of (DropName name) = Some 1
-table_of (SetStub new) = Some 2
-table_of (DropStub name) = Some 2
-table_of command = None
 
 -- With a command of a table, all earlier ones of that table are chosen. A flush is free.
 abbrev pub IsChoiceOf : List Journalled → (ℕ → Bool) → Type 0
@@ -74,12 +63,14 @@ AreAliveAfter bound history pairs = AllByRecursion (IsAliveInVersion (past_of bo
 abbrev pub IsFlush : Past → ℕ → Type 0
 IsFlush past ticket = AllByRecursion (λ held. held.ticket ≡ ticket → table_of held.command ≡ None) (commands_of past)
 
--- An event that needs no memory: a sweep, a forget, an undo or a redo that reaches a flush, and an admission whose pair is alive in some version. (A look and a command may need memory.)
+-- An event that needs no memory: a sweep, a forget, an undo or a redo that reaches or names a flush, and an admission whose pair is alive in some version. (A look and a command may need memory.)
 abbrev pub IsFreeIn : Past → Event → Type 0
 IsFreeIn past (Sweep moment) = Unit {0}
 IsFreeIn past (Forget moment owner) = Unit {0}
 IsFreeIn past (Undo moment) = (ticket : ℕ) × (last_of past.marks.done ≡ Some ticket) × IsFlush past ticket
 IsFreeIn past (Redo moment) = (ticket : ℕ) × (last_of past.marks.undone ≡ Some ticket) × IsFlush past ticket
+IsFreeIn past (UndoOf moment ticket) = IsFlush past ticket
+IsFreeIn past (RedoOf moment ticket) = IsFlush past ticket
 IsFreeIn past (Admit moment find) = IsAliveInVersion past (max past.now moment) (pair_of find)
 IsFreeIn past event = ⊥
 

@@ -1,12 +1,13 @@
 //! The commands of a journal, the oldest first.
 
 ghost use Rattle.std.specs.Prelude.{◌≡◌, ◌++◌, take, drop, IfOk, OnOk};
+ghost use Rattle.history.specs.Journal.{buried_in};
 ghost use Rattle.world_book.specs.Held.{held_in, held_one};
 
 use crate::world::{BookChange, BookWorld};
 use change_law::{Change, KeptChange, Standing, World};
 use dns_name::NoMemory;
-use history::Journalled;
+use history::{BuriedCommand, Journalled, buried};
 use std::alloc::Global;
 use undo_journal::Journal;
 
@@ -22,6 +23,17 @@ pub(crate) fn commands<C: BookChange>(
         push_held(journal, place, &mut commands)?;
     }
     Ok(commands)
+}
+
+/// Those of them that another must be undone, or redone, before.
+pub(crate) fn buried_commands<C: BookChange>(
+    alloc: Global,
+    journal: &Journal<C>,
+) -> Result<Vec<BuriedCommand>, NoMemory>
+    ensures { IfOk result (λ v. v.items ≡ buried_in (held_in C.World.told journal.now.kept)) }
+{
+    let commands = commands(alloc, journal)?;
+    buried(alloc, commands.as_slice())
 }
 
 /// Adds the command at a place, if there is one.

@@ -8,7 +8,7 @@ ghost use Rattle.world_book.specs.Versions.{pairs_left};
 
 use crate::finds::{admit, forget, sweep};
 use crate::given::give;
-use crate::moves::{redo, undo};
+use crate::moves::{redo, redo_of, undo, undo_of};
 use crate::seen::seen;
 use crate::world::BookChange;
 use history::{Event, Reply, Settings, StepFault};
@@ -55,5 +55,7 @@ pub(crate) fn obey<C: BookChange>(
         Event::Do { command, .. } => Ok(give(journal, world, command)?),
         Event::Undo { .. } => Ok(undo(journal, world)?),
         Event::Redo { .. } => Ok(redo(journal, world)?),
+        Event::UndoOf { ticket, .. } => Ok(undo_of(journal, world, ticket)?),
+        Event::RedoOf { ticket, .. } => Ok(redo_of(journal, world, ticket)?),
     }
 }

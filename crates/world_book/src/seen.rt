@@ -6,7 +6,7 @@ ghost use Rattle.history.specs.Oldest.{IsOldest};
 ghost use Rattle.history.specs.Reply.{seen_of};
 ghost use Rattle.world_book.specs.Tied.{IsTied};
 
-use crate::commands::commands;
+use crate::commands::{buried_commands, commands};
 use crate::world::{BookChange, BookWorld};
 use change_law::World;
 use dns_name::{Name, NoMemory};
@@ -59,6 +59,7 @@ pub(crate) fn seen<C: BookChange>(
         )?))),
         Ask::Stubs => Ok(Seen::Stubs(Items::new(share_stubs(alloc, tables.stubs.stubs())?))),
         Ask::Commands => Ok(Seen::Commands(Items::new(commands(alloc, journal)?))),
+        Ask::Buried => Ok(Seen::Buried(Items::new(buried_commands(alloc, journal)?))),
         Ask::Servers(name) => {
             let found = closest_servers(alloc, settings, world, &tables.stubs, name, clock)?;
             Ok(Seen::Servers(Shared::new(alloc, found)?))

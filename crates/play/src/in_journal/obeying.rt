@@ -13,6 +13,7 @@ use local_zone::Local;
 use std::alloc::Global;
 use streams::Text;
 use table_changes::TableChange;
+use undo_journal::Outcome;
 
 /// The reason that a change tells by this number.
 fn reason_coded(code: u8) -> Reason {
@@ -49,6 +50,22 @@ fn redo(tables: &mut Undoable<TableChange>) -> Result<Reply, Stop> {
     }
 }
 
+fn undo_of(tables: &mut Undoable<TableChange>, ticket: u64) -> Result<Reply, Stop> {
+    match tables.undo_of(ticket)? {
+        Outcome::Moved => Ok(Reply::Undone { ticket }),
+        Outcome::NotKept => Ok(Reply::NotKept),
+        Outcome::Buried { ticket } => Ok(Reply::Buried { ticket }),
+    }
+}
+
+fn redo_of(tables: &mut Undoable<TableChange>, ticket: u64) -> Result<Reply, Stop> {
+    match tables.redo_of(ticket)? {
+        Outcome::Moved => Ok(Reply::Redone { ticket }),
+        Outcome::NotKept => Ok(Reply::NotKept),
+        Outcome::Buried { ticket } => Ok(Reply::Buried { ticket }),
+    }
+}
+
 fn answer(alloc: Global, tables: &Tables, question: &Question) -> Result<Seen, NoMemory> {
     match tables.local.answer(question) {
         Local::Pass => Ok(Seen::Unknown),
@@ -80,7 +97,7 @@ fn seen(alloc: Global, tables: &Tables, ask: &Ask) -> Result<Seen, Stop> {
         Ask::Zones => Ok(zones(alloc, tables)?),
         Ask::Records => Ok(records(alloc, tables)?),
         Ask::Stubs => Ok(stubs(alloc, tables)?),
-        Ask::Commands | Ask::Servers(_) | Ask::Oldest => Err(Stop::Device),
+        Ask::Commands | Ask::Buried | Ask::Servers(_) | Ask::Oldest => Err(Stop::Device),
     }
 }
 
@@ -93,6 +110,8 @@ fn reply(
         Request::Do(command) => make(tables, command),
         Request::Undo => undo(tables),
         Request::Redo => redo(tables),
+        Request::UndoOf { ticket } => undo_of(tables, *ticket),
+        Request::RedoOf { ticket } => redo_of(tables, *ticket),
         Request::Look(ask) => Ok(Reply::Seen(seen(alloc, tables.world().tables(), ask)?)),
         Request::Sweep | Request::Forget { .. } => Err(Stop::Device),
     }

@@ -6,7 +6,7 @@ use change_law::{Change, ChangeFault};
 use dns_name::NoMemory;
 use std::alloc::Global;
 use std::marker::Model;
-use undo_journal::Journal;
+use undo_journal::{Journal, Outcome};
 
 /// So many changes are made at most.
 const MOST_CHANGES: u64 = 1_000_000_000;
@@ -81,6 +81,22 @@ impl<C: Change> Undoable<C> {
         match self.journal.redo(&mut self.world) {
             Ok(Some(ticket)) => Ok(Some(ticket)),
             Ok(None) => Ok(None),
+            Err(e) => Err(e),
+        }
+    }
+
+    /// Undoes the change of a ticket, if it can be undone.
+    pub fn undo_of(&mut self, ticket: u64) -> Result<Outcome, NoMemory> {
+        match self.journal.undo_of(&mut self.world, ticket) {
+            Ok(outcome) => Ok(outcome),
+            Err(e) => Err(e),
+        }
+    }
+
+    /// Redoes the change of a ticket, if it can be redone.
+    pub fn redo_of(&mut self, ticket: u64) -> Result<Outcome, NoMemory> {
+        match self.journal.redo_of(&mut self.world, ticket) {
+            Ok(outcome) => Ok(outcome),
             Err(e) => Err(e),
         }
     }

@@ -3,17 +3,18 @@ use Rattle.std.proofs.Common.{◌≡◌, sym, ◌∙◌, ap}
 use Rattle.std.specs.Prelude.{OnOk}
 use Rattle.std.proofs.lemmas.Result.{on_ok_weaker}
 use Rattle.history.specs.declared.tables.Tables.{Tables}
-use Rattle.history.specs.declared.event.Event.TheVariants.{Do, Undo, Redo}
+use Rattle.history.specs.declared.event.Event.TheVariants.{Do, Undo, Redo, UndoOf, RedoOf}
 use Rattle.history.specs.declared.event.Reply.{Reply}
 use Rattle.history.specs.Changes.{reason_on, unless_refused}
 use Rattle.history.specs.History.{Past, followed_by, tables_of}
 use Rattle.history.specs.Marks.{last_of}
 use Rattle.undo_book.specs.PlainPast.{past_in}
 use Rattle.undo_book.specs.Replayed.{tables_by_reply}
-use Rattle.history.specs.Reply.{reply_to_undo, reply_to_redo}
+use Rattle.history.specs.Journal.{commands_of, is_among, over, under}
+use Rattle.history.specs.Reply.{reply_to_redo, reply_to_redo_of, reply_to_undo, reply_to_undo_of}
 use Rattle.undo_book.specs.declared.log.Logged.{Logged}
 use Rattle.std.specs.Prelude.{List, Result, Ok, Err, IfOk}
-use Rattle.undo_book.proofs.TablesLaws.{tables_commanded, tables_undone, tables_redone}
+use Rattle.undo_book.proofs.TablesLaws.{tables_commanded, tables_redone, tables_redone_of, tables_undone, tables_undone_of}
 use Rattle.undo_book.proofs.replies.reply.Goals as goal
 
 -- what a reply leaves, where the reply is known
@@ -55,3 +56,29 @@ returns-in-Redo-clause-tabled c =
     on_ok_weaker c.reply_to_redo.result
     (λ changed. changed ∙ ap (λ (t : Tables). tables_by_reply reply log t) c.requires.tabled ∙ sym after ∙ sym (ap tables_of event))
     (by_reply c.reply_to_redo.result reply log _ _ c.reply_to_redo.ensures.told c.reply_to_redo.ensures.changed)
+
+pub returns-in-UndoOf-clause-tabled : goal.returns-in-UndoOf-clause-tabled
+returns-in-UndoOf-clause-tabled c =
+    let past : Past = past_in c.args.past.now in
+    let bound = c.args.past.now.settings.journal in
+    let log = c.args.past.now.log.items in
+    let t = c.in-UndoOf.ticket in
+    let reply : Reply = reply_to_undo_of (is_among past.marks.done t) (over (commands_of past) t) t in
+    let after = tables_undone_of bound past.now c.in-UndoOf.moment t past.marks log c.args.past.now.flagged in
+    let event : followed_by bound past c.args.event.now ≡ followed_by bound past (UndoOf c.in-UndoOf.moment t) = ap (followed_by bound past) c.in-UndoOf.is in
+    on_ok_weaker c.reply_to_undo_of.result
+    (λ changed. changed ∙ ap (λ (t : Tables). tables_by_reply reply log t) c.requires.tabled ∙ sym after ∙ sym (ap tables_of event))
+    (by_reply c.reply_to_undo_of.result reply log _ _ c.reply_to_undo_of.ensures.told c.reply_to_undo_of.ensures.changed)
+
+pub returns-in-RedoOf-clause-tabled : goal.returns-in-RedoOf-clause-tabled
+returns-in-RedoOf-clause-tabled c =
+    let past : Past = past_in c.args.past.now in
+    let bound = c.args.past.now.settings.journal in
+    let log = c.args.past.now.log.items in
+    let t = c.in-RedoOf.ticket in
+    let reply : Reply = reply_to_redo_of (is_among past.marks.undone t) (under (commands_of past) t) t in
+    let after = tables_redone_of bound past.now c.in-RedoOf.moment t past.marks log c.args.past.now.flagged in
+    let event : followed_by bound past c.args.event.now ≡ followed_by bound past (RedoOf c.in-RedoOf.moment t) = ap (followed_by bound past) c.in-RedoOf.is in
+    on_ok_weaker c.reply_to_redo_of.result
+    (λ changed. changed ∙ ap (λ (t : Tables). tables_by_reply reply log t) c.requires.tabled ∙ sym after ∙ sym (ap tables_of event))
+    (by_reply c.reply_to_redo_of.result reply log _ _ c.reply_to_redo_of.ensures.told c.reply_to_redo_of.ensures.changed)

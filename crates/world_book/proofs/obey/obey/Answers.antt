@@ -5,12 +5,12 @@ use Rattle.history.specs.declared.event.Reply.TheVariants.{Seen}
 use Rattle.history.specs.Event.{moment_of}
 use Rattle.history.specs.Reply.{reply_of}
 use Rattle.change_law.specs.Pairs.{pair_of}
-use Rattle.history.specs.declared.event.Event.TheVariants.{Undo, Redo}
+use Rattle.history.specs.declared.event.Event.TheVariants.{Undo, Redo, UndoOf, RedoOf}
 use Rattle.world_book.specs.Step.{ForgetsPairs, IsFaultOf}
 use Rattle.world_book.specs.Versions.{IsAliveInVersion, IsFreeIn}
 use Rattle.world_book.specs.Tied.{IsHistoryReply, MakesRoom, TakesIn}
 use Rattle.world_book.proofs.TiedLaws.{tied_look}
-use Rattle.world_book.proofs.VersionLaws.{alive_in_face, undo_free, redo_free}
+use Rattle.world_book.proofs.VersionLaws.{alive_in_face, no_memory, redo_free, undo_free}
 use Rattle.world_book.proofs.obey.obey.Goals as goal
 
 pub returns-in-Ok-clause-told : goal.returns-in-Ok-clause-told
@@ -102,3 +102,33 @@ returns-in_err-seen-in-Look-clause-free g c = λ bound past is tied free. absurd
 
 pub returns-in_err-give-in-Do-clause-free : goal.returns-in_err-give-in-Do-clause-free
 returns-in_err-give-in-Do-clause-free g c = λ bound past is tied free. absurd (subst (λ (e : Event). IsFreeIn past e) c.in-Do.is free)
+
+pub returns-in_ok-undo_of-in-UndoOf-clause-told : goal.returns-in_ok-undo_of-in-UndoOf-clause-told
+returns-in_ok-undo_of-in-UndoOf-clause-told g c =
+    subst (λ (e : Event). IsHistoryReply g.C.World.World c.args.settings.now c.args.clock e c.args.world.now c.args.journal.now c.in_ok-undo_of-in-UndoOf.field-0) (sym c.in-UndoOf.is)
+    (c.in_ok-undo_of-in-UndoOf.ensures.told c.args.settings.now c.args.clock c.in-UndoOf.moment)
+
+pub returns-in_ok-undo_of-in-UndoOf-clause-tied : goal.returns-in_ok-undo_of-in-UndoOf-clause-tied
+returns-in_ok-undo_of-in-UndoOf-clause-tied g c =
+    subst (λ (e : Event). TakesIn g.C.World.World c.args.clock e c.args.world.now c.args.journal.now c.undo_of.new.world c.undo_of.new.journal) (sym c.in-UndoOf.is) (c.in_ok-undo_of-in-UndoOf.ensures.tied c.args.clock c.in-UndoOf.moment)
+
+pub returns-in_err-undo_of-in-UndoOf-clause-free : goal.returns-in_err-undo_of-in-UndoOf-clause-free
+returns-in_err-undo_of-in-UndoOf-clause-free g c = λ bound past is tied free.
+    let flush : IsFreeIn past (UndoOf c.in-UndoOf.moment c.in-UndoOf.ticket) = subst (λ (e : Event). IsFreeIn past e) c.in-UndoOf.is free in
+    absurd (false≢true (c.in_err-undo_of-in-UndoOf.ensures.free c.in-UndoOf.moment
+    (no_memory g.C.World.World c.args.world.now c.args.journal.now bound past c.undone-undone.ensures.sound tied g.met.C.World.BookWorld.needs_none c.in-UndoOf.ticket flush)))
+
+pub returns-in_ok-redo_of-in-RedoOf-clause-told : goal.returns-in_ok-redo_of-in-RedoOf-clause-told
+returns-in_ok-redo_of-in-RedoOf-clause-told g c =
+    subst (λ (e : Event). IsHistoryReply g.C.World.World c.args.settings.now c.args.clock e c.args.world.now c.args.journal.now c.in_ok-redo_of-in-RedoOf.field-0) (sym c.in-RedoOf.is)
+    (c.in_ok-redo_of-in-RedoOf.ensures.told c.args.settings.now c.args.clock c.in-RedoOf.moment)
+
+pub returns-in_ok-redo_of-in-RedoOf-clause-tied : goal.returns-in_ok-redo_of-in-RedoOf-clause-tied
+returns-in_ok-redo_of-in-RedoOf-clause-tied g c =
+    subst (λ (e : Event). TakesIn g.C.World.World c.args.clock e c.args.world.now c.args.journal.now c.redo_of.new.world c.redo_of.new.journal) (sym c.in-RedoOf.is) (c.in_ok-redo_of-in-RedoOf.ensures.tied c.args.clock c.in-RedoOf.moment)
+
+pub returns-in_err-redo_of-in-RedoOf-clause-free : goal.returns-in_err-redo_of-in-RedoOf-clause-free
+returns-in_err-redo_of-in-RedoOf-clause-free g c = λ bound past is tied free.
+    let flush : IsFreeIn past (RedoOf c.in-RedoOf.moment c.in-RedoOf.ticket) = subst (λ (e : Event). IsFreeIn past e) c.in-RedoOf.is free in
+    absurd (false≢true (c.in_err-redo_of-in-RedoOf.ensures.free c.in-RedoOf.moment
+    (no_memory g.C.World.World c.args.world.now c.args.journal.now bound past c.undone-undone.ensures.sound tied g.met.C.World.BookWorld.needs_none c.in-RedoOf.ticket flush)))

@@ -1,7 +1,8 @@
 use Rattle.std.proofs.Common.{◌≡◌, ◌≤◌, ◌∙◌, max, ℕ, Option, sym, ap, subst, arith}
 use Rattle.history.specs.declared.event.Ask.{Ask}
-use Rattle.history.specs.declared.event.Seen.TheVariants.{Zones, Records, Stubs, Commands, Servers, Oldest}
+use Rattle.history.specs.declared.event.Seen.TheVariants.{Zones, Records, Stubs, Commands, Buried, Servers, Oldest}
 use Rattle.history.specs.declared.tables.Tables.{Tables}
+use Rattle.history.specs.Journal.{buried_in}
 use Rattle.history.specs.Oldest.{IsOldest}
 use Rattle.history.specs.OldestLaws.{oldest_only}
 use Rattle.history.specs.Reply.{seen_of}
@@ -40,8 +41,14 @@ returns-in_ok-share_stubs-in-Stubs g c = λ bound moment past is tied.
 pub returns-in_ok-commands-in-Commands : goal.returns-in_ok-commands-in-Commands
 returns-in_ok-commands-in-Commands g c = λ bound moment past is tied.
     ap Commands (c.new-in-Commands.ensures ∙ c.in_ok-commands-in-Commands.ensures
-    ∙ held_commands g.C.World.World.told c.args.journal.now past c.undone-undone.ensures.sound tied.stands.ascending tied.done tied.undone tied.given)
+    ∙ held_commands g.C.World.World.table g.C.World.World.told c.args.journal.now past c.undone-undone.ensures.sound tied.done tied.undone tied.given)
     ∙ sym (ap (λ (a : Ask). seen_of c.args.settings.now past a moment) c.in-Commands.is)
+
+pub returns-in_ok-buried_commands-in-Buried : goal.returns-in_ok-buried_commands-in-Buried
+returns-in_ok-buried_commands-in-Buried g c = λ bound moment past is tied.
+    ap Buried (c.new-in-Buried.ensures ∙ c.in_ok-buried_commands-in-Buried.ensures
+    ∙ ap buried_in (held_commands g.C.World.World.table g.C.World.World.told c.args.journal.now past c.undone-undone.ensures.sound tied.done tied.undone tied.given))
+    ∙ sym (ap (λ (a : Ask). seen_of c.args.settings.now past a moment) c.in-Buried.is)
 
 pub returns-in_ok-new-in-Servers : goal.returns-in_ok-new-in-Servers
 returns-in_ok-new-in-Servers g c = λ bound moment past is tied.

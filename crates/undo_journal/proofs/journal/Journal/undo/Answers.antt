@@ -1,94 +1,21 @@
-use Rattle.std.proofs.Common.{rules, refl, ◌≡◌, ◌∙◌, ◌<◌, ◌-◌, Option, Some, None, List, sym, ap, subst, arith}
-use Rattle.std.specs.Prelude.{slice_set}
-use Rattle.change_law.specs.declared.kept.KeptChange.{KeptChange}
-use Rattle.undo_journal.specs.Journal.{Changes, AreChanges, IsUndo}
-use Rattle.undo_journal.proofs.RingLaws.{at_place, undo_last, undo_row, undo_are, undo_is, same_there, on_err, never_past, was_done, Undone≢Cleared}
-use Rattle.undo_journal.proofs.RowLaws.{choices_at, told_at}
-use Rattle.change_law.specs.declared.kept.Standing.TheVariants.{Undone}
-use Rattle.change_law.specs.Row.{kept_as, IsRefused}
+use Rattle.std.proofs.Common.{rules, ◌≡◌, ◌∙◌, Some, None, refl, sym, ap}
+use Rattle.std.specs.Prelude.{slice_get, option_map}
+use Rattle.std.proofs.lemmas.Bool.{false≢true}
+use Rattle.undo_journal.proofs.ReachLaws.{last_can_be_undone, last_done, needs_none_at}
 use Rattle.undo_journal.proofs.journal.Journal.undo.Goals as goal
 
-pub back-requires : goal.back-requires
-back-requires g c =
-    let j = c.self.inside in
-    let k = c.in-Some.kept.now in
-    let at = at_place _ _ k (sym c.in-Some.ensures.value) in
-    let some : 0 < j.done = omega (arith, c.if-self-eq0.false) in
-    let keeps = g.C.World.World.keeps in (
-      at.earlier,
-      (
-        k.ticket,
-        (
-          at.later,
-          undo_last j.ring.items j.done j.tickets j.ring.capacity k some at c.self.invariant g.C.World.World.table keeps c.args.world.now
-              (subst (λ (x : Changes _). keeps c.args.world.now x.kept) (sym c.self.view_is) c.requires),
-        ),
-      ),
-    )
+pub take_back-requires-clause-last : goal.take_back-requires-clause-last
+take_back-requires-clause-last g c = last_can_be_undone g.C.World.World.table c.args.self.now.kept c.in-Some.place c.in-Some.ensures.some
 
-pub invariant_of-self-in-Some : goal.invariant_of-self-in-Some
-invariant_of-self-in-Some g c =
-    let j = c.self.inside in
-    let k = c.in-Some.kept.now in
-    let at = at_place _ _ k (sym c.in-Some.ensures.value) in
-    let some : 0 < j.done = omega (arith, c.if-self-eq0.false) in
-    undo_are j.ring.items j.done j.tickets j.ring.capacity k some at c.self.invariant c.back.new.saved
+pub returns-in_err-ticket-in-Some-clause-free : goal.returns-in_err-ticket-in-Some-clause-free
+returns-in_err-ticket-in-Some-clause-free g c = λ ticket last none.
+    let is = c.in-Some.ensures.some in
+    let own = last_done c.args.self.now.kept c.in-Some.place is.here is.there is.done is.none in
+    absurd (false≢true (c.in_err-ticket-in-Some.ensures.free
+    (needs_none_at g.C.World.World.needs_memory c.args.self.now.kept c.in-Some.place ticket none (ap (λ o. option_map (λ k. k.ticket) o) is.there ∙ (sym own ∙ last)))))
 
-pub returns-in_err-back-in-Some-clause-err : goal.returns-in_err-back-in-Some-clause-err
-returns-in_err-back-in-Some-clause-err g c =
-    let j = c.self.inside in
-    let k = c.in-Some.kept.now in
-    let at = at_place _ _ k (sym c.in-Some.ensures.value) in
-    let some : 0 < j.done = omega (arith, c.if-self-eq0.false) in
-    let same = same_there j.ring.items j.done j.tickets j.ring.capacity k some at c.self.invariant c.back.new.saved c.in_err-back-in-Some.ensures.err.1 ∙ c.self.view_is in
-    let both : IsRefused g.C.World.World.table g.C.World.World.keeps g.C.World.World.face g.C.World.World.newest g.C.World.World.stored g.C.World.World.counts c.args.world.now c.back.new.world × (record { kept = slice_set j.ring.items (j.done - 1) (record { ticket = k.ticket; standing = k.standing; saved = c.back.new.saved }); done = j.done; tickets = j.tickets; limit = j.ring.capacity } ≡ c.args.self.now)
-    = (c.in_err-back-in-Some.ensures.err.0, same) in
-    on_err _ both
-
-pub returns-in_ok-back-in-Some-clause-ticket : goal.returns-in_ok-back-in-Some-clause-ticket
-returns-in_ok-back-in-Some-clause-ticket g c =
-    let j = c.self.inside in
-    let k = c.in-Some.kept.now in
-    let at = at_place _ _ k (sym c.in-Some.ensures.value) in
-    let some : 0 < j.done = omega (arith, c.if-self-eq0.false) in
-    rw (← c.self.view_is) (undo_is j.ring.items j.done j.tickets j.ring.capacity k some at c.self.invariant c.back.new.saved)
-
-pub returns-in_ok-back-in-Some-clause-row : goal.returns-in_ok-back-in-Some-clause-row
-returns-in_ok-back-in-Some-clause-row g c =
-    let j = c.self.inside in
-    let k = c.in-Some.kept.now in
-    let at = at_place _ _ k (sym c.in-Some.ensures.value) in
-    let some : 0 < j.done = omega (arith, c.if-self-eq0.false) in
-    let keeps = g.C.World.World.keeps in
-    let table = g.C.World.World.table in
-    let last = undo_last j.ring.items j.done j.tickets j.ring.capacity k some at c.self.invariant table keeps c.args.world.now
-    (subst (λ (x : Changes _). keeps c.args.world.now x.kept) (sym c.self.view_is) c.requires) in
-    rw (← c.self.view_is) (undo_row j.ring.items j.done j.tickets j.ring.capacity k some at c.self.invariant table keeps g.C.World.World.face _ _ c.args.world.now c.back.new.world c.back.new.saved
-    (c.in_ok-back-in-Some.ensures.row at.earlier k.ticket at.later last))
-
-pub returns-in-None-clause-ticket : goal.returns-in-None-clause-ticket
-returns-in-None-clause-ticket g c =
-    absurd (never_past c.self.inside.ring.items (c.self.inside.done - 1) (omega (arith, c.self.invariant.within, c.if-self-eq0.false)) (sym c.in-None.ensures.value))
-
-pub returns-in_ok-back-in-Some-clause-choices : goal.returns-in_ok-back-in-Some-clause-choices
-returns-in_ok-back-in-Some-clause-choices g c =
-    let j = c.self.inside in
-    let k = c.in-Some.kept.now in
-    let at = at_place _ _ k (sym c.in-Some.ensures.value) in
-    let some : 0 < j.done = omega (arith, c.if-self-eq0.false) in
-    rw (← c.self.view_is) (λ chosen p h. choices_at g.C.World.World.table j.ring.items (j.done - 1) k (kept_as Undone k.ticket c.back.new.saved) at refl c.in_ok-back-in-Some.ensures.kind.0
-    (was_done j.ring.items j.done j.tickets j.ring.capacity k some at c.self.invariant) Undone≢Cleared chosen h)
-
-pub returns-in_ok-back-in-Some-clause-told : goal.returns-in_ok-back-in-Some-clause-told
-returns-in_ok-back-in-Some-clause-told g c =
-    let j = c.self.inside in
-    let k = c.in-Some.kept.now in
-    let at = at_place _ _ k (sym c.in-Some.ensures.value) in
-    rw (← c.self.view_is) (told_at g.C.World.World.told j.ring.items (j.done - 1) k (kept_as Undone k.ticket c.back.new.saved) at refl c.in_ok-back-in-Some.ensures.kind.2)
-
-pub returns-in_ok-back-in-Some-clause-tables : goal.returns-in_ok-back-in-Some-clause-tables
-returns-in_ok-back-in-Some-clause-tables g c =
-    let j = c.self.inside in
-    let k = c.in-Some.kept.now in
-    let at = at_place _ _ k (sym c.in-Some.ensures.value) in
-    rw (← c.self.view_is) (told_at g.C.World.World.table j.ring.items (j.done - 1) k (kept_as Undone k.ticket c.back.new.saved) at refl c.in_ok-back-in-Some.ensures.kind.0)
+pub returns-in_ok-ticket-in-Some-clause-ticket : goal.returns-in_ok-ticket-in-Some-clause-ticket
+returns-in_ok-ticket-in-Some-clause-ticket g c =
+    let is = c.in-Some.ensures.some in
+    let own = last_done c.args.self.now.kept c.in-Some.place is.here is.there is.done is.none in
+    (own ∙ (sym (ap (λ o. option_map (λ k. k.ticket) o) is.there) ∙ c.in_ok-ticket-in-Some.ensures.ticket.1), c.in_ok-ticket-in-Some.ensures.ticket.0)

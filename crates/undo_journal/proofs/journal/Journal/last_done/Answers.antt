@@ -1,0 +1,17 @@
+use Rattle.std.proofs.Common.{rules, arith, ◌≡◌, ◌∙◌, length, refl, sym, ap}
+use Rattle.undo_journal.specs.Journal.{Changes}
+use Rattle.undo_journal.proofs.ReachLaws.{back_end, back_here, back_passed}
+use Rattle.undo_journal.proofs.journal.Journal.last_done.Goals as goal
+
+pub returns-then-is_done_at-clause-some : goal.returns-then-is_done_at-clause-some
+returns-then-is_done_at-clause-some g c =
+    let size : c.len-len.result ≡ length c.args.self.now.kept = c.len-len.ensures.len ∙ ap (λ (x : Changes _). length x.kept) c.self.view_is in
+    back_here c.args.self.now.kept c.len-len.result c.loop-back.back size c.is_done_at.result c.loop-back-test.true c.is_done_at.ensures c.if-is_done_at.true c.loop-back.invariant
+
+pub loop-back-preserved : goal.loop-back-preserved
+loop-back-preserved g c =
+    let size : c.len-len.result ≡ length c.args.self.now.kept = c.len-len.ensures.len ∙ ap (λ (x : Changes _). length x.kept) c.self.view_is in
+    back_passed c.args.self.now.kept c.len-len.result c.loop-back.back size c.is_done_at.result c.loop-back-test.true c.is_done_at.ensures c.if-is_done_at.false c.loop-back.invariant
+
+pub returns-clause-none : goal.returns-clause-none
+returns-clause-none g c = back_end c.args.self.now.kept c.len-len.result c.loop-back.back (omega (arith, c.loop-back-test.false)) c.loop-back.invariant
