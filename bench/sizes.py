@@ -43,18 +43,23 @@ def seconds(program, *words, **streams):
     return used.ru_utime + used.ru_stime
 
 
-def alone(programs, size, rounds):
+def alone(programs, size, rounds, count=COUNT):
     """Nanoseconds a call, for each program: the least of the rounds, in which the programs run in turn. A run of N calls is subtracted
     from one of 2N, so that filling does not count."""
-    sums = {who: told(program, size, COUNT) for who, program in programs.items()}
+    sums = {who: told(program, size, count) for who, program in programs.items()}
     if len(set(sums.values())) > 1:
         print(f"the calls do not find the same: {sums}", file=sys.stderr)
     once, twice = {who: [] for who in programs}, {who: [] for who in programs}
     for _ in range(rounds):
         for who, program in programs.items():
-            once[who].append(seconds(program, size, COUNT))
-            twice[who].append(seconds(program, size, 2 * COUNT))
-    return {who: (min(twice[who]) - min(once[who])) / COUNT * 1e9 for who in programs}
+            once[who].append(seconds(program, size, count))
+            twice[who].append(seconds(program, size, 2 * count))
+    return {who: (min(twice[who]) - min(once[who])) / count * 1e9 for who in programs}
+
+
+def a_move(measure, word, call, rounds, count=COUNT):
+    """The milliseconds of an undo or a redo, where a call of `measure` is an undo and its redo."""
+    return alone({"ours": [measure, word]}, call, rounds, count)["ours"] / 2 / 1e6
 
 
 class Script:

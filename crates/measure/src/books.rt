@@ -5,7 +5,7 @@ ghost use Rattle.std.specs.Prelude.{◌≡◌, [], IfOk};
 use anyhow::anyhow;
 use dns_name::Name;
 use dns_text::{Items, Shared, read_record};
-use history::{Book, Command, Event, MOST_CELLS, MakeFault, Settings};
+use history::{Book, Command, Event, MOST_CELLS, MOST_COMMANDS, MakeFault, Reply, Settings};
 use local_zone::ZoneType;
 use ranked::{Find, Rank, SharedFind};
 use std::alloc::Global;
@@ -26,13 +26,22 @@ pub fn empty_book(alloc: Global) -> Result<PlainBook, MakeFault>
 
 /// The book of the program, which was given nothing. It can undo one command, and hold as many cells as there may be.
 pub fn empty_shelf(alloc: Global) -> Result<ShelfBook, MakeFault> {
-    shelf_of(alloc, MOST_CELLS)
+    shelf_with(alloc, 1, MOST_CELLS)
 }
 
-/// The same with room for so many cells.
+/// The same, which can undo as many commands as any book.
+pub fn shelf_with_journal(alloc: Global) -> Result<ShelfBook, MakeFault> {
+    shelf_with(alloc, MOST_COMMANDS, MOST_CELLS)
+}
+
+/// The same as the first with room for so many cells.
 pub fn shelf_of(alloc: Global, cells: usize) -> Result<ShelfBook, MakeFault> {
+    shelf_with(alloc, 1, cells)
+}
+
+fn shelf_with(alloc: Global, journal: usize, cells: usize) -> Result<ShelfBook, MakeFault> {
     let settings = Settings {
-        journal: 1,
+        journal,
         cells,
         hints: Items::new(Vec::new(alloc)),
         server_port: 53,
@@ -82,6 +91,17 @@ pub fn give<B: Book>(book: &mut B, event: Event) -> anyhow::Result<()> {
 /// Gives a book a command of the operator.
 pub fn command<B: Book>(book: &mut B, command: Command) -> anyhow::Result<()> {
     give(book, Event::Do { moment: 0, command })
+}
+
+/// The same, which returns the command's ticket.
+pub fn give_command<B: Book>(book: &mut B, command: Command) -> anyhow::Result<u64> {
+    match book.step(Event::Do { moment: 0, command })? {
+        Reply::Done { ticket } => Ok(ticket),
+        other => {
+            drop(other);
+            Err(anyhow!("a command was refused"))
+        }
+    }
 }
 
 /// A book that holds one address of `www.example.to.`, has local data of `www.example.net.`, and refuses `www.example.org.`.

@@ -11,8 +11,10 @@
 //! | `messages` | `decode_query`, .. | reads or writes a message or a name; bench/README.md has them all |
 //! | `book` | `alone`, `shared`, `recorded` | looks at a book of one caller, through the lock of a shared one, and with each look recorded |
 //! | `cells` | a number of names | looks names up in a cache of so many, each with one address |
+//! | | `undo-N`; `oldest-N`, `middle-N`, `newest-N` | undoes and redoes one of 256 flushes of so many names; by its ticket |
 //! | `room` | a number of names | gives new names to a full cache with room for so many |
 //! | `tables` | a number of records | asks for names of so many local records, in a sixteenth as many zones |
+//! | | `KIND-undo-N`; `KIND-last-N`, `KIND-first-N` | undoes and redoes the last command; by its ticket, before 255 others too |
 //! | `fill` | a number of records | makes a table of so many local records, by a call for each zone and each record |
 #![tactic(auto)]
 
@@ -23,9 +25,10 @@ mod book; // looks at a book
 mod tasks; // tasks and looks
 mod front; // queries from octets to octets
 mod lookups; // lookups of many names
-mod cells; // lookups in a cache of many names
+mod moves; // undos and redos of one command
+mod cells; // lookups in a cache of many names, undos of flushes
 mod room; // new names for a full cache
-mod tables; // answers from many local records
+mod tables; // answers from many local records, undos of commands about them
 mod fill; // tables filled by their own calls
 
 use anyhow::anyhow;

@@ -1,10 +1,12 @@
-//! Answers from many local records in many zones.
+//! Answers from many local records in many zones, and undos and redos of one command about them or about stubs.
 
 ghost use Rattle.std.specs.Prelude.{◌≤◌};
 
-use crate::books::{command, empty_shelf, local_data, local_zone};
+use crate::books::{command, empty_shelf, local_data, local_zone, shelf_with_journal};
 use crate::calls::run_calls;
 use crate::lookups::{look_many, questions};
+use crate::moves::{Moved, move_many, obey};
+use anyhow::anyhow;
 use history::Book;
 use local_zone::ZoneType;
 use std::alloc::Global;
@@ -73,16 +75,97 @@ fn answer(alloc: Global, records: &str, count: u32) -> anyhow::Result<u32> {
     answer_with(alloc, empty_shelf(alloc)?, records, count)
 }
 
-/// Every number of records that is shown.
-const RECORDS: [&str; 1] = ["1000"];
+/// The line that changes one record, zone or stub, and removes one owner.
+fn line(alloc: Global, kind: &str, records: u32) -> anyhow::Result<String> {
+    let owner = owner(alloc, records / 2, records)?;
+    match kind {
+        "record" => Ok(format!(in alloc; "local_data {owner} 90 A 192.0.2.1")?),
+        "owner" => Ok(format!(in alloc; "local_data_remove {owner}")?),
+        "zone" => Ok(format!(in alloc; "local_zone z1.test refuse")?),
+        "stub" => Ok(format!(in alloc; "stub_add new.test 192.0.2.1")?),
+        _ => Err(anyhow!("there is no such call")),
+    }
+}
 
-/// Asks for names of so many local records as the first word says, and prints a sum over the answers.
+/// The line that changes one entry of the table that a kind of line does not change.
+fn other_line(alloc: Global, kind: &str, place: u32) -> anyhow::Result<String> {
+    if kind == "stub" {
+        Ok(format!(in alloc; "local_zone z{place}.test deny")?)
+    } else {
+        Ok(format!(in alloc; "stub_add s{place}.test 192.0.2.1")?)
+    }
+}
+
+/// So many undos, each with its redo, of a command of a kind. It is the last, or 255 commands of the other table came after it.
+fn move_with<B: Book>(
+    alloc: Global,
+    mut book: B,
+    kind: &str,
+    place: &str,
+    records: u32,
+    count: u32,
+) -> anyhow::Result<u32> {
+    fill(alloc, &mut book, records)?;
+    let line = line(alloc, kind, records)?;
+    let ticket = obey(alloc, &mut book, line.as_str())?;
+    match place {
+        "undo" => move_many(&mut book, Moved::Last, count),
+        "last" => move_many(&mut book, Moved::Of(ticket), count),
+        _ => {
+            for place in 0..255 {
+                let line = other_line(alloc, kind, place)?;
+                obey(alloc, &mut book, line.as_str())?;
+            }
+            move_many(&mut book, Moved::Of(ticket), count)
+        }
+    }
+}
+
+/// The moves that words mean: a kind of command, its place among all, and a number of records.
+fn moves(alloc: Global, kind: &str, words: &str, count: u32) -> anyhow::Result<u32> {
+    match words.split_once("-") {
+        Some((place, records)) => {
+            let records = records.parse()?;
+            let book = shelf_with_journal(alloc)?;
+            move_with(alloc, book, kind, place, records, count)
+        }
+        None => Err(anyhow!("there is no such call")),
+    }
+}
+
+/// Makes a call: a number of records, alone or behind a kind of command and its place.
+fn call(alloc: Global, call: &str, count: u32) -> anyhow::Result<u32> {
+    match call.split_once("-") {
+        Some((kind, words)) => moves(alloc, kind, words, count),
+        None => answer(alloc, call, count),
+    }
+}
+
+/// Every call that is shown.
+const CALLS: [&str; 13] = [
+    "1000",
+    "record-undo-1000",
+    "record-last-1000",
+    "record-first-1000",
+    "owner-undo-1000",
+    "owner-last-1000",
+    "owner-first-1000",
+    "zone-undo-1000",
+    "zone-last-1000",
+    "zone-first-1000",
+    "stub-undo-1000",
+    "stub-last-1000",
+    "stub-first-1000",
+];
+
+/// Asks for names of so many local records as the first word says, and prints a sum over the answers. With a kind of command and its place
+/// before the number, undoes and redoes that command, and prints a sum over the tickets.
 pub fn measure_tables<R: Print>(rt: &R, alloc: Global, words: &[String]) -> anyhow::Result<()> {
     run_calls(
         rt,
         words,
-        &RECORDS,
+        &CALLS,
         64,
-        |records, count| answer(alloc, records, count),
+        |words, count| call(alloc, words, count),
     )
 }
