@@ -392,7 +392,7 @@ def ask_on(service, seed, ending):
 # ---- the program that sends an operator's lines
 
 # Lines that change nothing, and their replies.
-SHOWN = (("list_local_zones", "a. static\nb. deny\nend\n"), ("look x.a. A", "local 60 x.a. A 192.0.2.1\n"), ("undo 3", "error bad_data\n"))
+SHOWN = (("list_local_zones", "a. static\nb. deny\nend\n"), ("look x.a. A", "local 60 x.a. A 192.0.2.1\n"), ("undo x", "error bad_data\n"))
 
 
 def check_client(checks):

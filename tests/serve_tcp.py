@@ -404,7 +404,7 @@ def check_places(checks):
         took, words = seconds_of(lambda: [reply_of(client) for _ in range(MOST_WAITING - places)])
         checks.equal("places: those that are too many", words, [FAILED] * (MOST_WAITING - places))
         checks.check("places: how soon", None if took < SOON else f"{took:.2f} s")
-        checks.equal("places: questions that wait", len(server.asked), places)
+        checks.equal("places: questions that wait", server.wait_for(places) and len(server.asked), places)
         checks.equal("places: another", service.ask("held.test.", "A", "tcp").words(), HELD)
         checks.equal("places: it is logged", service.logged(b"resolver: too many exchanges"), True)
         check_stopped(checks, "places", service)
