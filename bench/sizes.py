@@ -62,6 +62,11 @@ def a_move(measure, word, call, rounds, count=COUNT):
     return alone({"ours": [measure, word]}, call, rounds, count)["ours"] / 2 / 1e6
 
 
+def beside(took, plain):
+    """The milliseconds of a move by ticket, and how often those of a plain one they are."""
+    return f"{took:.5f} ({took / plain:.1f})"
+
+
 class Script:
     """`resolver script`, told a line at a time."""
 
