@@ -150,6 +150,25 @@ def check_ways_back(checks):
     checks.check("without memory a line with data is not read", None if is_refused else f"{lost}")
 
 
+# Commands that remove nothing, and their undos by ticket.
+ADDED_TEXT = b"""local_zone a. static
+local_data b.a. 60 A 192.0.2.1
+stub_add a. 192.0.2.1
+flush z.
+local_data c.d. 60 A 192.0.2.1
+local_zone a. deny
+"""
+ADDED_UNDOS = (6, 5, 2, 1, 3)
+
+
+def check_added(checks):
+    """After the commands every allocation is refused. The undo of a command that removed nothing takes none."""
+    undos = b"".join(b"undo %d\n" % ticket for ticket in ADDED_UNDOS)
+    done = run([RESOLVER, "script"], ADDED_TEXT + undos, preload="refuse", REFUSE_AFTER=len(ADDED_TEXT.splitlines()))
+    wanted = [b"ok %d" % ticket for ticket in range(1, 7)] + [b"undone %d" % ticket for ticket in ADDED_UNDOS]
+    checks.equal("without memory after commands that remove nothing", (done.out.splitlines(), done.status), (wanted, 0))
+
+
 def check_newer_finds(checks):
     """A newer find of a cached pair needs memory to be read, and none to be cached. A find of another name needs both."""
     lines = replied_lines(HELD_TEXT)
@@ -172,6 +191,7 @@ def check_held_set(checks):
     for book, program, starts in BOTH:
         check_script(checks, f"a flushed set{book}", [program, "script"], HELD_TEXT, starts, replay)
     check_ways_back(checks)
+    check_added(checks)
     check_newer_finds(checks)
 
 
