@@ -263,7 +263,7 @@ def check_table(checks, word):
 KINDS = """
 admit undo redo sweep
 flush_type flush flush_zone local_zone local_data stub_add local_zone_remove local_data_remove stub_remove
-look list_local_zones list_local_data list_stubs list_commands servers
+look list_local_zones list_local_data list_stubs list_commands list_buried servers
 """.split()
 
 UNTOUCHED = b"0 entries, 0 calls, 0 cells, seen 0, made 0"

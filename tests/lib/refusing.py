@@ -12,7 +12,7 @@ NO_MEMORY = {b"error no_memory", b"fault no_memory"}
 LOST = b"fault reply_lost"
 
 # A list has one line for each item, up to this line.
-LISTS = (b"list_local_zones", b"list_local_data", b"list_stubs", b"list_commands")
+LISTS = (b"list_local_zones", b"list_local_data", b"list_stubs", b"list_commands", b"list_buried")
 LIST_END = b"end"
 
 # Only the replies to these lines take memory, so no other reply is lost.

@@ -19,7 +19,7 @@ pub const RECORDED: u64 = 60;
 
 /// Events of every kind, among those that are recorded too.
 pub fn drawn_events(alloc: Global) -> Result<Vec<Shared<Event>>, Stop> {
-    let mut rng = Pcg32::seed_from_u64(21);
+    let mut rng = Pcg32::seed_from_u64(115);
     let mut events = Vec::new(alloc);
     for _ in 0..CALLS {
         let Ok(event) = shared_event(&mut rng, alloc, 0) else {
